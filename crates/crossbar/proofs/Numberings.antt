@@ -1,0 +1,329 @@
+-- Distinct ports and their numbers.
+use Rattle.std.proofs.Common.{◌≡◌, ◌≢◌, inl, inr, ℕ, zero, suc, ◌<◌, ◌≤◌, ◌+◌, true, false, Option, Some, None, List, [], ◌∷◌, ◌++◌, length, take, drop, get_or, slice_get, slice_set, is_some, All, refl, sym, ap, ◌∙◌, subst, arith, ◌==◌, eqb, replicate, ◌-◌, append_assoc}
+use Rattle.std.proofs.lemmas.Bool.{cases_eq, cases_Bool, eq-eqb, eqb-true, ne_eqb}
+use Rattle.std.proofs.lemmas.Option.{same_Some, none-some}
+use Rattle.std.proofs.lemmas.List.{take_more_set, get_or_append_left}
+use Rattle.std.proofs.Math.Seq.{get_or-append_seam}
+use Rattle.std.proofs.lemmas.List.{length-append, length-take, length-set}
+use Rattle.std.proofs.lemmas.Map.Steps.{length-le_from_distinct_below}
+use Rattle.std.specs.List.{IsDistinct, AllByRecursion, list_any, range_with_len}
+use Rattle.std.specs.Option.{option_map}
+use Rattle.crossbar.specs.declared.range.PortRange.{PortRange}
+use Rattle.crossbar.specs.Ranges.{IsOneToOne, IsNumbering, IsRange, AreRanges, ports_at, ports_in}
+use Rattle.std.proofs.lemmas.List.{take-append-drop, take_more, take_all, append-nil}
+use Rattle.std.proofs.lemmas.List.Elements.{All-append}
+use Rattle.std.proofs.lemmas.List.FromFn.{length-range_with_len, get_or-range_with_len}
+use Rattle.crossbar.specs.Numbers.{IsTable}
+use Rattle.crossbar.specs.Row.{number_in}
+
+tail_one_to_one : (port : ℕ) (ports : List ℕ) → IsOneToOne (port ∷ ports) → IsOneToOne ports
+tail_one_to_one port ports one v w p a b = let e = one (suc v) (suc w) p a b in omega arith
+
+-- ---- the number of a port
+
+counted_on : (o : Option ℕ) (v : ℕ) → option_map suc o ≡ Some v → (w : ℕ) × (o ≡ Some w) × (v ≡ suc w)
+counted_on None v is = absurd (none-some v is)
+counted_on (Some w) v is = (w, refl, sym (same_Some _ _ is))
+
+some_still : (o : Option ℕ) → is_some (option_map suc o) ≡ is_some o
+some_still None = refl
+some_still (Some w) = refl
+
+pub number_in-port : (ports : List ℕ) (v port : ℕ) → IsOneToOne ports → slice_get ports v ≡ Some port → number_in ports port ≡ Some v
+number_in-port [] v port one is = absurd (none-some port is)
+number_in-port (first ∷ ports) zero port one is = let t : (first == port) ≡ true = eq-eqb _ _ (same_Some _ _ is) in rw t refl
+number_in-port (first ∷ ports) (suc v) port one is =
+    let t : (first == port) ≡ false = ne_eqb _ _ (λ (e : first ≡ port). let same = one 0 (suc v) port (ap (λ (p : ℕ). Some p) e) is in absurd (omega arith)) in
+    rw t (ap (option_map suc) (number_in-port ports v port (tail_one_to_one first ports one) is))
+
+pub number_in-below : (ports : List ℕ) (port v : ℕ) → number_in ports port ≡ Some v → v < length ports
+number_in-below [] port v is = absurd (none-some v is)
+number_in-below (first ∷ ports) port v is =
+    elim (cases_Bool (first == port)) [
+      | inl same ↦ let zero_is = same_Some _ _ (rw same at is) in omega arith
+      | inr other ↦ let next = counted_on (number_in ports port) v (rw other at is) in let below = number_in-below ports port next.0 next.1 in omega (arith, next.2)
+    ]
+
+pub number_in-some : (ports : List ℕ) (port k : ℕ) → slice_get ports k ≡ Some port → is_some (number_in ports port) ≡ true
+number_in-some [] port k is = absurd (none-some port is)
+number_in-some (first ∷ ports) port zero is = let t : (first == port) ≡ true = eq-eqb _ _ (same_Some _ _ is) in rw t refl
+number_in-some (first ∷ ports) port (suc k) is =
+    elim (cases_Bool (first == port)) [
+      | inl same ↦ rw same refl
+      | inr other ↦ rw other (some_still (number_in ports port) ∙ number_in-some ports port k is)
+    ]
+
+pub number_in-get : (ports : List ℕ) (port v : ℕ) → number_in ports port ≡ Some v → slice_get ports v ≡ Some port
+number_in-get [] port v is = absurd (none-some v is)
+number_in-get (first ∷ ports) port v is =
+    elim (cases_Bool (first == port)) [
+      | inl same ↦
+          let zero_is = same_Some _ _ (rw same at is) in
+          ap (slice_get (first ∷ ports)) (sym zero_is) ∙ ap (λ (p : ℕ). Some p) (eqb-true first port same)
+      | inr other ↦
+          let next = counted_on (number_in ports port) v (rw other at is) in
+          ap (slice_get (first ∷ ports)) next.2 ∙ number_in-get ports port next.0 next.1
+    ]
+
+-- a port that is too great for all of them has no number
+pub number_in-past : (ports : List ℕ) (most port : ℕ) → All (λ p. p < most) ports → most ≤ port → number_in ports port ≡ None
+number_in-past [] most port below past = refl
+number_in-past (first ∷ ports) most port below past =
+    let t : (first == port) ≡ false = ne_eqb _ _ (λ (e : first ≡ port). let l = below 0 0 (omega arith) in absurd (omega arith)) in
+    rw t (ap (option_map suc) (number_in-past ports most port (λ k d l. below (suc k) d (omega arith)) past))
+
+-- ---- one more port
+
+number_in-other : (ports : List ℕ) (last port : ℕ) → last ≢ port → number_in (ports ++ last ∷ []) port ≡ number_in ports port
+number_in-other [] last port ne = let t : (last == port) ≡ false = ne_eqb _ _ ne in rw t refl
+number_in-other (first ∷ ports) last port ne = rw (number_in-other ports last port ne) refl
+
+number_in-last : (ports : List ℕ) (last : ℕ) → number_in ports last ≡ None → number_in (ports ++ last ∷ []) last ≡ Some (length ports)
+number_in-last [] last none = let t : (last == last) ≡ true = eq-eqb _ _ refl in rw t refl
+number_in-last (first ∷ ports) last none =
+    elim (cases_Bool (first == last)) [
+      | inl same ↦ let never : Some 0 ≡ None = rw same at none in absurd (none-some 0 (sym never))
+      | inr other ↦
+          let still = none_still (number_in ports last) (rw other at none) in
+          rw (other, number_in-last ports last still) refl
+    ]
+  where
+    none_still : (o : Option ℕ) → option_map suc o ≡ None → o ≡ None
+    none_still None e = refl
+    none_still (Some v) e = absurd (none-some (suc v) (sym e))
+
+get_front : (ports more : List ℕ) (v port : ℕ) → slice_get ports v ≡ Some port → slice_get (ports ++ more) v ≡ Some port
+get_front [] more v port is = absurd (none-some port is)
+get_front (first ∷ ports) more zero port is = is
+get_front (first ∷ ports) more (suc v) port is = get_front ports more v port is
+
+get_last : (ports more : List ℕ) (last : ℕ) → slice_get (ports ++ last ∷ more) (length ports) ≡ Some last
+get_last [] more last = refl
+get_last (first ∷ ports) more last = get_last ports more last
+
+-- the last of distinct ports is none of those before it
+absent : (ports : List ℕ) (last : ℕ) → IsOneToOne (ports ++ last ∷ []) → number_in ports last ≡ None
+absent ports last one = by_number (number_in ports last) refl
+  where
+    by_number : (o : Option ℕ) → number_in ports last ≡ o → o ≡ None
+    by_number None is = refl
+    by_number (Some v) is =
+        let here = get_front ports (last ∷ []) v last (number_in-get ports last v is) in
+        let same = one v (length ports) last here (get_last ports [] last) in
+        let below = number_in-below ports last v is in
+        absurd (omega arith)
+
+one_to_one_front : (ports more : List ℕ) → IsOneToOne (ports ++ more) → IsOneToOne ports
+one_to_one_front ports more one v w port a b = one v w port (get_front ports more v port a) (get_front ports more w port b)
+
+-- a beginning of distinct ports
+pub numbering_front : (ports more : List ℕ) → IsNumbering (ports ++ more) → IsNumbering ports
+numbering_front ports more h = record {
+  below = λ k d l. subst (λ (p : ℕ). p < 32) (get_or_append_left ports more d k l) (h.below k d (let e = length-append ports more in omega arith));
+  one_to_one = one_to_one_front ports more h.one_to_one;
+}
+
+-- ---- distinct ports are at most 32
+
+apart_from : (first : ℕ) (ports : List ℕ) → IsOneToOne (first ∷ ports) → AllByRecursion (λ y. eqb first y ≡ false) ports
+apart_from first [] one = tt
+apart_from first (port ∷ ports) one = (
+  ne_eqb first port (λ (e : first ≡ port). let same = one 0 1 port (ap (λ (p : ℕ). Some p) e) refl in absurd (omega arith)),
+  apart_from first ports (λ v w p a b. skip v w p a b),
+)
+  where
+    skip : (v w p : ℕ) → slice_get (first ∷ ports) v ≡ Some p → slice_get (first ∷ ports) w ≡ Some p → v ≡ w
+    skip zero zero p a b = refl
+    skip zero (suc w) p a b = let e = one zero (suc (suc w)) p a b in absurd (omega arith)
+    skip (suc v) zero p a b = let e = one (suc (suc v)) zero p a b in absurd (omega arith)
+    skip (suc v) (suc w) p a b = let e = one (suc (suc v)) (suc (suc w)) p a b in omega arith
+
+distinct : (ports : List ℕ) → IsOneToOne ports → IsDistinct eqb ports
+unfolding IsDistinct
+distinct [] one = tt
+distinct (first ∷ ports) one = (apart_from first ports one, distinct ports (tail_one_to_one first ports one))
+
+found_below : (ports : List ℕ) (q : ℕ) → All (λ p. p < 32) ports → list_any (eqb q) ports ≡ true → q < 32
+found_below [] q below found = absurd (cc)
+found_below (first ∷ ports) q below found =
+    elim (cases_Bool (eqb q first)) [
+      | inl same ↦ let e = eqb-true q first same in let l = below 0 0 (omega arith) in omega arith
+      | inr other ↦ found_below ports q (λ k d l. below (suc k) d (omega arith)) (rw other at found)
+    ]
+
+pub few : (ports : List ℕ) → IsNumbering ports → length ports ≤ 32
+few ports h = length-le_from_distinct_below ports 32 (distinct ports h.one_to_one) (λ q. found_below ports q h.below)
+
+-- ---- a numbering kept both ways
+
+get_set_same : {X : Type 0} (xs : List X) (i : ℕ) (x : X) → i < length xs → slice_get (slice_set xs i x) i ≡ Some x
+get_set_same [] i x h = absurd (omega arith)
+get_set_same (y ∷ xs) zero x h = refl
+get_set_same (y ∷ xs) (suc i) x h = get_set_same xs i x (omega arith)
+
+get_set_other : {X : Type 0} (xs : List X) (i j : ℕ) (x : X) → j ≢ i → slice_get (slice_set xs i x) j ≡ slice_get xs j
+get_set_other [] i j x ne = refl
+get_set_other (y ∷ xs) zero zero x ne = absurd (ne refl)
+get_set_other (y ∷ xs) zero (suc j) x ne = refl
+get_set_other (y ∷ xs) (suc i) zero x ne = refl
+get_set_other (y ∷ xs) (suc i) (suc j) x ne = get_set_other xs i j x (λ e. ne (ap suc e))
+
+nothing_yet : (n port : ℕ) → port < n → slice_get (replicate n (let none : Option ℕ = None in none)) port ≡ Some None
+nothing_yet zero port h = absurd (omega arith)
+nothing_yet (suc n) zero h = refl
+nothing_yet (suc n) (suc port) h = nothing_yet n port (omega arith)
+
+pub no_numbering : IsNumbering []
+no_numbering = record { below = λ k d l. absurd (omega arith); one_to_one = λ v w port a b. absurd (none-some port a) }
+
+pub empty_table : (ports : List ℕ) → length ports ≡ 32 → IsTable ports (replicate 32 None) 0
+empty_table ports room = record {
+  ports_room = room;
+  numbers_room = refl;
+  few = omega arith;
+  numbering = no_numbering;
+  inverse = λ port h. nothing_yet 32 port h;
+}
+
+length-first : (ports : List ℕ) (count : ℕ) → length ports ≡ 32 → count ≤ 32 → length (take count ports) ≡ count
+length-first ports count room h = length-take count ports ∙ omega arith
+
+-- there is room for one more
+pub room_for : (ports : List ℕ) (numbers : List (Option ℕ)) (count port : ℕ) → IsTable ports numbers count → IsNumbering (take count ports ++ port ∷ []) → count < 32
+room_for ports numbers count port t h =
+    omega (arith, few _ h, length-append (take count ports) (port ∷ []), length-first ports count t.ports_room t.few)
+
+pub port_below : (ports : List ℕ) (port : ℕ) → IsNumbering (ports ++ port ∷ []) → port < 32
+port_below ports port h =
+    subst (λ (p : ℕ). p < 32) (get_or-append_seam ports port [] port) (h.below (length ports) port (omega (arith, length-append ports (port ∷ []))))
+
+pub pushed : (ports : List ℕ) (numbers : List (Option ℕ)) (count port : ℕ) → IsTable ports numbers count → IsNumbering (take count ports ++ port ∷ []) → take (count + 1) (slice_set ports count port) ≡ take count ports ++ port ∷ []
+pushed ports numbers count port t h = take_more_set ports count port (omega (arith, room_for ports numbers count port t h, t.ports_room))
+
+pub table_pushed : (ports : List ℕ) (numbers : List (Option ℕ)) (count port : ℕ) → IsTable ports numbers count → IsNumbering (take count ports ++ port ∷ [])
+    → IsTable (slice_set ports count port) (slice_set numbers port (Some count)) (count + 1)
+table_pushed ports numbers count port t h = record {
+  ports_room = length-set ports count port ∙ t.ports_room;
+  numbers_room = length-set numbers port (Some count) ∙ t.numbers_room;
+  few = omega (arith, room_for ports numbers count port t h);
+  numbering = subst IsNumbering (sym (pushed ports numbers count port t h)) h;
+  inverse = λ q below.
+      let front = pushed ports numbers count port t h in
+      elim (cases_eq port q) [
+        | inl e ↦
+            let there : slice_get (slice_set numbers port (Some count)) q ≡ Some (Some count) =
+            ap (slice_get (slice_set numbers port (Some count))) (sym e) ∙ get_set_same numbers port (Some count) (omega (arith, t.numbers_room, port_below (take count ports) port h)) in
+            let number : number_in (take count ports ++ port ∷ []) q ≡ Some count =
+            ap (number_in (take count ports ++ port ∷ [])) (sym e) ∙ number_in-last (take count ports) port (absent (take count ports) port h.one_to_one)
+            ∙ ap (λ (n : ℕ). Some n) (length-first ports count t.ports_room t.few) in
+            there ∙ ap (λ (o : Option ℕ). Some o) (sym number ∙ sym (ap (λ ps. number_in ps q) front))
+        | inr ne ↦
+            get_set_other numbers port q (Some count) (λ (e : q ≡ port). ne (sym e)) ∙ t.inverse q below
+            ∙ ap (λ (o : Option ℕ). Some o) (sym (number_in-other (take count ports) port q ne) ∙ sym (ap (λ ps. number_in ps q) front))
+      ];
+}
+
+-- the same of a value that the ports are seen as
+pub as_seen : (ports seen more : List ℕ) → ports ≡ seen → IsNumbering (seen ++ more) → IsNumbering (ports ++ more)
+as_seen ports seen more is h = subst (λ (ps : List ℕ). IsNumbering (ps ++ more)) (sym is) h
+
+pub no_number_past : (ports : List ℕ) (numbers : List (Option ℕ)) (count port : ℕ) (seen : List ℕ) → take count ports ≡ seen → IsTable ports numbers count → 32 ≤ port → None ≡ number_in seen port
+no_number_past ports numbers count port seen is t past =
+    sym (ap (λ ps. number_in ps port) (sym is) ∙ number_in-past (take count ports) 32 port t.numbering.below past)
+
+-- a push at the places that the code computed
+pub table_pushed_at : (ports : List ℕ) (numbers : List (Option ℕ)) (count port at number : ℕ) (seen : List ℕ) → take count ports ≡ seen → at ≡ count → number ≡ port → IsTable ports numbers count → IsNumbering (seen ++ port ∷ [])
+    → IsTable (slice_set ports at port) (slice_set numbers number (Some count)) (count + 1) × (take (count + 1) (slice_set ports at port) ≡ seen ++ port ∷ [])
+table_pushed_at ports numbers count port at number seen is at_is number_is t h =
+    let here = as_seen (take count ports) seen (port ∷ []) is h in (
+      subst (λ (a : ℕ). IsTable (slice_set ports a port) (slice_set numbers number (Some count)) (count + 1)) (sym at_is)
+          (subst (λ (n : ℕ). IsTable (slice_set ports count port) (slice_set numbers n (Some count)) (count + 1)) (sym number_is) (table_pushed ports numbers count port t here)),
+      ap (λ (a : ℕ). take (count + 1) (slice_set ports a port)) at_is ∙ pushed ports numbers count port t here ∙ ap (λ (ps : List ℕ). ps ++ port ∷ []) is,
+    )
+
+-- ---- the ports of a range, one by one
+
+range_more : (first i : ℕ) → range_with_len first (i + 1) ≡ range_with_len first i ++ (first + i) ∷ []
+range_more first i =
+    subst (λ (n : ℕ). range_with_len first n ≡ range_with_len first i ++ (first + i) ∷ []) (let e : suc i ≡ i + 1 = omega arith in e) (one_on first i)
+  where
+    one_on : (first i : ℕ) → range_with_len first (suc i) ≡ range_with_len first i ++ (first + i) ∷ []
+    one_on first zero = ap (λ (p : ℕ). p ∷ []) (let e : first ≡ first + 0 = omega arith in e)
+    one_on first (suc i) =
+        ap (λ ps. first ∷ ps) (one_on (first + 1) i) ∙ ap (λ (p : ℕ). first ∷ (range_with_len (first + 1) i ++ p ∷ [])) (let e : first + 1 + i ≡ first + suc i = omega arith in e)
+
+range_split : (first i j n : ℕ) → i + j ≡ n → range_with_len first n ≡ range_with_len first i ++ range_with_len (first + i) j
+range_split first zero j n h =
+    ap (range_with_len first) (let e : n ≡ j = omega arith in e) ∙ ap (λ (p : ℕ). range_with_len p j) (let e : first ≡ first + 0 = omega arith in e)
+range_split first (suc i) j zero h = absurd (omega arith)
+range_split first (suc i) j (suc n) h =
+    ap (λ ps. first ∷ ps) (range_split (first + 1) i j n (omega arith))
+    ∙ ap (λ (p : ℕ). first ∷ (range_with_len (first + 1) i ++ range_with_len p j)) (let e : first + 1 + i ≡ first + suc i = omega arith in e)
+
+pub none_yet : (ports : List ℕ) (first : ℕ) → ports ≡ ports ++ range_with_len first (first - first)
+none_yet ports first =
+    let none : first - first ≡ 0 = omega arith in
+    sym (append-nil ports) ∙ ap (λ (n : ℕ). ports ++ range_with_len first n) (sym none)
+
+pub all_ports : (ports now : List ℕ) (first last port : ℕ) → (first ≤ port) × (port ≤ last + 1) → last + 1 ≤ port → now ≡ ports ++ range_with_len first (port - first) → now ≡ ports ++ range_with_len first (last + 1 - first)
+all_ports ports now first last port within past is =
+    let (from, to) = within in
+    let all : port - first ≡ last + 1 - first = omega (arith, from, to) in
+    is ∙ ap (λ (n : ℕ). ports ++ range_with_len first n) all
+
+pub one_more : (ports now : List ℕ) (first n port : ℕ) → IsNumbering (ports ++ range_with_len first n) → first ≤ port → port < first + n → now ≡ ports ++ range_with_len first (port - first) → IsNumbering (now ++ port ∷ [])
+one_more ports now first n port h from to is =
+    let i = port - first in
+    let at : first + i ≡ port = omega arith in
+    let split = range_split first (i + 1) (n - (i + 1)) n (omega arith) in
+    let front = range_more first i ∙ ap (λ (p : ℕ). range_with_len first i ++ p ∷ []) at in
+    let whole : ports ++ range_with_len first n ≡ (ports ++ (range_with_len first i ++ port ∷ [])) ++ range_with_len (first + (i + 1)) (n - (i + 1)) =
+    ap (λ ps. ports ++ ps) (split ∙ ap (λ ps. ps ++ range_with_len (first + (i + 1)) (n - (i + 1))) front) ∙ sym (append_assoc ports _ _) in
+    let part = numbering_front (ports ++ (range_with_len first i ++ port ∷ [])) _ (subst IsNumbering whole h) in
+    subst IsNumbering (sym (append_assoc ports _ _) ∙ ap (λ ps. ps ++ port ∷ []) (sym is)) part
+
+pub one_appended : (ports now next : List ℕ) (first port : ℕ) → first ≤ port → now ≡ ports ++ range_with_len first (port - first) → next ≡ now ++ port ∷ [] → next ≡ ports ++ range_with_len first (port + 1 - first)
+one_appended ports now next first port from is more =
+    let i = port - first in
+    let at : first + i ≡ port = omega arith in
+    let n : i + 1 ≡ port + 1 - first = omega arith in
+    more ∙ ap (λ ps. ps ++ port ∷ []) is ∙ append_assoc ports _ _ ∙ ap (λ ps. ports ++ ps) (ap (λ (p : ℕ). range_with_len first i ++ p ∷ []) (sym at) ∙ sym (range_more first i) ∙ ap (range_with_len first) n)
+
+-- ---- the ports of a row of ranges, place by place
+
+ports_in-append : (ranges more : List (Option PortRange)) → ports_in (ranges ++ more) ≡ ports_in ranges ++ ports_in more
+ports_in-append [] more = refl
+ports_in-append (place ∷ ranges) more = ap (λ ps. ports_at place ++ ps) (ports_in-append ranges more) ∙ sym (append_assoc (ports_at place) (ports_in ranges) (ports_in more))
+
+below_of : (place : Option PortRange) → IsRange place → All (λ p. p < 32) (ports_at place)
+below_of None h k d l = absurd (omega arith)
+below_of (Some range) h k d l =
+    let inside : k < range.last + 1 - range.first = omega (arith, length-range_with_len range.first (range.last + 1 - range.first)) in
+    let at = get_or-range_with_len range.first (range.last + 1 - range.first) k d inside in
+    let (from, to) = h in
+    omega (arith, from, to)
+
+ranges_below : (ranges : List (Option PortRange)) → All IsRange ranges → All (λ p. p < 32) (ports_in ranges)
+ranges_below [] h = λ k d l. absurd (omega arith)
+ranges_below (place ∷ ranges) h =
+    All-append (λ p. p < 32) (ports_at place) (ports_in ranges) (below_of place (h 0 None (omega arith))) (ranges_below ranges (λ k d l. h (suc k) d (omega arith)))
+
+pub numbering_in : (ranges : List (Option PortRange)) → AreRanges ranges → IsNumbering (ports_in ranges)
+numbering_in ranges h = record { below = ranges_below ranges h.each; one_to_one = h.one_to_one }
+
+ports_in-more : (ranges : List (Option PortRange)) (i : ℕ) (d : Option PortRange) → i < length ranges → ports_in (take (i + 1) ranges) ≡ ports_in (take i ranges) ++ ports_at (get_or ranges i d)
+ports_in-more ranges i d l = ap ports_in (take_more ranges i d l) ∙ ports_in-append (take i ranges) (get_or ranges i d ∷ []) ∙ ap (λ ps. ports_in (take i ranges) ++ ps) (append-nil (ports_at (get_or ranges i d)))
+
+-- the next place shares no port with those before it
+pub next_place : (ranges : List (Option PortRange)) (now : List ℕ) (i : ℕ) (d : Option PortRange) → AreRanges ranges → i < length ranges → now ≡ ports_in (take i ranges) → IsNumbering (now ++ ports_at (get_or ranges i d))
+next_place ranges now i d h l is =
+    let whole : ports_in ranges ≡ (now ++ ports_at (get_or ranges i d)) ++ ports_in (drop (i + 1) ranges) =
+    ap ports_in (sym (take-append-drop (i + 1) ranges)) ∙ ports_in-append (take (i + 1) ranges) (drop (i + 1) ranges)
+    ∙ ap (λ ps. ps ++ ports_in (drop (i + 1) ranges)) (ports_in-more ranges i d l ∙ ap (λ ps. ps ++ ports_at (get_or ranges i d)) (sym is)) in
+    numbering_front _ _ (subst IsNumbering whole (numbering_in ranges h))
+
+pub place_appended : (ranges : List (Option PortRange)) (now next : List ℕ) (i : ℕ) (d : Option PortRange) → i < length ranges → now ≡ ports_in (take i ranges) → next ≡ now ++ ports_at (get_or ranges i d) → next ≡ ports_in (take (i + 1) ranges)
+place_appended ranges now next i d l is more = more ∙ ap (λ ps. ps ++ ports_at (get_or ranges i d)) is ∙ sym (ports_in-more ranges i d l)
+
+pub all_places : (ranges : List (Option PortRange)) (now : List ℕ) (n : ℕ) → length ranges ≤ n → now ≡ ports_in (take n ranges) → now ≡ ports_in ranges
+all_places ranges now n past is = is ∙ ap ports_in (take_all n ranges past)

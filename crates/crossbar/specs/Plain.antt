@@ -1,0 +1,31 @@
+-- A row of words that nobody shares, kept in the order of the virtual numbers.
+use Rattle.std.specs.Prelude.{◌≡◌, ℕ, List, take, length, All, slice_get}
+use Rattle.std.specs.List.{filter_map}
+use Rattle.crossbar.specs.declared.word.Word.{Word}
+use Rattle.crossbar.specs.declared.range.PortRange.{PortRange}
+use Rattle.std.specs.Prelude.{Option}
+use Rattle.crossbar.specs.Ranges.{ports_in, AreRanges}
+use Rattle.crossbar.specs.Row.{IsRow, IsWordOf}
+
+-- the physical ports and the words of some outputs
+pub record Row : Type 0 where
+  pub ports : List ℕ
+  pub words : List Word
+
+-- the words of these ports, of one word for each port of the crossbar
+abbrev pub words_at : List Word → List ℕ → List Word
+words_at words ports = filter_map (slice_get words) ports
+
+-- the ports of the ranges with their words
+abbrev pub row_of : List Word → List (Option PortRange) → Row
+row_of words ranges = record { ports = ports_in ranges; words = words_at words (ports_in ranges) }
+
+-- each word of the ranges' ports is proper and names an input among them
+pub record IsPlain (words : List Word) (ranges : List (Option PortRange)) : Type 0 where
+  pub ranges_are : AreRanges ranges
+  pub each : All (IsWordOf (ports_in ranges)) (words_at words (ports_in ranges))
+
+-- the first words stand for the ports
+pub record IsPlainRow (ports : List ℕ) (words : List Word) : Type 0 where
+  pub room : length words ≡ 32
+  pub row : IsRow ports (take (length ports) words)

@@ -1,0 +1,18 @@
+//! The crossbar of an IMS C004 link switch: 32 inputs, 32 outputs, and for each output a word that
+//! says which input drives it. Contracts see the outputs of a domain as a private switch: a set of
+//! pairs (output, input) and a set of ready outputs.
+#![tactic(auto)]
+
+mod numbering;
+mod operations;
+mod outputs;
+mod plain;
+mod range;
+mod word;
+
+pub use numbering::Numbering;
+pub use operations::{clear, connect, disconnect, driven_by, enquire, make_ready};
+pub use outputs::Outputs;
+pub use plain::PlainOutputs;
+pub use range::{MOST_RANGES, PORTS, PortRange};
+pub use word::{Connection, Word};
