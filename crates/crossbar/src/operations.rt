@@ -1,8 +1,8 @@
-ghost use Rattle.std.specs.Prelude.{◌≡◌, ◌<◌, ℕ, ◌&&◌, ◌==◌, if◌then◌else◌, length, Contains};
+ghost use Rattle.std.specs.Prelude.{◌≡◌, ◌<◌, ℕ, ◌&&◌, ◌==◌, if◌then◌else◌, length, Contains, false};
 ghost use Rattle.std.specs.Int.{bit_at};
 ghost use Rattle.std.specs.List.{AllZip};
 ghost use Rattle.std.specs.FinMap as pairs;
-ghost use Rattle.crossbar.specs.Row.{IsRow, InputIsIn, switch_of, words_after, ready_of, input_of};
+ghost use Rattle.crossbar.specs.Row.{IsRow, InputIsIn, switch_of, words_after, each_after, ready_of, input_of};
 ghost use Rattle.crossbar.specs.Switch.{connected, disconnected, all_ready, cleared, drives, names};
 ghost use Rattle.crossbar.specs.Word.{CountsChange, connection_of};
 
@@ -29,6 +29,7 @@ fn set<O: Outputs>(outputs: &mut O, output: u8, connection: Option<Connection>)
 pub fn connect<O: Outputs>(outputs: &mut O, input: u8, output: u8)
     requires output { output < length (O.ports outputs.old) }
     requires input { Contains (O.ports outputs.old) input }
+    ensures words { O.words outputs.new ≡ words_after (O.words outputs.old) output (Some (record { input = input; ready = false })) }
     ensures switch { switch_of (O.words outputs.new) ≡ connected (switch_of (O.words outputs.old)) input output }
     ensures counts { AllZip CountsChange (O.words outputs.old) (O.words outputs.new) }
     ensures ports { O.ports outputs.new ≡ O.ports outputs.old }
@@ -47,6 +48,7 @@ pub fn connect<O: Outputs>(outputs: &mut O, input: u8, output: u8)
 /// Disconnects the output, and no other (IMS C004 data sheet, configuration message 5).
 pub fn disconnect<O: Outputs>(outputs: &mut O, output: u8)
     requires { output < length (O.ports outputs.old) }
+    ensures words { O.words outputs.new ≡ words_after (O.words outputs.old) output None }
     ensures switch { switch_of (O.words outputs.new) ≡ disconnected (switch_of (O.words outputs.old)) output }
     ensures counts { AllZip CountsChange (O.words outputs.old) (O.words outputs.new) }
     ensures ports { O.ports outputs.new ≡ O.ports outputs.old }
@@ -77,6 +79,7 @@ fn driver(word: Word) -> Option<u8>
 
 /// Makes each connected output ready (IMS C004 data sheet, configuration message 3).
 pub fn make_ready<O: Outputs>(outputs: &mut O)
+    ensures words { O.words outputs.new ≡ each_after ready_of (O.words outputs.old) }
     ensures switch { switch_of (O.words outputs.new) ≡ all_ready (switch_of (O.words outputs.old)) }
     ensures counts { AllZip CountsChange (O.words outputs.old) (O.words outputs.new) }
     ensures ports { O.ports outputs.new ≡ O.ports outputs.old }
@@ -101,6 +104,7 @@ fn readied(word: Word) -> Option<Connection>
 
 /// Disconnects all outputs (IMS C004 data sheet, configuration message 4).
 pub fn clear<O: Outputs>(outputs: &mut O)
+    ensures words { O.words outputs.new ≡ each_after (λ connection. None) (O.words outputs.old) }
     ensures switch { switch_of (O.words outputs.new) ≡ cleared }
     ensures counts { AllZip CountsChange (O.words outputs.old) (O.words outputs.new) }
     ensures ports { O.ports outputs.new ≡ O.ports outputs.old }
