@@ -1,0 +1,32 @@
+//! The farm's script program: see the library `farm_program`, which it only starts.
+#![tactic(auto)]
+
+use farm_program::{refuse_arguments, run};
+use std::env;
+use std::io;
+use std::process::ExitCode;
+
+fn main(rt: HostRuntime) -> ExitCode {
+    let alloc = rt.alloc();
+    let mut input = rt.reader();
+    let mut output = rt.stdout();
+    let mut errors = rt.stderr();
+    let words = match env::args(&rt) {
+        Ok(words) => words,
+        Err(error) => return ExitCode::from(refuse_arguments(alloc, &error, &mut errors)),
+    };
+    let words: Vec<String> = match words.collect(alloc) {
+        Ok(words) => words,
+        Err(_) => {
+            let error = io::Error::from(io::ErrorKind::OutOfMemory);
+            return ExitCode::from(refuse_arguments(alloc, &error, &mut errors));
+        }
+    };
+    ExitCode::from(run(
+        alloc,
+        words.as_slice(),
+        &mut input,
+        &mut output,
+        &mut errors,
+    ))
+}

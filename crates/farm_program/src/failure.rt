@@ -1,0 +1,93 @@
+//! Why a run ends without its output.
+use crate::output::write_whole;
+use plan_checker::PlanFault;
+use std::alloc::{AllocError, AllocFailed, Global};
+use std::io::{self, Write};
+use thiserror::Error;
+
+/// What is wrong with a script line, in the order of the tests.
+#[derive(Clone, Copy, Debug, PartialEq, Eq, Error)]
+pub enum LineFault {
+    #[error("user")]
+    User,
+    #[error("verb")]
+    Verb,
+    #[error("args")]
+    Args,
+    #[error("hex")]
+    Hex,
+}
+
+/// Why a run ends without its output, with the text for standard error.
+#[derive(Debug, Drop, Error)]
+pub enum Failure {
+    #[error("{0}")]
+    Words(clap::Error),
+    #[error("error: an argument isn't UTF-8\n")]
+    Arguments,
+    #[error("plan: {number}\n")]
+    Plan { number: u8 },
+    #[error("line {number}: {fault}\n")]
+    Line { number: u64, fault: LineFault },
+    #[error("memory\n")]
+    Memory,
+    #[error("io\n")]
+    Io,
+}
+
+impl Failure {
+    /// The arguments of the process couldn't be read.
+    pub fn of_arguments(error: &io::Error) -> Failure {
+        match error.kind() {
+            io::ErrorKind::OutOfMemory => Failure::Memory,
+            _ => Failure::Arguments,
+        }
+    }
+
+    /// The plan was refused.
+    pub fn of_plan(fault: PlanFault) -> Failure {
+        match fault {
+            PlanFault::NoMemory => Failure::Memory,
+            _ => Failure::Plan {
+                number: fault.number(),
+            },
+        }
+    }
+
+    /// The status of the process.
+    fn status(&self) -> u8 {
+        match self {
+            Failure::Words(_) | Failure::Arguments => 2,
+            Failure::Plan { .. } => 3,
+            Failure::Line { .. } => 4,
+            Failure::Memory => 5,
+            Failure::Io => 6,
+        }
+    }
+
+    /// Writes the text, and gives the status. Where the text can't be written the status stays.
+    pub fn report<E: Write>(&self, alloc: Global, errors: &mut E) -> u8 {
+        match format!(in alloc; "{self}") {
+            Ok(text) => {
+                let _ = write_whole(errors, text.as_bytes());
+                self.status()
+            }
+            Err(_) => {
+                let _ = write_whole(errors, b"memory\n");
+                5
+            }
+        }
+    }
+}
+
+impl From<AllocError> for Failure {
+    fn from(_error: AllocError) -> Failure {
+        Failure::Memory
+    }
+}
+
+impl<T: Drop> From<AllocFailed<T>> for Failure {
+    fn from(_error: AllocFailed<T>) -> Failure {
+        Failure::Memory
+    }
+}

@@ -1,0 +1,7 @@
+//! Worked rows of the link switch, over the outputs of plans. Tests alone.
+#![tactic(auto)]
+
+#[cfg(test)]
+mod plans;
+#[cfg(test)]
+mod rows;
