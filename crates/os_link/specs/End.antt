@@ -1,7 +1,7 @@
 -- A link end: what waits to leave, what has arrived, and what is known of acknowledges.
 -- Transputer Reference Manual, links: a byte is acknowledged before the next one is sent. That packets wait
 -- in a latch, the acknowledge first, and that a byte too many is dropped and counted, are our choices.
-use Rattle.std.specs.Prelude.{ℕ, ◌+◌, ◌-◌, ◌^◌, Bool, true, false, Option, Some, None, if◌then◌else◌, min}
+use Rattle.std.specs.Prelude.{ℕ, ◌+◌, ◌-◌, ◌^◌, true, false, Option, Some, None, if◌then◌else◌, min}
 use Rattle.os_link.specs.declared.latch.Packet.{Packet}
 use Rattle.os_link.specs.declared.latch.Packet.TheVariants.{Byte, Ack}
 use Rattle.os_link.specs.declared.latch.Latch.{Latch}
@@ -12,9 +12,10 @@ use Rattle.os_link.specs.declared.end.LinkEnd.{LinkEnd}
 -- a link end at which nothing has happened
 abbrev pub fresh : LinkEnd
 fresh = record {
-    latch = record { byte = None; acknowledge = false };
-    input = record { buffer = None; overruns = 0 };
-    output = record { awaits = false; acknowledged = false } }
+  latch = record { byte = None; acknowledge = false };
+  input = record { buffer = None; overruns = 0 };
+  output = record { awaits = false; acknowledged = false };
+}
 
 -- the packet of a byte that waits
 abbrev pub byte_of : Option ℕ → Option Packet
