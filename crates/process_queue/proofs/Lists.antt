@@ -1,11 +1,11 @@
 -- Putting and taking, on the list that waits.
-use Rattle.std.proofs.Common.{◌≡◌, ◌≢◌, ℕ, ◌/◌, ◌^◌, ◌<◌, List, [], ◌∷◌, ◌++◌, Some, None, Result, Ok, Err, refl, arith, ◌∙◌, ap, sym}
+use Rattle.std.proofs.Common.{◌≡◌, ◌≢◌, ℕ, ◌/◌, ◌^◌, ◌<◌, List, [], ◌∷◌, ◌++◌, Option, Some, None, Result, Ok, Err, refl, arith, ◌∙◌, ap, sym}
 use Rattle.std.proofs.lemmas.Bool.Decides.{nat_tests}
 use Rattle.node_memory.specs.Bytes.{word_at, with_word}
 use Rattle.node_memory.proofs.Writes.{word_at-with_word_same, word_at-with_word_other, word_at-unwritten, with_word-unread, word_at-fault}
 use Rattle.process_queue.specs.declared.queue.Queue.{Queue}
 use Rattle.node_memory.specs.Marks.{not_process}
-use Rattle.process_queue.specs.Queue.{link_of, after_put, Changed, Kept, linked, after_take, Took, followed}
+use Rattle.process_queue.specs.Queue.{link_of, after_put, Changed, Kept, linked, after_take, Took, Stayed, followed}
 use Rattle.node_memory.specs.declared.fault.Fault.{Fault}
 use Rattle.node_memory.specs.declared.fault.Fault.TheVariants.{OutsideMemory}
 use Rattle.process_queue.specs.Waiting.{IsWorkspace, IsAbsent, AreWorkspaces, IsLinked, Stands, first, others}
@@ -101,6 +101,28 @@ take_last q m ne e = grind (arith, nat_tests)
 take_more : (q : Queue) (m : List ℕ) → q.front ≢ not_process → q.front ≢ q.back → after_take q m ≡ followed (word_at m (link_of q.front)) q
 unfolding after_take
 take_more q m ne e = grind (arith, nat_tests)
+
+followed-took : (x : Result ℕ Fault) (q r : Queue) (w : Option ℕ) → followed x q ≡ Took w r → x ≡ Err OutsideMemory → ⊥
+followed-took (Ok next) q r w e outside = cc
+followed-took (Err fault) q r w e outside = cc
+
+followed-stayed : (x : Result ℕ Fault) (q r : Queue) (f : Fault) → followed x q ≡ Stayed f r → x ≡ Err f
+followed-stayed (Ok next) q r f e = cc
+followed-stayed (Err fault) q r f e = cc
+
+-- a take that is done found the first link word in memory, if others wait behind it
+pub take-inside : (q r : Queue) (m : List ℕ) (w : Option ℕ) → after_take q m ≡ Took w r → q.front ≢ not_process → q.front ≢ q.back → word_at m (link_of q.front) ≡ Err OutsideMemory → ⊥
+take-inside q r m w e process last outside =
+    followed-took _ _ _ _ (sym (take_more q m process last) ∙ e) outside
+
+-- one that is not done found it outside
+pub take-outside : (q r : Queue) (m : List ℕ) (f : Fault) → after_take q m ≡ Stayed f r → (f ≡ OutsideMemory) × (q.front ≢ not_process) × (q.front ≢ q.back) × (word_at m (link_of q.front) ≡ Err OutsideMemory)
+take-outside q r m f e =
+    let process : q.front ≢ not_process = λ h. (let p = take_empty q m h in cc) in
+    let last : q.front ≢ q.back = λ h. (let p = take_last q m process h in cc) in
+    let unread = followed-stayed _ _ _ _ (sym (take_more q m process last) ∙ e) in
+    let same = word_at-fault m (link_of q.front) f unread in
+    (same, process, last, rw (← same) unread)
 
 -- the first is taken, and the others stand
 pub stands-take : (ws : List ℕ) (q : Queue) (m : List ℕ) → Stands m q ws → (r : Queue) × (after_take q m ≡ Took (first ws) r) × Stands m r (others ws)

@@ -88,6 +88,8 @@ impl Queue {
         ensures first { (ws : List ℕ) → Stands memory.now self.old ws → result ≡ Ok (first ws) }
         ensures others { (ws : List ℕ) → Stands memory.now self.old ws → Stands memory.now self.new (others ws) }
 
+        ensures outside { (result ≡ Err OutsideMemory) ↔
+            ((self.old.front ≢ not_process) × (self.old.front ≢ self.old.back) × (word_at memory.now (link_of self.old.front) ≡ Err OutsideMemory)) }
         ensures unchanged { OnErr result (self.new ≡ self.old) }
     {
         let workspace = self.front;
