@@ -1,7 +1,8 @@
 //! The memory of a node, the faults that halt it, and arithmetic on its words.
 //!
 //! Words have 32 bits and stand least significant byte first. Arithmetic wraps; the `_checked`
-//! forms tell beside it whether the signed result did not fit.
+//! forms tell beside it whether the signed result did not fit. `NoMemory` is the allocator's own
+//! error: an allocation found no memory.
 #![tactic(auto)]
 
 mod fault;
@@ -9,7 +10,6 @@ mod laws;
 mod memory;
 mod words;
 
-/// An allocation found no memory.
 pub use fault::Fault;
 pub use laws::{copies_stop_at_the_edge, written_bytes_are_read, written_words_are_read};
 pub use memory::{MEMORY_START, Memory};
