@@ -1,0 +1,5 @@
+pub mod Bytes
+pub mod Faults
+pub mod Laws
+pub mod Marks
+pub mod Words

@@ -1,0 +1,174 @@
+//! Bytes from the most negative address upwards, and words of four bytes among them.
+
+ghost use Rattle.std.specs.Prelude.{◌≡◌, IfOk, IsTrue, OnErr, length, replicate};
+ghost use Rattle.node_memory.specs.Bytes.{IsMemorySize, byte_at, word_at, with_byte, with_word, stored, copied};
+
+use crate::fault::Fault;
+use std::alloc::{AllocError as NoMemory, Global};
+use std::marker::Model;
+
+/// The first address of memory, MinInt.
+///
+/// Source: IMS T414 data sheet, memory map.
+pub const MEMORY_START: u32 = 0x8000_0000;
+
+/// A node's memory: its bytes from `MEMORY_START` upwards.
+#[derive(Debug, Drop)]
+pub struct Memory {
+    bytes: Vec<u8>,
+}
+
+impl Model for Memory {
+    ghost use Rattle.std.specs.Prelude.{List, ℕ, length};
+    ghost use Rattle.node_memory.specs.Bytes.{IsMemorySize};
+
+    ghost Value = { List ℕ };
+
+    ghost view = { λ m. m.bytes.items };
+
+    ghost invariant = { λ m. IsMemorySize (length m.bytes.items) };
+}
+
+impl Memory {
+    /// Memory of `size` bytes, all zero.
+    ///
+    /// `size` is a multiple of 4 from 2,048 to 65,536 (our choice; the chip's address space is
+    /// larger). `NoMemory` where the bytes can't be allocated.
+    pub fn new(alloc: Global, size: usize) -> Result<Memory, NoMemory>
+        requires { IsMemorySize size }
+        ensures { IfOk result (λ memory. memory ≡ replicate size 0) }
+    {
+        Ok(Memory {
+            bytes: vec![in alloc; 0; size]?,
+        })
+    }
+
+    /// The byte at an address, or `Fault::OutsideMemory` where it lies outside.
+    ///
+    /// Source: Transputer instruction set handbook, load byte.
+    #[inline]
+    #[tactic(auto, unfolding(crate::specs::Bytes::byte_at))]
+    pub fn byte(&self, address: u32) -> Result<u8, Fault>
+        ensures { result ≡ byte_at self.now address }
+    {
+        let offset = address.wrapping_sub(MEMORY_START) as usize;
+        if offset < self.bytes.len() {
+            Ok(self.bytes[offset])
+        } else {
+            Err(Fault::OutsideMemory)
+        }
+    }
+
+    /// Writes the byte at an address.
+    ///
+    /// `Fault::OutsideMemory` where it lies outside; memory is then unchanged.
+    ///
+    /// Source: Transputer instruction set handbook, store byte.
+    #[inline]
+    #[tactic(auto, unfolding(crate::specs::Bytes::with_byte))]
+    pub fn set_byte(&mut self, address: u32, byte: u8) -> Result<(), Fault>
+        ensures stored { stored result self.new ≡ with_byte self.old address byte }
+        ensures err { OnErr result (self.new ≡ self.old) }
+    {
+        let offset = address.wrapping_sub(MEMORY_START) as usize;
+        if offset < self.bytes.len() {
+            self.bytes[offset] = byte;
+            Ok(())
+        } else {
+            Err(Fault::OutsideMemory)
+        }
+    }
+
+    /// The word that an address lies in, its low two bits ignored.
+    ///
+    /// `Fault::OutsideMemory` where the word lies outside.
+    ///
+    /// Source: Transputer instruction set handbook, load non-local.
+    #[inline]
+    #[tactic(auto, unfolding(crate::specs::Bytes::word_at))]
+    pub fn word(&self, address: u32) -> Result<u32, Fault>
+        ensures { result ≡ word_at self.now address }
+    {
+        let offset = address.wrapping_sub(MEMORY_START) as usize;
+        if offset < self.bytes.len() {
+            let first = offset - offset % 4;
+            let bytes = &self.bytes.as_slice()[first..first + 4];
+            let low = u32::from(bytes[0]);
+            let second = u32::from(bytes[1]);
+            let third = u32::from(bytes[2]);
+            let high = u32::from(bytes[3]);
+            Ok(low + (second << 8) + (third << 16) + (high << 24))
+        } else {
+            Err(Fault::OutsideMemory)
+        }
+    }
+
+    /// Writes the word that an address lies in, its low two bits ignored.
+    ///
+    /// `Fault::OutsideMemory` where the word lies outside; memory is then unchanged.
+    ///
+    /// Source: Transputer instruction set handbook, store non-local.
+    #[inline]
+    #[tactic(auto, unfolding(crate::specs::Bytes::with_word))]
+    pub fn set_word(&mut self, address: u32, word: u32) -> Result<(), Fault>
+        ensures stored { stored result self.new ≡ with_word self.old address word }
+        ensures err { OnErr result (self.new ≡ self.old) }
+    {
+        let offset = address.wrapping_sub(MEMORY_START) as usize;
+        if offset < self.bytes.len() {
+            let first = offset - offset % 4;
+            let bytes = self.bytes.as_mut_slice();
+            bytes[first] = (word % 0x100) as u8;
+            bytes[first + 1] = ((word >> 8) % 0x100) as u8;
+            bytes[first + 2] = ((word >> 16) % 0x100) as u8;
+            bytes[first + 3] = (word >> 24) as u8;
+            Ok(())
+        } else {
+            Err(Fault::OutsideMemory)
+        }
+    }
+
+    /// Copies `count` bytes from one address to another, upwards and one by one, so that a byte
+    /// written is read again where the two blocks overlap so.
+    ///
+    /// `Fault::OutsideMemory` at the first byte that can't be read or written; the bytes before it
+    /// are copied and stay so.
+    ///
+    /// Source: Transputer instruction set handbook, move message; for blocks that overlap and for
+    /// a fault our choice.
+    pub fn copy_up(&mut self, from: u32, to: u32, count: u32) -> Result<(), Fault>
+        ensures { (result, self.new) ≡ copied count self.old from to }
+    {
+        for i in 0..count {
+            // No address passes 2^32: memory's size bounds those that were copied.
+            let _ = &self.bytes;
+            let byte = self.byte(from + i)?;
+            self.set_byte(to + i, byte)?;
+        }
+        Ok(())
+    }
+
+    /// Makes every byte zero.
+    pub fn clear(&mut self)
+        ensures { self.new ≡ replicate (length self.old) 0 }
+    {
+        self.bytes.fill(0);
+    }
+
+    /// Memory with the same bytes. `NoMemory` where they can't be allocated.
+    pub fn copy(&self) -> Result<Memory, NoMemory>
+        ensures { IfOk result (λ memory. memory ≡ self.now) }
+    {
+        Ok(Memory {
+            bytes: self.bytes.clone()?,
+        })
+    }
+
+    /// Whether the sizes and all bytes are the same.
+    pub fn same(&self, other: &Memory) -> bool
+        ensures same { IsTrue result → self.now ≡ other.now }
+        ensures different { self.now ≡ other.now → IsTrue result }
+    {
+        self.bytes == other.bytes
+    }
+}
