@@ -1,0 +1,5 @@
+pub mod FieldLemmas
+pub mod DocumentLemmas
+pub mod ListLemmas
+pub mod RuleLemmas
+pub mod NumberLemmas
