@@ -3,3 +3,6 @@ pub mod DocumentLemmas
 pub mod ListLemmas
 pub mod RuleLemmas
 pub mod NumberLemmas
+pub mod PartLemmas
+pub mod PortLemmas
+pub mod SeparateLemmas

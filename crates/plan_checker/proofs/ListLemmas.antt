@@ -109,3 +109,25 @@ length_until f ds i d within at_i =
     let e1 = ap length parts ∙ length-append (flat_map f (take (i + 1) ds)) (flat_map f (drop (i + 1) ds)) in
     let e2 = ap length until ∙ length-append (flat_map f (take i ds)) (f d) in
     omega (arith, e1, e2)
+
+-- the elements of each list are related
+pub lists_each : {D X : Type 0} (R : X → X → Type 0) (f : D → List X) (ds : List D) → AllPairs R (flat_map f ds) → All (λ d. AllPairs R (f d)) ds
+lists_each R f [] all = All-nil (λ d. AllPairs R (f d))
+lists_each R f (d ∷ ds) all =
+    let all' = rw (flat_map-cons f d ds) at all in
+    All-cons (λ d. AllPairs R (f d)) d ds (pairs_left R (f d) (flat_map f ds) all') (lists_each R f ds (pairs_right R (f d) (flat_map f ds) all'))
+
+-- the elements of each list are related to those of each later one
+pub lists_across : {D X : Type 0} (R : X → X → Type 0) (f : D → List X) (ds : List D) → AllPairs R (flat_map f ds) → AllPairs (λ d e. All (λ y. All (λ x. R x y) (f d)) (f e)) ds
+lists_across R f [] all = pairs_nil (λ d e. All (λ y. All (λ x. R x y) (f d)) (f e))
+lists_across R f (d ∷ ds) all =
+    let all' = rw (flat_map-cons f d ds) at all in
+    AllPairs-cons (λ d e. All (λ y. All (λ x. R x y) (f d)) (f e)) d ds
+    (all_lists (λ y. All (λ x. R x y) (f d)) f ds (pairs_across R (f d) (flat_map f ds) all'))
+    (lists_across R f ds (pairs_right R (f d) (flat_map f ds) all'))
+
+pub pairs_alone : {D X : Type 0} (R : X → X → Type 0) (f : D → List X) (d : D) → AllPairs R (f d) → AllPairs R (flat_map f (d ∷ []))
+pairs_alone R f d h = rw (flat_map-cons f d [], append-nil (f d)) h
+
+pub pairs_of_one : {D X : Type 0} (R : X → X → Type 0) (f : D → List X) (d : D) → AllPairs R (flat_map f (d ∷ [])) → AllPairs R (f d)
+pairs_of_one R f d h = All-head (λ d. AllPairs R (f d)) d [] (lists_each R f (d ∷ []) h)

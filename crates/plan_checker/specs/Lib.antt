@@ -4,3 +4,4 @@ pub mod Fault
 pub mod Document
 pub mod Fields
 pub mod Separate
+pub mod Part

@@ -2,14 +2,15 @@
 ghost use Rattle.std.specs.Prelude.{◌≡◌, ◌↔◌, ◌++◌, IsTrue, IfOk, OnOk, All};
 ghost use Rattle.plan_checker.specs.Separate.{IsRange, length_of, IsVirtualPort, IsDistinct, Rule, wired_links, used_ports};
 
+use crate::NoMemory;
 use crate::apart::are_apart;
 use crate::fault::PlanFault;
 use crate::plan::{DomainPlan, NodePlan, RangePlan};
 use crate::rules::is_wired;
-use std::alloc::{AllocError as NoMemory, Global};
+use std::alloc::Global;
 
 /// How many ports the range has.
-fn length_of(range: &RangePlan) -> i64
+pub fn length_of(range: &RangePlan) -> i64
     requires { IsRange range.now }
     ensures { result ≡ length_of range.now }
 {

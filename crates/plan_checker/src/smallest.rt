@@ -3,6 +3,7 @@ ghost use Rattle.std.specs.Prelude.{◌≡◌, ◌↔◌, IsTrue, IfOk, MatchOpt
 ghost use Rattle.plan_checker.specs.Fault.{number_of};
 ghost use Rattle.plan_checker.specs.Separate.{Rule, IsSeparate, KeepsBelow, IsSmallestFault};
 
+use crate::NoMemory;
 use crate::apart::differ;
 use crate::fault::PlanFault;
 use crate::plan::{DomainPlan, RangePlan, UserPlan};
@@ -11,7 +12,7 @@ use crate::rules::{
     has_host_count, has_limit, has_memory_sizes, has_names, has_node_count, has_range_count,
     has_ranges, has_user_count, has_wired_nodes,
 };
-use std::alloc::{AllocError as NoMemory, Global};
+use std::alloc::Global;
 
 /// The faults from the third on, in the order of their numbers. Want of memory breaks no rule.
 const RULES: [PlanFault; 15] = [
