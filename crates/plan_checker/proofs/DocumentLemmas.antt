@@ -1,0 +1,234 @@
+-- Data and the values that it spells.
+use Rattle.std.proofs.Common.{◌≡◌, ◌<◌, ◌+◌, ◌++◌, ℕ, suc, List, [], ◌∷◌, map, take, length, get_or, codes, Some, Result, Ok, Err, All, Vec, Global, subst, zero, refl, ap, sym, ◌∙◌, arith}
+use Rattle.toml.specs.Data.{Data, string, integer, float, boolean, datetime, array, table, Items, no_items, item, Members, no_members, member, get_member, get_item, push_item, as_array}
+use Rattle.toml.specs.View.{view, items_of, items_view}
+use Rattle.toml.specs.declared.value.Value.{Value}
+use Rattle.toml.proofs.Views.{items_view-push, get_item_within}
+use Rattle.plan_checker.specs.Fields.{keys_of}
+use Rattle.plan_checker.specs.Data.{DomainData}
+use Rattle.plan_checker.specs.Document.{Spells, list, document, IsDocument, ReadsDocument, Reads}
+use Rattle.plan_checker.specs.declared.fault.PlanFault.{PlanFault}
+use Rattle.plan_checker.specs.declared.fault.PlanFault.TheVariants.{Text, Shape, DomainCount, Name, NameTwice, Range, SharedPort, NodeCount, Memory, Port, PortTwice, HostCount, UnwiredNode, Limit, NoMemory, RangeCount, UserCount}
+use Rattle.std.proofs.lemmas.List.{take_more}
+
+pub items_of-push : {X : Type 0} (f : X → Data) (xs : List X) (x : X) → items_of (map f (xs ++ x ∷ [])) ≡ push_item (items_of (map f xs)) (f x)
+items_of-push f [] x = refl
+items_of-push f (y ∷ xs) x = ap (item (f y)) (items_of-push f xs x)
+
+-- one more value that spells an item
+pub spells_more : {X : Type 0} (f : X → Data) (vs : List Value) (i : ℕ) (d : Value) (xs : List X) (x : X)
+    → i < length vs → d ≡ get_or vs i d → view d ≡ f x → items_view (take i vs) ≡ items_of (map f xs)
+    → items_view (take (i + 1) vs) ≡ items_of (map f (xs ++ x ∷ []))
+spells_more f vs i d xs x within at_i here so_far =
+    let here' : view (get_or vs i d) ≡ f x = ap view (sym at_i) ∙ here in
+    rw (take_more vs i d within, items_view-push, items_of-push, so_far, here')
+
+-- a place of a list that holds x
+get_item-map : {X : Type 0} (f : X → Data) (xs : List X) (i : ℕ) (e : Data) → Some e ≡ get_item i (items_of (map f xs)) → (x : X) × (i < length xs) × (get_or xs i x ≡ x) × (e ≡ f x)
+get_item-map f [] i e h = cc
+get_item-map f (x ∷ xs) zero e h = (x, omega arith, refl, cc)
+get_item-map f (x ∷ xs) (suc i) e h =
+    let found = get_item-map f xs i e h in
+    (found.0, omega (arith, found.1), found.2, found.3)
+
+-- An array with an item that spells nothing whole is no list.
+pub refused : {X : Type 0} (Whole : X → Type 0) (f : X → Data) (vs : List Value) (i : ℕ) (d : Value) → i < length vs → d ≡ get_or vs i d
+    → ((x : X) → Whole x → ¬ (view d ≡ f x))
+    → (xs : List X) → All Whole xs → ¬ (array (items_view vs) ≡ list f xs)
+refused Whole f vs i d within at_i none xs whole e =
+    let same : items_view vs ≡ items_of (map f xs) = cc in
+    let found = get_item-map f xs i (view d) (ap (λ v. Some (view v)) at_i ∙ get_item_within vs i d within ∙ ap (get_item i) same) in
+    none found.0 (subst Whole found.2 (whole i found.0 found.1)) found.3
+
+pub array_is : (d : Data) (items : Items) → Some items ≡ as_array d → d ≡ array items
+array_is (string s) items h = cc
+array_is (integer z) items h = cc
+array_is (float x) items h = cc
+array_is (boolean b) items h = cc
+array_is (datetime t) items h = cc
+array_is (array ds) items h = cc
+array_is (table ms) items h = cc
+
+-- the fault of an item is that of the list
+pub list_fault : {X : Type 0} (Whole : X → Type 0) (f : X → Data) (value : Data) (vs : List Value) (i : ℕ) (d : Value) (e : PlanFault)
+    → value ≡ array (items_view vs) → i < length vs → d ≡ get_or vs i d → Spells {X = X} Whole f (λ x. x) (view d) (Err e)
+    → Spells {X = Vec X Global} (All Whole) (list f) (λ v. v.items) value (Err e)
+list_fault Whole f value vs i d Shape is within at_i h = λ xs whole. rw is (refused Whole f vs i d within at_i h xs whole)
+list_fault Whole f value vs i d NoMemory is within at_i h = tt
+list_fault Whole f value vs i d Text is within at_i h = h
+list_fault Whole f value vs i d DomainCount is within at_i h = h
+list_fault Whole f value vs i d Name is within at_i h = h
+list_fault Whole f value vs i d NameTwice is within at_i h = h
+list_fault Whole f value vs i d Range is within at_i h = h
+list_fault Whole f value vs i d SharedPort is within at_i h = h
+list_fault Whole f value vs i d NodeCount is within at_i h = h
+list_fault Whole f value vs i d Memory is within at_i h = h
+list_fault Whole f value vs i d Port is within at_i h = h
+list_fault Whole f value vs i d PortTwice is within at_i h = h
+list_fault Whole f value vs i d HostCount is within at_i h = h
+list_fault Whole f value vs i d UnwiredNode is within at_i h = h
+list_fault Whole f value vs i d Limit is within at_i h = h
+list_fault Whole f value vs i d RangeCount is within at_i h = h
+list_fault Whole f value vs i d UserCount is within at_i h = h
+
+abbrev count_items : Items → ℕ
+count_items no_items = 0
+count_items (item d ds) = suc (count_items ds)
+
+count_items-map : {X : Type 0} (f : X → Data) (xs : List X) → count_items (items_of (map f xs)) ≡ length xs
+count_items-map f [] = refl
+count_items-map f (x ∷ xs) = ap suc (count_items-map f xs)
+
+abbrev items_in : Data → Items
+items_in (array ds) = ds
+items_in _ = no_items
+
+-- one list of data has one length
+pub same_length : {X : Type 0} (f : X → Data) (value : Data) (xs ys : List X) → value ≡ list f xs → value ≡ list f ys → length xs ≡ length ys
+same_length f value xs ys a b =
+    sym (count_items-map f xs) ∙ ap (λ d. count_items (items_in d)) (sym a ∙ b) ∙ count_items-map f ys
+
+-- the fields of a node
+pub node_fields : (ms : Members) (links memory : Data)
+    → keys_of ms ≡ codes "links" ∷ codes "memory" ∷ []
+    → get_member (codes "links") ms ≡ Some links
+    → get_member (codes "memory") ms ≡ Some memory
+    → ms ≡ member (codes "links") links (member (codes "memory") memory no_members)
+node_fields (member a s (member b t no_members)) links memory keys h1 h2 =
+    let ka : a ≡ codes "links" = cc in
+    let kb : b ≡ codes "memory" = cc in
+    let g1 : Some s ≡ Some links = rw ka at h1 in
+    let g2 : Some t ≡ Some memory = rw (ka, kb) at h2 in
+    cc
+node_fields _ links memory keys h1 h2 = cc
+
+-- the fields of a user
+pub user_fields : (ms : Members) (host name : Data)
+    → keys_of ms ≡ codes "host" ∷ codes "name" ∷ []
+    → get_member (codes "host") ms ≡ Some host
+    → get_member (codes "name") ms ≡ Some name
+    → ms ≡ member (codes "host") host (member (codes "name") name no_members)
+user_fields (member a s (member b t no_members)) host name keys h1 h2 =
+    let ka : a ≡ codes "host" = cc in
+    let kb : b ≡ codes "name" = cc in
+    let g1 : Some s ≡ Some host = rw ka at h1 in
+    let g2 : Some t ≡ Some name = rw (ka, kb) at h2 in
+    cc
+user_fields _ host name keys h1 h2 = cc
+
+-- the fields of a domain in version 1
+pub one_range_fields : (ms : Members) (first host last limit name node : Data)
+    → keys_of ms ≡ codes "first" ∷ codes "host" ∷ codes "last" ∷ codes "limit" ∷ codes "name" ∷ codes "node" ∷ []
+    → get_member (codes "first") ms ≡ Some first
+    → get_member (codes "host") ms ≡ Some host
+    → get_member (codes "last") ms ≡ Some last
+    → get_member (codes "limit") ms ≡ Some limit
+    → get_member (codes "name") ms ≡ Some name
+    → get_member (codes "node") ms ≡ Some node
+    → ms ≡ member (codes "first") first (member (codes "host") host (member (codes "last") last (member (codes "limit") limit (member (codes "name") name (member (codes "node") node no_members)))))
+one_range_fields (member a s (member b t (member c u (member d v (member e w (member f x no_members)))))) first host last limit name node keys h1 h2 h3 h4 h5 h6 =
+    let ka : a ≡ codes "first" = cc in
+    let kb : b ≡ codes "host" = cc in
+    let kc : c ≡ codes "last" = cc in
+    let kd : d ≡ codes "limit" = cc in
+    let ke : e ≡ codes "name" = cc in
+    let kf : f ≡ codes "node" = cc in
+    let g1 : Some s ≡ Some first = rw ka at h1 in
+    let g2 : Some t ≡ Some host = rw (ka, kb) at h2 in
+    let g3 : Some u ≡ Some last = rw (ka, kb, kc) at h3 in
+    let g4 : Some v ≡ Some limit = rw (ka, kb, kc, kd) at h4 in
+    let g5 : Some w ≡ Some name = rw (ka, kb, kc, kd, ke) at h5 in
+    let g6 : Some x ≡ Some node = rw (ka, kb, kc, kd, ke, kf) at h6 in
+    cc
+one_range_fields _ first host last limit name node keys h1 h2 h3 h4 h5 h6 = cc
+
+-- the fields of a domain in version 2
+pub one_user_fields : (ms : Members) (host limit name node range : Data)
+    → keys_of ms ≡ codes "host" ∷ codes "limit" ∷ codes "name" ∷ codes "node" ∷ codes "range" ∷ []
+    → get_member (codes "host") ms ≡ Some host
+    → get_member (codes "limit") ms ≡ Some limit
+    → get_member (codes "name") ms ≡ Some name
+    → get_member (codes "node") ms ≡ Some node
+    → get_member (codes "range") ms ≡ Some range
+    → ms ≡ member (codes "host") host (member (codes "limit") limit (member (codes "name") name (member (codes "node") node (member (codes "range") range no_members))))
+one_user_fields (member a s (member b t (member c u (member d v (member e w no_members))))) host limit name node range keys h1 h2 h3 h4 h5 =
+    let ka : a ≡ codes "host" = cc in
+    let kb : b ≡ codes "limit" = cc in
+    let kc : c ≡ codes "name" = cc in
+    let kd : d ≡ codes "node" = cc in
+    let ke : e ≡ codes "range" = cc in
+    let g1 : Some s ≡ Some host = rw ka at h1 in
+    let g2 : Some t ≡ Some limit = rw (ka, kb) at h2 in
+    let g3 : Some u ≡ Some name = rw (ka, kb, kc) at h3 in
+    let g4 : Some v ≡ Some node = rw (ka, kb, kc, kd) at h4 in
+    let g5 : Some w ≡ Some range = rw (ka, kb, kc, kd, ke) at h5 in
+    cc
+one_user_fields _ host limit name node range keys h1 h2 h3 h4 h5 = cc
+
+-- the fields of a domain in version 3
+pub users_fields : (ms : Members) (limit node range user : Data)
+    → keys_of ms ≡ codes "limit" ∷ codes "node" ∷ codes "range" ∷ codes "user" ∷ []
+    → get_member (codes "limit") ms ≡ Some limit
+    → get_member (codes "node") ms ≡ Some node
+    → get_member (codes "range") ms ≡ Some range
+    → get_member (codes "user") ms ≡ Some user
+    → ms ≡ member (codes "limit") limit (member (codes "node") node (member (codes "range") range (member (codes "user") user no_members)))
+users_fields (member a s (member b t (member c u (member d v no_members)))) limit node range user keys h1 h2 h3 h4 =
+    let ka : a ≡ codes "limit" = cc in
+    let kb : b ≡ codes "node" = cc in
+    let kc : c ≡ codes "range" = cc in
+    let kd : d ≡ codes "user" = cc in
+    let g1 : Some s ≡ Some limit = rw ka at h1 in
+    let g2 : Some t ≡ Some node = rw (ka, kb) at h2 in
+    let g3 : Some u ≡ Some range = rw (ka, kb, kc) at h3 in
+    let g4 : Some v ≡ Some user = rw (ka, kb, kc, kd) at h4 in
+    cc
+users_fields _ limit node range user keys h1 h2 h3 h4 = cc
+
+-- the fields of a document
+pub document_fields : (ms : Members) (domain version : Data)
+    → keys_of ms ≡ codes "domain" ∷ codes "version" ∷ []
+    → get_member (codes "domain") ms ≡ Some domain
+    → get_member (codes "version") ms ≡ Some version
+    → ms ≡ member (codes "domain") domain (member (codes "version") version no_members)
+document_fields (member a s (member b t no_members)) domain version keys h1 h2 =
+    let ka : a ≡ codes "domain" = cc in
+    let kb : b ≡ codes "version" = cc in
+    let g1 : Some s ≡ Some domain = rw ka at h1 in
+    let g2 : Some t ≡ Some version = rw (ka, kb) at h2 in
+    cc
+document_fields _ domain version keys h1 h2 = cc
+
+-- what the reader of a document says of the bytes that write it
+pub reads_document : (bytes : List ℕ) (ms : Members) (r : Result (List DomainData) PlanFault) → IsDocument bytes ms → ReadsDocument ms r → Reads bytes r
+reads_document bytes ms (Ok plan) is h = (h.0, (is.0, is.1 ∙ ap Some h.1.0), h.1.1)
+reads_document bytes ms (Err Shape) is h =
+    ((ms, is), λ plan given. let same : Some ms ≡ Some (document given.0 plan) = sym is.1 ∙ given.1.1 in h given.0 plan (cc, given.2))
+reads_document bytes ms (Err NoMemory) is h = tt
+reads_document bytes ms (Err Text) is h = absurd h
+reads_document bytes ms (Err DomainCount) is h = absurd h
+reads_document bytes ms (Err Name) is h = absurd h
+reads_document bytes ms (Err NameTwice) is h = absurd h
+reads_document bytes ms (Err Range) is h = absurd h
+reads_document bytes ms (Err SharedPort) is h = absurd h
+reads_document bytes ms (Err NodeCount) is h = absurd h
+reads_document bytes ms (Err Memory) is h = absurd h
+reads_document bytes ms (Err Port) is h = absurd h
+reads_document bytes ms (Err PortTwice) is h = absurd h
+reads_document bytes ms (Err HostCount) is h = absurd h
+reads_document bytes ms (Err UnwiredNode) is h = absurd h
+reads_document bytes ms (Err Limit) is h = absurd h
+reads_document bytes ms (Err RangeCount) is h = absurd h
+reads_document bytes ms (Err UserCount) is h = absurd h
+
+-- A part of a value that has a fault gives the value that fault.
+pub part_fault : {X Y Z W D E : Type 0} (Part : Y → Type 0) (f : Y → D) (shown : X → Y) (Whole : Z → Type 0) (g : Z → E) (seen : W → Z) (v : D) (w : E) (e : PlanFault) (of : Z → Y)
+    → ((z : Z) → Whole z → w ≡ g z → (v ≡ f (of z)) × Part (of z))
+    → Spells {X = X} Part f shown v (Err e) → Spells {X = W} Whole g seen w (Err e)
+part_fault Part f shown Whole g seen v w Shape of taken h = λ z whole is. h (of z) (taken z whole is).1 (taken z whole is).0
+part_fault Part f shown Whole g seen v w NoMemory of taken h = tt
+part_fault Part f shown Whole g seen v w _ of taken h = absurd h
+
+-- the value of a field, in a table that is written in two ways
+pub at_field : (value : Data) (ms ns : Members) (key : List ℕ) (v w : Data) → value ≡ table ms → value ≡ table ns → get_member key ms ≡ Some v → get_member key ns ≡ Some w → v ≡ w
+at_field value ms ns key v w first second at_ms at_ns = cc

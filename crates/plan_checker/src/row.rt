@@ -1,0 +1,43 @@
+//! The physical ports of a domain.
+ghost use Rattle.std.specs.Prelude.{◌≡◌, ◌≤◌, [], ◌∷◌, All, length};
+ghost use Rattle.plan_checker.specs.Separate.{IsRange, IsSeparate};
+ghost use Rattle.plan_checker.specs.Part.{port_range, place_of, row_of};
+
+use crate::plan::{DomainPlan, RangePlan};
+use crossbar::{MOST_RANGES, PortRange};
+
+fn port_range(range: &RangePlan) -> PortRange
+    requires { IsRange range.now }
+    ensures { result ≡ port_range range.now }
+{
+    PortRange {
+        first: range.first as u8,
+        last: range.last as u8,
+    }
+}
+
+/// The range at a place of the row, if there is one.
+fn place_of(ranges: &[RangePlan], place: usize) -> Option<PortRange>
+    requires { All IsRange ranges.now }
+    ensures { result ≡ place_of ranges.now place }
+{
+    if place < ranges.len() {
+        Some(port_range(&ranges[place]))
+    } else {
+        None
+    }
+}
+
+/// The ranges of a domain, and then the unused places of the row.
+pub fn row_of(domain: &DomainPlan) -> [Option<PortRange>; MOST_RANGES]
+    requires { IsSeparate (domain.now ∷ []) }
+    ensures { result ≡ row_of domain.now }
+{
+    let ranges = domain.ranges.as_slice();
+    [
+        place_of(ranges, 0),
+        place_of(ranges, 1),
+        place_of(ranges, 2),
+        place_of(ranges, 3),
+    ]
+}

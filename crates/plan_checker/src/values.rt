@@ -1,0 +1,95 @@
+//! Reading values out of TOML data.
+ghost use Rattle.std.specs.Prelude.{◌≡◌, ℤ, length, All, MatchResult, Some, None, string_bytes};
+ghost use Rattle.toml.specs.Data.{Data, Members, get_member, integer, string};
+ghost use Rattle.toml.specs.View.{view, table_view};
+ghost use Rattle.plan_checker.specs.declared.version.PlanVersion.{PlanVersion};
+ghost use Rattle.plan_checker.specs.Document.{Spells, list, IsTable};
+
+use crate::fault::PlanFault;
+use crate::fields::has_fields;
+use crate::version::PlanVersion;
+use std::alloc::Global;
+use toml::{Table, Value};
+
+/// What TOML data may spell, in a version of the plan.
+pub trait FromValue: Sized + Drop {
+    /// The data that spells a value.
+    ghost spelling: { PlanVersion → Self → Data };
+
+    /// What holds of each value that was read.
+    ghost is_whole: { PlanVersion → Self → Type 0 };
+
+    /// Reads the value that the data spells.
+    fn from_value(alloc: Global, version: PlanVersion, value: &Value) -> Result<Self, PlanFault>
+        ensures { Spells (is_whole version) (spelling version) (λ x. x) (view value.now) result };
+}
+
+impl FromValue for i64 {
+    ghost spelling = { λ _ z. integer z };
+
+    ghost is_whole = { λ _ _. Unit {0} };
+
+    fn from_value(_alloc: Global, _version: PlanVersion, value: &Value) -> Result<i64, PlanFault> {
+        integer_of(value)
+    }
+}
+
+/// The integer that the data is.
+pub fn integer_of(value: &Value) -> Result<i64, PlanFault>
+    ensures { Spells (λ _. Unit {0}) integer (λ z. z) (view value.now) result }
+{
+    value.as_integer().ok_or(PlanFault::Shape)
+}
+
+/// The text that the data is.
+pub fn text_of(alloc: Global, value: &Value) -> Result<String, PlanFault>
+    ensures { Spells (λ _. Unit {0}) string string_bytes (view value.now) result }
+{
+    let text = value.as_str().ok_or(PlanFault::Shape)?;
+    Ok(String::from_str(alloc, text)?)
+}
+
+/// The table that a value is, where it has exactly the fields of these names, which ascend.
+pub fn table_of<'a>(value: &'a Value, names: &[&str]) -> Result<&'a Table, PlanFault>
+    ensures { MatchResult result (λ t. IsTable (view value.now) names.now (table_view t.now)) (λ e. (e ≡ PlanFault.Shape) × ((t : Members) → ¬ IsTable (view value.now) names.now t)) }
+{
+    let table = value.as_table().ok_or(PlanFault::Shape)?;
+    if has_fields(table, names) {
+        Ok(table)
+    } else {
+        Err(PlanFault::Shape)
+    }
+}
+
+/// The value of a field.
+pub fn value_at<'a>(table: &'a Table, name: &str) -> Result<&'a Value, PlanFault>
+    ensures { MatchResult result (λ v. get_member name.now (table_view table.now) ≡ Some (view v.now)) (λ e. (e ≡ PlanFault.Shape) × (get_member name.now (table_view table.now) ≡ None)) }
+{
+    match table.get(name) {
+        Some(value) => Ok(value),
+        None => Err(PlanFault::Shape),
+    }
+}
+
+/// The values that the items of an array spell.
+pub fn list_of<T: FromValue>(
+    alloc: Global,
+    version: PlanVersion,
+    value: &Value,
+) -> Result<Vec<T>, PlanFault>
+    ensures { Spells (All (T.is_whole version)) (list (T.spelling version)) (λ v. v.items) (view value.now) result }
+{
+    let array = value.as_array().ok_or(PlanFault::Shape)?;
+    let mut items = Vec::with_capacity(alloc, array.len())?;
+    for value in array {
+        items.push(T::from_value(alloc, version, value)?)?;
+    }
+    Ok(items)
+}
+
+/// The integers of an array.
+pub fn integers_of(alloc: Global, value: &Value) -> Result<Vec<i64>, PlanFault>
+    ensures { Spells (λ _. Unit {0}) (list integer) (λ v. v.items) (view value.now) result }
+{
+    list_of(alloc, PlanVersion::Three, value)
+}
