@@ -2,9 +2,8 @@
 #![tactic(auto)]
 
 use farm_program::{refuse_arguments, run};
-use std::env;
-use std::io;
 use std::process::ExitCode;
+use std::{env, io};
 
 fn main(rt: HostRuntime) -> ExitCode {
     let alloc = rt.alloc();

@@ -1,7 +1,7 @@
 use crate::command_line::settings;
 use crate::configuration::Settings;
 use crate::hexadecimal::{HexFault, bytes_of};
-use crate::program::run;
+use crate::program::{refuse_arguments, run};
 use std::io;
 use std::io::{Read, Write};
 use std::test::Fail;
@@ -184,14 +184,35 @@ fn gives(rt: &HostRuntime, text: &[u8], status: u8, wanted: &str, complaint: &st
         && errors.taken.as_slice() == complaint.as_bytes()
 }
 
+/// Refuses a body that answers 2 and 256 whatever the words say.
 #[test]
-fn settings_are_read(rt: HostRuntime) -> Result<(), Fail> {
+fn settings_are_fixed(rt: HostRuntime) -> Result<(), Fail> {
     let given = settings(rt.alloc(), &["farm", "--workers", "8", "--quantum", "1"])?;
-    assert!(rt; given == Settings { workers: 8, quantum: 1 });
+    assert!(rt;
+        given
+            == Settings {
+                workers: 8,
+                quantum: 1
+            }
+    );
     let none = settings(rt.alloc(), &["farm"])?;
-    assert!(rt; none == Settings { workers: 2, quantum: 256 });
-    for (workers, quantum) in [("0", "256"), ("9", "256"), ("2", "0"), ("2", "4097"), ("x", "1")] {
-        let refused = settings(rt.alloc(), &["farm", "--workers", workers, "--quantum", quantum]);
+    assert!(rt;
+        none == Settings {
+            workers: 2,
+            quantum: 256
+        }
+    );
+    for (workers, quantum) in [
+        ("0", "256"),
+        ("9", "256"),
+        ("2", "0"),
+        ("2", "4097"),
+        ("x", "1"),
+    ] {
+        let refused = settings(
+            rt.alloc(),
+            &["farm", "--workers", workers, "--quantum", quantum],
+        );
         assert!(rt; refused.is_err());
     }
     Ok(())
@@ -209,13 +230,39 @@ fn hexadecimal_words_spell_bytes(rt: HostRuntime) -> Result<(), Fail> {
     Ok(())
 }
 
+/// Refuses a body that answers want of memory whatever there is.
+#[test]
+fn always_out_of_memory(rt: HostRuntime) -> Result<(), Fail> {
+    let alloc = rt.alloc();
+    let text = format!(in alloc; "{PLAN}---\nann config 0100010302000201\n")?;
+    assert!(rt; gives(&rt, text.as_bytes(), 0, "ann config 81 80\n", ""));
+    assert_eq!(rt; bytes_of(alloc, "00")?.len(), 1);
+    Ok(())
+}
+
+#[test]
+fn unread_arguments_are_refused(rt: HostRuntime) {
+    for (kind, status) in [
+        (io::ErrorKind::InvalidData, 2),
+        (io::ErrorKind::OutOfMemory, 5),
+    ] {
+        let mut errors = sink_of(&rt, 9, NEVER, NEVER);
+        let error = io::Error::from(kind);
+        assert_eq!(rt; refuse_arguments(rt.alloc(), &error, &mut errors), status);
+        assert!(rt; !errors.taken.is_empty());
+    }
+}
+
 #[test]
 fn plans_are_refused_by_number(rt: HostRuntime) {
     for (text, complaint) in [
         ("", "plan: 2\n"),
         ("version = 1\n", "plan: 2\n"),
         ("[[domain", "plan: 1\n"),
-        ("version = 1\ndomain = []\n---\nann config 00\n", "plan: 3\n"),
+        (
+            "version = 1\ndomain = []\n---\nann config 00\n",
+            "plan: 3\n",
+        ),
         ("version = 3\ndomain = []\n--- \n", "plan: 1\n"),
     ] {
         assert!(rt; gives(&rt, text.as_bytes(), 3, "", complaint), "{text:?}");
@@ -227,9 +274,24 @@ fn script_lines_are_answered_or_refused(rt: HostRuntime) -> Result<(), Fail> {
     let alloc = rt.alloc();
     for (script, status, wanted, complaint) in [
         ("ann config 0100010302000201\n", 0, "ann config 81 80\n", ""),
-        ("ann config 0100\r\n#\n\nann config fF", 0, "ann config -\nann config badport\n", ""),
-        ("ann config 0208\nann config 070200\n", 0, "ann config badport\nann config badcommand 00\n", ""),
-        ("bob config 02\nann config 0205\nbob config 05\n", 0, "ann config 00\nbob config -\nbob config 00\n", ""),
+        (
+            "ann config 0100\r\n#\n\nann config fF",
+            0,
+            "ann config -\nann config badport\n",
+            "",
+        ),
+        (
+            "ann config 0208\nann config 070200\n",
+            0,
+            "ann config badport\nann config badcommand 00\n",
+            "",
+        ),
+        (
+            "bob config 02\nann config 0205\nbob config 05\n",
+            0,
+            "ann config 00\nbob config -\nbob config 00\n",
+            "",
+        ),
         ("", 0, "", ""),
         ("---\n", 4, "", "line 1: user\n"),
         ("eve config 00\n", 4, "", "line 1: user\n"),
@@ -247,7 +309,10 @@ fn script_lines_are_answered_or_refused(rt: HostRuntime) -> Result<(), Fail> {
     ] {
         for plan in [PLAN, PLAN_WITH_RANGES, PLAN_WITH_USERS] {
             let text = format!(in alloc; "{plan}---\n{script}")?;
-            assert!(rt; gives(&rt, text.as_bytes(), status, wanted, complaint), "{script:?}");
+            assert!(rt;
+                gives(&rt, text.as_bytes(), status, wanted, complaint),
+                "{script:?}"
+            );
         }
     }
     Ok(())
@@ -256,7 +321,8 @@ fn script_lines_are_answered_or_refused(rt: HostRuntime) -> Result<(), Fail> {
 #[test]
 fn users_of_a_domain_share_its_switch_and_its_parser(rt: HostRuntime) -> Result<(), Fail> {
     let alloc = rt.alloc();
-    let script = "ann config 0001\ncas config 0303\nann config 0203\nbob config 0203\ncas config 0201\n";
+    let script =
+        "ann config 0001\ncas config 0303\nann config 0203\nbob config 0203\ncas config 0201\n";
     let text = format!(in alloc; "{SHARED_PLAN}---\r\n{script}")?;
     let wanted = "bob config 00\nann config -\nann config 81\ncas config -\ncas config 00\n";
     assert!(rt; gives(&rt, text.as_bytes(), 0, wanted, ""));
@@ -277,7 +343,10 @@ fn cut_inputs_are_refused_by_their_part(rt: HostRuntime) -> Result<(), Fail> {
         ("---\nann config 010", 4, "line 1: hex\n"),
     ] {
         let text = format!(in alloc; "{PLAN}{end}")?;
-        assert!(rt; gives(&rt, text.as_bytes(), status, "", complaint), "{end:?}");
+        assert!(rt;
+            gives(&rt, text.as_bytes(), status, "", complaint),
+            "{end:?}"
+        );
     }
     Ok(())
 }
@@ -287,11 +356,23 @@ fn words_are_refused_or_helped(rt: HostRuntime) {
     let mut input = source_of(b"", 7, 0);
     let mut output = sink_of(&rt, 9, NEVER, NEVER);
     let mut errors = sink_of(&rt, 9, NEVER, NEVER);
-    let refused = run(rt.alloc(), &["farm", "--workers", "9"], &mut input, &mut output, &mut errors);
+    let refused = run(
+        rt.alloc(),
+        &["farm", "--workers", "9"],
+        &mut input,
+        &mut output,
+        &mut errors,
+    );
     assert_eq!(rt; refused, 2);
     assert!(rt; output.taken.is_empty() && !errors.taken.is_empty());
     let mut errors = sink_of(&rt, 9, NEVER, NEVER);
-    let helped = run(rt.alloc(), &["farm", "--help"], &mut input, &mut output, &mut errors);
+    let helped = run(
+        rt.alloc(),
+        &["farm", "--help"],
+        &mut input,
+        &mut output,
+        &mut errors,
+    );
     assert_eq!(rt; helped, 0);
     assert!(rt; !output.taken.is_empty() && errors.taken.is_empty());
 }
@@ -304,7 +385,10 @@ fn failing_reads_are_told(rt: HostRuntime) -> Result<(), Fail> {
         let mut input = source_of(text.as_bytes(), 1, at);
         let mut output = sink_of(&rt, 9, NEVER, NEVER);
         let mut errors = sink_of(&rt, 9, NEVER, NEVER);
-        assert_eq!(rt; run(alloc, &["farm"], &mut input, &mut output, &mut errors), 6);
+        assert_eq!(rt;
+            run(alloc, &["farm"], &mut input, &mut output, &mut errors),
+            6
+        );
         assert!(rt; output.taken.is_empty());
         assert!(rt; errors.taken.as_slice() == b"io\n".as_slice());
     }
@@ -322,7 +406,10 @@ fn failing_writes_leave_a_beginning(rt: HostRuntime) -> Result<(), Fail> {
             let mut input = source_of(text.as_bytes(), 100, NEVER);
             let mut output = sink_of(&rt, 1, fails_at, takes_none_at);
             let mut errors = sink_of(&rt, 9, 0, NEVER);
-            assert_eq!(rt; run(alloc, &["farm"], &mut input, &mut output, &mut errors), 6);
+            assert_eq!(rt;
+                run(alloc, &["farm"], &mut input, &mut output, &mut errors),
+                6
+            );
             assert_eq!(rt; output.taken.len() as u64, at);
             assert!(rt; whole.starts_with(output.taken.as_slice()));
         }
@@ -334,7 +421,13 @@ fn failing_writes_leave_a_beginning(rt: HostRuntime) -> Result<(), Fail> {
 fn endless_input_is_given_up(rt: HostRuntime) {
     let mut output = sink_of(&rt, 9, NEVER, NEVER);
     let mut errors = sink_of(&rt, 9, NEVER, NEVER);
-    let status = run(rt.alloc(), &["farm"], &mut Endless, &mut output, &mut errors);
+    let status = run(
+        rt.alloc(),
+        &["farm"],
+        &mut Endless,
+        &mut output,
+        &mut errors,
+    );
     assert_eq!(rt; status, 6);
     assert!(rt; output.taken.is_empty());
 }

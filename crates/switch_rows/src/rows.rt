@@ -1,5 +1,8 @@
 //! Bytes in, replies and words out, as the data sheet and this project's choices say.
-use crate::plans::{ANN_AND_BOB, FULL_RANGE, TWO_RANGES, outputs_of, switch_of};
+use crate::plans::{
+    ANN_AND_BOB, FULL_RANGE, TWO_RANGES, driven_by, is_ready, outputs_of, physical_of, switch_of,
+    word_of,
+};
 use crossbar::{Connection, Outputs, Word};
 use std::alloc::Global;
 use std::process::Abort;
@@ -46,11 +49,18 @@ fn two_way_connection_is_enquired(rt: HostRuntime) -> Result<(), Fail> {
     assert!(rt; answers(rt.alloc(), ANN_AND_BOB, 0, &bytes, &wanted)?);
     let mut ann = switch_of(rt.alloc(), ANN_AND_BOB, 0)?;
     ann.feed_all(rt.alloc(), &[1, 0, 1, 3])?;
-    assert_eq!(rt; ann.word(0).bits, 0x2c1);
-    assert_eq!(rt; ann.word(1).bits, 0x2c0);
-    assert_eq!(rt; ann.drives(0), 0b10);
-    assert_eq!(rt; ann.drives(1), 0b01);
-    assert!(rt; ann.ready(0) && ann.ready(1) && !ann.ready(2));
+    assert!(rt; word_of(&mut ann, 0) == Some(0x2c1));
+    assert!(rt; word_of(&mut ann, 1) == Some(0x2c0));
+    assert!(rt; driven_by(&mut ann, 0) == Some(0b10));
+    assert!(rt; driven_by(&mut ann, 1) == Some(0b01));
+    for (output, ready) in [
+        (0, Some(true)),
+        (1, Some(true)),
+        (2, Some(false)),
+        (8, None),
+    ] {
+        assert!(rt; is_ready(&mut ann, output) == ready);
+    }
     Ok(())
 }
 
@@ -61,10 +71,10 @@ fn another_range_keeps_its_own_numbers(rt: HostRuntime) -> Result<(), Fail> {
     assert!(rt; answers(rt.alloc(), ANN_AND_BOB, 1, &bytes, &wanted)?);
     let mut bob = switch_of(rt.alloc(), ANN_AND_BOB, 1)?;
     bob.feed_all(rt.alloc(), &bytes)?;
-    assert_eq!(rt; bob.physical(5), 13);
-    assert_eq!(rt; bob.word(5).bits, 0x2ca);
+    assert!(rt; physical_of(&bob, 5) == Some(13));
+    assert!(rt; word_of(&mut bob, 5) == Some(0x2ca));
     bob.feed_all(rt.alloc(), &[4])?;
-    assert_eq!(rt; bob.word(5).bits, 0x300);
+    assert!(rt; word_of(&mut bob, 5) == Some(0x300));
     Ok(())
 }
 
@@ -74,7 +84,9 @@ fn clearing_is_seen_by_the_enquiry_and_not_by_the_neighbour(rt: HostRuntime) -> 
     let mut bob = switch_of(rt.alloc(), ANN_AND_BOB, 1)?;
     bob.feed_all(rt.alloc(), &[0, 2, 5, 3])?;
     ann.feed_all(rt.alloc(), &[0, 1, 0, 4])?;
-    assert!(rt; bob.feed_all(rt.alloc(), &[2, 5])?.as_slice() == [NOTHING, answer(0x82)].as_slice());
+    assert!(rt;
+        bob.feed_all(rt.alloc(), &[2, 5])?.as_slice() == [NOTHING, answer(0x82)].as_slice()
+    );
     assert!(rt; ann.feed_all(rt.alloc(), &[2, 0])?.as_slice() == [NOTHING, answer(0)].as_slice());
     Ok(())
 }
@@ -142,9 +154,9 @@ fn ranges_are_numbered_in_their_order(rt: HostRuntime) -> Result<(), Fail> {
     assert!(rt; answers(rt.alloc(), TWO_RANGES, 0, &bytes, &wanted)?);
     let mut ann = switch_of(rt.alloc(), TWO_RANGES, 0)?;
     ann.feed_all(rt.alloc(), &bytes)?;
-    assert_eq!(rt; ann.physical(2), 18);
-    assert_eq!(rt; ann.word(2).bits, 0x2c1);
-    assert_eq!(rt; ann.drives(5), 0b100);
+    assert!(rt; physical_of(&ann, 2) == Some(18));
+    assert!(rt; word_of(&mut ann, 2) == Some(0x2c1));
+    assert!(rt; driven_by(&mut ann, 5) == Some(0b100));
     Ok(())
 }
 
@@ -154,18 +166,18 @@ fn ranges_are_numbered_in_their_order(rt: HostRuntime) -> Result<(), Fail> {
 fn connections_replace_and_count_their_changes(rt: HostRuntime) -> Result<(), Fail> {
     let mut ann = switch_of(rt.alloc(), ANN_AND_BOB, 0)?;
     ann.feed_all(rt.alloc(), &[0, 3, 4])?;
-    assert_eq!(rt; ann.word(4).bits, 0x183);
+    assert!(rt; word_of(&mut ann, 4) == Some(0x183));
     ann.feed_all(rt.alloc(), &[0, 3, 4])?;
-    assert_eq!(rt; ann.word(4).bits, 0x183);
+    assert!(rt; word_of(&mut ann, 4) == Some(0x183));
     ann.feed_all(rt.alloc(), &[3, 3])?;
-    assert_eq!(rt; ann.word(4).bits, 0x2c3);
+    assert!(rt; word_of(&mut ann, 4) == Some(0x2c3));
     ann.feed_all(rt.alloc(), &[0, 3, 4])?;
-    assert_eq!(rt; ann.word(4).bits, 0x383);
+    assert!(rt; word_of(&mut ann, 4) == Some(0x383));
     ann.feed_all(rt.alloc(), &[0, 2, 4])?;
-    assert_eq!(rt; ann.word(4).bits, 0x482);
-    assert_eq!(rt; ann.drives(3), 0);
+    assert!(rt; word_of(&mut ann, 4) == Some(0x482));
+    assert!(rt; driven_by(&mut ann, 3) == Some(0));
     ann.feed_all(rt.alloc(), &[5, 4, 5, 4])?;
-    assert_eq!(rt; ann.word(4).bits, 0x500);
+    assert!(rt; word_of(&mut ann, 4) == Some(0x500));
     Ok(())
 }
 
@@ -173,15 +185,15 @@ fn connections_replace_and_count_their_changes(rt: HostRuntime) -> Result<(), Fa
 fn both_directions_are_connected_and_disconnected(rt: HostRuntime) -> Result<(), Fail> {
     let mut ann = switch_of(rt.alloc(), ANN_AND_BOB, 0)?;
     ann.feed_all(rt.alloc(), &[1, 2, 6, 0, 2, 7])?;
-    assert_eq!(rt; ann.drives(2), 0b1100_0000);
-    assert_eq!(rt; ann.drives(6), 0b0000_0100);
+    assert!(rt; driven_by(&mut ann, 2) == Some(0b1100_0000));
+    assert!(rt; driven_by(&mut ann, 6) == Some(0b0000_0100));
     ann.feed_all(rt.alloc(), &[6, 6, 2])?;
-    assert_eq!(rt; ann.drives(2), 0b1000_0000);
-    assert_eq!(rt; ann.drives(6), 0);
+    assert!(rt; driven_by(&mut ann, 2) == Some(0b1000_0000));
+    assert!(rt; driven_by(&mut ann, 6) == Some(0));
     ann.feed_all(rt.alloc(), &[1, 5, 5])?;
-    assert_eq!(rt; ann.word(5).bits, 0x185);
+    assert!(rt; word_of(&mut ann, 5) == Some(0x185));
     ann.feed_all(rt.alloc(), &[6, 5, 5])?;
-    assert_eq!(rt; ann.word(5).bits, 0x200);
+    assert!(rt; word_of(&mut ann, 5) == Some(0x200));
     Ok(())
 }
 
@@ -190,7 +202,7 @@ fn clear_forgets_pairs_and_the_rest(rt: HostRuntime) -> Result<(), Fail> {
     let mut ann = switch_of(rt.alloc(), ANN_AND_BOB, 0)?;
     ann.feed_all(rt.alloc(), &[1, 0, 1, 3, 0, 4])?;
     ann.clear();
-    assert_eq!(rt; ann.word(0).bits, 0x300);
+    assert!(rt; word_of(&mut ann, 0) == Some(0x300));
     assert!(rt; ann.feed_all(rt.alloc(), &[2, 0])?.as_slice() == [NOTHING, answer(0)].as_slice());
     Ok(())
 }
