@@ -88,13 +88,13 @@ Stage L = Bool × Queue → L → List ℕ → Reply (Bool × Queue) L
 first-of-three : {L : Type 0} → (r : Reply (Bool × Queue) L) (g h : Stage L) → acts r ≡ true → acts (and_then r (λ x l m. and_then (g x l m) (λ y l m. and_then (h y l m) (λ z l m. Gave (x.0 || y.0 || z.0, z.1) l m)))) ≡ true
 first-of-three r g h e =
     acts-then r (λ x l m. and_then (g x l m) (λ y l m. and_then (h y l m) (λ z l m. Gave (x.0 || y.0 || z.0, z.1) l m))) e
-        (λ q l m. then-acts (g (true, q) l m) (λ y l m. and_then (h y l m) (λ z l m. Gave (true, z.1) l m))
-            (λ y l m. then-acts (h y l m) (λ z l m. Gave (true, z.1) l m) (λ z l m. refl)))
+    (λ q l m. then-acts (g (true, q) l m) (λ y l m. and_then (h y l m) (λ z l m. Gave (true, z.1) l m))
+    (λ y l m. then-acts (h y l m) (λ z l m. Gave (true, z.1) l m) (λ z l m. refl)))
 
 first-of-two : {L : Type 0} → (r : Reply (Bool × Queue) L) (h : Stage L) → acts r ≡ true → acts (and_then r (λ y l m. and_then (h y l m) (λ z l m. Gave (y.0 || z.0, z.1) l m))) ≡ true
 first-of-two r h e =
     acts-then r (λ y l m. and_then (h y l m) (λ z l m. Gave (y.0 || z.0, z.1) l m)) e
-        (λ q l m. then-acts (h (true, q) l m) (λ z l m. Gave (true, z.1) l m) (λ z l m. refl))
+    (λ q l m. then-acts (h (true, q) l m) (λ z l m. Gave (true, z.1) l m) (λ z l m. refl))
 
 first-of-one : {L : Type 0} → (r : Reply (Bool × Queue) L) → acts r ≡ true → acts (and_then r (λ z l m. Gave (z.0, z.1) l m)) ≡ true
 first-of-one r e = acts-then r (λ z l m. Gave (z.0, z.1) l m) e (λ q l m. refl)
@@ -102,9 +102,9 @@ first-of-one r e = acts-then r (λ z l m. Gave (z.0, z.1) l m) e (λ q l m. refl
 first-of-four : {L : Type 0} → (r : Reply (Bool × Queue) L) (g h k : Stage L) → acts r ≡ true → acts (and_then r (λ x l m. and_then (g x l m) (λ y l m. and_then (h y l m) (λ z l m. and_then (k z l m) (λ w l m. Gave (x.0 || y.0 || z.0 || w.0, w.1) l m))))) ≡ true
 first-of-four r g h k e =
     acts-then r (λ x l m. and_then (g x l m) (λ y l m. and_then (h y l m) (λ z l m. and_then (k z l m) (λ w l m. Gave (x.0 || y.0 || z.0 || w.0, w.1) l m)))) e
-        (λ q l m. then-acts (g (true, q) l m) (λ y l m. and_then (h y l m) (λ z l m. and_then (k z l m) (λ w l m. Gave (true, w.1) l m)))
-            (λ y l m. then-acts (h y l m) (λ z l m. and_then (k z l m) (λ w l m. Gave (true, w.1) l m))
-                (λ z l m. then-acts (k z l m) (λ w l m. Gave (true, w.1) l m) (λ w l m. refl))))
+    (λ q l m. then-acts (g (true, q) l m) (λ y l m. and_then (h y l m) (λ z l m. and_then (k z l m) (λ w l m. Gave (true, w.1) l m)))
+    (λ y l m. then-acts (h y l m) (λ z l m. and_then (k z l m) (λ w l m. Gave (true, w.1) l m))
+    (λ z l m. then-acts (k z l m) (λ w l m. Gave (true, w.1) l m) (λ w l m. refl))))
 
 idle-input : (i : ℕ) (l : Link) (q : Queue) (m : List ℕ) → (is_some l.end.input.buffer && not (l.input_count == 0)) ≡ false → input_byte i l q m ≡ Gave (false, q) l m
 idle-input i l q m e = grind (arith, rules)
@@ -132,19 +132,19 @@ work-four : (ls : FourLinks) (q : Queue) (m : List ℕ) (a b c d : Bool) → has
 unfolding serve_all
 work-four ls q m true b c d e f g h w =
     first-of-four (serve Zero ls q m) (λ x ls m. serve One ls x.1 m) (λ y ls m. serve Two ls y.1 m) (λ z ls m. serve Three ls z.1 m)
-        (acts-within Zero ls (serve_link 0x80000010 0x80000000 ls.zero q m) ∙ work-link 0x80000010 0x80000000 ls.zero q m e)
+    (acts-within Zero ls (serve_link 0x80000010 0x80000000 ls.zero q m) ∙ work-link 0x80000010 0x80000000 ls.zero q m e)
 work-four ls q m false true c d e f g h w =
     rw (quiet-link 0x80000010 0x80000000 ls.zero q m e)
     (first-of-three (serve One ls q m) (λ y ls m. serve Two ls y.1 m) (λ z ls m. serve Three ls z.1 m)
-        (acts-within One ls (serve_link 0x80000014 0x80000004 ls.one q m) ∙ work-link 0x80000014 0x80000004 ls.one q m f))
+    (acts-within One ls (serve_link 0x80000014 0x80000004 ls.one q m) ∙ work-link 0x80000014 0x80000004 ls.one q m f))
 work-four ls q m false false true d e f g h w =
     rw (quiet-link 0x80000010 0x80000000 ls.zero q m e, quiet-link 0x80000014 0x80000004 ls.one q m f)
     (first-of-two (serve Two ls q m) (λ z ls m. serve Three ls z.1 m)
-        (acts-within Two ls (serve_link 0x80000018 0x80000008 ls.two q m) ∙ work-link 0x80000018 0x80000008 ls.two q m g))
+    (acts-within Two ls (serve_link 0x80000018 0x80000008 ls.two q m) ∙ work-link 0x80000018 0x80000008 ls.two q m g))
 work-four ls q m false false false true e f g h w =
     rw (quiet-link 0x80000010 0x80000000 ls.zero q m e, quiet-link 0x80000014 0x80000004 ls.one q m f, quiet-link 0x80000018 0x80000008 ls.two q m g)
     (first-of-one (serve Three ls q m)
-        (acts-within Three ls (serve_link 0x8000001C 0x8000000C ls.three q m) ∙ work-link 0x8000001C 0x8000000C ls.three q m h))
+    (acts-within Three ls (serve_link 0x8000001C 0x8000000C ls.three q m) ∙ work-link 0x8000001C 0x8000000C ls.three q m h))
 work-four ls q m false false false false e f g h w = cc
 
 acts-by : (ls : FourLinks) (q : Queue) (m : List ℕ) (work : Bool) → any_has_work ls ≡ work → acts (serve_all ls q m) ≡ work

@@ -19,8 +19,8 @@ abbrev pub input : Process → Transfer → Link → List ℕ → Reply Turn Lin
 input p t l m =
     if t.count == 0 then Gave GoesOn l m
     else store t.channel (descriptor_of p) l m (λ m.
-        let asked : Link = record l { input_pointer = t.pointer; input_count = t.count; watched = false } in
-        save p asked m (λ m. Gave Waits asked m))
+    let asked : Link = record l { input_pointer = t.pointer; input_count = t.count; watched = false } in
+    save p asked m (λ m. Gave Waits asked m))
 
 -- the first byte is posted, and the transfer stands past it
 abbrev pub sending : ℕ → Transfer → Link → Link
@@ -32,7 +32,7 @@ abbrev pub output : Process → Transfer → Link → List ℕ → Reply Turn Li
 output p t l m =
     if t.count == 0 then Gave GoesOn l m
     else store t.channel (descriptor_of p) l m (λ m. save p l m (λ m.
-        read (byte_at m t.pointer) l m (λ byte. Gave Waits (sending byte t l) m)))
+    read (byte_at m t.pointer) l m (λ byte. Gave Waits (sending byte t l) m)))
 
 -- enbc, where the guard isn't 0: ready where a byte is there, else watched
 abbrev pub enable : Process → ℕ → Link → List ℕ → Reply (Unit {0}) Link
@@ -55,12 +55,14 @@ disable p channel offset l m =
 -- resetch on an output channel: the byte that waits is withdrawn, count 0, both flags clear
 abbrev pub output_reset : Link → Link
 output_reset l = record l {
-    end = record l.end { latch = record l.end.latch { byte = None }; output = record { awaits = false; acknowledged = false } };
-    output_count = 0 }
+  end = record l.end { latch = record l.end.latch { byte = None }; output = record { awaits = false; acknowledged = false } };
+  output_count = 0;
+}
 
 -- resetch on an input channel: the buffer is emptied without acknowledge, count 0, watch clear
 abbrev pub input_reset : Link → Link
 input_reset l = record l {
-    end = record l.end { input = record l.end.input { buffer = None } };
-    input_count = 0;
-    watched = false }
+  end = record l.end { input = record l.end.input { buffer = None } };
+  input_count = 0;
+  watched = false;
+}

@@ -41,7 +41,13 @@ input_channel Three = 0x8000001C
 -- a link at which nothing has happened and of which nobody has asked anything
 abbrev pub fresh_link : Link
 fresh_link = record {
-    end = fresh; input_pointer = 0; input_count = 0; output_pointer = 0; output_count = 0; watched = false }
+  end = fresh;
+  input_pointer = 0;
+  input_count = 0;
+  output_pointer = 0;
+  output_count = 0;
+  watched = false;
+}
 
 abbrev pub fresh_links : FourLinks
 fresh_links = record { zero = fresh_link; one = fresh_link; two = fresh_link; three = fresh_link }

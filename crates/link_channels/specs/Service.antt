@@ -70,7 +70,7 @@ abbrev pub arrival : ℕ → Link → Queue → List ℕ → Service
 arrival channel l q m =
     if not l.watched || is_none l.end.input.buffer then Gave (false, q) l m
     else (let unwatched : Link = record l { watched = false } in
-        read (waiting_at m channel) unwatched m (λ other. wakes other unwatched q m))
+    read (waiting_at m channel) unwatched m (λ other. wakes other unwatched q m))
 
 -- the three in their order
 unfoldable pub serve_link : ℕ → ℕ → Link → Queue → List ℕ → Service

@@ -4,12 +4,11 @@ ghost use Rattle.std.specs.Prelude.{◌≡◌};
 ghost use Rattle.link_channels.specs.Hard as hard;
 ghost use Rattle.link_channels.specs.Reply.{gave};
 
-use node_memory::{Fault, Memory};
-use process_queue::NOT_PROCESS;
-
 use crate::link::Link;
 use crate::process::{Process, Transfer, Turn};
 use crate::waiting::READY;
+use node_memory::{Fault, Memory};
+use process_queue::NOT_PROCESS;
 
 impl Process {
     // Waits for bytes from a link.

@@ -2,9 +2,8 @@
 
 ghost use Rattle.std.specs.Prelude.{◌≡◌, IsTrue};
 
-use os_link::LinkEnd;
-
 use crate::number::LinkNumber;
+use os_link::LinkEnd;
 
 /// A link end, and what a process has asked of it. Counts are bytes that are still to come or to go, pointers the
 /// addresses of the next one.

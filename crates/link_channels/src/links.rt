@@ -2,14 +2,12 @@
 
 ghost use Rattle.std.specs.Prelude.{◌≡◌};
 
-use std::marker::Model;
-
+use crate::link::{FourLinks, Link};
+use crate::number::LinkNumber;
 use node_memory::{Fault, Memory};
 use os_link::Packet;
 use process_queue::Queue;
-
-use crate::link::{FourLinks, Link};
-use crate::number::LinkNumber;
+use std::marker::Model;
 
 /// The links of a node: four link ends, each with what a process has asked of it.
 #[derive(Debug, Drop)]

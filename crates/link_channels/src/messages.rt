@@ -2,12 +2,11 @@
 
 ghost use Rattle.std.specs.Prelude.{◌≡◌};
 
-use node_memory::{Fault, Memory};
-use process_queue::Queue;
-
 use crate::channel::Channel;
 use crate::links::Links;
 use crate::process::{Process, Transfer, Turn};
+use node_memory::{Fault, Memory};
+use process_queue::Queue;
 
 impl Process {
     ghost use Rattle.link_channels.specs.Messages.{input, output, enable, disable};
@@ -69,12 +68,7 @@ impl Process {
     ///
     /// `Fault::WrongChannel` for the event channel and a link's output channel; `OutsideMemory` where a word lies
     /// outside. What was written before a fault stays.
-    pub fn enable(
-        &self,
-        memory: &mut Memory,
-        links: &mut Links,
-        channel: u32,
-    ) -> Result<(), Fault>
+    pub fn enable(&self, memory: &mut Memory, links: &mut Links, channel: u32) -> Result<(), Fault>
         ensures answer { gave result links.new memory.new ≡ enable self.now channel links.old memory.old }
     {
         match Channel::of(channel) {

@@ -4,11 +4,10 @@ ghost use Rattle.std.specs.Prelude.{◌≡◌};
 ghost use Rattle.link_channels.specs.Messages.{reset};
 ghost use Rattle.link_channels.specs.Reply.{gave};
 
-use node_memory::{Fault, Memory};
-
 use crate::channel::Channel;
 use crate::links::Links;
 use crate::soft::reset_softly;
+use node_memory::{Fault, Memory};
 
 /// Frees a channel, and gives up what its link had under way; the word that the channel had: instruction set
 /// handbook, resetch.

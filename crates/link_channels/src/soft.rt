@@ -6,11 +6,10 @@ ghost use Rattle.link_channels.specs.declared.link.FourLinks.{FourLinks};
 ghost use Rattle.link_channels.specs.declared.link.Link.{Link};
 ghost use Rattle.link_channels.specs.Soft as soft;
 
-use node_memory::{Fault, Memory};
-use process_queue::{NOT_PROCESS, Queue};
-
 use crate::process::{Process, Transfer, Turn};
 use crate::waiting::{ENABLING, NONE_SELECTED, READY, WAITING, waiting_at};
+use node_memory::{Fault, Memory};
+use process_queue::{NOT_PROCESS, Queue};
 
 impl Process {
     // Waits at the channel: its pointer lies where the other finds it, and its place is saved.

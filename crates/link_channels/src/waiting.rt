@@ -37,11 +37,7 @@ pub(crate) fn waiting_at(memory: &Memory, channel: u32) -> Result<Option<u32>, F
 }
 
 // The process of a descriptor goes on, unless it is none.
-pub(crate) fn schedule(
-    memory: &mut Memory,
-    queue: &mut Queue,
-    descriptor: u32,
-) -> Result<(), Fault>
+pub(crate) fn schedule(memory: &mut Memory, queue: &mut Queue, descriptor: u32) -> Result<(), Fault>
     ensures answer { (l : Link) → served result l queue.new memory.new ≡ scheduled descriptor l queue.old memory.old }
 {
     if descriptor == NOT_PROCESS {
