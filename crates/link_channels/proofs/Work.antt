@@ -1,5 +1,5 @@
 -- A service of the links acts, or meets a fault, exactly where one of them has work.
-use Rattle.std.proofs.Common.{◌≡◌, ℕ, ◌==◌, Bool, true, false, not, ◌&&◌, ◌||◌, List, Option, Some, None, is_some, Result, Ok, Err, if◌then◌else◌, refl, arith, rules, tests, ◌∙◌, ap, sym}
+use Rattle.std.proofs.Common.{◌≡◌, ℕ, ◌==◌, Bool, true, false, not, ◌&&◌, ◌||◌, List, Option, Some, None, is_some, Result, Ok, Err, if◌then◌else◌, refl, arith, rules, ◌∙◌, ap}
 use Rattle.node_memory.specs.declared.fault.Fault.{Fault}
 use Rattle.node_memory.specs.Bytes.{word_at}
 use Rattle.process_queue.specs.Queue.{Change, Changed, Kept}

@@ -1,5 +1,5 @@
 -- The four links of a node, by their numbers.
-use Rattle.std.specs.Prelude.{ℕ, ◌+◌, ◌*◌, ◌==◌, not, Bool, ◌&&◌, ◌||◌, List, Option, is_some, true, false}
+use Rattle.std.specs.Prelude.{ℕ, ◌==◌, not, Bool, ◌&&◌, ◌||◌, is_some, false}
 use Rattle.link_channels.specs.declared.link.Link.{Link}
 use Rattle.link_channels.specs.declared.number.LinkNumber.{LinkNumber}
 use Rattle.link_channels.specs.declared.number.LinkNumber.TheVariants.{Zero, One, Two, Three}

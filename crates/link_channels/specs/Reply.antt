@@ -1,5 +1,5 @@
 -- What an operation on channels answers, with the links and memory then; or a fault, with both as they were left.
-use Rattle.std.specs.Prelude.{ℕ, Bool, true, false, List, Result, Ok, Err}
+use Rattle.std.specs.Prelude.{ℕ, Bool, true, List, Result, Ok, Err}
 use Rattle.node_memory.specs.Bytes.{word_at, with_word}
 use Rattle.node_memory.specs.declared.fault.Fault.{Fault}
 use Rattle.process_queue.specs.Queue.{Change, Changed, Kept, after_put}

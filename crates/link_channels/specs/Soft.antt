@@ -1,6 +1,6 @@
 -- Soft channels: two processes of one node meet at a word of its memory.
 -- Transputer instruction set handbook, in, out, enbc, disc, resetch.
-use Rattle.std.specs.Prelude.{ℕ, ◌==◌, ◌||◌, Bool, true, false, List, Option, Some, None, Result, if◌then◌else◌}
+use Rattle.std.specs.Prelude.{ℕ, ◌==◌, ◌||◌, Bool, true, false, List, Option, Some, None, if◌then◌else◌}
 use Rattle.node_memory.specs.Bytes.{copied}
 use Rattle.node_memory.specs.Marks.{not_process, enabling, waiting, ready, none_selected}
 use Rattle.process_queue.specs.declared.queue.Queue.{Queue}

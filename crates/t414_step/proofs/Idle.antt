@@ -1,5 +1,5 @@
 -- A step answers Idle exactly where there is nothing to do.
-use Rattle.std.proofs.Common.{◌≡◌, ℕ, ◌==◌, Bool, true, false, not, ◌&&◌, ◌||◌, List, Option, Some, None, Result, Ok, Err, if◌then◌else◌, refl, arith, rules, ◌∙◌, ap, sym}
+use Rattle.std.proofs.Common.{◌≡◌, ℕ, ◌==◌, Bool, true, false, not, ◌&&◌, List, Result, Ok, Err, if◌then◌else◌, refl, ◌∙◌, ap, sym}
 use Rattle.node_memory.specs.declared.fault.Fault.{Fault}
 use Rattle.node_memory.specs.Bytes.{word_at}
 use Rattle.node_memory.specs.Marks.{not_process}
@@ -78,7 +78,7 @@ looked false s ls m e = taken-busy (s.queue.front == s.queue.back) s ls m e refl
 unserved : (s : Cpu) (ls : FourLinks) (m : List ℕ) → tells_idle (processed false s ls m) ≡ (not s.running && (s.queue.front == not_process))
 unserved s ls m =
     idle-if s.running (byte_answer (upon ls (byte_done s m))) (going_on (resumption s m) false ls m) (s.queue.front == not_process)
-        (no-byte (upon ls (byte_done s m))) (looked (s.queue.front == not_process) s ls m refl)
+    (no-byte (upon ls (byte_done s m))) (looked (s.queue.front == not_process) s ls m refl)
 
 rests-by : (work : Bool) (s : Cpu) (ls : FourLinks) (m : List ℕ) → any_has_work ls ≡ work → tells_idle (step s ls m) ≡ rests s ls
 unfolding step

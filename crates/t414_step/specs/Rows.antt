@@ -1,7 +1,7 @@
 -- The instruction table: what each function and each operation does to the registers and to memory.
 -- Transputer instruction set handbook. Where the handbook leaves a register or a case undefined the row is our
 -- choice: norm, cword, testpranal, ldiv where C >= A, rem of MinInt by -1, and all registers that a row doesn't name.
-use Rattle.std.specs.Prelude.{ℕ, ◌+◌, ◌-◌, ◌*◌, ◌/◌, ◌%◌, ◌^◌, ◌==◌, Bool, true, false, ◌&&◌, ◌||◌, not, List, ℤ, pos, negsuc, ◌+ℤ◌, ◌-ℤ◌, int_lt, int_le, int_div, int_rem, neg_ℤ, Option, Some, None, nat_le, nat_lt, if◌then◌else◌, bit_and, bit_or, bit_xor}
+use Rattle.std.specs.Prelude.{ℕ, ◌+◌, ◌-◌, ◌*◌, ◌/◌, ◌%◌, ◌^◌, ◌==◌, Bool, true, false, ◌&&◌, ◌||◌, not, List, pos, ◌+ℤ◌, ◌-ℤ◌, int_lt, int_le, int_div, int_rem, neg_ℤ, Option, Some, None, nat_le, nat_lt, if◌then◌else◌, bit_and, bit_or, bit_xor}
 use Rattle.std.specs.Int.{w32, w64, cast_unsigned, leading_zeros}
 use Rattle.node_memory.specs.Marks.{not_process, enabling, waiting, ready, none_selected}
 use Rattle.node_memory.specs.Words.{◌⊕◌, ◌⊖◌, ◌⊗◌, aligned, signed, overflows, sum_checked, difference_checked, product_checked, shifted_left, shifted_right}
@@ -47,7 +47,6 @@ divides_past s = (s.b == 0x80000000) && (s.a == 0xFFFFFFFF)
 
 -- an operation, after the byte that asked for it
 unfoldable pub row : PlainOperation → Cpu → List ℕ → Outcome
-
 row op.Reverse s m = Went (record s { a = s.b; b = s.a }) m  -- 00 rev
 row op.LoadByte s m = load_byte m s.a (λ x. Went (un x s) m)  -- 01 lb
 row op.ByteSubscript s m = Went (bin (s.a ⊕ s.b) s) m  -- 02 bsub

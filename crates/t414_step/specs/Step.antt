@@ -1,5 +1,5 @@
 -- One instruction byte, and one step of the processor.
-use Rattle.std.specs.Prelude.{ℕ, ◌+◌, ◌/◌, ◌%◌, ◌^◌, Bool, true, false, List, Result, Ok, Err, Option, Some, None, if◌then◌else◌, bit_or, min}
+use Rattle.std.specs.Prelude.{ℕ, ◌+◌, ◌/◌, ◌%◌, Bool, true, false, List, Result, Ok, Err, Some, None, if◌then◌else◌, bit_or, min}
 use Rattle.node_memory.specs.Bytes.{word_at}
 use Rattle.node_memory.specs.Words.{◌⊕◌, ◌⊖◌, aligned}
 use Rattle.node_memory.specs.declared.fault.Fault.{Fault}

@@ -2,11 +2,10 @@
 
 ghost use Rattle.std.specs.Prelude.{◌≡◌};
 
+use crate::cpu::Cpu;
 use link_channels::Links;
 use node_memory::{Fault, Memory};
 use t414_decode::{ChannelOperation, Function, Operation, PlainOperation, decode, operation};
-
-use crate::cpu::Cpu;
 
 // A row that can't fault.
 macro_rules! done {
@@ -121,12 +120,7 @@ impl Cpu {
 
     // The operation of a code.
     #[inline]
-    fn operate(
-        &mut self,
-        memory: &mut Memory,
-        links: &mut Links,
-        code: u32,
-    ) -> Result<(), Fault>
+    fn operate(&mut self, memory: &mut Memory, links: &mut Links, code: u32) -> Result<(), Fault>
         ensures answer { finished result self.new links.new memory.new ≡ upon links.old (operate (operation_of code) code self.old memory.old) }
     {
         match operation(code) {

@@ -4,7 +4,9 @@ ghost use Rattle.std.specs.Prelude.{◌≡◌, ◌<◌, ◌-ℤ◌, List, pos, �
 ghost use Rattle.node_memory.specs.Words.{signed};
 
 use crate::cpu::Cpu;
-use node_memory::{Fault, double, high, low, normal_places, overflows, shift_left, shift_right, signed};
+use node_memory::{
+    Fault, double, high, low, normal_places, overflows, shift_left, shift_right, signed,
+};
 
 // A signed difference less a borrow.
 fn exact_difference(left: u32, right: u32, borrow: u32) -> i64

@@ -5,10 +5,9 @@ ghost use Rattle.t414_step.specs.Answers.{answered, is_idle};
 ghost use Rattle.t414_step.specs.Registers.{rests};
 ghost use Rattle.t414_step.specs.Step.{resuming, resumption, step};
 
+use crate::cpu::Cpu;
 use link_channels::Links;
 use node_memory::{Fault, Memory};
-
-use crate::cpu::Cpu;
 
 /// What one step came to.
 #[derive(Clone, Copy, Debug, PartialEq, Eq)]

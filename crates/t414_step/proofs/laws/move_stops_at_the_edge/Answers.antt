@@ -1,4 +1,4 @@
-use Rattle.std.proofs.Common.{◌≡◌, refl}
+use Rattle.std.proofs.Common.{refl}
 use Rattle.node_memory.proofs.Edge.{copied-edge}
 use Rattle.t414_step.specs.Rows.{row}
 use Rattle.t414_step.proofs.laws.move_stops_at_the_edge.Goals as goal
