@@ -1,8 +1,7 @@
 //! Sums, products, comparisons and bits of words.
 
-use std::test::Fail;
-
 use crate::machine::{ALL, MIN, Row, rows_hold};
+use std::test::Fail;
 
 #[test]
 fn words_are_added_and_subtracted(rt: HostRuntime) -> Result<(), Fail> {
@@ -29,7 +28,13 @@ fn words_are_added_and_subtracted(rt: HostRuntime) -> Result<(), Fail> {
         Row("sub", 0x0c, [MIN, ALL, 5], [0x7fff_ffff, 5, 5], false),
         Row("sum", 0x52, [1, 2, 3], [3, 3, 3], false),
         Row("sum", 0x52, [1, ALL, 5], [0, 5, 5], false),
-        Row("sum", 0x52, [0x7fff_ffff, 0x7fff_ffff, 0], [0xffff_fffe, 0, 0], false),
+        Row(
+            "sum",
+            0x52,
+            [0x7fff_ffff, 0x7fff_ffff, 0],
+            [0xffff_fffe, 0, 0],
+            false,
+        ),
     ];
     rows_hold(&rt, rt.alloc(), &rows)
 }
@@ -52,7 +57,13 @@ fn words_are_multiplied_and_divided(rt: HostRuntime) -> Result<(), Fail> {
         Row("rem", 0x1f, [ALL, MIN, 9], [0, 9, 9], false),
         Row("div", 0x2c, [3, 7, 9], [2, 9, 9], false),
         Row("div", 0x2c, [3, 0xffff_fff9, 9], [0xffff_fffe, 9, 9], false),
-        Row("div", 0x2c, [ALL, 0x7fff_ffff, 9], [0x8000_0001, 9, 9], false),
+        Row(
+            "div",
+            0x2c,
+            [ALL, 0x7fff_ffff, 9],
+            [0x8000_0001, 9, 9],
+            false,
+        ),
         Row("div", 0x2c, [0, 7, 9], [0, 9, 9], true),
         Row("div", 0x2c, [ALL, MIN, 9], [0, 9, 9], true),
         Row("bcnt", 0x34, [3, 1, 2], [12, 1, 2], false),
@@ -100,7 +111,13 @@ fn bits_are_joined_and_shifted(rt: HostRuntime) -> Result<(), Fail> {
         Row("xor", 0x33, [MIN, ALL, 3], [0x7fff_ffff, 3, 3], false),
         Row("and", 0x46, [12, 10, 1], [8, 1, 1], false),
         Row("and", 0x46, [0, ALL, 2], [0, 2, 2], false),
-        Row("and", 0x46, [ALL, 0x8000_0001, 3], [0x8000_0001, 3, 3], false),
+        Row(
+            "and",
+            0x46,
+            [ALL, 0x8000_0001, 3],
+            [0x8000_0001, 3, 3],
+            false,
+        ),
         Row("or", 0x4b, [12, 10, 1], [14, 1, 1], false),
         Row("or", 0x4b, [0, 0, 2], [0, 2, 2], false),
         Row("or", 0x4b, [MIN, 1, 3], [0x8000_0001, 3, 3], false),

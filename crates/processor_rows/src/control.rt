@@ -1,12 +1,10 @@
 //! Calls, loops and returns by operation. The instruction after the two bytes of each lies at 8000004A.
 
-use std::test::Fail;
-
+use crate::machine::{ALL, Case, MIN, START, Words, after, holds, registers};
 use node_memory::Fault;
 use process_queue::Queue;
+use std::test::Fail;
 use t414_step::Cpu;
-
-use crate::machine::{ALL, Case, MIN, START, after, holds, registers};
 
 // The registers with another instruction pointer and workspace.
 fn at(instruction: u32, workspace: u32, cpu: Cpu) -> Cpu {
@@ -22,12 +20,42 @@ fn calls_and_workspaces_are_swapped_with_a(rt: HostRuntime) -> Result<(), Fail> 
     let next = 0x8000_004a;
     let workspace = 0x8000_0200;
     for (name, code, a, cpu) in [
-        ("gcall", [0x20, 0xf6], 0x8000_0300, at(0x8000_0300, workspace, after(2, [next, 2, 3]))),
-        ("gcall to 0", [0x20, 0xf6], 0, at(0, workspace, after(2, [next, 2, 3]))),
-        ("gcall to an odd address", [0x20, 0xf6], 0x8000_0301, at(0x8000_0301, workspace, after(2, [next, 2, 3]))),
-        ("gajw", [0x23, 0xfc], 0x8000_0303, at(next, 0x8000_0300, after(2, [workspace, 2, 3]))),
-        ("gajw to 0", [0x23, 0xfc], 0, at(next, 0, after(2, [workspace, 2, 3]))),
-        ("gajw to the last byte", [0x23, 0xfc], ALL, at(next, 0xffff_fffc, after(2, [workspace, 2, 3]))),
+        (
+            "gcall",
+            [0x20, 0xf6],
+            0x8000_0300,
+            at(0x8000_0300, workspace, after(2, [next, 2, 3])),
+        ),
+        (
+            "gcall to 0",
+            [0x20, 0xf6],
+            0,
+            at(0, workspace, after(2, [next, 2, 3])),
+        ),
+        (
+            "gcall to an odd address",
+            [0x20, 0xf6],
+            0x8000_0301,
+            at(0x8000_0301, workspace, after(2, [next, 2, 3])),
+        ),
+        (
+            "gajw",
+            [0x23, 0xfc],
+            0x8000_0303,
+            at(next, 0x8000_0300, after(2, [workspace, 2, 3])),
+        ),
+        (
+            "gajw to 0",
+            [0x23, 0xfc],
+            0,
+            at(next, 0, after(2, [workspace, 2, 3])),
+        ),
+        (
+            "gajw to the last byte",
+            [0x23, 0xfc],
+            ALL,
+            at(next, 0xffff_fffc, after(2, [workspace, 2, 3])),
+        ),
     ] {
         let case = Case {
             name,
@@ -47,11 +75,35 @@ fn returns_read_the_workspace(rt: HostRuntime) -> Result<(), Fail> {
     let abc = [1, 2, 3];
     let outside = Err(Fault::OutsideMemory);
     for (name, code, workspace, word, after) in [
-        ("ret", [0x22, 0xf0], 0x8000_0200, 0x8000_0400, Ok(at(0x8000_0400, 0x8000_0210, after(2, abc)))),
-        ("ret at the end", [0x22, 0xf0], 0x8000_0ffc, 7, Ok(at(7, 0x8000_100c, after(2, abc)))),
+        (
+            "ret",
+            [0x22, 0xf0],
+            0x8000_0200,
+            0x8000_0400,
+            Ok(at(0x8000_0400, 0x8000_0210, after(2, abc))),
+        ),
+        (
+            "ret at the end",
+            [0x22, 0xf0],
+            0x8000_0ffc,
+            7,
+            Ok(at(7, 0x8000_100c, after(2, abc))),
+        ),
         ("ret outside", [0x22, 0xf0], 0x8000_1000, 0, outside),
-        ("altend", [0x24, 0xf5], 0x8000_0200, 6, Ok(at(0x8000_0050, 0x8000_0200, after(2, abc)))),
-        ("altend back", [0x24, 0xf5], 0x8000_0200, 0xffff_fffe, Ok(at(START, 0x8000_0200, after(2, abc)))),
+        (
+            "altend",
+            [0x24, 0xf5],
+            0x8000_0200,
+            6,
+            Ok(at(0x8000_0050, 0x8000_0200, after(2, abc))),
+        ),
+        (
+            "altend back",
+            [0x24, 0xf5],
+            0x8000_0200,
+            0xffff_fffe,
+            Ok(at(START, 0x8000_0200, after(2, abc))),
+        ),
         ("altend outside", [0x24, 0xf5], 0x7fff_fffc, 0, outside),
     ] {
         let words = [(workspace, word)];
@@ -71,6 +123,7 @@ fn returns_read_the_workspace(rt: HostRuntime) -> Result<(), Fail> {
 
 // The control block lies at 80000300: the index, and above it the count.
 const INDEX: u32 = 0x8000_0300;
+
 const COUNT: u32 = 0x8000_0304;
 
 #[test]
@@ -111,12 +164,18 @@ fn loops_take_turns_where_they_jump(rt: HostRuntime) -> Result<(), Fail> {
     let mut case = Case {
         name: "lend as the 1,024th byte",
         code: &[0x22, 0xf1],
-        before: Cpu { bytes: 1022, ..registers(abc) },
+        before: Cpu {
+            bytes: 1022,
+            ..registers(abc)
+        },
         words: &words,
         after: Ok(Cpu {
             instruction: START,
             bytes: 1024,
-            queue: Queue { front: 0x8000_0200, back: 0x8000_0200 },
+            queue: Queue {
+                front: 0x8000_0200,
+                back: 0x8000_0200,
+            },
             running: false,
             ..registers(abc)
         }),
@@ -127,7 +186,10 @@ fn loops_take_turns_where_they_jump(rt: HostRuntime) -> Result<(), Fail> {
     let ended = [(COUNT, 0)];
     case.name = "lend that ends there";
     case.words = &last;
-    case.after = Ok(Cpu { bytes: 1024, ..after(2, abc) });
+    case.after = Ok(Cpu {
+        bytes: 1024,
+        ..after(2, abc)
+    });
     case.changed = &ended;
     holds(&rt, rt.alloc(), &case)
 }
@@ -137,17 +199,20 @@ fn loops_halt_outside_memory(rt: HostRuntime) -> Result<(), Fail> {
     // The count is the first word of memory, the index lies below it.
     let words = [(MIN, 2)];
     let changed = [(MIN, 1)];
-    let mut case = Case {
-        name: "lend whose index lies below memory",
-        code: &[0x22, 0xf1],
-        before: registers([2, 0x7fff_fffc, 9]),
-        words: &words,
-        after: Err(Fault::OutsideMemory),
-        changed: &changed,
-    };
-    holds(&rt, rt.alloc(), &case)?;
-    case.name = "lend whose count lies past memory";
-    case.before.b = 0x8000_0ffc;
-    case.changed = &[];
-    holds(&rt, rt.alloc(), &case)
+    let cases: [(&str, u32, Words); 2] = [
+        ("lend whose index lies below memory", 0x7fff_fffc, &changed),
+        ("lend whose count lies past memory", 0x8000_0ffc, &[]),
+    ];
+    for (name, block, changed) in cases {
+        let case = Case {
+            name,
+            code: &[0x22, 0xf1],
+            before: registers([2, block, 9]),
+            words: &words,
+            after: Err(Fault::OutsideMemory),
+            changed,
+        };
+        holds(&rt, rt.alloc(), &case)?;
+    }
+    Ok(())
 }

@@ -1,11 +1,9 @@
 //! Error and HaltOnError, and checks that set Error.
 
-use std::test::Fail;
-
-use node_memory::Fault;
-use t414_step::Cpu;
-
 use crate::machine::{ALL, Case, MIN, Row, after, holds, registers, rows_hold};
+use node_memory::Fault;
+use std::test::Fail;
+use t414_step::Cpu;
 
 #[test]
 fn checks_set_error(rt: HostRuntime) -> Result<(), Fail> {
@@ -20,10 +18,22 @@ fn checks_set_error(rt: HostRuntime) -> Result<(), Fail> {
         Row("ccnt1", 0x4d, [5, 6, 3], [6, 3, 3], true),
         Row("ccnt1", 0x4d, [5, 0, 3], [0, 3, 3], true),
         Row("ccnt1", 0x4d, [ALL, 1, 3], [1, 3, 3], false),
-        Row("cword", 0x56, [0x80, 0xffff_ff80, 3], [0xffff_ff80, 3, 3], false),
+        Row(
+            "cword",
+            0x56,
+            [0x80, 0xffff_ff80, 3],
+            [0xffff_ff80, 3, 3],
+            false,
+        ),
         Row("cword", 0x56, [0x80, 0x7f, 3], [0x7f, 3, 3], false),
         Row("cword", 0x56, [0x80, 0x80, 3], [0x80, 3, 3], true),
-        Row("cword", 0x56, [0x80, 0xffff_ff7f, 3], [0xffff_ff7f, 3, 3], true),
+        Row(
+            "cword",
+            0x56,
+            [0x80, 0xffff_ff7f, 3],
+            [0xffff_ff7f, 3, 3],
+            true,
+        ),
         Row("cword", 0x56, [MIN, 0, 3], [0, 3, 3], true),
         Row("cword", 0x56, [MIN, MIN, 3], [MIN, 3, 3], true),
         Row("testpranal", 0x2a, [1, 2, 3], [0, 1, 2], false),

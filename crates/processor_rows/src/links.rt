@@ -1,18 +1,18 @@
 //! Channels of links, and their service. W is 80000200, its descriptor 80000201.
 
-use std::alloc::Global;
-use std::test::Fail;
-
+use crate::machine::{ALL, MIN, Machine, WORKSPACE, after, registers};
 use link_channels::{LinkNumber, Links};
 use node_memory::Fault;
 use os_link::Packet;
 use process_queue::Queue;
+use std::alloc::Global;
+use std::test::Fail;
 use t414_step::{Cpu, Stepped};
 
-use crate::machine::{ALL, MIN, Machine, WORKSPACE, after, registers};
-
 const STATE: u32 = 0x8000_01f4;
+
 const SAVED: u32 = 0x8000_01fc;
+
 const OWN: u32 = 0x8000_0201;
 
 // A machine that has done the bytes of code from these registers.
@@ -30,10 +30,16 @@ fn sender_goes_on_after_its_acknowledge(rt: HostRuntime) -> Result<(), Fail> {
     assert_eq!(rt; machine.memory.word(WORKSPACE), Ok(0x41));
     assert_eq!(rt; machine.memory.word(MIN), Ok(OWN));
     assert_eq!(rt; machine.memory.word(SAVED), Ok(0x8000_004a));
-    assert_eq!(rt; machine.links.waiting(LinkNumber::Zero), Some(Packet::Byte(0x41)));
+    assert_eq!(rt;
+        machine.links.waiting(LinkNumber::Zero),
+        Some(Packet::Byte(0x41))
+    );
     assert!(rt; !machine.cpu.running);
     assert_eq!(rt; machine.step(), Stepped::Idle);
-    assert_eq!(rt; machine.links.take(LinkNumber::Zero), Some(Packet::Byte(0x41)));
+    assert_eq!(rt;
+        machine.links.take(LinkNumber::Zero),
+        Some(Packet::Byte(0x41))
+    );
     assert_eq!(rt; machine.step(), Stepped::Idle);
     machine.links.deliver(LinkNumber::Zero, Packet::Ack);
     assert_eq!(rt; machine.step(), Stepped::Ran);
@@ -48,13 +54,22 @@ fn sender_goes_on_after_its_acknowledge(rt: HostRuntime) -> Result<(), Fail> {
 fn each_byte_is_sent_after_the_acknowledge_of_the_last(rt: HostRuntime) -> Result<(), Fail> {
     let mut machine = having_done(rt.alloc(), [2, 0x8000_0004, 0x8000_0500], &[0x20, 0xfb])?;
     assert_eq!(rt; machine.memory.word(0x8000_0004), Ok(OWN));
-    assert_eq!(rt; machine.links.take(LinkNumber::One), Some(Packet::Byte(0x11)));
-    assert_eq!(rt; machine.links.at(LinkNumber::One).output_pointer, 0x8000_0501);
+    assert_eq!(rt;
+        machine.links.take(LinkNumber::One),
+        Some(Packet::Byte(0x11))
+    );
+    assert_eq!(rt;
+        machine.links.at(LinkNumber::One).output_pointer,
+        0x8000_0501
+    );
     assert_eq!(rt; machine.links.at(LinkNumber::One).output_count, 1);
     machine.links.deliver(LinkNumber::One, Packet::Ack);
     assert_eq!(rt; machine.step(), Stepped::Ran);
     assert!(rt; !machine.cpu.running);
-    assert_eq!(rt; machine.links.take(LinkNumber::One), Some(Packet::Byte(0x22)));
+    assert_eq!(rt;
+        machine.links.take(LinkNumber::One),
+        Some(Packet::Byte(0x22))
+    );
     assert_eq!(rt; machine.memory.word(0x8000_0004), Ok(OWN));
     machine.links.deliver(LinkNumber::One, Packet::Ack);
     assert_eq!(rt; machine.step(), Stepped::Ran);
@@ -68,7 +83,10 @@ fn words_are_sent_by_four_bytes(rt: HostRuntime) -> Result<(), Fail> {
     let mut machine = having_done(rt.alloc(), [0x4433_2211, 0x8000_000c, 0], &[0x20, 0xff])?;
     for byte in [0x11, 0x22, 0x33, 0x44] {
         assert!(rt; !machine.cpu.running);
-        assert_eq!(rt; machine.links.take(LinkNumber::Three), Some(Packet::Byte(byte)));
+        assert_eq!(rt;
+            machine.links.take(LinkNumber::Three),
+            Some(Packet::Byte(byte))
+        );
         machine.links.deliver(LinkNumber::Three, Packet::Ack);
         assert_eq!(rt; machine.step(), Stepped::Ran);
     }
@@ -122,14 +140,21 @@ fn watched_arrival_wakes_an_alternative(rt: HostRuntime) -> Result<(), Fail> {
     assert_eq!(rt; machine.memory.word(STATE), Ok(0x8000_0003));
     assert!(rt; machine.cpu.running);
     assert_eq!(rt; machine.links.waiting(LinkNumber::Zero), None);
-    assert_eq!(rt; machine.links.at(LinkNumber::Zero).end.input.buffer, Some(0x5a));
+    assert_eq!(rt;
+        machine.links.at(LinkNumber::Zero).end.input.buffer,
+        Some(0x5a)
+    );
     assert!(rt; !machine.links.at(LinkNumber::Zero).watched);
     Ok(())
 }
 
 #[test]
 fn arrival_readies_an_alternative_that_enables(rt: HostRuntime) -> Result<(), Fail> {
-    for (state, left) in [(0x8000_0001, 0x8000_0003), (0x8000_0003, 0x8000_0003), (7, 7)] {
+    for (state, left) in [
+        (0x8000_0001, 0x8000_0003),
+        (0x8000_0003, 0x8000_0003),
+        (7, 7),
+    ] {
         let mut machine = having_done(rt.alloc(), [1, 0x8000_0014, 0], &[0x24, 0xf8, 0x40])?;
         machine.memory.set_word(STATE, state)?;
         machine.links.deliver(LinkNumber::One, Packet::Byte(1));
@@ -177,10 +202,25 @@ fn guards_of_links_are_disabled(rt: HostRuntime) -> Result<(), Fail> {
             machine.links.deliver(LinkNumber::Three, Packet::Byte(1));
         }
         assert_eq!(rt; machine.steps(2), Stepped::Ran);
-        assert_eq!(rt; machine.memory.word(0x8000_001c), Ok(left), "{channel:X} {selected:X}");
-        assert_eq!(rt; machine.memory.word(WORKSPACE), Ok(chosen), "{channel:X} {selected:X}");
-        assert!(rt; !machine.links.at(LinkNumber::Three).watched, "{channel:X} {selected:X}");
-        assert_eq!(rt; machine.cpu, after(2, [a, 1, 0x8000_001c]), "{channel:X} {selected:X}");
+        assert_eq!(rt;
+            machine.memory.word(0x8000_001c),
+            Ok(left),
+            "{channel:X} {selected:X}"
+        );
+        assert_eq!(rt;
+            machine.memory.word(WORKSPACE),
+            Ok(chosen),
+            "{channel:X} {selected:X}"
+        );
+        assert!(rt;
+            !machine.links.at(LinkNumber::Three).watched,
+            "{channel:X} {selected:X}"
+        );
+        assert_eq!(rt;
+            machine.cpu,
+            after(2, [a, 1, 0x8000_001c]),
+            "{channel:X} {selected:X}"
+        );
     }
     Ok(())
 }
@@ -222,7 +262,10 @@ fn byte_stays_where_its_store_faults(rt: HostRuntime) -> Result<(), Fail> {
     let mut machine = having_done(rt.alloc(), [1, 0x8000_0010, 0x8000_1000], &[0x20, 0xf7])?;
     machine.links.deliver(LinkNumber::Zero, Packet::Byte(9));
     assert_eq!(rt; machine.step(), Stepped::Fault(Fault::OutsideMemory));
-    assert_eq!(rt; machine.links.at(LinkNumber::Zero).end.input.buffer, Some(9));
+    assert_eq!(rt;
+        machine.links.at(LinkNumber::Zero).end.input.buffer,
+        Some(9)
+    );
     assert_eq!(rt; machine.links.waiting(LinkNumber::Zero), None);
     Ok(())
 }
@@ -259,7 +302,13 @@ fn links_are_served_from_zero_to_three(rt: HostRuntime) -> Result<(), Fail> {
     }
     assert_eq!(rt; machine.step(), Stepped::Ran);
     assert_eq!(rt; machine.cpu.workspace, 0x8000_0300);
-    assert_eq!(rt; machine.cpu.queue, Queue { front: 0x8000_0400, back: 0x8000_0400 });
+    assert_eq!(rt;
+        machine.cpu.queue,
+        Queue {
+            front: 0x8000_0400,
+            back: 0x8000_0400
+        }
+    );
     assert_eq!(rt; machine.memory.word(0x8000_0300), Ok(7));
     assert_eq!(rt; machine.memory.word(0x8000_0400), Ok(7));
     Ok(())

@@ -1,15 +1,20 @@
 //! Double words.
 
-use std::test::Fail;
-
 use crate::machine::{ALL, MIN, Row, rows_hold};
+use std::test::Fail;
 
 #[test]
 fn carries_and_borrows_go_on(rt: HostRuntime) -> Result<(), Fail> {
     let rows = [
         Row("ladd", 0x16, [1, 2, 3], [4, 2, 3], false),
         Row("ladd", 0x16, [1, 2, 2], [3, 2, 2], false),
-        Row("ladd", 0x16, [0, 0x7fff_ffff, 1], [MIN, 0x7fff_ffff, 1], true),
+        Row(
+            "ladd",
+            0x16,
+            [0, 0x7fff_ffff, 1],
+            [MIN, 0x7fff_ffff, 1],
+            true,
+        ),
         Row("ladd", 0x16, [ALL, MIN, 1], [MIN, MIN, 1], false),
         Row("ladd", 0x16, [ALL, MIN, 0], [0x7fff_ffff, MIN, 0], true),
         Row("lsub", 0x38, [1, 5, 0], [4, 5, 0], false),
@@ -20,7 +25,13 @@ fn carries_and_borrows_go_on(rt: HostRuntime) -> Result<(), Fail> {
         Row("lsum", 0x37, [1, 2, 0], [3, 0, 0], false),
         Row("lsum", 0x37, [ALL, 1, 1], [1, 1, 1], false),
         Row("lsum", 0x37, [ALL, ALL, 1], [ALL, 1, 1], false),
-        Row("lsum", 0x37, [ALL, 0, 0xffff_fffe], [ALL, 0, 0xffff_fffe], false),
+        Row(
+            "lsum",
+            0x37,
+            [ALL, 0, 0xffff_fffe],
+            [ALL, 0, 0xffff_fffe],
+            false,
+        ),
         Row("ldiff", 0x4f, [1, 5, 0], [4, 0, 0], false),
         Row("ldiff", 0x4f, [1, 0, 0], [ALL, 1, 0], false),
         Row("ldiff", 0x4f, [0, 0, 1], [ALL, 1, 1], false),
@@ -40,7 +51,13 @@ fn double_words_are_multiplied_and_divided(rt: HostRuntime) -> Result<(), Fail> 
         Row("ldiv", 0x1a, [2, 7, 2], [0, 0, 2], true),
         Row("ldiv", 0x1a, [0x10, 5, 0], [0, 5, 0], false),
         Row("ldiv", 0x1a, [0, 7, 2], [0, 0, 2], true),
-        Row("ldiv", 0x1a, [ALL, ALL, 0xffff_fffe], [ALL, 0xffff_fffe, 0xffff_fffe], false),
+        Row(
+            "ldiv",
+            0x1a,
+            [ALL, ALL, 0xffff_fffe],
+            [ALL, 0xffff_fffe, 0xffff_fffe],
+            false,
+        ),
     ];
     rows_hold(&rt, rt.alloc(), &rows)
 }
@@ -75,7 +92,13 @@ fn words_become_double_and_single(rt: HostRuntime) -> Result<(), Fail> {
         Row("xdble", 0x1d, [1, 5, 9], [1, 0, 5], false),
         Row("xdble", 0x1d, [ALL, 5, 9], [ALL, ALL, 5], false),
         Row("xdble", 0x1d, [MIN, 5, 9], [MIN, ALL, 5], false),
-        Row("xdble", 0x1d, [0x7fff_ffff, 5, 9], [0x7fff_ffff, 0, 5], false),
+        Row(
+            "xdble",
+            0x1d,
+            [0x7fff_ffff, 5, 9],
+            [0x7fff_ffff, 0, 5],
+            false,
+        ),
         Row("csngl", 0x4c, [1, 0, 9], [1, 9, 9], false),
         Row("csngl", 0x4c, [ALL, ALL, 9], [ALL, 9, 9], false),
         Row("csngl", 0x4c, [MIN, 0, 9], [MIN, 9, 9], true),

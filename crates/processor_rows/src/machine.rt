@@ -1,12 +1,11 @@
 //! A processor with 4,096 bytes of memory and its links, and rows that are run on it.
 
-use std::alloc::Global;
-use std::process::Abort;
-use std::test::Fail;
-
 use link_channels::Links;
 use node_memory::{Fault, Memory};
 use process_queue::Queue;
+use std::alloc::Global;
+use std::process::Abort;
+use std::test::Fail;
 use t414_step::{Cpu, Stepped, step};
 
 /// Where code begins, the first address that is not the processor's own.

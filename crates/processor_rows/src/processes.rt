@@ -1,16 +1,16 @@
 //! Processes, the queue and alternatives. W is 80000200, the instruction after the two bytes of an operation lies at
 //! 8000004A.
 
-use std::test::Fail;
-
+use crate::machine::{ALL, Case, MIN, Machine, START, WORKSPACE, Words, after, holds, registers};
 use node_memory::Fault;
 use process_queue::Queue;
+use std::test::Fail;
 use t414_step::{Cpu, Stepped};
 
-use crate::machine::{ALL, Case, MIN, Machine, START, WORKSPACE, Words, after, holds, registers};
-
 const STATE: u32 = 0x8000_01f4;
+
 const SAVED: u32 = 0x8000_01fc;
+
 const NEXT: u32 = 0x8000_004a;
 
 // A queue whose first and last are these.
@@ -43,9 +43,30 @@ fn processes_are_started_and_run(rt: HostRuntime) -> Result<(), Fail> {
     let linked = [(0x8000_03f8, 0x8000_0300)];
     let startp = [0x20, 0xfd];
     let runp = [0x23, 0xf9];
-    let cases: [(&str, [u8; 2], [u32; 3], (u32, u32), Result<Cpu, Fault>, Words); 10] = [
-        ("startp", startp, [0x8000_0300, 0x10, 3], (MIN, MIN), Ok(queued(0x8000_0300, 0x8000_0300, after(2, [0x8000_0300, 0x10, 3]))), &started),
-        ("startp ignores low bits", startp, [0x8000_0303, 0x10, 3], (MIN, MIN), Ok(queued(0x8000_0300, 0x8000_0300, after(2, [0x8000_0303, 0x10, 3]))), &started),
+    let cases: [(
+        &str,
+        [u8; 2],
+        [u32; 3],
+        (u32, u32),
+        Result<Cpu, Fault>,
+        Words,
+    ); 10] = [
+        (
+            "startp",
+            startp,
+            [0x8000_0300, 0x10, 3],
+            (MIN, MIN),
+            Ok(queued(0x8000_0300, 0x8000_0300, after(2, [0x8000_0300, 0x10, 3]))),
+            &started,
+        ),
+        (
+            "startp ignores low bits",
+            startp,
+            [0x8000_0303, 0x10, 3],
+            (MIN, MIN),
+            Ok(queued(0x8000_0300, 0x8000_0300, after(2, [0x8000_0303, 0x10, 3]))),
+            &started,
+        ),
         (
             "startp behind another",
             startp,
@@ -54,9 +75,30 @@ fn processes_are_started_and_run(rt: HostRuntime) -> Result<(), Fail> {
             Ok(queued(0x8000_0400, 0x8000_0300, after(2, [0x8000_0300, 0x10, 3]))),
             &behind,
         ),
-        ("startp below memory", startp, [MIN, 0x10, 3], (MIN, MIN), outside, &[]),
-        ("startp behind one outside", startp, [0x8000_0300, 0x10, 3], (1, 1), outside, &placed),
-        ("runp", runp, [0x8000_0301, 2, 3], (MIN, MIN), Ok(queued(0x8000_0300, 0x8000_0300, after(2, [0x8000_0301, 2, 3]))), &[]),
+        (
+            "startp below memory",
+            startp,
+            [MIN, 0x10, 3],
+            (MIN, MIN),
+            outside,
+            &[],
+        ),
+        (
+            "startp behind one outside",
+            startp,
+            [0x8000_0300, 0x10, 3],
+            (1, 1),
+            outside,
+            &placed,
+        ),
+        (
+            "runp",
+            runp,
+            [0x8000_0301, 2, 3],
+            (MIN, MIN),
+            Ok(queued(0x8000_0300, 0x8000_0300, after(2, [0x8000_0301, 2, 3]))),
+            &[],
+        ),
         (
             "runp behind another",
             runp,
@@ -65,9 +107,30 @@ fn processes_are_started_and_run(rt: HostRuntime) -> Result<(), Fail> {
             Ok(queued(0x8000_0400, 0x8000_0300, after(2, [0x8000_0303, 2, 3]))),
             &linked,
         ),
-        ("runp of high priority", runp, [0x8000_0300, 2, 3], (MIN, MIN), high, &[]),
-        ("runp of NotProcess", runp, [MIN, 2, 3], (MIN, MIN), high, &[]),
-        ("runp behind one outside", runp, [0x8000_0301, 2, 3], (1, 0x8000_1100), outside, &[]),
+        (
+            "runp of high priority",
+            runp,
+            [0x8000_0300, 2, 3],
+            (MIN, MIN),
+            high,
+            &[],
+        ),
+        (
+            "runp of NotProcess",
+            runp,
+            [MIN, 2, 3],
+            (MIN, MIN),
+            high,
+            &[],
+        ),
+        (
+            "runp behind one outside",
+            runp,
+            [0x8000_0301, 2, 3],
+            (1, 0x8000_1100),
+            outside,
+            &[],
+        ),
     ];
     for (name, code, abc, (front, back), after, changed) in cases {
         let case = Case {
@@ -101,10 +164,38 @@ fn processes_end_and_stop(rt: HostRuntime) -> Result<(), Fail> {
     let endp = [0x20, 0xf3];
     let stopp = [0x21, 0xf5];
     let cases: [(&str, [u8; 2], u32, Words, Result<Cpu, Fault>, Words); 7] = [
-        ("endp at count 1", endp, WORKSPACE, &last, Ok(successor), &[]),
-        ("endp at count 2", endp, WORKSPACE, &two, Ok(left(after(2, abc))), &one),
-        ("endp at count 0", endp, WORKSPACE, &[], Ok(left(after(2, abc))), &wrapped),
-        ("stopp", stopp, WORKSPACE, &[], Ok(left(after(2, abc))), &saved),
+        (
+            "endp at count 1",
+            endp,
+            WORKSPACE,
+            &last,
+            Ok(successor),
+            &[],
+        ),
+        (
+            "endp at count 2",
+            endp,
+            WORKSPACE,
+            &two,
+            Ok(left(after(2, abc))),
+            &one,
+        ),
+        (
+            "endp at count 0",
+            endp,
+            WORKSPACE,
+            &[],
+            Ok(left(after(2, abc))),
+            &wrapped,
+        ),
+        (
+            "stopp",
+            stopp,
+            WORKSPACE,
+            &[],
+            Ok(left(after(2, abc))),
+            &saved,
+        ),
         (
             "stopp above the first word",
             stopp,
@@ -150,9 +241,18 @@ fn processes_stop_on_error(rt: HostRuntime) -> Result<(), Fail> {
         let case = Case {
             name: "stoperr",
             code: &[0x25, 0xf5],
-            before: Cpu { error, halt_on_error, ..registers([1, 2, 3]) },
+            before: Cpu {
+                error,
+                halt_on_error,
+                ..registers([1, 2, 3])
+            },
             words: &[],
-            after: Ok(Cpu { error, halt_on_error, running: !error, ..after(2, [1, 2, 3]) }),
+            after: Ok(Cpu {
+                error,
+                halt_on_error,
+                running: !error,
+                ..after(2, [1, 2, 3])
+            }),
             changed,
         };
         holds(&rt, rt.alloc(), &case)?;
@@ -167,7 +267,12 @@ fn queue_registers_are_stored_as_written(rt: HostRuntime) -> Result<(), Fail> {
     for (name, code, a, after) in [
         ("stlb", [0x21, 0xf7], 5, Ok(queued(MIN, 5, dropped))),
         ("stlb", [0x21, 0xf7], MIN, Ok(dropped)),
-        ("stlb", [0x21, 0xf7], 0x8000_0301, Ok(queued(MIN, 0x8000_0301, dropped))),
+        (
+            "stlb",
+            [0x21, 0xf7],
+            0x8000_0301,
+            Ok(queued(MIN, 0x8000_0301, dropped)),
+        ),
         ("stlf", [0x21, 0xfc], 5, Ok(queued(5, MIN, dropped))),
         ("stlf", [0x21, 0xfc], MIN, Ok(dropped)),
         ("stlf", [0x21, 0xfc], ALL, Ok(queued(ALL, MIN, dropped))),
@@ -204,12 +309,42 @@ fn queue_registers_are_saved(rt: HostRuntime) -> Result<(), Fail> {
     let high_first = [(0x8000_0ffc, MIN)];
     let cases: [(&str, [u8; 2], u32, Result<Cpu, Fault>, Words); 8] = [
         ("savel", [0x23, 0xfd], 0x8000_0300, Ok(dropped), &low),
-        ("savel ignores low bits", [0x23, 0xfd], 0x8000_0302, Ok(dropped), &low),
-        ("savel of the last word", [0x23, 0xfd], 0x8000_0ffc, outside, &low_first),
-        ("savel below memory", [0x23, 0xfd], 0x7fff_fffc, outside, &[]),
+        (
+            "savel ignores low bits",
+            [0x23, 0xfd],
+            0x8000_0302,
+            Ok(dropped),
+            &low,
+        ),
+        (
+            "savel of the last word",
+            [0x23, 0xfd],
+            0x8000_0ffc,
+            outside,
+            &low_first,
+        ),
+        (
+            "savel below memory",
+            [0x23, 0xfd],
+            0x7fff_fffc,
+            outside,
+            &[],
+        ),
         ("saveh", [0x23, 0xfe], 0x8000_0300, Ok(dropped), &high),
-        ("saveh ignores low bits", [0x23, 0xfe], 0x8000_0303, Ok(dropped), &high),
-        ("saveh of the last word", [0x23, 0xfe], 0x8000_0ffc, outside, &high_first),
+        (
+            "saveh ignores low bits",
+            [0x23, 0xfe],
+            0x8000_0303,
+            Ok(dropped),
+            &high,
+        ),
+        (
+            "saveh of the last word",
+            [0x23, 0xfe],
+            0x8000_0ffc,
+            outside,
+            &high_first,
+        ),
         ("saveh past memory", [0x23, 0xfe], 0x8000_1000, outside, &[]),
     ];
     for (name, code, a, after, changed) in cases {
@@ -241,12 +376,47 @@ fn alternatives_begin_and_wait(rt: HostRuntime) -> Result<(), Fail> {
     let marked = [(0x8000_0008, ALL)];
     let cases: [(&str, [u8; 2], u32, Words, Result<Cpu, Fault>, Words); 8] = [
         ("alt", alt, WORKSPACE, &[], Ok(after(2, abc)), &began),
-        ("alt low", alt, 0x8000_000c, &[], Ok(at_workspace(0x8000_000c, after(2, abc))), &began_low),
+        (
+            "alt low",
+            alt,
+            0x8000_000c,
+            &[],
+            Ok(at_workspace(0x8000_000c, after(2, abc))),
+            &began_low,
+        ),
         ("alt below memory", alt, 0x8000_0008, &[], outside, &[]),
-        ("altwt when ready", altwt, WORKSPACE, &ready, Ok(after(2, abc)), &went_on),
-        ("altwt when enabling", altwt, WORKSPACE, &enabling, Ok(left(after(2, abc))), &waited),
-        ("altwt of any other state", altwt, WORKSPACE, &[], Ok(left(after(2, abc))), &waited),
-        ("altwt below memory", altwt, 0x8000_0008, &[], outside, &marked),
+        (
+            "altwt when ready",
+            altwt,
+            WORKSPACE,
+            &ready,
+            Ok(after(2, abc)),
+            &went_on,
+        ),
+        (
+            "altwt when enabling",
+            altwt,
+            WORKSPACE,
+            &enabling,
+            Ok(left(after(2, abc))),
+            &waited,
+        ),
+        (
+            "altwt of any other state",
+            altwt,
+            WORKSPACE,
+            &[],
+            Ok(left(after(2, abc))),
+            &waited,
+        ),
+        (
+            "altwt below memory",
+            altwt,
+            0x8000_0008,
+            &[],
+            outside,
+            &marked,
+        ),
         ("altwt past memory", altwt, 0x8000_1000, &[], outside, &[]),
     ];
     for (name, code, workspace, words, after, changed) in cases {
@@ -272,13 +442,61 @@ fn guards_that_skip_are_enabled_and_disabled(rt: HostRuntime) -> Result<(), Fail
     let unselected = [(WORKSPACE, ALL)];
     let selected = [(WORKSPACE, 5)];
     let chosen = [(WORKSPACE, 7)];
-    let cases: [(&str, [u8; 2], u32, [u32; 3], Words, Result<Cpu, Fault>, Words); 8] = [
-        ("enbs", enbs, WORKSPACE, [1, 2, 3], &[], Ok(after(2, [1, 2, 3])), &ready),
-        ("enbs of any guard", enbs, WORKSPACE, [MIN, 2, 3], &[], Ok(after(2, [MIN, 2, 3])), &ready),
-        ("enbs of guard 0", enbs, WORKSPACE, [0, 2, 3], &[], Ok(after(2, [0, 2, 3])), &[]),
+    let cases: [(
+        &str,
+        [u8; 2],
+        u32,
+        [u32; 3],
+        Words,
+        Result<Cpu, Fault>,
+        Words,
+    ); 8] = [
+        (
+            "enbs",
+            enbs,
+            WORKSPACE,
+            [1, 2, 3],
+            &[],
+            Ok(after(2, [1, 2, 3])),
+            &ready,
+        ),
+        (
+            "enbs of any guard",
+            enbs,
+            WORKSPACE,
+            [MIN, 2, 3],
+            &[],
+            Ok(after(2, [MIN, 2, 3])),
+            &ready,
+        ),
+        (
+            "enbs of guard 0",
+            enbs,
+            WORKSPACE,
+            [0, 2, 3],
+            &[],
+            Ok(after(2, [0, 2, 3])),
+            &[],
+        ),
         ("enbs below memory", enbs, MIN, [1, 2, 3], &[], outside, &[]),
-        ("diss chooses", diss, WORKSPACE, [7, 1, 9], &unselected, Ok(after(2, [1, 9, 9])), &chosen),
-        ("diss after another", diss, WORKSPACE, [7, 1, 9], &selected, Ok(after(2, [0, 9, 9])), &[]),
+        (
+            "diss chooses",
+            diss,
+            WORKSPACE,
+            [7, 1, 9],
+            &unselected,
+            Ok(after(2, [1, 9, 9])),
+            &chosen,
+        ),
+        (
+            "diss after another",
+            diss,
+            WORKSPACE,
+            [7, 1, 9],
+            &selected,
+            Ok(after(2, [0, 9, 9])),
+            &[],
+        ),
         (
             "diss of guard 0 looks nowhere",
             diss,
@@ -288,7 +506,15 @@ fn guards_that_skip_are_enabled_and_disabled(rt: HostRuntime) -> Result<(), Fail
             Ok(at_workspace(0x8000_1000, after(2, [0, 9, 9]))),
             &[],
         ),
-        ("diss past memory", diss, 0x8000_1000, [7, 1, 9], &[], outside, &[]),
+        (
+            "diss past memory",
+            diss,
+            0x8000_1000,
+            [7, 1, 9],
+            &[],
+            outside,
+            &[],
+        ),
     ];
     for (name, code, workspace, abc, words, after, changed) in cases {
         let case = Case {
@@ -345,8 +571,15 @@ fn queues_that_stand_for_no_list_halt(rt: HostRuntime) -> Result<(), Fail> {
         // There is one, whose saved place lies outside.
         (MIN + 0x1004, MIN + 0x1004),
     ] {
-        let mut machine = Machine::new(rt.alloc(), queued(front, back, left(registers([1, 2, 3]))))?;
-        assert_eq!(rt; machine.step(), Stepped::Fault(Fault::OutsideMemory), "front {front:X}");
+        let mut machine = Machine::new(
+            rt.alloc(),
+            queued(front, back, left(registers([1, 2, 3]))),
+        )?;
+        assert_eq!(rt;
+            machine.step(),
+            Stepped::Fault(Fault::OutsideMemory),
+            "front {front:X}"
+        );
     }
     Ok(())
 }

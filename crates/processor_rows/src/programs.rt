@@ -1,11 +1,9 @@
 //! Whole programs: slices, faults, and programs that destroy what they stand on.
 
-use std::test::Fail;
-
-use node_memory::Fault;
-use t414_step::{Cpu, Stepped};
-
 use crate::machine::{MIN, Machine, START, registers};
+use node_memory::Fault;
+use std::test::Fail;
+use t414_step::{Cpu, Stepped};
 
 #[test]
 fn overflow_halts_where_errors_halt(rt: HostRuntime) -> Result<(), Fail> {
@@ -42,9 +40,17 @@ fn processes_are_sliced_after_1024_bytes(rt: HostRuntime) -> Result<(), Fail> {
 fn wild_programs_halt_with_their_faults(rt: HostRuntime) -> Result<(), Fail> {
     let programs: [(&str, &[u8], Fault); 6] = [
         // ldc 1; stlf; stopp: the link word of 1 lies outside.
-        ("a queue that stands for no list", &[0x41, 0x21, 0xfc, 0x21, 0xf5], Fault::OutsideMemory),
+        (
+            "a queue that stands for no list",
+            &[0x41, 0x21, 0xfc, 0x21, 0xf5],
+            Fault::OutsideMemory,
+        ),
         // ldc 0; runp
-        ("a descriptor of high priority", &[0x40, 0x23, 0xf9], Fault::HighPriority),
+        (
+            "a descriptor of high priority",
+            &[0x40, 0x23, 0xf9],
+            Fault::HighPriority,
+        ),
         // mint; mint; ldc -1; move
         (
             "a move of 4,294,967,295 bytes",
@@ -52,15 +58,25 @@ fn wild_programs_halt_with_their_faults(rt: HostRuntime) -> Result<(), Fail> {
             Fault::OutsideMemory,
         ),
         // mint; ldnlp 8; ldc 1; outbyte
-        ("a byte for the event channel", &[0x24, 0xf2, 0x58, 0x41, 0xfe], Fault::WrongChannel),
+        (
+            "a byte for the event channel",
+            &[0x24, 0xf2, 0x58, 0x41, 0xfe],
+            Fault::WrongChannel,
+        ),
         // ldc 25; ldc 2; ldpi; sb turns the byte 00 into 25, so that sethalterr is done; mint; adc -1
         (
             "code that changes itself",
-            &[0x22, 0x45, 0x42, 0x21, 0xfb, 0x23, 0xfb, 0x00, 0xf8, 0x24, 0xf2, 0x60, 0x8f],
+            &[
+                0x22, 0x45, 0x42, 0x21, 0xfb, 0x23, 0xfb, 0x00, 0xf8, 0x24, 0xf2, 0x60, 0x8f,
+            ],
             Fault::ErrorSet,
         ),
         // ldc 0; gcall: there is no byte at 0.
-        ("an instruction outside memory", &[0x40, 0xf6], Fault::OutsideMemory),
+        (
+            "an instruction outside memory",
+            &[0x40, 0xf6],
+            Fault::OutsideMemory,
+        ),
     ];
     for (name, code, fault) in programs {
         let mut machine = Machine::new(rt.alloc(), registers([0, 0, 0]))?;
