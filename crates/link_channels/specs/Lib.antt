@@ -6,3 +6,4 @@ pub mod Soft
 pub mod Hard
 pub mod Messages
 pub mod Service
+pub mod Laws

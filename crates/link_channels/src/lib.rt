@@ -5,6 +5,7 @@
 
 mod channel;
 mod hard;
+mod laws;
 mod link;
 mod links;
 mod messages;
@@ -16,6 +17,7 @@ mod soft;
 mod waiting;
 
 pub use crate::channel::Channel;
+pub use crate::laws::{messages_stop_at_the_edge, services_act_on_work};
 pub use crate::link::{FourLinks, Link};
 pub use crate::links::Links;
 pub use crate::number::LinkNumber;
