@@ -2,12 +2,10 @@
 //! LOOP is `arithmetic`, `memory` or `lend`; without it all three run. Links are served before each byte.
 #![tactic(auto)]
 
-use std::env;
-use std::io;
-
 use link_channels::Links;
 use node_memory::{Fault, Memory};
 use process_queue::Queue;
+use std::{env, io};
 use t414_step::{Cpu, Stepped, step};
 
 /// The address of the first byte of a loop.
@@ -79,8 +77,15 @@ fn burst(cpu: &mut Cpu, memory: &mut Memory, links: &mut Links, limit: u32) -> u
 
 fn main(rt: HostRuntime) -> io::Result<()> {
     let words: Vec<String> = env::args(&rt)?.collect(rt.alloc())?;
-    let count = words.get(1).and_then(|word| word.parse::<u32>().ok()).unwrap_or(1000);
-    let loops: [(&str, &[u8]); 3] = [("arithmetic", &ARITHMETIC), ("memory", &MEMORY), ("lend", &LEND)];
+    let count = words
+        .get(1)
+        .and_then(|word| word.parse::<u32>().ok())
+        .unwrap_or(1000);
+    let loops: [(&str, &[u8]); 3] = [
+        ("arithmetic", &ARITHMETIC),
+        ("memory", &MEMORY),
+        ("lend", &LEND),
+    ];
     for (name, code) in loops {
         if words.get(2).is_some_and(|word| word.as_str() != name) {
             continue;
