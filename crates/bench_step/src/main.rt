@@ -1,0 +1,104 @@
+//! Steps the processor through loops of instruction bytes, so that their rates can be measured: `COUNT [LOOP]`, where
+//! LOOP is `arithmetic`, `memory` or `lend`; without it all three run. Links are served before each byte.
+#![tactic(auto)]
+
+use link_channels::Links;
+use node_memory::{Fault, Memory};
+use process_queue::Queue;
+use std::{env, io};
+use t414_step::{Cpu, Stepped, step};
+
+/// The address of the first byte of a loop.
+const START: u32 = 0x8000_0100;
+
+static ARITHMETIC: [u8; 24] = [
+    0x40, 0xd0, // ldc 0; stl 0
+    0x40, 0xd1, // ldc 0; stl 1
+    0x70, 0x81, 0xd0, // ldl 0; adc 1; stl 0
+    0x71, 0x70, 0xf2, 0xd1, // ldl 1; ldl 0; bsub; stl 1
+    0x71, 0x23, 0xf3, 0xd2, // ldl 1; xor; stl 2
+    0x70, 0x4f, 0x24, 0xf6, 0xa2, // ldl 0; ldc 15; and; cj over two bytes
+    0x40, 0xa0, // ldc 0; cj over none
+    0x61, 0x0c, // j to ldl 0
+];
+
+static MEMORY: [u8; 18] = [
+    0x23, 0x10, 0xd0, // ldlp 48; stl 0
+    0x40, 0x70, 0x23, 0xfb, // ldc 0; ldl 0; sb
+    0x70, 0xf1, 0x83, // ldl 0; lb; adc 3
+    0x70, 0x23, 0xfb, // ldl 0; sb
+    0x70, 0xf1, 0xd1, // ldl 0; lb; stl 1
+    0x60, 0x01, // j to ldc 0
+];
+
+static LEND: [u8; 18] = [
+    0x40, 0xd2, // ldc 0; stl 2
+    0x27, 0x2f, 0x2f, 0x2f, 0x2f, 0x2f, 0x2f, 0x4f, 0xd3, // ldc 7FFFFFFF; stl 3
+    0x71, 0x81, 0xd1, // ldl 1; adc 1; stl 1
+    0x12, 0x47, 0x22, 0xf1, // ldlp 2; ldc 7; lend back to ldl 1
+];
+
+// The registers before the first byte of a loop.
+fn opened() -> Cpu {
+    Cpu {
+        instruction: START,
+        workspace: 0x8000_0200,
+        a: 0,
+        b: 0,
+        c: 0,
+        operand: 0,
+        queue: Queue::empty(),
+        bytes: 0,
+        error: false,
+        halt_on_error: false,
+        running: true,
+    }
+}
+
+// Puts the bytes of a loop into memory.
+fn place(memory: &mut Memory, code: &[u8]) -> Result<(), Fault> {
+    let mut address = START;
+    for byte in code {
+        memory.set_byte(address, *byte)?;
+        address = address.wrapping_add(1);
+    }
+    Ok(())
+}
+
+// Steps until a step doesn't run, at most so many times; how many ran.
+fn burst(cpu: &mut Cpu, memory: &mut Memory, links: &mut Links, limit: u32) -> u32 {
+    for done in 0..limit {
+        if !matches!(step(cpu, memory, links), Stepped::Ran) {
+            return done;
+        }
+    }
+    limit
+}
+
+fn main(rt: HostRuntime) -> io::Result<()> {
+    let words: Vec<String> = env::args(&rt)?.collect(rt.alloc())?;
+    let count = words
+        .get(1)
+        .and_then(|word| word.parse::<u32>().ok())
+        .unwrap_or(1000);
+    let loops: [(&str, &[u8]); 3] = [
+        ("arithmetic", &ARITHMETIC),
+        ("memory", &MEMORY),
+        ("lend", &LEND),
+    ];
+    for (name, code) in loops {
+        if words.get(2).is_some_and(|word| word.as_str() != name) {
+            continue;
+        }
+        let mut memory = Memory::new(rt.alloc(), 4096)?;
+        if place(&mut memory, code).is_err() {
+            continue;
+        }
+        let mut cpu = opened();
+        let mut links = Links::new();
+        let done = burst(&mut cpu, &mut memory, &mut links, count);
+        let word = memory.word(0x8000_0204).unwrap_or(0);
+        println!(rt; "{name}: {done} bytes, word {word}")?;
+    }
+    Ok(())
+}

@@ -1,0 +1,68 @@
+-- Channels of links: a process and a link of its node.
+-- Transputer Reference Manual, links; instruction set handbook, in, out, enbc, disc, resetch.
+use Rattle.std.specs.Prelude.{ℕ, ◌-◌, ◌==◌, Bool, true, false, List, None, is_some, if◌then◌else◌}
+use Rattle.node_memory.specs.Bytes.{byte_at}
+use Rattle.node_memory.specs.Marks.{not_process, ready}
+use Rattle.node_memory.specs.Words.{◌⊕◌}
+use Rattle.os_link.specs.End.{posted}
+use Rattle.link_channels.specs.declared.link.Link.{Link}
+use Rattle.link_channels.specs.declared.process.Process.{Process}
+use Rattle.link_channels.specs.declared.process.Transfer.{Transfer}
+use Rattle.link_channels.specs.declared.process.Turn.{Turn}
+use Rattle.link_channels.specs.declared.process.Turn.TheVariants.{GoesOn, Waits}
+use Rattle.link_channels.specs.Reply.{Reply, Gave, read, load, store}
+use Rattle.link_channels.specs.Soft.{chosen}
+use Rattle.link_channels.specs.Waiting.{descriptor_of, state_of, save}
+
+-- in: the channel becomes the own descriptor, pointer and count are set, the watch is cleared, save, leave
+abbrev pub input : Process → Transfer → Link → List ℕ → Reply Turn Link
+input p t l m =
+    if t.count == 0 then Gave GoesOn l m
+    else store t.channel (descriptor_of p) l m (λ m.
+    let asked : Link = record l { input_pointer = t.pointer; input_count = t.count; watched = false } in
+    save p asked m (λ m. Gave Waits asked m))
+
+-- the first byte is posted, and the transfer stands past it
+abbrev pub sending : ℕ → Transfer → Link → Link
+sending byte t l =
+    record l { end = posted byte l.end; output_pointer = t.pointer ⊕ 1; output_count = t.count - 1 }
+
+-- out: the channel becomes the own descriptor, save, the first byte is read and posted, leave
+abbrev pub output : Process → Transfer → Link → List ℕ → Reply Turn Link
+output p t l m =
+    if t.count == 0 then Gave GoesOn l m
+    else store t.channel (descriptor_of p) l m (λ m. save p l m (λ m.
+    read (byte_at m t.pointer) l m (λ byte. Gave Waits (sending byte t l) m)))
+
+-- enbc, where the guard isn't 0: ready where a byte is there, else watched
+abbrev pub enable : Process → ℕ → Link → List ℕ → Reply (Unit {0}) Link
+enable p channel l m =
+    if is_some l.end.input.buffer then store (state_of p.workspace) ready l m (λ m. Gave tt l m)
+    else store channel (descriptor_of p) l m (λ m. Gave tt (record l { watched = true }) m)
+
+-- whether a byte is there, and the branch the one that the alternative chooses
+abbrev pub chosen_if_held : Process → ℕ → Link → List ℕ → Reply Bool Link
+chosen_if_held p offset l m = if is_some l.end.input.buffer then chosen p offset l m else Gave false l m
+
+-- disc, where the guard isn't 0: the watch is cleared, and the channel is given up where it is the own
+abbrev pub disable : Process → ℕ → ℕ → Link → List ℕ → Reply Bool Link
+disable p channel offset l m =
+    let unwatched : Link = record l { watched = false } in
+    load channel unwatched m (λ c.
+    if c == descriptor_of p then store channel not_process unwatched m (λ m. chosen_if_held p offset unwatched m)
+    else chosen_if_held p offset unwatched m)
+
+-- resetch on an output channel: the byte that waits is withdrawn, count 0, both flags clear
+abbrev pub output_reset : Link → Link
+output_reset l = record l {
+  end = record l.end { latch = record l.end.latch { byte = None }; output = record { awaits = false; acknowledged = false } };
+  output_count = 0;
+}
+
+-- resetch on an input channel: the buffer is emptied without acknowledge, count 0, watch clear
+abbrev pub input_reset : Link → Link
+input_reset l = record l {
+  end = record l.end { input = record l.end.input { buffer = None } };
+  input_count = 0;
+  watched = false;
+}

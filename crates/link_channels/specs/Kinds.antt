@@ -1,0 +1,28 @@
+-- Which words of memory are channels of links. T414 data sheet, memory map.
+use Rattle.std.specs.Prelude.{ℕ, ◌==◌, List, [], ◌∷◌, if◌then◌else◌}
+use Rattle.node_memory.specs.Words.{aligned}
+use Rattle.link_channels.specs.declared.channel.Channel.{Channel}
+use Rattle.link_channels.specs.declared.channel.Channel.TheVariants.{Soft, LinkOutput, LinkInput, Event}
+use Rattle.link_channels.specs.declared.number.LinkNumber.TheVariants.{Zero, One, Two, Three}
+
+abbrev pub channels : List (ℕ × Channel)
+channels =
+    (0x80000000, LinkOutput Zero) ∷
+    (0x80000004, LinkOutput One) ∷
+    (0x80000008, LinkOutput Two) ∷
+    (0x8000000C, LinkOutput Three) ∷
+    (0x80000010, LinkInput Zero) ∷
+    (0x80000014, LinkInput One) ∷
+    (0x80000018, LinkInput Two) ∷
+    (0x8000001C, LinkInput Three) ∷
+    (0x80000020, Event) ∷
+    []
+
+-- what a list has at a word address, a soft channel where nothing
+abbrev pub found : List (ℕ × Channel) → ℕ → Channel
+found [] word = Soft
+found (entry ∷ entries) word = if word == entry.0 then entry.1 else found entries word
+
+-- what an address stands for, whose low two bits are ignored
+unfoldable pub kind_of : ℕ → Channel
+kind_of address = found channels (aligned address)

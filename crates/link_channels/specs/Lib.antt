@@ -1,0 +1,9 @@
+pub mod Reply
+pub mod Links
+pub mod Kinds
+pub mod Waiting
+pub mod Soft
+pub mod Hard
+pub mod Messages
+pub mod Service
+pub mod Laws

@@ -1,0 +1,82 @@
+-- The four links of a node, by their numbers.
+use Rattle.std.specs.Prelude.{ℕ, ◌==◌, not, Bool, ◌&&◌, ◌||◌, is_some, false}
+use Rattle.link_channels.specs.declared.link.Link.{Link}
+use Rattle.link_channels.specs.declared.number.LinkNumber.{LinkNumber}
+use Rattle.link_channels.specs.declared.number.LinkNumber.TheVariants.{Zero, One, Two, Three}
+use Rattle.link_channels.specs.declared.link.FourLinks.{FourLinks}
+use Rattle.link_channels.specs.Reply.{Reply, Gave, Halted}
+use Rattle.os_link.specs.End.{fresh, arrived, without_next, posted, emptied}
+use Rattle.os_link.specs.declared.latch.Packet.{Packet}
+
+abbrev pub at : LinkNumber → FourLinks → Link
+at Zero ls = ls.zero
+at One ls = ls.one
+at Two ls = ls.two
+at Three ls = ls.three
+
+abbrev pub with_link : LinkNumber → Link → FourLinks → FourLinks
+with_link Zero l ls = record ls { zero = l }
+with_link One l ls = record ls { one = l }
+with_link Two l ls = record ls { two = l }
+with_link Three l ls = record ls { three = l }
+
+-- what was done to one link, as done to the four
+abbrev pub within : {A : Type 0} → LinkNumber → FourLinks → Reply A Link → Reply A FourLinks
+within n ls (Gave x l m) = Gave x (with_link n l ls) m
+within n ls (Halted fault l m) = Halted fault (with_link n l ls) m
+
+-- the words of a link's channels. T414 data sheet, memory map
+abbrev pub output_channel : LinkNumber → ℕ
+output_channel Zero = 0x80000000
+output_channel One = 0x80000004
+output_channel Two = 0x80000008
+output_channel Three = 0x8000000C
+
+abbrev pub input_channel : LinkNumber → ℕ
+input_channel Zero = 0x80000010
+input_channel One = 0x80000014
+input_channel Two = 0x80000018
+input_channel Three = 0x8000001C
+
+-- a link at which nothing has happened and of which nobody has asked anything
+abbrev pub fresh_link : Link
+fresh_link = record {
+  end = fresh;
+  input_pointer = 0;
+  input_count = 0;
+  output_pointer = 0;
+  output_count = 0;
+  watched = false;
+}
+
+abbrev pub fresh_links : FourLinks
+fresh_links = record { zero = fresh_link; one = fresh_link; two = fresh_link; three = fresh_link }
+
+-- an acknowledge that nobody has been told of, or a byte that a process waits for or watches for
+abbrev pub has_work : Link → Bool
+has_work l =
+    l.end.output.acknowledged || (is_some l.end.input.buffer && (l.watched || not (l.input_count == 0)))
+
+abbrev pub any_has_work : FourLinks → Bool
+any_has_work ls = has_work ls.zero || has_work ls.one || has_work ls.two || has_work ls.three
+
+-- a packet arrives at a link, or the one that leaves it next is taken
+abbrev pub packet_arrived : LinkNumber → Packet → FourLinks → FourLinks
+packet_arrived n packet ls = let l = at n ls in with_link n (record l { end = arrived packet l.end }) ls
+
+abbrev pub packet_taken : LinkNumber → FourLinks → FourLinks
+packet_taken n ls =
+    let l = at n ls in with_link n (record l { end = record l.end { latch = without_next l.end.latch } }) ls
+
+-- a byte is posted at a link, the one in its buffer is taken, or its acknowledge is told no more
+abbrev pub byte_posted : LinkNumber → ℕ → FourLinks → FourLinks
+byte_posted n byte ls = let l = at n ls in with_link n (record l { end = posted byte l.end }) ls
+
+abbrev pub byte_taken : LinkNumber → FourLinks → FourLinks
+byte_taken n ls = let l = at n ls in with_link n (record l { end = emptied l.end }) ls
+
+abbrev pub heard : Link → Link
+heard l = record l { end = record l.end { output = record l.end.output { acknowledged = false } } }
+
+abbrev pub acknowledge_heard : LinkNumber → FourLinks → FourLinks
+acknowledge_heard n ls = with_link n (heard (at n ls)) ls

@@ -1,0 +1,66 @@
+-- What an operation on channels answers, with the links and memory then; or a fault, with both as they were left.
+use Rattle.std.specs.Prelude.{ℕ, Bool, true, List, Result, Ok, Err}
+use Rattle.node_memory.specs.Bytes.{word_at, with_word}
+use Rattle.node_memory.specs.declared.fault.Fault.{Fault}
+use Rattle.process_queue.specs.Queue.{Change, Changed, Kept, after_put}
+use Rattle.process_queue.specs.declared.queue.Queue.{Queue}
+
+-- L is one link, or the four of a node; an answer A has the queue in it where the operation may put a process
+pub data Reply (A L : Type 0) : Type 0 where
+  Gave : A → L → List ℕ → Reply A L
+  Halted : Fault → L → List ℕ → Reply A L
+
+-- an answer of the code, with what it left
+abbrev pub gave : {A L : Type 0} → Result A Fault → L → List ℕ → Reply A L
+gave (Ok x) l m = Gave x l m
+gave (Err fault) l m = Halted fault l m
+
+-- an answer of the code that left a queue too
+abbrev pub served : {A L : Type 0} → Result A Fault → L → Queue → List ℕ → Reply (A × Queue) L
+served (Ok x) l q m = Gave (x, q) l m
+served (Err fault) l q m = Halted fault l m
+
+-- goes on with what was read
+abbrev pub read : {A B L : Type 0} → Result B Fault → L → List ℕ → (B → Reply A L) → Reply A L
+read (Ok x) l m next = next x
+read (Err fault) l m next = Halted fault l m
+
+-- goes on with the memory that a write leaves
+abbrev pub written : {A L : Type 0} → Result (List ℕ) Fault → L → List ℕ → (List ℕ → Reply A L) → Reply A L
+written (Ok n) l m next = next n
+written (Err fault) l m next = Halted fault l m
+
+-- goes on with the queue and memory that a put leaves
+abbrev pub requeued : {A L : Type 0} → Change → L → (Queue → List ℕ → Reply A L) → Reply A L
+requeued (Changed q n) l next = next q n
+requeued (Kept fault q n) l next = Halted fault l n
+
+-- goes on with the memory that a copy leaves
+abbrev pub moved : {A L : Type 0} → Result (Unit {0}) Fault → L → List ℕ → (List ℕ → Reply A L) → Reply A L
+moved (Ok _) l n next = next n
+moved (Err fault) l n next = Halted fault l n
+
+-- goes on with an answer and what it left
+abbrev pub and_then : {A B L : Type 0} → Reply A L → (A → L → List ℕ → Reply B L) → Reply B L
+and_then (Gave x l m) next = next x l m
+and_then (Halted fault l m) next = Halted fault l m
+
+-- the word at an address is read, a word is written there, a workspace is put in the queue
+abbrev pub load : {A L : Type 0} → ℕ → L → List ℕ → (ℕ → Reply A L) → Reply A L
+load a l m next = read (word_at m a) l m next
+
+abbrev pub store : {A L : Type 0} → ℕ → ℕ → L → List ℕ → (List ℕ → Reply A L) → Reply A L
+store a w l m next = written (with_word m a w) l m next
+
+abbrev pub put : {A L : Type 0} → ℕ → L → Queue → List ℕ → (Queue → List ℕ → Reply A L) → Reply A L
+put w l q m next = requeued (after_put q m w) l next
+
+-- a service that did something, or met a fault
+abbrev pub acts : {L : Type 0} → Reply (Bool × Queue) L → Bool
+acts (Gave x l m) = x.0
+acts (Halted fault l m) = true
+
+-- the code's answer to it: it did something, or met a fault
+abbrev pub has_acted : Result Bool Fault → Bool
+has_acted (Ok acted) = acted
+has_acted (Err fault) = true

@@ -1,0 +1,111 @@
+// The channel instructions on any channel: a soft one, or one of a link.
+
+ghost use Rattle.std.specs.Prelude.{◌≡◌};
+
+use crate::channel::Channel;
+use crate::links::Links;
+use crate::process::{Process, Transfer, Turn};
+use node_memory::{Fault, Memory};
+use process_queue::Queue;
+
+impl Process {
+    ghost use Rattle.link_channels.specs.Messages.{input, output, enable, disable};
+    ghost use Rattle.link_channels.specs.Reply.{gave, served};
+
+    /// Takes a message from a channel, or waits for it: instruction set handbook, in.
+    ///
+    /// `Fault::WrongChannel` comes before all else, for the event channel and a link's output channel;
+    /// `HighPriority` where a process of high priority waits at a soft channel; `OutsideMemory` where a word or
+    /// a byte lies outside. What was written before a fault stays, in memory and in the links.
+    pub fn input(
+        &self,
+        memory: &mut Memory,
+        links: &mut Links,
+        queue: &mut Queue,
+        transfer: Transfer,
+    ) -> Result<Turn, Fault>
+        ensures answer { served result links.new queue.new memory.new ≡ input self.now transfer links.old queue.old memory.old }
+    {
+        match Channel::of(transfer.channel) {
+            Channel::Soft => self.input_softly(memory, queue, transfer),
+            Channel::LinkInput(number) => {
+                let mut link = links.at(number);
+                let turn = self.input_from_link(memory, &mut link, transfer);
+                links.set(number, link);
+                turn
+            }
+            Channel::LinkOutput(_) | Channel::Event => Err(Fault::WrongChannel),
+        }
+    }
+
+    /// Gives a message to a channel, or waits for it to be taken: instruction set handbook, out.
+    ///
+    /// `Fault::WrongChannel` comes before all else, for the event channel and a link's input channel;
+    /// `HighPriority` where a process of high priority waits at a soft channel; `OutsideMemory` where a word or
+    /// a byte lies outside. What was written before a fault stays, in memory and in the links.
+    pub fn output(
+        &self,
+        memory: &mut Memory,
+        links: &mut Links,
+        queue: &mut Queue,
+        transfer: Transfer,
+    ) -> Result<Turn, Fault>
+        ensures answer { served result links.new queue.new memory.new ≡ output self.now transfer links.old queue.old memory.old }
+    {
+        match Channel::of(transfer.channel) {
+            Channel::Soft => self.output_softly(memory, queue, transfer),
+            Channel::LinkOutput(number) => {
+                let mut link = links.at(number);
+                let turn = self.output_to_link(memory, &mut link, transfer);
+                links.set(number, link);
+                turn
+            }
+            Channel::LinkInput(_) | Channel::Event => Err(Fault::WrongChannel),
+        }
+    }
+
+    /// Names a channel that the process is ready to take from, its guard not being 0: instruction set handbook, enbc.
+    ///
+    /// `Fault::WrongChannel` for the event channel and a link's output channel; `OutsideMemory` where a word lies
+    /// outside. What was written before a fault stays.
+    pub fn enable(&self, memory: &mut Memory, links: &mut Links, channel: u32) -> Result<(), Fault>
+        ensures answer { gave result links.new memory.new ≡ enable self.now channel links.old memory.old }
+    {
+        match Channel::of(channel) {
+            Channel::Soft => self.enable_softly(memory, channel),
+            Channel::LinkInput(number) => {
+                let mut link = links.at(number);
+                let enabled = self.enable_link(memory, &mut link, channel);
+                links.set(number, link);
+                enabled
+            }
+            Channel::LinkOutput(_) | Channel::Event => Err(Fault::WrongChannel),
+        }
+    }
+
+    /// Names a channel no more, its guard not being 0; whether its branch, which begins at an offset, is the chosen
+    /// one: instruction set handbook, disc.
+    ///
+    /// `Fault::WrongChannel` for the event channel and a link's output channel; `OutsideMemory` where a word lies
+    /// outside. What was written before a fault stays, in memory and in the links.
+    pub fn disable(
+        &self,
+        memory: &mut Memory,
+        links: &mut Links,
+        channel: u32,
+        offset: u32,
+    ) -> Result<bool, Fault>
+        ensures answer { gave result links.new memory.new ≡ disable self.now channel offset links.old memory.old }
+    {
+        match Channel::of(channel) {
+            Channel::Soft => self.disable_softly(memory, channel, offset),
+            Channel::LinkInput(number) => {
+                let mut link = links.at(number);
+                let chosen = self.disable_link(memory, &mut link, channel, offset);
+                links.set(number, link);
+                chosen
+            }
+            Channel::LinkOutput(_) | Channel::Event => Err(Fault::WrongChannel),
+        }
+    }
+}

@@ -1,0 +1,140 @@
+// Soft channels: two processes of one node meet at a word of its memory. What they do leaves the links.
+
+ghost use Rattle.std.specs.Prelude.{◌≡◌};
+ghost use Rattle.link_channels.specs.Reply.{gave, served};
+ghost use Rattle.link_channels.specs.declared.link.FourLinks.{FourLinks};
+ghost use Rattle.link_channels.specs.declared.link.Link.{Link};
+ghost use Rattle.link_channels.specs.Soft as soft;
+
+use crate::process::{Process, Transfer, Turn};
+use crate::waiting::{ENABLING, NONE_SELECTED, READY, WAITING, waiting_at};
+use node_memory::{Fault, Memory};
+use process_queue::{NOT_PROCESS, Queue};
+
+impl Process {
+    // Waits at the channel: its pointer lies where the other finds it, and its place is saved.
+    fn wait_there(
+        &self,
+        memory: &mut Memory,
+        queue: &Queue,
+        transfer: Transfer,
+    ) -> Result<Turn, Fault>
+        ensures answer { (ls : FourLinks) → served result ls queue.now memory.new ≡ soft.wait_there self.now transfer ls queue.now memory.old }
+    {
+        memory.set_word(transfer.channel, self.descriptor())?;
+        memory.set_word(self.workspace.wrapping_sub(12), transfer.pointer)?;
+        memory.set_word(self.workspace.wrapping_sub(4), self.instruction)?;
+        Ok(Turn::Waits)
+    }
+
+    // Takes a message from a process that has one, or waits for it.
+    #[tactic(auto, unfolding(crate::specs::Soft::input))]
+    pub(crate) fn input_softly(
+        &self,
+        memory: &mut Memory,
+        queue: &mut Queue,
+        transfer: Transfer,
+    ) -> Result<Turn, Fault>
+        ensures answer { (ls : FourLinks) → served result ls queue.new memory.new ≡ soft.input self.now transfer ls queue.old memory.old }
+    {
+        let Some(sender) = waiting_at(memory, transfer.channel)? else {
+            return self.wait_there(memory, queue, transfer);
+        };
+        let source = memory.word(sender.wrapping_sub(12))?;
+        memory.copy_up(source, transfer.pointer, transfer.count)?;
+        memory.set_word(transfer.channel, NOT_PROCESS)?;
+        queue.put(memory, sender)?;
+        Ok(Turn::GoesOn)
+    }
+
+    // Gives a message to a process that waits for one, or waits for it.
+    #[tactic(auto, unfolding(crate::specs::Soft::output))]
+    pub(crate) fn output_softly(
+        &self,
+        memory: &mut Memory,
+        queue: &mut Queue,
+        transfer: Transfer,
+    ) -> Result<Turn, Fault>
+        ensures answer { (ls : FourLinks) → served result ls queue.new memory.new ≡ soft.output self.now transfer ls queue.old memory.old }
+    {
+        let Some(receiver) = waiting_at(memory, transfer.channel)? else {
+            return self.wait_there(memory, queue, transfer);
+        };
+        let state = receiver.wrapping_sub(12);
+        match memory.word(state)? {
+            ENABLING | READY => {
+                memory.set_word(state, READY)?;
+                self.wait_there(memory, queue, transfer)
+            }
+            WAITING => {
+                memory.set_word(state, READY)?;
+                queue.put(memory, receiver)?;
+                self.wait_there(memory, queue, transfer)
+            }
+            target => {
+                memory.copy_up(transfer.pointer, target, transfer.count)?;
+                memory.set_word(transfer.channel, NOT_PROCESS)?;
+                queue.put(memory, receiver)?;
+                Ok(Turn::GoesOn)
+            }
+        }
+    }
+
+    // Names a channel that the process is ready to take from.
+    #[tactic(auto, unfolding(crate::specs::Soft::enable))]
+    pub(crate) fn enable_softly(&self, memory: &mut Memory, channel: u32) -> Result<(), Fault>
+        ensures answer { (ls : FourLinks) → gave result ls memory.new ≡ soft.enable self.now channel ls memory.old }
+    {
+        let other = memory.word(channel)?;
+        if other == NOT_PROCESS {
+            memory.set_word(channel, self.descriptor())
+        } else if other == self.descriptor() {
+            Ok(())
+        } else {
+            memory.set_word(self.workspace.wrapping_sub(12), READY)
+        }
+    }
+
+    // Chooses the branch of a guard that is ready, unless one was chosen before; whether it is chosen.
+    pub(crate) fn choose(&self, memory: &mut Memory, offset: u32) -> Result<bool, Fault>
+        ensures of_four { (ls : FourLinks) → gave result ls memory.new ≡ soft.chosen self.now offset ls memory.old }
+        ensures of_one { (l : Link) → gave result l memory.new ≡ soft.chosen self.now offset l memory.old }
+    {
+        if memory.word(self.workspace)? != NONE_SELECTED {
+            return Ok(false);
+        }
+        memory.set_word(self.workspace, offset)?;
+        Ok(true)
+    }
+
+    // Names it no more; whether its branch is the chosen one.
+    #[tactic(auto, unfolding(crate::specs::Soft::disable))]
+    pub(crate) fn disable_softly(
+        &self,
+        memory: &mut Memory,
+        channel: u32,
+        offset: u32,
+    ) -> Result<bool, Fault>
+        ensures answer { (ls : FourLinks) → gave result ls memory.new ≡ soft.disable self.now channel offset ls memory.old }
+    {
+        let other = memory.word(channel)?;
+        if other == NOT_PROCESS {
+            return Ok(false);
+        }
+        if other == self.descriptor() {
+            memory.set_word(channel, NOT_PROCESS)?;
+            return Ok(false);
+        }
+        self.choose(memory, offset)
+    }
+}
+
+// Frees a channel; the word that it had.
+#[tactic(auto, unfolding(crate::specs::Soft::reset))]
+pub(crate) fn reset_softly(memory: &mut Memory, channel: u32) -> Result<u32, Fault>
+    ensures answer { (ls : FourLinks) → gave result ls memory.new ≡ soft.reset channel ls memory.old }
+{
+    let other = memory.word(channel)?;
+    memory.set_word(channel, NOT_PROCESS)?;
+    Ok(other)
+}

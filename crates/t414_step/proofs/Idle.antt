@@ -1,0 +1,101 @@
+-- A step answers Idle exactly where there is nothing to do.
+use Rattle.std.proofs.Common.{◌≡◌, ℕ, ◌==◌, Bool, true, false, not, ◌&&◌, List, Result, Ok, Err, if◌then◌else◌, refl, ◌∙◌, ap, sym}
+use Rattle.node_memory.specs.declared.fault.Fault.{Fault}
+use Rattle.node_memory.specs.Bytes.{word_at}
+use Rattle.node_memory.specs.Marks.{not_process}
+use Rattle.node_memory.specs.Words.{◌⊖◌, aligned}
+use Rattle.process_queue.specs.Queue.{after_take, followed, link_of}
+use Rattle.process_queue.specs.declared.queue.Queue.{Queue}
+use Rattle.link_channels.specs.declared.link.FourLinks.{FourLinks}
+use Rattle.link_channels.specs.Links.{any_has_work}
+use Rattle.link_channels.specs.Reply.{Reply, Gave, Halted, acts}
+use Rattle.link_channels.specs.Service.{serve_all}
+use Rattle.link_channels.proofs.Work.{quiet-links, acts-serve_all}
+use Rattle.t414_step.specs.declared.cpu.Cpu.{Cpu}
+use Rattle.t414_step.specs.declared.stepping.Stepped.{Stepped}
+use Rattle.t414_step.specs.declared.stepping.Stepped.TheVariants as code
+use Rattle.t414_step.specs.Answers.{answered, is_idle, tells_idle}
+use Rattle.t414_step.specs.Outcome.{Effect, upon}
+use Rattle.t414_step.specs.Registers.{rests}
+use Rattle.t414_step.specs.Step.{Answer, Resumption, Resumed, Nobody, Lost, found, placed, resumed, resumption, going_on, processed, after_service, byte_answer, byte_done, step}
+
+and-false : (a b : Bool) → (a && b && false) ≡ false
+and-false true true = refl
+and-false true false = refl
+and-false false b = refl
+
+and-true : (a b : Bool) → (a && b && true) ≡ (a && b)
+and-true true true = refl
+and-true true false = refl
+and-true false b = refl
+
+no-byte : (e : Effect) → tells_idle (byte_answer e) ≡ false
+no-byte (Gave s ls m) = refl
+no-byte (Halted fault ls m) = refl
+
+going-acts : (r : Resumption) (ls : FourLinks) (m : List ℕ) → tells_idle (going_on r true ls m) ≡ false
+going-acts (Resumed s) ls m = no-byte (upon ls (byte_done s m))
+going-acts (Nobody s) ls m = refl
+going-acts (Lost fault) ls m = refl
+
+busy-if : (b : Bool) (x y : Answer) → tells_idle x ≡ false → tells_idle y ≡ false → tells_idle (if b then x else y) ≡ false
+busy-if true x y e f = e
+busy-if false x y e f = f
+
+idle-if : (b : Bool) (x y : Answer) (v : Bool) → tells_idle x ≡ false → tells_idle y ≡ v → tells_idle (if b then x else y) ≡ (not b && v)
+idle-if true x y v e f = e
+idle-if false x y v e f = f
+
+processed-acts : (s : Cpu) (ls : FourLinks) (m : List ℕ) → tells_idle (processed true s ls m) ≡ false
+processed-acts s ls m =
+    busy-if s.running (byte_answer (upon ls (byte_done s m))) (going_on (resumption s m) true ls m) (no-byte (upon ls (byte_done s m))) (going-acts (resumption s m) ls m)
+
+acted-on : (r : Reply (Bool × Queue) FourLinks) (s : Cpu) → acts r ≡ true → tells_idle (after_service r s) ≡ false
+acted-on (Gave (true, q) ls m) s e = processed-acts (record s { queue = q }) ls m
+acted-on (Gave (false, q) ls m) s e = cc
+acted-on (Halted fault ls m) s e = refl
+
+placed-busy : (r : Result ℕ Fault) (w : ℕ) (s : Cpu) (ls : FourLinks) (m : List ℕ) → tells_idle (going_on (placed r w s) false ls m) ≡ false
+placed-busy (Ok i) w s ls m = no-byte (upon ls (byte_done (resumed w i s) m))
+placed-busy (Err fault) w s ls m = refl
+
+followed-busy : (r : Result ℕ Fault) (q : Queue) (s : Cpu) (ls : FourLinks) (m : List ℕ) → tells_idle (going_on (found (followed r q) s m) false ls m) ≡ false
+followed-busy (Ok next) q s ls m =
+    placed-busy (word_at m (aligned q.front ⊖ 4)) (aligned q.front) (record s { queue = record { front = next; back = q.back } }) ls m
+followed-busy (Err fault) q s ls m = refl
+
+taken-busy : (b : Bool) (s : Cpu) (ls : FourLinks) (m : List ℕ) → (s.queue.front == not_process) ≡ false → (s.queue.front == s.queue.back) ≡ b → tells_idle (going_on (resumption s m) false ls m) ≡ false
+unfolding after_take
+taken-busy true s ls m e f =
+    rw (e, f) (placed-busy (word_at m (aligned s.queue.front ⊖ 4)) (aligned s.queue.front) (record s { queue = record { front = not_process; back = s.queue.back } }) ls m)
+taken-busy false s ls m e f = rw (e, f) (followed-busy (word_at m (link_of s.queue.front)) s.queue s ls m)
+
+looked : (front : Bool) (s : Cpu) (ls : FourLinks) (m : List ℕ) → (s.queue.front == not_process) ≡ front → tells_idle (going_on (resumption s m) false ls m) ≡ front
+unfolding after_take
+looked true s ls m e = rw e refl
+looked false s ls m e = taken-busy (s.queue.front == s.queue.back) s ls m e refl
+
+unserved : (s : Cpu) (ls : FourLinks) (m : List ℕ) → tells_idle (processed false s ls m) ≡ (not s.running && (s.queue.front == not_process))
+unserved s ls m =
+    idle-if s.running (byte_answer (upon ls (byte_done s m))) (going_on (resumption s m) false ls m) (s.queue.front == not_process)
+    (no-byte (upon ls (byte_done s m))) (looked (s.queue.front == not_process) s ls m refl)
+
+rests-by : (work : Bool) (s : Cpu) (ls : FourLinks) (m : List ℕ) → any_has_work ls ≡ work → tells_idle (step s ls m) ≡ rests s ls
+unfolding step
+rests-by true s ls m e =
+    let busy : tells_idle (after_service (serve_all ls s.queue m) s) ≡ false = acted-on (serve_all ls s.queue m) s (acts-serve_all ls s.queue m ∙ e) in
+    rw (busy, e) (sym (and-false (not s.running) (s.queue.front == not_process)))
+rests-by false s ls m e =
+    rw (quiet-links ls s.queue m e, unserved s ls m, e) (sym (and-true (not s.running) (s.queue.front == not_process)))
+
+pub tells_idle-step : (s : Cpu) (ls : FourLinks) (m : List ℕ) → tells_idle (step s ls m) ≡ rests s ls
+tells_idle-step s ls m = rests-by _ s ls m refl
+
+tells_idle-answered : (r : Stepped) (s : Cpu) (ls : FourLinks) (m : List ℕ) → is_idle r ≡ tells_idle (answered r s ls m)
+tells_idle-answered code.Ran s ls m = refl
+tells_idle-answered code.Idle s ls m = refl
+tells_idle-answered (code.Fault fault) s ls m = refl
+
+-- so the code's answer tells whether there was
+pub is_idle-step : (r : Stepped) (s t : Cpu) (ls ks : FourLinks) (m n : List ℕ) → answered r t ks n ≡ step s ls m → is_idle r ≡ rests s ls
+is_idle-step r s t ls ks m n e = tells_idle-answered r t ks n ∙ (ap tells_idle e ∙ tells_idle-step s ls m)

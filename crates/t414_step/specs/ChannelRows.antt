@@ -1,0 +1,52 @@
+-- The channel operations: what each does to the registers, to the links and to memory.
+-- Instruction set handbook, in, out, outbyte, outword, resetch, enbc, disc.
+use Rattle.std.specs.Prelude.{ℕ, ◌==◌, List, if◌then◌else◌}
+use Rattle.process_queue.specs.declared.queue.Queue.{Queue}
+use Rattle.link_channels.specs.declared.link.FourLinks.{FourLinks}
+use Rattle.link_channels.specs.declared.process.Process.{Process}
+use Rattle.link_channels.specs.declared.process.Transfer.{Transfer}
+use Rattle.link_channels.specs.declared.process.Turn.{Turn}
+use Rattle.link_channels.specs.declared.process.Turn.TheVariants.{GoesOn, Waits}
+use Rattle.link_channels.specs.Messages.{input, output, enable, disable, reset}
+use Rattle.link_channels.specs.Reply.{Reply, Gave, and_then, store}
+use Rattle.t414_decode.specs.declared.instruction.ChannelOperation.{ChannelOperation}
+use Rattle.t414_decode.specs.declared.instruction.ChannelOperation.TheVariants.{InputMessage, OutputMessage, OutputByte, OutputWord, ResetChannel, DisableChannel, EnableChannel}
+use Rattle.t414_step.specs.declared.cpu.Cpu.{Cpu}
+use Rattle.t414_step.specs.Outcome.{Effect}
+use Rattle.t414_step.specs.Registers.{bit, un, leave}
+
+-- the process that asks
+abbrev pub process_of : Cpu → Process
+process_of s = record { workspace = s.workspace; instruction = s.instruction }
+
+-- count, channel and pointer of a transfer
+abbrev pub transfer : ℕ → ℕ → ℕ → Transfer
+transfer count channel pointer = record { count = count; channel = channel; pointer = pointer }
+
+-- the process goes on, or it leaves, its place saved
+abbrev pub turned : Turn → Cpu → Cpu
+turned GoesOn s = s
+turned Waits s = leave s
+
+-- goes on with the registers after a message, the queue's among them
+abbrev pub after_message : Reply (Turn × Queue) FourLinks → Cpu → Effect
+after_message r s = and_then r (λ x ls m. Gave (turned x.0 (record s { queue = x.1 })) ls m)
+
+-- outbyte and outword: word(W) becomes A; out of so many bytes, pointer W, channel B
+abbrev pub send : ℕ → Cpu → FourLinks → List ℕ → Effect
+send count s ls m = store s.workspace s.a ls m (λ m.
+    after_message (output (process_of s) (transfer count s.b s.workspace) ls s.queue m) s)
+
+-- an operation on a channel, after the byte that asked for it. A guard of 0 looks at no channel
+unfoldable pub channel_row : ChannelOperation → Cpu → FourLinks → List ℕ → Effect
+channel_row InputMessage s ls m = after_message (input (process_of s) (transfer s.a s.b s.c) ls s.queue m) s  -- 07 in
+channel_row OutputMessage s ls m = after_message (output (process_of s) (transfer s.a s.b s.c) ls s.queue m) s  -- 0B out
+channel_row OutputByte s ls m = send 1 s ls m  -- 0E outbyte
+channel_row OutputWord s ls m = send 4 s ls m  -- 0F outword
+channel_row ResetChannel s ls m = and_then (reset s.a ls m) (λ word ls m. Gave (un word s) ls m)  -- 12 resetch
+channel_row DisableChannel s ls m =  -- 2F disc
+    if s.b == 0 then Gave (un 0 s) ls m
+    else and_then (disable (process_of s) s.c s.a ls m) (λ chosen ls m. Gave (un (bit chosen) s) ls m)
+channel_row EnableChannel s ls m =  -- 48 enbc
+    if s.a == 0 then Gave (record s { b = s.c }) ls m
+    else and_then (enable (process_of s) s.b ls m) (λ _ ls m. Gave (record s { b = s.c }) ls m)

@@ -1,0 +1,21 @@
+-- What holds of every step, whatever memory and registers hold.
+use Rattle.std.specs.Prelude.{◌≡◌, ℕ, ◌<◌, List, length}
+use Rattle.node_memory.specs.declared.fault.Fault.TheVariants.{OutsideMemory}
+use Rattle.node_memory.specs.Bytes.{copied}
+use Rattle.link_channels.specs.declared.link.FourLinks.{FourLinks}
+use Rattle.t414_decode.specs.declared.instruction.PlainOperation.TheVariants.{MoveMessage}
+use Rattle.t414_step.specs.declared.cpu.Cpu.{Cpu}
+use Rattle.t414_step.specs.Answers.{tells_idle}
+use Rattle.t414_step.specs.Outcome.{Stopped}
+use Rattle.t414_step.specs.Registers.{rests}
+use Rattle.t414_step.specs.Rows.{row}
+use Rattle.t414_step.specs.Step.{step}
+
+-- a step answers Idle exactly where there is nothing to do
+abbrev pub IdleWhereItRests : Type 0
+IdleWhereItRests = (s : Cpu) (ls : FourLinks) (m : List ℕ) → tells_idle (step s ls m) ≡ rests s ls
+
+-- a move of more bytes than memory has copies up to memory's edge and halts
+abbrev pub MoveStopsAtTheEdge : Type 0
+MoveStopsAtTheEdge = (s : Cpu) (m : List ℕ) → length m < s.a →
+    row MoveMessage s m ≡ Stopped OutsideMemory (copied s.a m s.c s.b).1

@@ -1,0 +1,59 @@
+-- Changes of the registers alone, in the words of the instruction table. A register that a word doesn't name keeps
+-- its value.
+use Rattle.std.specs.Prelude.{ℕ, ◌+◌, ◌*◌, ◌/◌, ◌%◌, ◌^◌, ◌==◌, ◌&&◌, not, Bool, false, nat_lt, if◌then◌else◌}
+use Rattle.node_memory.specs.Marks.{not_process}
+use Rattle.node_memory.specs.Words.{aligned}
+use Rattle.link_channels.specs.Links.{any_has_work}
+use Rattle.link_channels.specs.declared.link.FourLinks.{FourLinks}
+use Rattle.t414_step.specs.declared.cpu.Cpu.{Cpu}
+
+-- 1 where a test holds, else 0
+abbrev pub bit : Bool → ℕ
+bit b = if b then 1 else 0
+
+abbrev pub push : ℕ → Cpu → Cpu
+push x s = record s { a = x; b = s.a; c = s.b }
+
+abbrev pub un : ℕ → Cpu → Cpu
+un x s = record s { a = x }
+
+abbrev pub bin : ℕ → Cpu → Cpu
+bin x s = record s { a = x; b = s.c }
+
+abbrev pub drop : Cpu → Cpu
+drop s = record s { a = s.b; b = s.c }
+
+abbrev pub drop2 : Cpu → Cpu
+drop2 s = record s { a = s.c }
+
+-- a double word: A its low word, B its high one
+abbrev pub long : ℕ → Cpu → Cpu
+long x s = record s { a = x % 2 ^ 32; b = x / 2 ^ 32 }
+
+-- the next instruction lies there
+abbrev pub goto : ℕ → Cpu → Cpu
+goto i s = record s { instruction = i }
+
+-- W is set there, its low two bits cleared
+abbrev pub at_workspace : ℕ → Cpu → Cpu
+at_workspace w s = record s { workspace = aligned w }
+
+-- leave: there is no current process
+abbrev pub leave : Cpu → Cpu
+leave s = record s { running = false }
+
+-- the double word of a high and a low word
+abbrev pub double : ℕ → ℕ → ℕ
+double high low = high * 2 ^ 32 + low
+
+-- what a word becomes as the high word of its sign extension
+abbrev pub sign_of : ℕ → ℕ
+sign_of w = if nat_lt w (2 ^ 31) then 0 else 0xFFFFFFFF
+
+-- bit 0 of C
+abbrev pub carry : Cpu → ℕ
+carry s = s.c % 2
+
+-- there is nothing to do: no current process, none in the queue, and no link that has work
+abbrev pub rests : Cpu → FourLinks → Bool
+rests s ls = not s.running && (s.queue.front == not_process) && not (any_has_work ls)

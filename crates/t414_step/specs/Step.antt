@@ -1,0 +1,80 @@
+-- One instruction byte, and one step of the processor.
+use Rattle.std.specs.Prelude.{ℕ, ◌+◌, ◌/◌, ◌%◌, Bool, true, false, List, Result, Ok, Err, Some, None, if◌then◌else◌, bit_or, min}
+use Rattle.node_memory.specs.Bytes.{word_at}
+use Rattle.node_memory.specs.Words.{◌⊕◌, ◌⊖◌, aligned}
+use Rattle.node_memory.specs.declared.fault.Fault.{Fault}
+use Rattle.process_queue.specs.Queue.{Taking, Took, Stayed, after_take}
+use Rattle.process_queue.specs.declared.queue.Queue.{Queue}
+use Rattle.t414_decode.specs.Codes.{function_of}
+use Rattle.link_channels.specs.declared.link.FourLinks.{FourLinks}
+use Rattle.link_channels.specs.Reply.{Reply, Gave, Halted}
+use Rattle.link_channels.specs.Service.{serve_all}
+use Rattle.t414_step.specs.declared.cpu.Cpu.{Cpu}
+use Rattle.t414_step.specs.Outcome.{Outcome, Effect, upon, load_byte}
+use Rattle.t414_step.specs.Rows.{direct}
+
+-- the registers as a function of an instruction byte finds them: the byte is counted, up to 1,024, Iptr is next, O is 0
+abbrev pub fetched : Cpu → Cpu
+fetched s = record s { instruction = s.instruction ⊕ 1; bytes = min (s.bytes + 1) 1024; operand = 0 }
+
+-- one instruction byte: the function of its high nibble, with its low nibble put into O
+unfoldable pub byte_done : Cpu → List ℕ → Outcome
+byte_done s m = load_byte m s.instruction (λ byte.
+    direct (function_of (byte / 16)) (bit_or s.operand (byte % 16)) (fetched s) m)
+
+-- a process that is taken from the queue: W is it, Iptr the word at W - 4, A, B, C, O and the byte count 0
+abbrev pub resumed : ℕ → ℕ → Cpu → Cpu
+resumed w i s =
+    record s { workspace = w; instruction = i; a = 0; b = 0; c = 0; operand = 0; bytes = 0; running = true }
+
+-- what comes of a look at the queue: a process that goes on, none, or a fault
+pub data Resumption : Type 0 where
+  Resumed : Cpu → Resumption
+  Nobody : Cpu → Resumption
+  Lost : Fault → Resumption
+
+abbrev pub placed : Result ℕ Fault → ℕ → Cpu → Resumption
+placed (Ok i) w s = Resumed (resumed w i s)
+placed (Err fault) w s = Lost fault
+
+abbrev pub found : Taking → Cpu → List ℕ → Resumption
+found (Took None q) s m = Nobody (record s { queue = q })
+found (Took (Some w) q) s m = placed (word_at m (aligned w ⊖ 4)) (aligned w) (record s { queue = q })
+found (Stayed fault q) s m = Lost fault
+
+abbrev pub resumption : Cpu → List ℕ → Resumption
+resumption s m = found (after_take s.queue m) s m
+
+-- the code's answer to it
+abbrev pub resuming : Result Bool Fault → Cpu → Resumption
+resuming (Ok true) s = Resumed s
+resuming (Ok false) s = Nobody s
+resuming (Err fault) s = Lost fault
+
+-- a step's answer: a service acted or a byte was done, there was nothing to do, or a fault halted the node
+pub data Answer : Type 0 where
+  Ran : Cpu → FourLinks → List ℕ → Answer
+  Idle : Cpu → FourLinks → List ℕ → Answer
+  Broke : Fault → FourLinks → List ℕ → Answer
+
+abbrev pub byte_answer : Effect → Answer
+byte_answer (Gave s ls m) = Ran s ls m
+byte_answer (Halted fault ls m) = Broke fault ls m
+
+abbrev pub going_on : Resumption → Bool → FourLinks → List ℕ → Answer
+going_on (Resumed s) acted ls m = byte_answer (upon ls (byte_done s m))
+going_on (Nobody s) acted ls m = if acted then Ran s ls m else Idle s ls m
+going_on (Lost fault) acted ls m = Broke fault ls m
+
+-- where there is no current process one is taken, and where there is one then a byte is done
+abbrev pub processed : Bool → Cpu → FourLinks → List ℕ → Answer
+processed acted s ls m =
+    if s.running then byte_answer (upon ls (byte_done s m)) else going_on (resumption s m) acted ls m
+
+abbrev pub after_service : Reply (Bool × Queue) FourLinks → Cpu → Answer
+after_service (Gave x ls m) s = processed x.0 (record s { queue = x.1 }) ls m
+after_service (Halted fault ls m) s = Broke fault ls m
+
+-- one step: links 0 to 3 are served in order, and then the processor does its part
+unfoldable pub step : Cpu → FourLinks → List ℕ → Answer
+step s ls m = after_service (serve_all ls s.queue m) s

@@ -1,0 +1,169 @@
+//! Sums, products and comparisons of words.
+
+ghost use Rattle.std.specs.Prelude.{◌≡◌, List, ℕ};
+
+use crate::cpu::Cpu;
+use node_memory::{Fault, add_checked, mul_checked, signed, sub_checked};
+
+#[tactic(auto, unfolding(crate::specs::Rows::row))]
+impl Cpu {
+    ghost use Rattle.t414_decode.specs.declared.instruction.PlainOperation.TheVariants as op;
+    ghost use Rattle.t414_step.specs.Outcome.{left, Went};
+    ghost use Rattle.t414_step.specs.Rows.{row};
+
+    // rev
+    #[inline]
+    pub(crate) fn reverse(&mut self)
+        ensures { (m : List ℕ) → Went self.new m ≡ row op.Reverse self.old m }
+    {
+        let a = self.a;
+        self.a = self.b;
+        self.b = a;
+    }
+
+    // bsub
+    #[inline]
+    pub(crate) fn byte_subscript(&mut self)
+        ensures { (m : List ℕ) → Went self.new m ≡ row op.ByteSubscript self.old m }
+    {
+        self.binary(self.a.wrapping_add(self.b));
+    }
+
+    // diff
+    #[inline]
+    pub(crate) fn difference(&mut self)
+        ensures { (m : List ℕ) → Went self.new m ≡ row op.Difference self.old m }
+    {
+        self.binary(self.b.wrapping_sub(self.a));
+    }
+
+    // add
+    #[inline]
+    pub(crate) fn add(&mut self) -> Result<(), Fault>
+        ensures { (m : List ℕ) → left result self.new m ≡ row op.Add self.old m }
+    {
+        let (sum, overflows) = add_checked(self.b, self.a);
+        self.binary(sum);
+        self.raise_if(overflows)
+    }
+
+    // prod
+    #[inline]
+    pub(crate) fn product(&mut self)
+        ensures { (m : List ℕ) → Went self.new m ≡ row op.Product self.old m }
+    {
+        self.binary(self.b.wrapping_mul(self.a));
+    }
+
+    // gt
+    #[inline]
+    pub(crate) fn greater_than(&mut self)
+        ensures { (m : List ℕ) → Went self.new m ≡ row op.GreaterThan self.old m }
+    {
+        self.binary(u32::from(signed(self.a) < signed(self.b)));
+    }
+
+    // wsub
+    #[inline]
+    pub(crate) fn word_subscript(&mut self)
+        ensures { (m : List ℕ) → Went self.new m ≡ row op.WordSubscript self.old m }
+    {
+        self.binary(self.a.wrapping_add(4u32.wrapping_mul(self.b)));
+    }
+
+    // sub
+    #[inline]
+    pub(crate) fn subtract(&mut self) -> Result<(), Fault>
+        ensures { (m : List ℕ) → left result self.new m ≡ row op.Subtract self.old m }
+    {
+        let (rest, overflows) = sub_checked(self.b, self.a);
+        self.binary(rest);
+        self.raise_if(overflows)
+    }
+
+    // sum
+    #[inline]
+    pub(crate) fn sum(&mut self)
+        ensures { (m : List ℕ) → Went self.new m ≡ row op.Sum self.old m }
+    {
+        self.binary(self.b.wrapping_add(self.a));
+    }
+
+    // mul
+    #[inline]
+    pub(crate) fn multiply(&mut self) -> Result<(), Fault>
+        ensures { (m : List ℕ) → left result self.new m ≡ row op.Multiply self.old m }
+    {
+        let (product, overflows) = mul_checked(self.b, self.a);
+        self.binary(product);
+        self.raise_if(overflows)
+    }
+
+    // ldpi
+    #[inline]
+    pub(crate) fn load_pointer_to_instruction(&mut self)
+        ensures { (m : List ℕ) → Went self.new m ≡ row op.LoadPointerToInstruction self.old m }
+    {
+        self.a = self.instruction.wrapping_add(self.a);
+    }
+
+    // bcnt
+    #[inline]
+    pub(crate) fn byte_count(&mut self)
+        ensures { (m : List ℕ) → Went self.new m ≡ row op.ByteCount self.old m }
+    {
+        self.a = 4u32.wrapping_mul(self.a);
+    }
+
+    // mint
+    #[inline]
+    pub(crate) fn minimum_integer(&mut self)
+        ensures { (m : List ℕ) → Went self.new m ≡ row op.MinimumInteger self.old m }
+    {
+        self.push(0x8000_0000);
+    }
+
+    // xword
+    #[inline]
+    pub(crate) fn extend_to_word(&mut self)
+        ensures { (m : List ℕ) → Went self.new m ≡ row op.ExtendToWord self.old m }
+    {
+        let extended = if self.b < self.a {
+            self.b
+        } else {
+            self.b.wrapping_sub(2u32.wrapping_mul(self.a))
+        };
+        self.binary(extended);
+    }
+
+    // rem
+    #[inline]
+    pub(crate) fn remainder(&mut self) -> Result<(), Fault>
+        ensures { (m : List ℕ) → left result self.new m ≡ row op.Remainder self.old m }
+    {
+        if self.a == 0 {
+            self.binary(0);
+            return self.raise_if(true);
+        }
+        let rest = signed(self.b).checked_rem(signed(self.a)).unwrap_or(0);
+        self.binary(rest.cast_unsigned());
+        Ok(())
+    }
+
+    // div
+    #[inline]
+    pub(crate) fn divide(&mut self) -> Result<(), Fault>
+        ensures { (m : List ℕ) → left result self.new m ≡ row op.Divide self.old m }
+    {
+        match signed(self.b).checked_div(signed(self.a)) {
+            Some(quotient) => {
+                self.binary(quotient.cast_unsigned());
+                Ok(())
+            }
+            None => {
+                self.binary(0);
+                self.raise_if(true)
+            }
+        }
+    }
+}

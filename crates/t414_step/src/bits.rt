@@ -1,0 +1,60 @@
+//! Bits of words, and shifts.
+
+ghost use Rattle.std.specs.Prelude.{◌≡◌, List, ℕ};
+
+use crate::cpu::Cpu;
+
+#[tactic(auto, unfolding(crate::specs::Rows::row))]
+impl Cpu {
+    ghost use Rattle.t414_decode.specs.declared.instruction.PlainOperation.TheVariants as op;
+    ghost use Rattle.t414_step.specs.Outcome.{Went};
+    ghost use Rattle.t414_step.specs.Rows.{row};
+
+    // and
+    #[inline]
+    pub(crate) fn and(&mut self)
+        ensures { (m : List ℕ) → Went self.new m ≡ row op.And self.old m }
+    {
+        self.binary(self.b & self.a);
+    }
+
+    // or
+    #[inline]
+    pub(crate) fn or(&mut self)
+        ensures { (m : List ℕ) → Went self.new m ≡ row op.Or self.old m }
+    {
+        self.binary(self.b | self.a);
+    }
+
+    // xor
+    #[inline]
+    pub(crate) fn exclusive_or(&mut self)
+        ensures { (m : List ℕ) → Went self.new m ≡ row op.ExclusiveOr self.old m }
+    {
+        self.binary(self.b ^ self.a);
+    }
+
+    // not
+    #[inline]
+    pub(crate) fn not(&mut self)
+        ensures { (m : List ℕ) → Went self.new m ≡ row op.Not self.old m }
+    {
+        self.a = !self.a;
+    }
+
+    // shl
+    #[inline]
+    pub(crate) fn shift_left(&mut self)
+        ensures { (m : List ℕ) → Went self.new m ≡ row op.ShiftLeft self.old m }
+    {
+        self.binary(self.b.checked_shl(self.a).unwrap_or(0));
+    }
+
+    // shr
+    #[inline]
+    pub(crate) fn shift_right(&mut self)
+        ensures { (m : List ℕ) → Went self.new m ≡ row op.ShiftRight self.old m }
+    {
+        self.binary(self.b.checked_shr(self.a).unwrap_or(0));
+    }
+}

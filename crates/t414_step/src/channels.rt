@@ -1,0 +1,157 @@
+//! Messages through channels.
+
+ghost use Rattle.std.specs.Prelude.{◌≡◌};
+
+use crate::cpu::Cpu;
+use link_channels::{Links, Process, Transfer, Turn, reset};
+use node_memory::{Fault, Memory};
+
+#[tactic(auto, unfolding(crate::specs::ChannelRows::channel_row))]
+impl Cpu {
+    ghost use Rattle.t414_decode.specs.declared.instruction.ChannelOperation.TheVariants as op;
+    ghost use Rattle.t414_step.specs.ChannelRows.{channel_row, process_of, turned, send};
+    ghost use Rattle.t414_step.specs.Outcome.{finished};
+
+    // The process that asks.
+    fn process(&self) -> Process
+        ensures { result ≡ process_of self.now }
+    {
+        Process {
+            workspace: self.workspace,
+            instruction: self.instruction,
+        }
+    }
+
+    // Goes on, or waits.
+    fn take_turn(&mut self, turn: Turn)
+        ensures { self.new ≡ turned turn self.old }
+    {
+        match turn {
+            Turn::GoesOn => {}
+            Turn::Waits => self.running = false,
+        }
+    }
+
+    // in
+    #[inline]
+    pub(crate) fn input_message(
+        &mut self,
+        memory: &mut Memory,
+        links: &mut Links,
+    ) -> Result<(), Fault>
+        ensures { finished result self.new links.new memory.new ≡ channel_row op.InputMessage self.old links.old memory.old }
+    {
+        let transfer = Transfer {
+            count: self.a,
+            channel: self.b,
+            pointer: self.c,
+        };
+        let process = self.process();
+        let turn = process.input(memory, links, &mut self.queue, transfer)?;
+        self.take_turn(turn);
+        Ok(())
+    }
+
+    // out
+    #[inline]
+    pub(crate) fn output_message(
+        &mut self,
+        memory: &mut Memory,
+        links: &mut Links,
+    ) -> Result<(), Fault>
+        ensures { finished result self.new links.new memory.new ≡ channel_row op.OutputMessage self.old links.old memory.old }
+    {
+        let transfer = Transfer {
+            count: self.a,
+            channel: self.b,
+            pointer: self.c,
+        };
+        let process = self.process();
+        let turn = process.output(memory, links, &mut self.queue, transfer)?;
+        self.take_turn(turn);
+        Ok(())
+    }
+
+    // Sends so many bytes of A, which becomes the word at the workspace.
+    fn send(&mut self, memory: &mut Memory, links: &mut Links, count: u32) -> Result<(), Fault>
+        ensures { finished result self.new links.new memory.new ≡ send count self.old links.old memory.old }
+    {
+        memory.set_word(self.workspace, self.a)?;
+        let transfer = Transfer {
+            count,
+            channel: self.b,
+            pointer: self.workspace,
+        };
+        let process = self.process();
+        let turn = process.output(memory, links, &mut self.queue, transfer)?;
+        self.take_turn(turn);
+        Ok(())
+    }
+
+    // outbyte
+    #[inline]
+    pub(crate) fn output_byte(
+        &mut self,
+        memory: &mut Memory,
+        links: &mut Links,
+    ) -> Result<(), Fault>
+        ensures { finished result self.new links.new memory.new ≡ channel_row op.OutputByte self.old links.old memory.old }
+    {
+        self.send(memory, links, 1)
+    }
+
+    // outword
+    #[inline]
+    pub(crate) fn output_word(
+        &mut self,
+        memory: &mut Memory,
+        links: &mut Links,
+    ) -> Result<(), Fault>
+        ensures { finished result self.new links.new memory.new ≡ channel_row op.OutputWord self.old links.old memory.old }
+    {
+        self.send(memory, links, 4)
+    }
+
+    // resetch
+    #[inline]
+    pub(crate) fn reset_channel(
+        &mut self,
+        memory: &mut Memory,
+        links: &mut Links,
+    ) -> Result<(), Fault>
+        ensures { finished result self.new links.new memory.new ≡ channel_row op.ResetChannel self.old links.old memory.old }
+    {
+        self.a = reset(memory, links, self.a)?;
+        Ok(())
+    }
+
+    // enbc
+    #[inline]
+    pub(crate) fn enable_channel(
+        &mut self,
+        memory: &mut Memory,
+        links: &mut Links,
+    ) -> Result<(), Fault>
+        ensures { finished result self.new links.new memory.new ≡ channel_row op.EnableChannel self.old links.old memory.old }
+    {
+        if self.a != 0 {
+            self.process().enable(memory, links, self.b)?;
+        }
+        self.b = self.c;
+        Ok(())
+    }
+
+    // disc
+    #[inline]
+    pub(crate) fn disable_channel(
+        &mut self,
+        memory: &mut Memory,
+        links: &mut Links,
+    ) -> Result<(), Fault>
+        ensures { finished result self.new links.new memory.new ≡ channel_row op.DisableChannel self.old links.old memory.old }
+    {
+        let chosen = self.b != 0 && self.process().disable(memory, links, self.c, self.a)?;
+        self.a = u32::from(chosen);
+        Ok(())
+    }
+}

@@ -1,0 +1,70 @@
+//! Jumps, calls and loops.
+
+ghost use Rattle.std.specs.Prelude.{◌≡◌, List, ℕ};
+
+use crate::cpu::Cpu;
+use node_memory::{Fault, Memory, signed};
+
+#[tactic(auto, unfolding(crate::specs::Rows::row))]
+impl Cpu {
+    ghost use Rattle.t414_decode.specs.declared.instruction.PlainOperation.TheVariants as op;
+    ghost use Rattle.t414_step.specs.Outcome.{left, Went};
+    ghost use Rattle.t414_step.specs.Rows.{row};
+
+    // gcall
+    #[inline]
+    pub(crate) fn general_call(&mut self)
+        ensures { (m : List ℕ) → Went self.new m ≡ row op.GeneralCall self.old m }
+    {
+        let target = self.a;
+        self.a = self.instruction;
+        self.instruction = target;
+    }
+
+    // ret
+    #[inline]
+    pub(crate) fn return_from_call(&mut self, memory: &Memory) -> Result<(), Fault>
+        ensures { left result self.new memory.now ≡ row op.Return self.old memory.now }
+    {
+        self.instruction = memory.word(self.workspace)?;
+        self.set_workspace(self.workspace.wrapping_add(16));
+        Ok(())
+    }
+
+    // lend
+    #[inline]
+    pub(crate) fn loop_end(&mut self, memory: &mut Memory) -> Result<(), Fault>
+        ensures { left result self.new memory.new ≡ row op.LoopEnd self.old memory.old }
+    {
+        let counter = self.b.wrapping_add(4);
+        let count = memory.word(counter)?;
+        memory.set_word(counter, count.wrapping_sub(1))?;
+        if signed(count) <= 1 {
+            return Ok(());
+        }
+        let index = memory.word(self.b)?;
+        memory.set_word(self.b, index.wrapping_add(1))?;
+        self.instruction = self.instruction.wrapping_sub(self.a);
+        self.slice(memory)
+    }
+
+    // gajw
+    #[inline]
+    pub(crate) fn general_adjust_workspace(&mut self)
+        ensures { (m : List ℕ) → Went self.new m ≡ row op.GeneralAdjustWorkspace self.old m }
+    {
+        let target = self.a;
+        self.a = self.workspace;
+        self.set_workspace(target);
+    }
+
+    // altend
+    #[inline]
+    pub(crate) fn alt_end(&mut self, memory: &Memory) -> Result<(), Fault>
+        ensures { left result self.new memory.now ≡ row op.AltEnd self.old memory.now }
+    {
+        let offset = memory.word(self.workspace)?;
+        self.instruction = self.instruction.wrapping_add(offset);
+        Ok(())
+    }
+}

@@ -1,0 +1,81 @@
+//! The registers of a processor.
+
+ghost use Rattle.std.specs.Prelude.{◌≡◌};
+
+use process_queue::Queue;
+
+/// The registers of a processor, and whether there is a current process. All are words of 32 bits, and any
+/// value may stand in any of them.
+///
+/// Source: Transputer instruction set handbook, registers; the count of bytes, by which processes take turns, is our
+/// choice in place of time.
+#[derive(Clone, Copy, Debug, PartialEq, Eq)]
+pub struct Cpu {
+    /// Iptr, the address of the next instruction byte.
+    pub instruction: u32,
+    /// W, the workspace pointer of the current process.
+    pub workspace: u32,
+    pub a: u32,
+    pub b: u32,
+    pub c: u32,
+    /// O, the operand that prefixes have built.
+    pub operand: u32,
+    /// Front and Back of the queue of low priority; that of high priority is always empty.
+    pub queue: Queue,
+    /// How many instruction bytes the process has done since it was taken from the queue, at most 1,024.
+    pub bytes: u32,
+    /// The flag Error.
+    pub error: bool,
+    /// The flag HaltOnError.
+    pub halt_on_error: bool,
+    /// Whether there is a current process.
+    pub running: bool,
+}
+
+impl Cpu {
+    ghost use Rattle.t414_step.specs.Registers.{push, un, bin, drop, drop2, goto, at_workspace, leave};
+
+    // Puts a value above A.
+    #[inline]
+    pub(crate) fn push(&mut self, value: u32)
+        ensures state { self.new ≡ push value self.old }
+    {
+        self.c = self.b;
+        self.b = self.a;
+        self.a = value;
+    }
+
+    // Puts a value in place of A and B.
+    #[inline]
+    pub(crate) fn binary(&mut self, value: u32)
+        ensures state { self.new ≡ bin value self.old }
+    {
+        self.a = value;
+        self.b = self.c;
+    }
+
+    // Gives up A.
+    #[inline]
+    pub(crate) fn discard(&mut self)
+        ensures state { self.new ≡ drop self.old }
+    {
+        self.a = self.b;
+        self.b = self.c;
+    }
+
+    // Gives up A and B.
+    #[inline]
+    pub(crate) fn discard_two(&mut self)
+        ensures state { self.new ≡ drop2 self.old }
+    {
+        self.a = self.c;
+    }
+
+    // Moves the workspace to a word address.
+    #[inline]
+    pub(crate) fn set_workspace(&mut self, address: u32)
+        ensures state { self.new ≡ at_workspace address self.old }
+    {
+        self.workspace = address - address % 4;
+    }
+}

@@ -1,0 +1,209 @@
+//! The functions of an instruction byte.
+
+ghost use Rattle.std.specs.Prelude.{◌≡◌, List, ℕ};
+
+use crate::cpu::Cpu;
+use node_memory::{Fault, Memory, add_checked};
+
+#[tactic(auto, unfolding(crate::specs::Rows::direct))]
+impl Cpu {
+    ghost use Rattle.t414_decode.specs.declared.instruction.Function.TheVariants as function;
+    ghost use Rattle.t414_step.specs.Outcome.{left, Went};
+    ghost use Rattle.t414_step.specs.Rows.{direct, error_if, save, slice};
+
+    // The error flag is set where the test holds.
+    #[inline]
+    pub(crate) fn raise_if(&mut self, raised: bool) -> Result<(), Fault>
+        ensures { (m : List ℕ) → left result self.new m ≡ error_if raised self.old m }
+    {
+        if raised {
+            if self.halt_on_error {
+                return Err(Fault::ErrorSet);
+            }
+            self.error = true;
+        }
+        Ok(())
+    }
+
+    // Keeps the next instruction below the workspace.
+    #[inline]
+    pub(crate) fn save(&self, memory: &mut Memory) -> Result<(), Fault>
+        ensures { left result self.now memory.new ≡ save self.now memory.old (Went self.now) }
+    {
+        memory.set_word(self.workspace.wrapping_sub(4), self.instruction)
+    }
+
+    // Goes to the end of the queue where the process has had its bytes.
+    #[inline]
+    pub(crate) fn slice(&mut self, memory: &mut Memory) -> Result<(), Fault>
+        ensures { left result self.new memory.new ≡ slice self.old memory.old }
+    {
+        if self.bytes == 1024 {
+            self.save(memory)?;
+            let workspace = self.workspace;
+            self.queue.put(memory, workspace)?;
+            self.running = false;
+        }
+        Ok(())
+    }
+
+    // j
+    #[inline]
+    pub(crate) fn jump(&mut self, memory: &mut Memory, operand: u32) -> Result<(), Fault>
+        ensures { left result self.new memory.new ≡ direct function.Jump operand self.old memory.old }
+    {
+        self.instruction = self.instruction.wrapping_add(operand);
+        self.slice(memory)
+    }
+
+    // ldlp
+    #[inline]
+    pub(crate) fn load_local_pointer(&mut self, operand: u32)
+        ensures { (m : List ℕ) → Went self.new m ≡ direct function.LoadLocalPointer operand self.old m }
+    {
+        self.push(self.local(operand));
+    }
+
+    // ldl
+    #[inline]
+    pub(crate) fn load_local(&mut self, memory: &Memory, operand: u32) -> Result<(), Fault>
+        ensures { left result self.new memory.now ≡ direct function.LoadLocal operand self.old memory.now }
+    {
+        let word = memory.word(self.local(operand))?;
+        self.push(word);
+        Ok(())
+    }
+
+    // stl
+    #[inline]
+    pub(crate) fn store_local(&mut self, memory: &mut Memory, operand: u32) -> Result<(), Fault>
+        ensures { left result self.new memory.new ≡ direct function.StoreLocal operand self.old memory.old }
+    {
+        memory.set_word(self.local(operand), self.a)?;
+        self.discard();
+        Ok(())
+    }
+
+    // adc
+    #[inline]
+    pub(crate) fn add_constant(&mut self, operand: u32) -> Result<(), Fault>
+        ensures { (m : List ℕ) → left result self.new m ≡ direct function.AddConstant operand self.old m }
+    {
+        let (sum, overflows) = add_checked(self.a, operand);
+        self.a = sum;
+        self.raise_if(overflows)
+    }
+
+    // call
+    #[inline]
+    pub(crate) fn call(&mut self, memory: &mut Memory, operand: u32) -> Result<(), Fault>
+        ensures { left result self.new memory.new ≡ direct function.Call operand self.old memory.old }
+    {
+        let workspace = self.workspace;
+        memory.set_word(workspace.wrapping_sub(4), self.c)?;
+        memory.set_word(workspace.wrapping_sub(8), self.b)?;
+        memory.set_word(workspace.wrapping_sub(12), self.a)?;
+        memory.set_word(workspace.wrapping_sub(16), self.instruction)?;
+        self.set_workspace(workspace.wrapping_sub(16));
+        self.a = self.instruction;
+        self.instruction = self.instruction.wrapping_add(operand);
+        Ok(())
+    }
+
+    // cj
+    #[inline]
+    pub(crate) fn conditional_jump(&mut self, operand: u32)
+        ensures { (m : List ℕ) → Went self.new m ≡ direct function.ConditionalJump operand self.old m }
+    {
+        if self.a == 0 {
+            self.instruction = self.instruction.wrapping_add(operand);
+        } else {
+            self.discard();
+        }
+    }
+
+    // pfix
+    #[inline]
+    pub(crate) fn prefix(&mut self, operand: u32)
+        ensures { (m : List ℕ) → Went self.new m ≡ direct function.Prefix operand self.old m }
+    {
+        self.operand = operand << 4;
+    }
+
+    // nfix
+    #[inline]
+    pub(crate) fn negative_prefix(&mut self, operand: u32)
+        ensures { (m : List ℕ) → Went self.new m ≡ direct function.NegativePrefix operand self.old m }
+    {
+        self.operand = !operand << 4;
+    }
+
+    // ldnl
+    #[inline]
+    pub(crate) fn load_non_local(&mut self, memory: &Memory, operand: u32) -> Result<(), Fault>
+        ensures { left result self.new memory.now ≡ direct function.LoadNonLocal operand self.old memory.now }
+    {
+        self.a = memory.word(self.beyond(operand))?;
+        Ok(())
+    }
+
+    // ldc
+    #[inline]
+    pub(crate) fn load_constant(&mut self, operand: u32)
+        ensures { (m : List ℕ) → Went self.new m ≡ direct function.LoadConstant operand self.old m }
+    {
+        self.push(operand);
+    }
+
+    // ldnlp
+    #[inline]
+    pub(crate) fn load_non_local_pointer(&mut self, operand: u32)
+        ensures { (m : List ℕ) → Went self.new m ≡ direct function.LoadNonLocalPointer operand self.old m }
+    {
+        self.a = self.beyond(operand);
+    }
+
+    // ajw
+    #[inline]
+    pub(crate) fn adjust_workspace(&mut self, operand: u32)
+        ensures { (m : List ℕ) → Went self.new m ≡ direct function.AdjustWorkspace operand self.old m }
+    {
+        self.set_workspace(self.local(operand));
+    }
+
+    // eqc
+    #[inline]
+    pub(crate) fn equals_constant(&mut self, operand: u32)
+        ensures { (m : List ℕ) → Went self.new m ≡ direct function.EqualsConstant operand self.old m }
+    {
+        self.a = u32::from(self.a == operand);
+    }
+
+    // stnl
+    #[inline]
+    pub(crate) fn store_non_local(&mut self, memory: &mut Memory, operand: u32) -> Result<(), Fault>
+        ensures { left result self.new memory.new ≡ direct function.StoreNonLocal operand self.old memory.old }
+    {
+        memory.set_word(self.beyond(operand), self.b)?;
+        self.discard_two();
+        Ok(())
+    }
+}
+
+impl Cpu {
+    ghost use Rattle.node_memory.specs.Words.{◌⊕◌, ◌⊗◌};
+
+    // The address of a word that many above the workspace.
+    fn local(&self, words: u32) -> u32
+        ensures { result ≡ self.now.workspace ⊕ 4 ⊗ words }
+    {
+        self.workspace.wrapping_add(4u32.wrapping_mul(words))
+    }
+
+    // The address of a word that many above A.
+    fn beyond(&self, words: u32) -> u32
+        ensures { result ≡ self.now.a ⊕ 4 ⊗ words }
+    {
+        self.a.wrapping_add(4u32.wrapping_mul(words))
+    }
+}

@@ -1,0 +1,178 @@
+//! The dispatch on an instruction byte.
+
+ghost use Rattle.std.specs.Prelude.{◌≡◌};
+
+use crate::cpu::Cpu;
+use link_channels::Links;
+use node_memory::{Fault, Memory};
+use t414_decode::{ChannelOperation, Function, Operation, PlainOperation, decode, operation};
+
+// A row that can't fault.
+macro_rules! done {
+    ($row:expr) => {{
+        $row;
+        Ok(())
+    }};
+}
+
+impl Cpu {
+    ghost use Rattle.t414_decode.specs.Codes.{operation_of};
+    ghost use Rattle.t414_step.specs.ChannelRows.{channel_row};
+    ghost use Rattle.t414_step.specs.Outcome.{left, finished, upon};
+    ghost use Rattle.t414_step.specs.Rows.{row, operate, direct};
+    ghost use Rattle.t414_step.specs.Step.{byte_done};
+
+    // One operation on registers and memory.
+    #[inline]
+    fn perform(&mut self, memory: &mut Memory, operation: PlainOperation) -> Result<(), Fault>
+        ensures answer { left result self.new memory.new ≡ row operation self.old memory.old }
+    {
+        match operation {
+            PlainOperation::Reverse => done!(self.reverse()),
+            PlainOperation::LoadByte => self.load_byte(memory),
+            PlainOperation::ByteSubscript => done!(self.byte_subscript()),
+            PlainOperation::EndProcess => self.end_process(memory),
+            PlainOperation::Difference => done!(self.difference()),
+            PlainOperation::Add => self.add(),
+            PlainOperation::GeneralCall => done!(self.general_call()),
+            PlainOperation::Product => done!(self.product()),
+            PlainOperation::GreaterThan => done!(self.greater_than()),
+            PlainOperation::WordSubscript => done!(self.word_subscript()),
+            PlainOperation::Subtract => self.subtract(),
+            PlainOperation::StartProcess => self.start_process(memory),
+            PlainOperation::SetError => self.set_error(),
+            PlainOperation::CheckSubscriptFromZero => self.check_subscript_from_zero(),
+            PlainOperation::StopProcess => self.stop_process(memory),
+            PlainOperation::LongAdd => self.long_add(),
+            PlainOperation::StoreLowBack => done!(self.store_low_back()),
+            PlainOperation::StoreHighFront => self.store_high_front(),
+            PlainOperation::Normalise => done!(self.normalise()),
+            PlainOperation::LongDivide => self.long_divide(),
+            PlainOperation::LoadPointerToInstruction => done!(self.load_pointer_to_instruction()),
+            PlainOperation::StoreLowFront => done!(self.store_low_front()),
+            PlainOperation::ExtendToDouble => done!(self.extend_to_double()),
+            PlainOperation::LoadPriority => done!(self.load_priority()),
+            PlainOperation::Remainder => self.remainder(),
+            PlainOperation::Return => self.return_from_call(memory),
+            PlainOperation::LoopEnd => self.loop_end(memory),
+            PlainOperation::TestError => done!(self.test_error()),
+            PlainOperation::TestProcessorAnalysing => done!(self.test_processor_analysing()),
+            PlainOperation::Divide => self.divide(),
+            PlainOperation::DisableSkip => self.disable_skip(memory),
+            PlainOperation::LongMultiply => done!(self.long_multiply()),
+            PlainOperation::Not => done!(self.not()),
+            PlainOperation::ExclusiveOr => done!(self.exclusive_or()),
+            PlainOperation::ByteCount => done!(self.byte_count()),
+            PlainOperation::LongShiftRight => done!(self.long_shift_right()),
+            PlainOperation::LongShiftLeft => done!(self.long_shift_left()),
+            PlainOperation::LongSum => done!(self.long_sum()),
+            PlainOperation::LongSubtract => self.long_subtract(),
+            PlainOperation::RunProcess => self.run_process(memory),
+            PlainOperation::ExtendToWord => done!(self.extend_to_word()),
+            PlainOperation::StoreByte => self.store_byte(memory),
+            PlainOperation::GeneralAdjustWorkspace => done!(self.general_adjust_workspace()),
+            PlainOperation::SaveLow => self.save_low(memory),
+            PlainOperation::SaveHigh => self.save_high(memory),
+            PlainOperation::ShiftRight => done!(self.shift_right()),
+            PlainOperation::ShiftLeft => done!(self.shift_left()),
+            PlainOperation::MinimumInteger => done!(self.minimum_integer()),
+            PlainOperation::AltStart => self.alt_start(memory),
+            PlainOperation::AltWait => self.alt_wait(memory),
+            PlainOperation::AltEnd => self.alt_end(memory),
+            PlainOperation::And => done!(self.and()),
+            PlainOperation::EnableSkip => self.enable_skip(memory),
+            PlainOperation::MoveMessage => self.move_message(memory),
+            PlainOperation::Or => done!(self.or()),
+            PlainOperation::CheckSingle => self.check_single(),
+            PlainOperation::CheckCountFromOne => self.check_count_from_one(),
+            PlainOperation::LongDifference => done!(self.long_difference()),
+            PlainOperation::StoreHighBack => self.store_high_back(),
+            PlainOperation::Sum => done!(self.sum()),
+            PlainOperation::Multiply => self.multiply(),
+            PlainOperation::StoreTimer => done!(self.store_timer()),
+            PlainOperation::StopOnError => self.stop_on_error(memory),
+            PlainOperation::CheckWord => self.check_word(),
+            PlainOperation::ClearHaltOnError => done!(self.clear_halt_on_error()),
+            PlainOperation::SetHaltOnError => done!(self.set_halt_on_error()),
+            PlainOperation::TestHaltOnError => done!(self.test_halt_on_error()),
+        }
+    }
+
+    // One operation on a channel.
+    fn talk(
+        &mut self,
+        memory: &mut Memory,
+        links: &mut Links,
+        operation: ChannelOperation,
+    ) -> Result<(), Fault>
+        ensures answer { finished result self.new links.new memory.new ≡ channel_row operation self.old links.old memory.old }
+    {
+        match operation {
+            ChannelOperation::InputMessage => self.input_message(memory, links),
+            ChannelOperation::OutputMessage => self.output_message(memory, links),
+            ChannelOperation::OutputByte => self.output_byte(memory, links),
+            ChannelOperation::OutputWord => self.output_word(memory, links),
+            ChannelOperation::ResetChannel => self.reset_channel(memory, links),
+            ChannelOperation::DisableChannel => self.disable_channel(memory, links),
+            ChannelOperation::EnableChannel => self.enable_channel(memory, links),
+        }
+    }
+
+    // The operation of a code.
+    #[inline]
+    fn operate(&mut self, memory: &mut Memory, links: &mut Links, code: u32) -> Result<(), Fault>
+        ensures answer { finished result self.new links.new memory.new ≡ upon links.old (operate (operation_of code) code self.old memory.old) }
+    {
+        match operation(code) {
+            Some(Operation::Plain(operation)) => self.perform(memory, operation),
+            Some(Operation::Channel(operation)) => self.talk(memory, links, operation),
+            None => Err(Fault::UnknownOperation(code)),
+        }
+    }
+
+    // One function of an operand.
+    #[inline]
+    fn apply(
+        &mut self,
+        memory: &mut Memory,
+        links: &mut Links,
+        function: Function,
+        operand: u32,
+    ) -> Result<(), Fault>
+        ensures answer { finished result self.new links.new memory.new ≡ upon links.old (direct function operand self.old memory.old) }
+    {
+        match function {
+            Function::Jump => self.jump(memory, operand),
+            Function::LoadLocalPointer => done!(self.load_local_pointer(operand)),
+            Function::Prefix => done!(self.prefix(operand)),
+            Function::LoadNonLocal => self.load_non_local(memory, operand),
+            Function::LoadConstant => done!(self.load_constant(operand)),
+            Function::LoadNonLocalPointer => done!(self.load_non_local_pointer(operand)),
+            Function::NegativePrefix => done!(self.negative_prefix(operand)),
+            Function::LoadLocal => self.load_local(memory, operand),
+            Function::AddConstant => self.add_constant(operand),
+            Function::Call => self.call(memory, operand),
+            Function::ConditionalJump => done!(self.conditional_jump(operand)),
+            Function::AdjustWorkspace => done!(self.adjust_workspace(operand)),
+            Function::EqualsConstant => done!(self.equals_constant(operand)),
+            Function::StoreLocal => self.store_local(memory, operand),
+            Function::StoreNonLocal => self.store_non_local(memory, operand),
+            Function::Operate => self.operate(memory, links, operand),
+        }
+    }
+
+    // One instruction byte.
+    #[inline]
+    #[tactic(auto, unfolding(crate::specs::Step::byte_done))]
+    pub(crate) fn do_byte(&mut self, memory: &mut Memory, links: &mut Links) -> Result<(), Fault>
+        ensures answer { finished result self.new links.new memory.new ≡ upon links.old (byte_done self.old memory.old) }
+    {
+        let byte = memory.byte(self.instruction)?;
+        let (function, nibble) = decode(byte);
+        let operand = self.operand | u32::from(nibble);
+        self.instruction = self.instruction.wrapping_add(1);
+        self.bytes = self.bytes.saturating_add(1).min(1024);
+        self.operand = 0;
+        self.apply(memory, links, function, operand)
+    }
+}

@@ -1,0 +1,93 @@
+//! The error flags, and checks that set one.
+
+ghost use Rattle.std.specs.Prelude.{◌≡◌, List, ℕ};
+
+use crate::cpu::Cpu;
+use node_memory::{Fault, signed};
+
+#[tactic(auto, unfolding(crate::specs::Rows::row))]
+impl Cpu {
+    ghost use Rattle.t414_decode.specs.declared.instruction.PlainOperation.TheVariants as op;
+    ghost use Rattle.t414_step.specs.Outcome.{left, Went};
+    ghost use Rattle.t414_step.specs.Rows.{row};
+
+    // seterr
+    #[inline]
+    pub(crate) fn set_error(&mut self) -> Result<(), Fault>
+        ensures { (m : List ℕ) → left result self.new m ≡ row op.SetError self.old m }
+    {
+        self.raise_if(true)
+    }
+
+    // testerr
+    #[inline]
+    pub(crate) fn test_error(&mut self)
+        ensures { (m : List ℕ) → Went self.new m ≡ row op.TestError self.old m }
+    {
+        self.push(u32::from(!self.error));
+        self.error = false;
+    }
+
+    // sethalterr
+    #[inline]
+    pub(crate) fn set_halt_on_error(&mut self)
+        ensures { (m : List ℕ) → Went self.new m ≡ row op.SetHaltOnError self.old m }
+    {
+        self.halt_on_error = true;
+    }
+
+    // clrhalterr
+    #[inline]
+    pub(crate) fn clear_halt_on_error(&mut self)
+        ensures { (m : List ℕ) → Went self.new m ≡ row op.ClearHaltOnError self.old m }
+    {
+        self.halt_on_error = false;
+    }
+
+    // testhalterr
+    #[inline]
+    pub(crate) fn test_halt_on_error(&mut self)
+        ensures { (m : List ℕ) → Went self.new m ≡ row op.TestHaltOnError self.old m }
+    {
+        self.push(u32::from(self.halt_on_error));
+    }
+
+    // testpranal
+    #[inline]
+    pub(crate) fn test_processor_analysing(&mut self)
+        ensures { (m : List ℕ) → Went self.new m ≡ row op.TestProcessorAnalysing self.old m }
+    {
+        self.push(0);
+    }
+
+    // csub0
+    #[inline]
+    pub(crate) fn check_subscript_from_zero(&mut self) -> Result<(), Fault>
+        ensures { (m : List ℕ) → left result self.new m ≡ row op.CheckSubscriptFromZero self.old m }
+    {
+        let raised = self.a <= self.b;
+        self.discard();
+        self.raise_if(raised)
+    }
+
+    // ccnt1
+    #[inline]
+    pub(crate) fn check_count_from_one(&mut self) -> Result<(), Fault>
+        ensures { (m : List ℕ) → left result self.new m ≡ row op.CheckCountFromOne self.old m }
+    {
+        let raised = self.b == 0 || self.a < self.b;
+        self.discard();
+        self.raise_if(raised)
+    }
+
+    // cword
+    #[inline]
+    pub(crate) fn check_word(&mut self) -> Result<(), Fault>
+        ensures { (m : List ℕ) → left result self.new m ≡ row op.CheckWord self.old m }
+    {
+        let value = i64::from(signed(self.b));
+        let limit = i64::from(signed(self.a));
+        self.discard();
+        self.raise_if(limit <= value || value < -limit)
+    }
+}

@@ -1,0 +1,13 @@
+//! Laws of the processor.
+
+ghost use Rattle.t414_step.specs.Laws.{IdleWhereItRests, MoveStopsAtTheEdge};
+
+/// A step answers `Idle` exactly where there is no current process, none in the queue, and no link that has work.
+pub fn idle_where_it_rests()
+    ensures law { IdleWhereItRests }
+{}
+
+/// A move of more bytes than memory has is a fault, so one instruction moves no more of them than that.
+pub fn move_stops_at_the_edge()
+    ensures law { MoveStopsAtTheEdge }
+{}

@@ -1,0 +1,21 @@
+//! One step of a T414: its registers, the instruction table and the dispatch on an instruction byte. There is no
+//! condition on memory or on the registers: every program has its answers, whatever it destroys.
+#![tactic(auto)]
+
+mod arithmetic;
+mod bits;
+mod channels;
+mod control;
+mod cpu;
+mod direct;
+mod dispatch;
+mod flags;
+mod laws;
+mod long;
+mod processes;
+mod stepping;
+mod storage;
+
+pub use crate::cpu::Cpu;
+pub use crate::laws::{idle_where_it_rests, move_stops_at_the_edge};
+pub use crate::stepping::{Stepped, step};

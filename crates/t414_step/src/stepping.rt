@@ -1,0 +1,83 @@
+//! One step of the processor.
+
+ghost use Rattle.std.specs.Prelude.{◌≡◌};
+ghost use Rattle.t414_step.specs.Answers.{answered, is_idle};
+ghost use Rattle.t414_step.specs.Registers.{rests};
+ghost use Rattle.t414_step.specs.Step.{resuming, resumption, step};
+
+use crate::cpu::Cpu;
+use link_channels::Links;
+use node_memory::{Fault, Memory};
+
+/// What one step came to.
+#[derive(Clone, Copy, Debug, PartialEq, Eq)]
+pub enum Stepped {
+    /// A link was served or an instruction byte was done.
+    Ran,
+    /// There was nothing to do.
+    Idle,
+    /// The node halted.
+    Fault(Fault),
+}
+
+impl Cpu {
+    // Takes a process from the queue; whether there was one.
+    fn resume(&mut self, memory: &Memory) -> Result<bool, Fault>
+        ensures answer { resuming result self.new ≡ resumption self.old memory.now }
+    {
+        let Some(found) = self.queue.take(memory)? else {
+            return Ok(false);
+        };
+        let workspace = found - found % 4;
+        self.instruction = memory.word(workspace.wrapping_sub(4))?;
+        self.workspace = workspace;
+        self.a = 0;
+        self.b = 0;
+        self.c = 0;
+        self.operand = 0;
+        self.bytes = 0;
+        self.running = true;
+        Ok(true)
+    }
+}
+
+// One step, whose answer alone is told.
+#[inline]
+#[tactic(auto, unfolding(crate::specs::Step::step))]
+fn advance(cpu: &mut Cpu, memory: &mut Memory, links: &mut Links) -> Stepped
+    ensures answer { answered result cpu.new links.new memory.new ≡ step cpu.old links.old memory.old }
+{
+    let acted = match links.serve_all(memory, &mut cpu.queue) {
+        Ok(acted) => acted,
+        Err(fault) => return Stepped::Fault(fault),
+    };
+    if !cpu.running {
+        match cpu.resume(memory) {
+            Ok(true) => {}
+            Ok(false) if acted => return Stepped::Ran,
+            Ok(false) => return Stepped::Idle,
+            Err(fault) => return Stepped::Fault(fault),
+        }
+    }
+    match cpu.do_byte(memory, links) {
+        Ok(()) => Stepped::Ran,
+        Err(fault) => Stepped::Fault(fault),
+    }
+}
+
+/// One step of a node that runs: links 0 to 3 are served in order, a process is taken from the queue where there is no
+/// current one, and then, where there is one, one instruction byte is done.
+///
+/// After a fault the registers are given up, memory and links are as the instruction or the service left them:
+/// `Fault::OutsideMemory`, `UnknownOperation`, `ErrorSet`, `HighPriority` and `WrongChannel` as the instruction table
+/// has them.
+///
+/// Source: Transputer instruction set handbook, and Reference Manual, links; the order and the slices are our choice.
+#[inline]
+pub fn step(cpu: &mut Cpu, memory: &mut Memory, links: &mut Links) -> Stepped
+    ensures answer { answered result cpu.new links.new memory.new ≡ step cpu.old links.old memory.old }
+    // It is idle exactly where there is no current process, none in the queue, and no link that has work.
+    ensures idle { is_idle result ≡ rests cpu.old links.old }
+{
+    advance(cpu, memory, links)
+}
