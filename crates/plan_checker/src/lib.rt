@@ -13,6 +13,8 @@ mod read;
 mod row;
 mod rules;
 mod smallest;
+#[cfg(test)]
+mod tests;
 mod values;
 mod version;
 

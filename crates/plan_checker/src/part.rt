@@ -91,7 +91,7 @@ impl Part {
     pub fn same(&self, other: &Part) -> bool
         ensures { IsTrue result ↔ (self.now ≡ other.now) }
     {
-        self.count == other.count
+        other.count == self.count
             && self.limit == other.limit
             && self.users == other.users
             && are_same_nodes(self.nodes.as_slice(), other.nodes.as_slice())
