@@ -14,7 +14,7 @@ use Rattle.plan_checker.specs.declared.part.NodePart.{NodePart}
 use Rattle.plan_checker.specs.declared.part.HostPart.{HostPart}
 use Rattle.plan_checker.specs.declared.fault.PlanFault.TheVariants.{Text, Shape, DomainCount, Name, NameTwice, Range, SharedPort, NodeCount, Memory, Port, PortTwice, HostCount, UnwiredNode, Limit, NoMemory, RangeCount, UserCount}
 use Rattle.plan_checker.specs.Separate.{IsSeparate, IsFrom, Lies, IsName, HaveOtherNames, IsRange, ShareNoPort, HasWiredLink, IsMemorySize, IsVirtualPort, IsDistinct, length_of, count_of, is_wired, wired_links, hosts_of, used_ports}
-use Rattle.plan_checker.specs.Part.{PartData, IsPart, IsNodePart, part_of, node_part, port_at, host_part, host_parts, wired_ports, ports_used, IsNumbered, AreSeparate, physical_ports, place_of, port_range}
+use Rattle.plan_checker.specs.Part.{PartData, IsPart, part_with, IsNodePart, part_of, node_part, port_at, host_part, host_parts, wired_ports, ports_used, IsNumbered, AreSeparate, physical_ports, place_of, port_range}
 use Rattle.crossbar.specs.Ranges.{IsNumbering}
 use Rattle.plan_checker.proofs.ListLemmas.{all_left, all_right, all_lists, pairs_head, pairs_tail, pairs_nil, lists_each, lists_across, pairs_alone, pairs_of_one}
 use Rattle.plan_checker.proofs.RuleLemmas.{count_more}
@@ -154,11 +154,12 @@ pub is_numbered : (d : DomainData) → IsSeparate (d ∷ []) → IsNumbered d
 is_numbered d sep =
     let ranges = All-head (λ (d : DomainData). All IsRange d.ranges) d [] (sep Range) in
     let apart = pairs_of_one ShareNoPort (λ (d : DomainData). d.ranges) d (sep SharedPort) in
-    let whole : physical_ports d ≡ all_ports d.ranges = ports_in_row d.ranges (4 - length d.ranges) in (
-      are_ranges d.ranges (4 - length d.ranges) ranges apart,
-      subst IsNumbering (sym whole) (numbering d.ranges ranges apart),
-      ap length whole ∙ ap unsigned_abs (length_all d.ranges ranges),
-    )
+    let whole : physical_ports d ≡ all_ports d.ranges = ports_in_row d.ranges (4 - length d.ranges) in
+    record {
+      ranges = are_ranges d.ranges (4 - length d.ranges) ranges apart;
+      ports = subst IsNumbering (sym whole) (numbering d.ranges ranges apart);
+      count = ap length whole ∙ ap unsigned_abs (length_all d.ranges ranges)
+    }
 
 pub all_numbered : (plan : List DomainData) → IsSeparate plan → All IsNumbered plan
 all_numbered plan sep k e less = is_numbered (get_or plan k e) (alone plan sep k e less)
@@ -238,9 +239,6 @@ are_all_ranges d sep = All-head (λ (d : DomainData). All IsRange d.ranges) d []
 
 pub limit_of : (d : DomainData) → IsSeparate (d ∷ []) → Lies (pos 1) (pos (2 ^ 40)) d.limit
 limit_of d sep = All-head (λ (d : DomainData). Lies (pos 1) (pos (2 ^ 40)) d.limit) d [] (sep Limit)
-
-abbrev part_with : ℕ → ℕ → ℕ → List NodePart → List HostPart → PartData
-part_with count limit users nodes hosts = record { count = count; limit = limit; users = users; nodes = nodes; hosts = hosts }
 
 -- a part made of these numbers and lists
 pub part_is : (d : DomainData) (count limit users : ℕ) (nodes : List NodePart) (hosts : List HostPart)

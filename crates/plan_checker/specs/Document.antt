@@ -1,4 +1,4 @@
--- The document that a plan is written as.
+-- The document that a plan is written as. The three versions of the text are our own.
 use Rattle.std.specs.Prelude.{◌≡◌, ℕ, ℤ, pos, List, [], ◌∷◌, map, codes, length, All, Result, Ok, Err, Some, IsUtf8}
 use Rattle.std.specs.Borrow.{Bor}
 use Rattle.toml.specs.Data.{Data, string, integer, array, table, Members, no_members, member}

@@ -20,6 +20,9 @@ pub record PartData : Type 0 where
   pub nodes : List NodePart
   pub hosts : List HostPart
 
+abbrev pub part_with : ℕ → ℕ → ℕ → List NodePart → List HostPart → PartData
+part_with count limit users nodes hosts = record { count = count; limit = limit; users = users; nodes = nodes; hosts = hosts }
+
 -- the virtual ports of a node's wired links
 abbrev pub wired_ports : NodePart → List ℕ
 wired_ports n = filter_map (λ link. link) n.links
@@ -92,8 +95,10 @@ abbrev pub physical_ports : DomainData → List ℕ
 physical_ports d = ports_in (row_of d)
 
 -- the ports of a domain are ports of the crossbar, each with one number
-abbrev pub IsNumbered : DomainData → Type 0
-IsNumbered d = AreRanges (row_of d) × IsNumbering (physical_ports d) × (length (physical_ports d) ≡ (part_of d).count)
+pub record IsNumbered (d : DomainData) : Type 0 where
+  pub ranges : AreRanges (row_of d)
+  pub ports : IsNumbering (physical_ports d)
+  pub count : length (physical_ports d) ≡ (part_of d).count
 
 -- two domains have no port in common
 abbrev pub AreSeparate : DomainData → DomainData → Type 0

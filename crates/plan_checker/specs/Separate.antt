@@ -30,7 +30,7 @@ IsName name = IsFrom 1 32 (length name) × All IsNameByte name
 abbrev pub HaveOtherNames : UserData → UserData → Type 0
 HaveOtherNames u v = u.name ≢ v.name
 
--- a range is one of ports 0 to 31, and not empty
+-- a range lies within the 32 ports of the IMS C004, and is not empty
 abbrev pub IsRange : RangePlan → Type 0
 IsRange r = (pos 0 ≤ℤ r.first) × (r.first ≤ℤ r.last) × (r.last ≤ℤ pos 31)
 
@@ -71,6 +71,10 @@ HasWiredLink n = 1 ≤ length (wired_links n)
 abbrev pub hosts_of : DomainData → List ℤ
 hosts_of d = flat_map (λ u. u.hosts) d.users
 
+-- each user of the domain has a host, and together they have four at most
+abbrev pub HasHosts : DomainData → Type 0
+HasHosts d = All (λ u. 1 ≤ length u.hosts) d.users × (length (hosts_of d) ≤ 4)
+
 -- the virtual ports that a domain uses
 abbrev pub used_ports : DomainData → List ℤ
 used_ports d = hosts_of d ++ flat_map wired_links d.nodes
@@ -93,7 +97,7 @@ Rule NodeCount plan = All (λ d. IsFrom 1 8 (length d.nodes)) plan
 Rule Memory plan = All (λ d. All (λ n. IsMemorySize n.memory) d.nodes) plan
 Rule Port plan = All (λ d. All (IsVirtualPort d.ranges) (used_ports d)) plan
 Rule PortTwice plan = All (λ d. IsDistinct (used_ports d)) plan
-Rule HostCount plan = All (λ d. All (λ u. 1 ≤ length u.hosts) d.users × (length (hosts_of d) ≤ 4)) plan
+Rule HostCount plan = All HasHosts plan
 Rule UnwiredNode plan = All (λ d. All HasWiredLink d.nodes) plan
 Rule Limit plan = All (λ d. Lies (pos 1) (pos (2 ^ 40)) d.limit) plan
 Rule RangeCount plan = All (λ d. IsFrom 1 4 (length d.ranges)) plan

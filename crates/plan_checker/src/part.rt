@@ -6,12 +6,12 @@ use crate::NoMemory;
 use std::alloc::Global;
 use std::marker::Model;
 
-/// A node of a domain: its memory in bytes, and the virtual port of each of its four links, where it is wired.
+/// A node of a domain.
 #[derive(Clone, Copy, Debug, PartialEq, Eq)]
 pub struct NodePart {
-    /// A multiple of 4 from 2,048 to 65,536.
+    /// The memory in bytes, a multiple of 4 from 2,048 to 65,536.
     pub memory: u32,
-    /// Each wired port is below the domain's count.
+    /// The virtual port of each link, below the domain's count, where the link is wired.
     pub links: [Option<u8>; 4],
 }
 
@@ -37,13 +37,15 @@ pub struct Part {
 }
 
 impl Model for Part {
-    ghost use Rattle.plan_checker.specs.Part.{PartData, IsPart};
+    ghost use Rattle.plan_checker.specs.Part.{PartData, IsPart, part_with};
 
     ghost Value = { PartData };
 
-    ghost view = { λ p. record { count = p.count; limit = p.limit; users = p.users; nodes = p.nodes.items; hosts = p.hosts.items } };
+    ghost view = { λ p. part_with p.count p.limit p.users p.nodes.items p.hosts.items };
 
-    ghost invariant = { λ p. IsPart (record { count = p.count; limit = p.limit; users = p.users; nodes = p.nodes.items; hosts = p.hosts.items }) };
+    ghost invariant = {
+        λ p. IsPart (part_with p.count p.limit p.users p.nodes.items p.hosts.items)
+    };
 }
 
 impl Part {

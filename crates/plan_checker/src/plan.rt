@@ -1,26 +1,32 @@
-//! A plan as its text gives it.
+//! A plan as its text gives it, with every number as it stands there.
 ghost use Rattle.std.specs.Prelude.{ℕ, ℤ, List, string_bytes};
 
 use std::marker::Model;
 
-/// A node: its memory in bytes, and the virtual port of each of its four links, -1 where a link is not wired.
+/// A node of a domain.
 #[derive(Debug, Drop)]
 pub struct NodePlan {
+    /// The memory in bytes.
     pub memory: i64,
+    /// The virtual port of each link, -1 where the link isn't wired.
     pub links: [i64; 4],
 }
 
 /// A range of physical ports, both ends in it.
 #[derive(Debug, Drop)]
 pub struct RangePlan {
+    /// The first port.
     pub first: i64,
+    /// The last port.
     pub last: i64,
 }
 
-/// A user: his name, and the virtual port of each of his hosts.
+/// A user of a domain.
 #[derive(Debug, Drop)]
 pub struct UserPlan {
+    /// His name.
     pub name: String,
+    /// The virtual port of each of his hosts.
     pub hosts: Vec<i64>,
 }
 
@@ -33,12 +39,16 @@ impl Model for UserPlan {
     ghost view = { λ u. record { name = string_bytes u.name; hosts = u.hosts.items } };
 }
 
-/// A domain: its users, its ranges of ports, the limit of its recorded events, and its nodes.
+/// A domain. In version 1 of the text it has one user and one range, in version 2 one user.
 #[derive(Debug, Drop)]
 pub struct DomainPlan {
+    /// The users, in the order of their numbers.
     pub users: Vec<UserPlan>,
+    /// The ranges of physical ports, through which the virtual ports are numbered.
     pub ranges: Vec<RangePlan>,
+    /// How many events may be recorded.
     pub limit: i64,
+    /// The nodes, in the order of their numbers.
     pub nodes: Vec<NodePlan>,
 }
 
@@ -47,12 +57,20 @@ impl Model for DomainPlan {
 
     ghost Value = { DomainData };
 
-    ghost view = { λ d. record { users = d.users.items; ranges = d.ranges.items; limit = d.limit; nodes = d.nodes.items } };
+    ghost view = {
+        λ d. record {
+            users = d.users.items;
+            ranges = d.ranges.items;
+            limit = d.limit;
+            nodes = d.nodes.items
+        }
+    };
 }
 
-/// The domains of a plan, in its order.
+/// A plan.
 #[derive(Debug, Drop)]
 pub struct Plan {
+    /// The domains, in the order of their numbers.
     pub domains: Vec<DomainPlan>,
 }
 

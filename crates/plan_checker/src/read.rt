@@ -31,7 +31,10 @@ impl FromValue for NodePlan {
 }
 
 fn links_of(alloc: Global, value: &Value) -> Result<[i64; 4], PlanFault>
-    ensures { Spells (λ links. length links ≡ 4) (list integer) (λ links. links) (view value.now) result }
+    ensures {
+        Spells (λ links. length links ≡ 4) (list integer) (λ links. links)
+        (view value.now) result
+    }
 {
     let links = integers_of(alloc, value)?;
     match links.as_slice() {
@@ -183,8 +186,8 @@ fn plan_of(alloc: Global, document: &Table) -> Result<Plan, PlanFault>
 ///
 /// # Errors
 ///
-/// `Text` exactly where the bytes aren't UTF-8 or aren't TOML, `Shape` exactly where the document is no plan's,
-/// and `NoMemory`.
+/// `Text` exactly where the bytes aren't UTF-8 or aren't TOML, `Shape` exactly where the document
+/// is no plan's, and `NoMemory`.
 pub fn read_plan(alloc: Global, text: &[u8]) -> Result<Plan, PlanFault>
     ensures { Reads text.now result }
 {

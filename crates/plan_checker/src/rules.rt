@@ -1,6 +1,6 @@
 //! The rules of a separate plan, one a fault.
 ghost use Rattle.std.specs.Prelude.{◌≡◌, ◌↔◌, ◌++◌, ◌≤◌, ◌^◌, pos, IsTrue, All, length, filter};
-ghost use Rattle.plan_checker.specs.Separate.{IsRange, IsFrom, Lies, HasWiredLink, IsName, IsMemorySize, is_wired, hosts_of};
+ghost use Rattle.plan_checker.specs.Separate.{IsRange, IsFrom, Lies, HasWiredLink, IsName, IsMemorySize, is_wired, hosts_of, HasHosts};
 
 use crate::plan::{DomainPlan, NodePlan, RangePlan, UserPlan};
 
@@ -110,7 +110,7 @@ fn has_few_hosts(domain: &DomainPlan) -> bool
 
 /// Whether each user has a host, and the domain four at most.
 pub fn has_host_count(domain: &DomainPlan) -> bool
-    ensures { IsTrue result ↔ (All (λ u. 1 ≤ length u.hosts) domain.now.users × (length (hosts_of domain.now) ≤ 4)) }
+    ensures { IsTrue result ↔ HasHosts domain.now }
 {
     domain.users.iter().all(|user| has_host(user)) && has_few_hosts(domain)
 }

@@ -3,7 +3,7 @@ ghost use Rattle.std.specs.Prelude.{◌≡◌, ◌≢◌, MatchOption};
 ghost use Rattle.plan_checker.specs.Version.{version_number};
 
 /// How the text of a plan spells a domain.
-#[derive(Clone, Copy, Debug, PartialEq, Eq)]
+#[derive(Clone, Copy)]
 pub enum PlanVersion {
     /// One user and one range, whose fields stand among the domain's own.
     One,
@@ -16,7 +16,11 @@ pub enum PlanVersion {
 impl PlanVersion {
     /// The version that the number stands for.
     pub fn of(number: i64) -> Option<PlanVersion>
-        ensures { MatchOption result ((v : PlanVersion) → version_number v ≢ number) (λ v. version_number v ≡ number) }
+        ensures {
+            MatchOption result
+            ((v : PlanVersion) → version_number v ≢ number)
+            (λ v. version_number v ≡ number)
+        }
     {
         match number {
             1 => Some(PlanVersion::One),

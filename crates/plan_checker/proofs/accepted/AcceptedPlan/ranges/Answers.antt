@@ -20,4 +20,4 @@ pub returns-clause-ranges : goal.returns-clause-ranges
 returns-clause-ranges c =
     let at_domain = rw c.from.ensures at c.index.ensures in
     let sep = subst (λ (d : DomainData). IsSeparate (d ∷ [])) (sym at_domain) (alone _ c.self.invariant.separate c.args.domain c.index.result.now (search rules)) in
-    rw c.row_of.ensures (is_numbered c.index.result.now sep).0
+    rw c.row_of.ensures (is_numbered c.index.result.now sep).ranges
