@@ -98,7 +98,7 @@ pub fn list_of<T: FromValue>(
     Ok(items)
 }
 
-/// The integers of an array.
+/// The integers of an array, which every version writes alike.
 pub fn integers_of(alloc: Global, value: &Value) -> Result<Vec<i64>, PlanFault>
     ensures { Spells (λ _. Unit {0}) (list integer) (λ v. v.items) (view value.now) result }
 {
