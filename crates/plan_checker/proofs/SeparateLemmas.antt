@@ -14,7 +14,7 @@ use Rattle.plan_checker.specs.declared.part.NodePart.{NodePart}
 use Rattle.plan_checker.specs.declared.part.HostPart.{HostPart}
 use Rattle.plan_checker.specs.declared.fault.PlanFault.TheVariants.{Text, Shape, DomainCount, Name, NameTwice, Range, SharedPort, NodeCount, Memory, Port, PortTwice, HostCount, UnwiredNode, Limit, NoMemory, RangeCount, UserCount}
 use Rattle.plan_checker.specs.Separate.{IsSeparate, IsFrom, Lies, IsName, HaveOtherNames, IsRange, ShareNoPort, HasWiredLink, IsMemorySize, IsVirtualPort, IsDistinct, length_of, count_of, is_wired, wired_links, hosts_of, used_ports}
-use Rattle.plan_checker.specs.Part.{PartData, IsPart, part_with, IsNodePart, part_of, node_part, port_at, host_part, host_parts, wired_ports, ports_used, IsNumbered, AreSeparate, physical_ports, place_of, port_range}
+use Rattle.plan_checker.specs.Part.{IsPart, part_with, IsNodePart, part_of, node_part, port_at, host_part, host_parts, wired_ports, ports_used, IsNumbered, AreSeparate, physical_ports, place_of, port_range}
 use Rattle.crossbar.specs.Ranges.{IsNumbering}
 use Rattle.plan_checker.proofs.ListLemmas.{all_left, all_right, all_lists, pairs_head, pairs_tail, pairs_nil, lists_each, lists_across, pairs_alone, pairs_of_one}
 use Rattle.plan_checker.proofs.RuleLemmas.{count_more}
@@ -158,7 +158,7 @@ is_numbered d sep =
     record {
       ranges = are_ranges d.ranges (4 - length d.ranges) ranges apart;
       ports = subst IsNumbering (sym whole) (numbering d.ranges ranges apart);
-      count = ap length whole ∙ ap unsigned_abs (length_all d.ranges ranges)
+      count = ap length whole ∙ ap unsigned_abs (length_all d.ranges ranges);
     }
 
 pub all_numbered : (plan : List DomainData) → IsSeparate plan → All IsNumbered plan

@@ -40,9 +40,7 @@ impl Model for AcceptedPlan {
 /// The smallest fault from `DomainCount` on that the plan has, and `NoMemory`.
 pub fn check(alloc: Global, plan: Plan) -> Result<AcceptedPlan, PlanFault>
     ensures accepted { IfOk result (λ accepted. (accepted ≡ plan) × IsSeparate plan) }
-    ensures refused {
-        IfErr result (λ fault. fault ≢ PlanFault.NoMemory → IsSmallestFault plan fault)
-    }
+    ensures refused { IfErr result (λ fault. fault ≢ PlanFault.NoMemory → IsSmallestFault plan fault) }
 {
     match smallest_fault(alloc, plan.domains.as_slice())? {
         Some(fault) => Err(fault),
@@ -77,10 +75,8 @@ impl AcceptedPlan {
     pub fn name(&self, domain: u8, user: u8) -> &str
         requires domain { domain < length self.now }
         requires user { IfSome (slice_get self.now domain) (λ d. user < length d.users) }
-        ensures {
-            IfSome (slice_get self.now domain)
-            (λ d. IfSome (slice_get d.users user) (λ u. result.now ≡ u.name))
-        }
+        ensures { IfSome (slice_get self.now domain)
+            (λ d. IfSome (slice_get d.users user) (λ u. result.now ≡ u.name)) }
     {
         self.domains[usize::from(domain)].users[usize::from(user)]
             .name

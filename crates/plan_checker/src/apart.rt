@@ -93,10 +93,8 @@ fn are_new<T: Apart>(earlier: &[T], items: &[T]) -> bool
 
 /// Whether each item differs from each of the earlier domains' items.
 fn are_new_after<T: PartOfDomain>(earlier: &[DomainPlan], items: &[T]) -> bool
-    ensures {
-        IsTrue result ↔
-            All (λ d. All (λ y. All (λ x. T.apart x y) (T.list d)) items.now) earlier.now
-    }
+    ensures { IsTrue result ↔
+        All (λ d. All (λ y. All (λ x. T.apart x y) (T.list d)) items.now) earlier.now }
 {
     earlier.iter().all(|d| are_new(T::list_of(d), items))
 }

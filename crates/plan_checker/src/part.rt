@@ -43,9 +43,7 @@ impl Model for Part {
 
     ghost view = { λ p. part_with p.count p.limit p.users p.nodes.items p.hosts.items };
 
-    ghost invariant = {
-        λ p. IsPart (part_with p.count p.limit p.users p.nodes.items p.hosts.items)
-    };
+    ghost invariant = { λ p. IsPart (part_with p.count p.limit p.users p.nodes.items p.hosts.items) };
 }
 
 impl Part {

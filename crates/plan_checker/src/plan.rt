@@ -57,14 +57,12 @@ impl Model for DomainPlan {
 
     ghost Value = { DomainData };
 
-    ghost view = {
-        λ d. record {
-            users = d.users.items;
-            ranges = d.ranges.items;
-            limit = d.limit;
-            nodes = d.nodes.items
-        }
-    };
+    ghost view = { λ d. record {
+      users = d.users.items;
+      ranges = d.ranges.items;
+      limit = d.limit;
+      nodes = d.nodes.items;
+    } };
 }
 
 /// A plan.

@@ -31,10 +31,8 @@ impl FromValue for NodePlan {
 }
 
 fn links_of(alloc: Global, value: &Value) -> Result<[i64; 4], PlanFault>
-    ensures {
-        Spells (λ links. length links ≡ 4) (list integer) (λ links. links)
-        (view value.now) result
-    }
+    ensures { Spells (λ links. length links ≡ 4) (list integer) (λ links. links)
+        (view value.now) result }
 {
     let links = integers_of(alloc, value)?;
     match links.as_slice() {

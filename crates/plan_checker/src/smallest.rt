@@ -60,10 +60,8 @@ fn keeps(alloc: Global, domains: &[DomainPlan], rule: PlanFault) -> Result<bool,
 
 /// The smallest fault of the domains, if they have one.
 pub fn smallest_fault(alloc: Global, domains: &[DomainPlan]) -> Result<Option<PlanFault>, NoMemory>
-    ensures {
-        IfOk result
-        (λ fault. MatchOption fault (IsSeparate domains.now) (IsSmallestFault domains.now))
-    }
+    ensures { IfOk result
+        (λ fault. MatchOption fault (IsSeparate domains.now) (IsSmallestFault domains.now)) }
 {
     for rule in RULES {
         if !keeps(alloc, domains, rule)? {

@@ -51,11 +51,9 @@ pub fn text_of(alloc: Global, value: &Value) -> Result<String, PlanFault>
 
 /// The table that a value is, where it has exactly the fields of these names, which ascend.
 pub fn table_of<'a>(value: &'a Value, names: &[&str]) -> Result<&'a Table, PlanFault>
-    ensures {
-        MatchResult result
+    ensures { MatchResult result
         (λ t. IsTable (view value.now) names.now (table_view t.now))
-        (λ e. (e ≡ PlanFault.Shape) × ((t : Members) → ¬ IsTable (view value.now) names.now t))
-    }
+        (λ e. (e ≡ PlanFault.Shape) × ((t : Members) → ¬ IsTable (view value.now) names.now t)) }
 {
     let table = value.as_table().ok_or(PlanFault::Shape)?;
     if has_fields(table, names) {
@@ -67,11 +65,9 @@ pub fn table_of<'a>(value: &'a Value, names: &[&str]) -> Result<&'a Table, PlanF
 
 /// The value of a field.
 pub fn value_at<'a>(table: &'a Table, name: &str) -> Result<&'a Value, PlanFault>
-    ensures {
-        MatchResult result
+    ensures { MatchResult result
         (λ v. get_member name.now (table_view table.now) ≡ Some (view v.now))
-        (λ e. (e ≡ PlanFault.Shape) × (get_member name.now (table_view table.now) ≡ None))
-    }
+        (λ e. (e ≡ PlanFault.Shape) × (get_member name.now (table_view table.now) ≡ None)) }
 {
     match table.get(name) {
         Some(value) => Ok(value),
@@ -85,10 +81,8 @@ pub fn list_of<T: FromValue>(
     version: PlanVersion,
     value: &Value,
 ) -> Result<Vec<T>, PlanFault>
-    ensures {
-        Spells (All (T.is_whole version)) (list (T.spelling version)) (λ v. v.items)
-        (view value.now) result
-    }
+    ensures { Spells (All (T.is_whole version)) (list (T.spelling version)) (λ v. v.items)
+        (view value.now) result }
 {
     let array = value.as_array().ok_or(PlanFault::Shape)?;
     let mut items = Vec::with_capacity(alloc, array.len())?;

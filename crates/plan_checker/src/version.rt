@@ -16,11 +16,9 @@ pub enum PlanVersion {
 impl PlanVersion {
     /// The version that the number stands for.
     pub fn of(number: i64) -> Option<PlanVersion>
-        ensures {
-            MatchOption result
+        ensures { MatchOption result
             ((v : PlanVersion) → version_number v ≢ number)
-            (λ v. version_number v ≡ number)
-        }
+            (λ v. version_number v ≡ number) }
     {
         match number {
             1 => Some(PlanVersion::One),
