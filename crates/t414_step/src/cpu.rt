@@ -13,17 +13,18 @@ use process_queue::Queue;
 pub struct Cpu {
     /// Iptr, the address of the next instruction byte.
     pub instruction: u32,
+    // A, B and C lie apart, so that a push moves them one by one: it is slower to read two that were just written.
+    pub a: u32,
     /// W, the workspace pointer of the current process.
     pub workspace: u32,
-    pub a: u32,
     pub b: u32,
-    pub c: u32,
     /// O, the operand that prefixes have built.
     pub operand: u32,
-    /// Front and Back of the queue of low priority; that of high priority is always empty.
-    pub queue: Queue,
+    pub c: u32,
     /// How many instruction bytes the process has done since it was taken from the queue, at most 1,024.
     pub bytes: u32,
+    /// Front and Back of the queue of low priority; that of high priority is always empty.
+    pub queue: Queue,
     /// The flag Error.
     pub error: bool,
     /// The flag HaltOnError.

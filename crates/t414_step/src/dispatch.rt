@@ -171,7 +171,7 @@ impl Cpu {
         let (function, nibble) = decode(byte);
         let operand = self.operand | u32::from(nibble);
         self.instruction = self.instruction.wrapping_add(1);
-        self.bytes = self.bytes.saturating_add(1).min(1024);
+        self.bytes = self.bytes.min(1023) + 1;
         self.operand = 0;
         self.apply(memory, links, function, operand)
     }
