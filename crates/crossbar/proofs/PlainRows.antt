@@ -20,7 +20,7 @@ use Rattle.crossbar.proofs.Numberings.{few, numbering_in}
 
 -- ---- a write
 
-set_row : (ports : List ℕ) (words : List Word) (number : ℕ) (word : Word) → IsRow ports words → IsWordOf ports word → IsRow ports (slice_set words number word)
+pub set_row : (ports : List ℕ) (words : List Word) (number : ℕ) (word : Word) → IsRow ports words → IsWordOf ports word → IsRow ports (slice_set words number word)
 set_row ports words number word row proper = record {
   length_is = length-set words number word ∙ row.length_is;
   few = row.few;
@@ -142,7 +142,7 @@ no_connection zero q = refl
 no_connection (suc n) zero = refl
 no_connection (suc n) (suc q) = no_connection n q
 
-unused_switch : (n : ℕ) → switch_of (replicate n unused) ≡ cleared
+pub unused_switch : (n : ℕ) → switch_of (replicate n unused) ≡ cleared
 unused_switch n =
     same_switch _ _ (λ q. get-switch_of _ q ∙ ap input_of (no_connection n q) ∙ sym (map.get-empty nat_cmp q))
     (λ q. contains-switch_of _ q ∙ ap is_ready (no_connection n q) ∙ sym (set.contains-empty nat_cmp q))

@@ -1,0 +1,4 @@
+pub mod Moves
+pub mod Ports
+pub mod SeatRows
+pub mod Openings

@@ -1,0 +1,113 @@
+-- The words of a seat's outputs are a row.
+use Rattle.std.proofs.Common.{◌≡◌, ℕ, zero, suc, ◌<◌, List, [], ◌∷◌, map, take, replicate, length, set, Some, slice_get, slice_set, slice_index, Contains, refl, sym, ap, ◌∙◌, subst, arith}
+use Rattle.std.proofs.lemmas.Option.{none-some, same_Some, slice_get-get_or, slice_get-map, get_or_from_slice_get, slice_get_within}
+use Rattle.std.specs.Option.{option_map}
+use Rattle.std.proofs.lemmas.List.{length-set}
+use Rattle.std.proofs.lemmas.List.Elements.{All-replicate}
+use Rattle.atomic_table.specs.Seated.{TableId}
+use Rattle.atomic_table.specs.Table.{Me}
+use Rattle.crossbar.specs.declared.word.Word.{Word}
+use Rattle.crossbar.specs.Ranges.{IsNumbering}
+use Rattle.crossbar.specs.Row.{IsRow, IsWordOf}
+use Rattle.crossbar.proofs.Numberings.{few}
+use Rattle.crossbar.proofs.PlainRows.{set_row}
+use Rattle.switch_table.specs.declared.view.View.{View}
+use Rattle.switch_table.specs.Rule.{word_of, bits_of, words_of, with_word, Holds}
+use Rattle.switch_table.specs.SeatStates.{SeatState, IsSeated}
+use Rattle.switch_table.specs.Seats.{clear_words, seat_words}
+use Rattle.switch_table.proofs.Ports.{bits_of-clear, port_set, port_held, port_own}
+
+map-replicate : (n : ℕ) → map word_of (replicate n 0) ≡ replicate n (word_of 0)
+map-replicate zero = refl
+map-replicate (suc n) = ap (λ ws. word_of 0 ∷ ws) (map-replicate n)
+
+-- a view that has seen 0 everywhere has a word 0 for each port
+pub clear_row : (view : View) (ports : List ℕ) → view.words ≡ replicate 32 0 → words_of view ports ≡ clear_words ports
+clear_row view ports clear = ap (λ (ws : List ℕ). map word_of (map (slice_index ws) ports)) clear ∙ ap (map word_of) (bits_of-clear 32 ports) ∙ map-replicate (length ports)
+
+length-clear : (n : ℕ) → length (replicate n (word_of 0)) ≡ n
+length-clear zero = refl
+length-clear (suc n) = ap suc (length-clear n)
+
+unused_row : (ports : List ℕ) → IsNumbering ports → IsRow ports (clear_words ports)
+unused_row ports h = record {
+  length_is = length-clear (length ports);
+  few = few ports h;
+  below = h.below;
+  one_to_one = h.one_to_one;
+  each = All-replicate (IsWordOf ports) (length ports) (word_of 0) (record { proper = refl; within = tt });
+}
+
+first_held : (held : List (List ℕ)) (ports : List ℕ) → slice_get held 0 ≡ Some ports → take 1 held ≡ ports ∷ []
+first_held [] ports is = absurd (none-some ports is)
+first_held (d ∷ held) ports is = ap (λ (p : List ℕ). p ∷ []) (same_Some d ports is)
+
+-- a seat that was just dealt
+pub dealt : (board seat : TableId) (view : View) (me : Me (Unit {0}) View) (ports : List ℕ) → seat ≡ board → seat.words ≡ 32 → view.words ≡ replicate 32 0 → slice_get view.held 0 ≡ Some ports → IsNumbering ports
+    → me.0 ≡ record view { held = take 1 view.held } → me.1 ≡ [] → IsSeated board seat me ports
+dealt board seat view me ports here wide clear next numbering is no_slot = record {
+  here = here;
+  wide = wide;
+  view_wide = ap (λ (v : View). length v.words) is ∙ ap length clear;
+  holds_its_domain = ap (λ (v : View). v.held) is ∙ first_held view.held ports next;
+  takes_no_slot = no_slot;
+  row = subst (IsRow ports) (sym (clear_row me.0 ports (ap (λ (v : View). v.words) is ∙ clear))) (unused_row ports numbering);
+}
+
+map-set : (xs : List ℕ) (i x : ℕ) → map word_of (set xs i x) ≡ set (map word_of xs) i (word_of x)
+map-set [] i x = refl
+map-set (y ∷ xs) zero x = refl
+map-set (y ∷ xs) (suc i) x = ap (λ ws. word_of y ∷ ws) (map-set xs i x)
+
+-- the port of a number, as an element of the list
+pub at_index : (ports : List ℕ) (number port : ℕ) → slice_get ports number ≡ Some port → port ≡ slice_index ports number
+at_index ports number port is = sym (get_or_from_slice_get ports number port 0 is)
+
+-- the word of a number is the view's word of its port
+pub word_at : (view : View) (ports : List ℕ) (number port : ℕ) → slice_get ports number ≡ Some port → slice_get (words_of view ports) number ≡ Some (word_of (slice_index view.words port))
+word_at view ports number port is =
+    slice_get-map word_of (bits_of view ports) number ∙ ap (λ o. option_map word_of o) (slice_get-map (slice_index view.words) ports number ∙ ap (λ o. option_map (slice_index view.words) o) is)
+
+-- a store at the port changes the word of its number alone
+pub words_set : (view : View) (ports : List ℕ) (number port bits : ℕ) → IsRow ports (words_of view ports) → length view.words ≡ 32 → port < 32 → slice_get ports number ≡ Some port
+    → words_of (with_word view port bits) ports ≡ slice_set (words_of view ports) number (word_of bits)
+words_set view ports number port bits row wide low is =
+    ap (map word_of) (port_set view ports number port (slice_get_within ports number port is) (at_index ports number port is) bits (omega arith)
+    (λ u h same. row.one_to_one u number port (slice_get-get_or ports u 0 h ∙ ap (λ (p : ℕ). Some p) (same ∙ sym (at_index ports number port is))) is))
+    ∙ map-set (bits_of view ports) number bits
+
+-- and what the seat is stays
+pub written_seat : (board seat next : TableId) (me now : Me (Unit {0}) View) (ports : List ℕ) (number port bits : ℕ) → IsSeated board seat me ports → IsWordOf ports (word_of bits) → port < 32 → slice_get ports number ≡ Some port → next ≡ seat
+    → now ≡ (with_word me.0 port bits, me.1) → IsSeated board next now ports
+written_seat board seat next me now ports number port bits s proper low is same then = record {
+  here = same ∙ s.here;
+  wide = ap (λ (t : TableId). t.words) same ∙ s.wide;
+  view_wide = ap (λ (m : Me (Unit {0}) View). length m.0.words) then ∙ length-set me.0.words port bits ∙ s.view_wide;
+  holds_its_domain = ap (λ (m : Me (Unit {0}) View). m.0.held) then ∙ s.holds_its_domain;
+  takes_no_slot = ap (λ (m : Me (Unit {0}) View). m.1) then ∙ s.takes_no_slot;
+  row =
+      subst (λ (m : Me (Unit {0}) View). IsRow ports (words_of m.0 ports)) (sym then)
+      (subst (IsRow ports) (sym (words_set me.0 ports number port bits s.row s.view_wide low is)) (set_row ports (words_of me.0 ports) number (word_of bits) s.row proper));
+}
+
+-- the port of a number lies below 32
+pub port_low : (ports : List ℕ) (words : List Word) (number port : ℕ) → IsRow ports words → slice_get ports number ≡ Some port → port < 32
+port_low ports words number port row is =
+    subst (λ (p : ℕ). p < 32) (get_or_from_slice_get ports number port port is) (row.below number port (slice_get_within ports number port is))
+
+-- it is one of the seat's own
+pub port_mine : (view : View) (ports : List ℕ) (number port : ℕ) → view.held ≡ ports ∷ [] → slice_get ports number ≡ Some port → Holds view port
+port_mine view ports number port held is = port_held view ports number port (slice_get_within ports number port is) (at_index ports number port is) held
+
+pub port_in : (view : View) (ports : List ℕ) (number port : ℕ) → slice_get ports number ≡ Some port → Contains ports port
+port_in view ports number port is = port_own view ports number port (slice_get_within ports number port is) (at_index ports number port is)
+
+pub first_of : (view : View) (ports : List ℕ) → view.held ≡ ports ∷ [] → slice_get view.held 0 ≡ Some ports
+first_of view ports held = ap (λ (ds : List (List ℕ)). slice_get ds 0) held
+
+-- what a load found is the word of the number
+pub found_word : (view : View) (ports : List ℕ) (number port at found : ℕ) (seen : SeatState) (s : SeatState) → s ≡ seen → s.view ≡ view → s.ports ≡ ports → slice_get ports number ≡ Some port → at ≡ port → found ≡ slice_index view.words at
+    → slice_get (seat_words seen) number ≡ Some (word_of found)
+found_word view ports number port at found seen s same view_is ports_is is at_is found_is =
+    ap (λ (t : SeatState). slice_get (seat_words t) number) (sym same) ∙ ap (λ (p : View × List ℕ). slice_get (words_of p.0 p.1) number) (λ i. (view_is i, ports_is i))
+    ∙ word_at view ports number port is ∙ ap (λ (w : ℕ). Some (word_of w)) (ap (slice_index view.words) (sym at_is) ∙ sym found_is)

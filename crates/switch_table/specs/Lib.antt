@@ -1,0 +1,4 @@
+pub mod Domains
+pub mod Rule
+pub mod SeatStates
+pub mod Seats

@@ -1,0 +1,33 @@
+-- What the clauses of the table's calls see of it and its seats.
+use Rattle.std.specs.Prelude.{ℕ, List, length, replicate}
+use Rattle.std.specs.Arc.{arc_value}
+use Rattle.atomic_table.specs.Seated.{TableId}
+use Rattle.crossbar.specs.declared.word.Word.{Word}
+use Rattle.switch_table.specs.Rule.{words_of, word_of}
+use Rattle.switch_table.specs.SeatStates.{SeatState}
+use Rattle.switch_table.specs.declared.table.SwitchTable.{SwitchTable}
+use Rattle.switch_table.specs.declared.table.OperatorSeat.{OperatorSeat}
+
+-- which table it is
+abbrev pub table_of : SwitchTable → TableId
+table_of t = (arc_value t.board).shared.table_id
+
+-- the words of a domain's outputs, by virtual number: those that its seat's view holds
+abbrev pub seat_words : SeatState → List Word
+seat_words s = words_of s.view s.ports
+
+-- the table that the operator's seat is for
+abbrev pub surveyed_table : OperatorSeat → TableId
+surveyed_table o = o.seat.table_id
+
+-- the domains of that table
+abbrev pub surveyed_domains : OperatorSeat → List (List ℕ)
+surveyed_domains o = o.seat.me.0.domains
+
+-- the newest word that the operator has seen of each output, as its bits
+abbrev pub seen : OperatorSeat → List ℕ
+seen o = o.seat.me.0.words
+
+-- one word 0 for each port
+abbrev pub clear_words : List ℕ → List Word
+clear_words ports = replicate (length ports) (word_of 0)

@@ -1,0 +1,105 @@
+//! A domain's seat at the switch table.
+ghost use Rattle.std.specs.Prelude.{◌≡◌, ℕ, List, [], ◌∷◌, length, replicate, drop, Some, slice_get, IfOk};
+ghost use Rattle.std.specs.Arc.{arc_value};
+ghost use Rattle.crossbar.specs.Ranges.{IsNumbering};
+ghost use Rattle.switch_table.specs.Rule.{words_of};
+ghost use Rattle.switch_table.specs.Seats.{seat_words};
+
+use crate::NoMemory;
+use crate::board::{Board, BoardSeat, Deals, Reads, Writes};
+use crossbar::{Numbering, Outputs, Word};
+use std::marker::Model;
+use std::sync::Arc;
+
+/// The outputs of one domain. Nobody else stores their words, so those that it stored last are those
+/// of the table. Contracts see its table, what it knows of it (its view), and its ports.
+#[derive(Drop)]
+pub struct DomainSeat {
+    board: Arc<Board>,
+    seat: BoardSeat,
+    numbering: Numbering,
+}
+
+impl Model for DomainSeat {
+    ghost use Rattle.std.specs.Arc.{arc_value};
+    ghost use Rattle.switch_table.specs.SeatStates.{SeatState, IsSeated};
+
+    ghost Value = { SeatState };
+
+    ghost view = { λ s. record { table = s.seat.table_id; view = s.seat.me.0; ports = s.numbering } };
+
+    ghost invariant = { λ s. IsSeated (arc_value s.board).shared.table_id s.seat.table_id s.seat.me s.numbering };
+}
+
+impl DomainSeat {
+    /// Cuts the first domain off what the dealer holds.
+    pub(crate) fn deal(
+        board: &Arc<Board>,
+        dealer: &mut BoardSeat,
+        numbering: Numbering,
+    ) -> Result<DomainSeat, NoMemory>
+        requires here { dealer.old.table_id ≡ (arc_value board.now).shared.table_id }
+        requires wide { dealer.old.table_id.words ≡ 32 }
+        requires clear { dealer.old.me.0.words ≡ replicate 32 0 }
+        requires slots { dealer.old.me.1 ≡ [] }
+        requires next { slice_get dealer.old.me.0.held 0 ≡ Some numbering }
+        requires numbering { IsNumbering numbering }
+        ensures seat { IfOk result (λ s. (s.ports ≡ numbering) × (s.table ≡ dealer.old.table_id) × (s.view.words ≡ dealer.old.me.0.words)) }
+        ensures rest { IfOk result (λ _. (dealer.new.table_id ≡ dealer.old.table_id) × (dealer.new.me ≡ (record dealer.old.me.0 { held = drop 1 dealer.old.me.0.held }, dealer.old.me.1))) }
+    {
+        let board = Arc::try_clone(board)?;
+        let seat = board.shared.split_seat::<Deals>(dealer);
+        Ok(DomainSeat {
+            board,
+            seat,
+            numbering,
+        })
+    }
+
+    /// The law that ties the outputs to the table: their words are those that the seat's view holds,
+    /// and their ports those that it alone stores. The call does nothing.
+    pub fn is_seated(&self)
+        ensures words { ⟦<DomainSeat as Outputs>⟧.words self.now ≡ words_of self.now.view self.now.ports }
+        ensures ports { ⟦<DomainSeat as Outputs>⟧.ports self.now ≡ self.now.ports }
+        ensures held { self.now.view.held ≡ self.now.ports ∷ [] }
+    {
+        let _ = &self.seat;
+    }
+}
+
+impl Outputs for DomainSeat {
+    ghost ports = { λ s. s.ports };
+
+    ghost words = { λ s. seat_words s };
+
+    fn count(&self) -> u8 {
+        self.numbering.count()
+    }
+
+    fn physical(&self, number: u8) -> u8 {
+        self.numbering.physical(number)
+    }
+
+    fn virtual_of(&self, port: u8) -> Option<u8> {
+        self.numbering.virtual_of(port)
+    }
+
+    /// One atomic load.
+    fn read(&mut self, number: u8) -> Word {
+        let port = self.numbering.physical(number);
+        let board = &self.board;
+        let bits = board
+            .shared
+            .load::<Reads>(&mut self.seat, usize::from(port));
+        Word { bits }
+    }
+
+    /// One atomic store.
+    fn write(&mut self, number: u8, word: Word) {
+        let port = self.numbering.physical(number);
+        let board = &self.board;
+        board
+            .shared
+            .store::<Writes>(&mut self.seat, usize::from(port), word.bits);
+    }
+}

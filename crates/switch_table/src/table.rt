@@ -1,0 +1,78 @@
+//! The switch table, and the operator's seat.
+ghost use Rattle.std.specs.Prelude.{◌≡◌, [], length};
+ghost use Rattle.std.specs.Arc.{arc_value};
+
+use crate::NoMemory;
+use crate::board::{Board, BoardSeat, Surveys};
+use crate::domain::DomainSeat;
+use atomic_table::Table;
+use crossbar::{Numbering, Word};
+use plan_checker::AcceptedPlan;
+use std::alloc::Global;
+use std::sync::Arc;
+
+/// The words of all 32 outputs. Each domain's seat stores those of its own, and an operator looks at
+/// any.
+#[derive(Drop)]
+pub struct SwitchTable {
+    board: Arc<Board>,
+    ghost wide: { (arc_value board).shared.table_id.words ≡ 32 },
+}
+
+/// The operator's seat: it knows the newest word that it has seen of each output, and stores none.
+#[derive(Drop)]
+pub struct OperatorSeat {
+    seat: BoardSeat,
+    ghost takes_no_slot: { seat.me.1 ≡ [] },
+    ghost wide: { length seat.me.0.words ≡ 32 },
+}
+
+impl SwitchTable {
+    ghost use Rattle.std.specs.Prelude.{◌≡◌, ℕ, ◌<◌, List, [], length, map, replicate, slice_index, slice_set, All, IfOk};
+    ghost use Rattle.crossbar.specs.Row.{switch_of};
+    ghost use Rattle.crossbar.specs.Switch.{cleared};
+    ghost use Rattle.crossbar.specs.Word.{IsAtLeastAsNew};
+    ghost use Rattle.switch_table.specs.Domains.{domains_of};
+    ghost use Rattle.switch_table.specs.Rule.{IsConfined, word_of};
+    ghost use Rattle.switch_table.specs.Seats.{table_of, seat_words, surveyed_table, surveyed_domains, seen, clear_words};
+
+    /// A table with all words 0, one seat for each domain of the plan, in its order and with its
+    /// numbering, and the operator's, who has seen 0 everywhere. `NoMemory` leaves nothing behind.
+    pub fn open(
+        alloc: Global,
+        plan: &AcceptedPlan,
+    ) -> Result<(SwitchTable, Vec<DomainSeat>, OperatorSeat), NoMemory>
+        ensures ports { IfOk result (λ o. map (λ s. s.ports) o.1.items ≡ domains_of plan.now) }
+        ensures clear { IfOk result (λ o. All (λ s. seat_words s ≡ clear_words s.ports) o.1.items) }
+        ensures table { IfOk result (λ o. All (λ s. s.table ≡ table_of o.0) o.1.items) }
+        ensures operator { IfOk result (λ o. (surveyed_table o.2 ≡ table_of o.0) × (surveyed_domains o.2 ≡ domains_of plan.now) × (seen o.2 ≡ replicate 32 0)) }
+    {
+        plan.separate();
+        let domains = plan.domains();
+        let mut seats = Vec::with_capacity(alloc, usize::from(domains))?;
+        let (table, mut dealer): (Board, BoardSeat) = Table::of_words(alloc, &[0; 32], plan)?;
+        let board = Arc::new(alloc, table)?;
+        for domain in 0..domains {
+            let numbering = Numbering::of(plan.ranges(domain));
+            seats.push(DomainSeat::deal(&board, &mut dealer, numbering)?)?;
+        }
+        Ok((SwitchTable { board }, seats, OperatorSeat { seat: dealer }))
+    }
+
+    /// The word of a physical output, below 32, by one atomic load: at least as new as the one that the
+    /// operator saw there last, and confined to the output's domain. It waits for nobody.
+    pub fn survey(&self, operator: &mut OperatorSeat, output: u8) -> Word
+        requires here { surveyed_table operator.old ≡ table_of self.now }
+        requires there { output < 32 }
+        ensures seen { seen operator.new ≡ slice_set (seen operator.old) output result.bits }
+        ensures newer { IsAtLeastAsNew result (word_of (slice_index (seen operator.old) output)) }
+        ensures confined { IsConfined (surveyed_domains operator.old) output result.bits }
+        ensures same { (surveyed_table operator.new ≡ surveyed_table operator.old) × (surveyed_domains operator.new ≡ surveyed_domains operator.old) }
+    {
+        let bits = self
+            .board
+            .shared
+            .load::<Surveys>(&mut operator.seat, usize::from(output));
+        Word { bits }
+    }
+}
