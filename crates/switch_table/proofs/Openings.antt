@@ -45,7 +45,7 @@ pub numbered : (plan : List DomainData) (i : ℕ) (numbering : List ℕ) → All
 numbered plan i numbering h is =
     let own = mapped plan i numbering is in
     let known = subst IsNumbered (get_or_from_slice_get plan i own.0 own.0 own.1) (h i own.0 (slice_get_within plan i own.0 own.1)) in
-    subst IsNumbering own.2 known.1
+    subst IsNumbering own.2 known.ports
 
 pub length-domains : (plan : List DomainData) → length (domains_of plan) ≡ length plan
 length-domains [] = refl
