@@ -1,5 +1,7 @@
 //! The switch table, and the operator's seat.
-ghost use Rattle.std.specs.Prelude.{◌≡◌, [], length};
+ghost use Rattle.std.specs.Prelude.{◌≡◌, [], length, IfOk};
+ghost use Rattle.switch_table.specs.Domains.{domains_of};
+ghost use Rattle.switch_table.specs.Rule.{opening_view};
 ghost use Rattle.std.specs.Arc.{arc_value};
 
 use crate::NoMemory;
@@ -27,6 +29,15 @@ pub struct OperatorSeat {
     ghost wide: { length seat.me.0.words ≡ 32 },
 }
 
+/// The words of a plan's outputs, all 0, and the seat that holds every domain.
+fn board_of(alloc: Global, plan: &AcceptedPlan) -> Result<(Arc<Board>, BoardSeat), NoMemory>
+    ensures { IfOk result (λ o. (o.1.table_id ≡ (arc_value o.0).shared.table_id) × (o.1.table_id.words ≡ 32) × (o.1.me ≡ (opening_view (domains_of plan.now) (domains_of plan.now), []))) }
+{
+    plan.separate();
+    let (table, dealer): (Board, BoardSeat) = Table::of_words(alloc, &[0; 32], plan)?;
+    Ok((Arc::new(alloc, table)?, dealer))
+}
+
 impl SwitchTable {
     ghost use Rattle.std.specs.Prelude.{◌≡◌, ℕ, ◌<◌, List, [], length, map, replicate, slice_index, slice_set, All, IfOk};
     ghost use Rattle.crossbar.specs.Row.{switch_of};
@@ -50,8 +61,7 @@ impl SwitchTable {
         plan.separate();
         let domains = plan.domains();
         let mut seats = Vec::with_capacity(alloc, usize::from(domains))?;
-        let (table, mut dealer): (Board, BoardSeat) = Table::of_words(alloc, &[0; 32], plan)?;
-        let board = Arc::new(alloc, table)?;
+        let (board, mut dealer) = board_of(alloc, plan)?;
         for domain in 0..domains {
             let numbering = Numbering::of(plan.ranges(domain));
             seats.push(DomainSeat::deal(&board, &mut dealer, numbering)?)?;

@@ -7,14 +7,10 @@ use Rattle.switch_table.specs.Domains.{domains_of}
 use Rattle.switch_table.specs.Rule.{opening_view}
 use Rattle.switch_table.specs.SeatStates.{SeatState}
 use Rattle.switch_table.specs.Seats.{seat_words, clear_words}
-use Rattle.switch_table.proofs.Moves.{begins}
-use Rattle.switch_table.proofs.Openings.{separate_domains, own_domain, length-domains}
+use Rattle.switch_table.proofs.Openings.{own_domain, length-domains}
 use Rattle.switch_table.proofs.Ports.{all_push, waiting, seated}
 use Rattle.switch_table.proofs.SeatRows.{clear_row}
 use Rattle.switch_table.proofs.table.SwitchTable.open.Goals as goal
-
-pub of_words-requires : goal.of_words-requires
-of_words-requires c = begins _ (separate_domains c.args.plan.now c.separate.ensures.apart)
 
 pub deal-requires-clause-next : goal.deal-requires-clause-next
 deal-requires-clause-next c =
