@@ -1,4 +1,7 @@
 //! Why a run ends without its output.
+ghost use Rattle.std.specs.Prelude.{◌≡◌};
+ghost use Rattle.farm_program.specs.declared.failure.Failure.TheVariants.{Memory};
+
 use crate::output::write_whole;
 use plan_checker::PlanFault;
 use std::alloc::{AllocError, AllocFailed, Global};
@@ -81,12 +84,16 @@ impl Failure {
 }
 
 impl From<AllocError> for Failure {
+    ghost from_gives = { λ _ failure. failure ≡ Memory };
+
     fn from(_error: AllocError) -> Failure {
         Failure::Memory
     }
 }
 
 impl<T: Drop> From<AllocFailed<T>> for Failure {
+    ghost from_gives = { λ _ failure. failure ≡ Memory };
+
     fn from(_error: AllocFailed<T>) -> Failure {
         Failure::Memory
     }
