@@ -1,10 +1,10 @@
 -- What holds of the Steps of every node.
-use Rattle.std.specs.Prelude.{◌≡◌, ℕ, ◌+◌, true, false, Option, Some, None}
+use Rattle.std.specs.Prelude.{◌≡◌, ℕ, ◌+◌, length, true, false, Option, Some, None}
 use Rattle.node_memory.specs.declared.fault.Fault.{Fault}
 use Rattle.t414_step.specs.declared.stepping.Stepped.{Stepped}
 use Rattle.t414_step.specs.declared.stepping.Stepped.TheVariants as code
 use Rattle.bootstrap.specs.Step.{node_step, is_recorded, is_quiet}
-use Rattle.bootstrap.specs.Steps.{IsAfter, last_answer}
+use Rattle.bootstrap.specs.Steps.{after_steps, IsAfter, last_answer}
 use Rattle.bootstrap.specs.declared.node.Node.{Node}
 use Rattle.bootstrap.specs.declared.state.State.TheVariants.{Halted}
 
@@ -35,3 +35,10 @@ StepsAddUp = (x y z : Node) (j k : ℕ) → IsAfter x j y → IsAfter y k z → 
 
 abbrev pub LastAnswersAddUp : Type 0
 LastAnswersAddUp = (x y : Node) (j k : ℕ) → IsAfter x j y → last_answer (j + k) x ≡ later_or (last_answer k y) (last_answer j x)
+
+-- no Step changes how many bytes memory has, and neither do several
+abbrev pub StepKeepsTheSize : Type 0
+StepKeepsTheSize = (n : Node) → length (node_step n).0.memory ≡ length n.memory
+
+abbrev pub StepsKeepTheSize : Type 0
+StepsKeepTheSize = (k : ℕ) (n : Node) → length (after_steps k n).memory ≡ length n.memory

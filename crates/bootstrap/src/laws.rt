@@ -1,6 +1,6 @@
 //! Laws of a node's Steps.
 
-ghost use Rattle.bootstrap.specs.Laws.{QuietStepChangesNothing, FaultHalts, BusyStepIsRecorded, RecordedStepRan, StepsAddUp, LastAnswersAddUp};
+ghost use Rattle.bootstrap.specs.Laws.{QuietStepChangesNothing, FaultHalts, BusyStepIsRecorded, RecordedStepRan, StepsAddUp, LastAnswersAddUp, StepKeepsTheSize, StepsKeepTheSize};
 
 /// A Step that would not be recorded leaves the node as it is.
 pub fn quiet_step_changes_nothing()
@@ -23,4 +23,10 @@ pub fn recorded_step_ran()
 pub fn steps_add_up()
     ensures steps { StepsAddUp }
     ensures last { LastAnswersAddUp }
+{}
+
+/// No Step changes how many bytes memory has, so a node that is cleared is as it was opened.
+pub fn steps_keep_the_size()
+    ensures one { StepKeepsTheSize }
+    ensures several { StepsKeepTheSize }
 {}

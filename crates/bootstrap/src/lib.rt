@@ -14,7 +14,9 @@ mod state;
 mod stepping;
 
 pub use crate::burst::Burst;
-pub use crate::laws::{fault_halts, quiet_step_changes_nothing, recorded_step_ran, steps_add_up};
+pub use crate::laws::{
+    fault_halts, quiet_step_changes_nothing, recorded_step_ran, steps_add_up, steps_keep_the_size,
+};
 pub use crate::link_numbers::{link_of, number_of};
 pub use crate::messages::{BootFault, boot_message, peek_message, poke_message, word_of};
 pub use crate::node::Node;
