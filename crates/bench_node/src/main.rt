@@ -2,18 +2,17 @@
 //! can be compared: `COUNT node` or `COUNT processor`; without the second word both run.
 #![tactic(auto)]
 
-use std::env;
-use std::io;
-
 use bootstrap::{Node, boot_message};
 use link_channels::{LinkNumber, Links};
 use node_memory::{Fault, Memory};
 use os_link::Packet;
 use process_queue::Queue;
+use std::{env, io};
 use t414_step::{Cpu, Stepped, step};
 
 // Where code is loaded, and the word boundary at its end.
 const START: u32 = 0x8000_0048;
+
 const WORKSPACE: u32 = 0x8000_0064;
 
 static LOOP: [u8; 28] = [
