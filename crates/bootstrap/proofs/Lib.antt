@@ -1,0 +1,4 @@
+pub mod Counting
+pub mod Resting
+pub mod Running
+pub mod Sizes

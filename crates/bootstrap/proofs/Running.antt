@@ -1,0 +1,93 @@
+-- Bursts: the Steps of a processor as those of its node, and bursts after Steps.
+use Rattle.std.proofs.Common.{◌≡◌, ℕ, zero, suc, ◌+◌, ◌-◌, ◌<◌, ◌≤◌, Bool, true, false, not, List, Option, Some, None, refl, ◌∙◌, ap, sym, subst, arith}
+use Rattle.node_memory.specs.declared.fault.Fault.{Fault}
+use Rattle.link_channels.specs.declared.link.FourLinks.{FourLinks}
+use Rattle.t414_step.specs.declared.cpu.Cpu.{Cpu}
+use Rattle.t414_step.specs.declared.stepping.Stepped.{Stepped}
+use Rattle.t414_step.specs.declared.stepping.Stepped.TheVariants as code
+use Rattle.t414_step.specs.Answers.{is_idle}
+use Rattle.t414_step.specs.Registers.{rests}
+use Rattle.t414_step.specs.Step as processor
+use Rattle.t414_step.specs.Step.{step}
+use Rattle.bootstrap.specs.Laws.{later_or}
+use Rattle.bootstrap.specs.Step.{node_step, ran, has_halted, is_recorded, is_quiet}
+use Rattle.bootstrap.specs.Steps.{last_answer, IsAfter, IsBurst, running, left_by}
+use Rattle.bootstrap.specs.declared.burst.Burst.{Burst}
+use Rattle.bootstrap.specs.declared.node.Node.{Node}
+use Rattle.bootstrap.specs.declared.state.State.{State}
+use Rattle.bootstrap.specs.declared.state.State.TheVariants.{Runs}
+use Rattle.bootstrap.proofs.Counting.{one-more, last-more, after-add, last-add, last_answer-zero, last_answer-suc}
+use Rattle.bootstrap.proofs.Resting.{not-not, resting-step, quiet-runs}
+
+-- the processor's Step as the node's
+pub ran-step : (s t : Cpu) (ls ks : FourLinks) (m n : List ℕ) → processor.Ran t ks n ≡ step s ls m → node_step (running s ls m) ≡ (running t ks n, code.Ran)
+unfolding node_step
+ran-step s t ls ks m n e = sym (ap ran e)
+
+pub broke-step : (fault : Fault) (s : Cpu) (ls ks : FourLinks) (m n : List ℕ) → processor.Broke fault ks n ≡ step s ls m
+    → node_step (running s ls m) ≡ (left_by (Some (code.Fault fault)) s ks n, code.Fault fault)
+unfolding node_step
+broke-step fault s ls ks m n e = sym (ap ran e)
+
+same-idle : (s t : Cpu) (ls ks : FourLinks) (m n : List ℕ) → processor.Idle t ks n ≡ processor.Idle s ls m → running s ls m ≡ running t ks n
+same-idle s t ls ks m n e = cc
+
+pub idle-stays : (s t : Cpu) (ls ks : FourLinks) (m n : List ℕ) → processor.Idle t ks n ≡ step s ls m → true ≡ rests s ls → running s ls m ≡ running t ks n
+idle-stays s t ls ks m n e r = same-idle s t ls ks m n (e ∙ resting-step s ls m (sym r))
+
+-- a Step that answers so is recorded
+recorded-by : (n : Node) (answer : Stepped) → has_halted n.state ≡ false → (node_step n).1 ≡ answer → is_idle answer ≡ false → is_recorded n ≡ true
+recorded-by n answer h e i = rw (h, e, i) refl
+
+pub runs-more : (x y : Node) (k : ℕ) (s : Cpu) (ls : FourLinks) (m : List ℕ) (answer : Stepped) → IsAfter x k (running s ls m) → node_step (running s ls m) ≡ (y, answer) → is_idle answer ≡ false
+    → IsAfter x (k + 1) y × (Some answer ≡ last_answer (k + 1) x)
+runs-more x y k s ls m answer after e busy =
+    let answers : (node_step (running s ls m)).1 ≡ answer = ap (λ (p : Node × Stepped). p.1) e in (
+      one-more x (running s ls m) y k after (recorded-by (running s ls m) answer refl answers busy) (ap (λ (p : Node × Stepped). p.0) e),
+      sym (last-more x (running s ls m) k answer after answers),
+    )
+
+-- a processor with nothing to do makes its node quiet
+pub quiet-running : (s : Cpu) (ls : FourLinks) (m : List ℕ) → true ≡ rests s ls → is_quiet (running s ls m) ≡ true
+quiet-running s ls m r = quiet-runs (running s ls m) s refl ∙ sym r
+
+later-some : (k : ℕ) (y : Node) (before : Option Stepped) → 0 < k → later_or (last_answer k y) before ≡ last_answer k y
+later-some zero y before some = absurd (omega arith)
+later-some (suc k) y before some = rw last_answer-suc refl
+
+none-last : (k : ℕ) (y : Node) → k ≡ 0 → last_answer k y ≡ None
+none-last k y e = ap (λ (i : ℕ). last_answer i y) e ∙ last_answer-zero y
+
+burst-add : (n j : ℕ) (x y z : Node) (more : Burst) (last : Option Stepped) → j ≤ n → IsAfter x j y → IsBurst (n - j) y more z → last ≡ later_or (last_answer more.steps y) (last_answer j x)
+    → IsBurst n x (record { steps = j + more.steps; last = last }) z
+burst-add n j x y z more last le after burst e = record {
+  steps = after-add x y z j more.steps after burst.steps;
+  last = e ∙ sym (last-add x y j more.steps after);
+  most = (let most : more.steps ≤ n - j = burst.most in omega arith);
+  ends = λ lt. burst.ends (omega arith);
+}
+
+-- a burst after Steps is a burst
+pub burst-after-none : (n j : ℕ) (x y z : Node) (more : Burst) (last : Option Stepped) → j ≤ n → IsAfter x j y → IsBurst (n - j) y more z → last ≡ last_answer j x → more.steps ≡ 0
+    → IsBurst n x (record { steps = j + more.steps; last = last }) z
+burst-after-none n j x y z more last le after burst e none =
+    burst-add n j x y z more last le after burst (e ∙ sym (ap (λ (o : Option Stepped). later_or o (last_answer j x)) (none-last more.steps y none)))
+
+pub burst-after-some : (n j : ℕ) (x y z : Node) (more : Burst) → j ≤ n → IsAfter x j y → IsBurst (n - j) y more z → 0 < more.steps
+    → IsBurst n x (record { steps = j + more.steps; last = more.last }) z
+burst-after-some n j x y z more le after burst some =
+    burst-add n j x y z more more.last le after burst (burst.last ∙ sym (later-some more.steps y (last_answer j x) some))
+
+-- a Step of a node that isn't quiet is one more
+pub steps-more : (x y z : Node) (k : ℕ) (quiet : Bool) (answer : Stepped) → IsAfter x k y → quiet ≡ is_quiet y → quiet ≡ false → (z, answer) ≡ node_step y
+    → IsAfter x (k + 1) z × (Some answer ≡ last_answer (k + 1) x)
+steps-more x y z k quiet answer after is busy e =
+    let recorded : is_recorded y ≡ true = sym (not-not (is_recorded y)) ∙ ap not (sym is ∙ busy) in (
+      one-more x y z k after recorded (sym (ap (λ (p : Node × Stepped). p.0) e)),
+      sym (last-more x y k answer after (sym (ap (λ (p : Node × Stepped). p.1) e))),
+    )
+
+-- a node that is found running
+pub found-running : (x n : Node) (k : ℕ) (s : Cpu) → IsAfter x k n → n.state ≡ Runs s → IsAfter x k (running s n.links n.memory)
+found-running x n k s after e =
+    subst (λ (st : State). IsAfter x k (record { memory = n.memory; links = n.links; state = st })) e after

@@ -1,0 +1,5 @@
+use Rattle.bootstrap.proofs.Resting.{quiet-step}
+use Rattle.bootstrap.proofs.laws.quiet_step_changes_nothing.Goals as goal
+
+pub returns : goal.returns
+returns c = record { law = quiet-step }

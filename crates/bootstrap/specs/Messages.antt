@@ -1,0 +1,21 @@
+-- The messages to a node that boots. Transputer Reference Manual, bootstrapping, peek and poke.
+use Rattle.std.specs.Prelude.{◌≡◌, ℕ, ◌/◌, ◌%◌, ◌^◌, ◌<◌, ◌≤◌, List, [], ◌∷◌, length, Result, Ok, Err, Vec}
+use Rattle.std.specs.declared.alloc.Global.{Global}
+use Rattle.bootstrap.specs.declared.messages.BootFault.{BootFault}
+use Rattle.bootstrap.specs.declared.messages.BootFault.TheVariants.{TooShort, TooLong, NoMemory}
+
+-- the bytes of a word, least significant first
+abbrev pub bytes_of : ℕ → List ℕ
+bytes_of w = w % 2 ^ 8 ∷ w / 2 ^ 8 % 2 ^ 8 ∷ w / 2 ^ 16 % 2 ^ 8 ∷ w / 2 ^ 24 % 2 ^ 8 ∷ []
+
+-- a message is the length and the code, and a refusal has its cause
+abbrev pub booted : Result (Vec ℕ Global) BootFault → List ℕ → Type 0
+booted (Ok message) code = (message.items ≡ length code ∷ code) × ((2 ≤ length code) × (length code ≤ 255))
+booted (Err TooShort) code = length code < 2
+booted (Err TooLong) code = 255 < length code
+booted (Err NoMemory) code = (2 ≤ length code) × (length code ≤ 255)
+
+abbrev pub number_of : BootFault → ℕ
+number_of TooShort = 1
+number_of TooLong = 2
+number_of NoMemory = 3

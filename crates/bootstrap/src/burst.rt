@@ -1,0 +1,76 @@
+//! Many Steps of a node in one call.
+
+ghost use Rattle.std.specs.Prelude.{◌≡◌};
+ghost use Rattle.bootstrap.specs.Steps.{IsBurst, running, left_by, state_after};
+
+use crate::node::Node;
+use crate::state::State;
+use link_channels::Links;
+use node_memory::Memory;
+use t414_step::{Cpu, Stepped, step};
+
+/// What a burst of Steps came to.
+#[derive(Clone, Copy, Debug, PartialEq, Eq)]
+pub struct Burst {
+    /// How many Steps were done that would be recorded.
+    pub steps: u64,
+    /// What the last of them answered, none where there was none.
+    pub last: Option<Stepped>,
+}
+
+// The Steps of a node that runs, up to the nth or to the first that would not be recorded.
+fn run(cpu: &mut Cpu, memory: &mut Memory, links: &mut Links, n: u64) -> Burst
+    ensures burst { IsBurst n (running cpu.old links.old memory.old) result (left_by result.last cpu.new links.new memory.new) }
+{
+    let mut last = None;
+    for steps in 0..n {
+        match step(cpu, memory, links) {
+            Stepped::Ran => last = Some(Stepped::Ran),
+            Stepped::Idle => return Burst { steps, last },
+            Stepped::Fault(fault) => {
+                return Burst {
+                    steps: steps + 1,
+                    last: Some(Stepped::Fault(fault)),
+                };
+            }
+        }
+    }
+    Burst { steps: n, last }
+}
+
+// What a node does whose processor answered so last: a fault has halted it.
+fn state_after(last: Option<Stepped>, cpu: Cpu) -> State
+    ensures answer { result ≡ state_after last cpu }
+{
+    match last {
+        Some(Stepped::Fault(fault)) => State::Halted(fault),
+        Some(Stepped::Ran | Stepped::Idle) | None => State::Runs(cpu),
+    }
+}
+
+impl Node {
+    /// Does Steps up to the nth, or to the first that would not be recorded: one that would answer `Idle`, or one of a
+    /// node that has halted.
+    pub fn burst(&mut self, n: u64) -> Burst
+        ensures burst { IsBurst n self.old result self.new }
+    {
+        let mut last = None;
+        for steps in 0..n {
+            if let State::Runs(cpu) = &mut self.state {
+                // All that is left to do is done by the processor, which never boots again.
+                let ran = run(cpu, &mut self.memory, &mut self.links, n - steps);
+                let state = state_after(ran.last, *cpu);
+                self.state = state;
+                return Burst {
+                    steps: steps + ran.steps,
+                    last: if ran.steps == 0 { last } else { ran.last },
+                };
+            }
+            if self.quiet() {
+                return Burst { steps, last };
+            }
+            last = Some(self.step());
+        }
+        Burst { steps: n, last }
+    }
+}

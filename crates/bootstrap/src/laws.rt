@@ -1,0 +1,32 @@
+//! Laws of a node's Steps.
+
+ghost use Rattle.bootstrap.specs.Laws.{QuietStepChangesNothing, FaultHalts, BusyStepIsRecorded, RecordedStepRan, StepsAddUp, LastAnswersAddUp, StepKeepsTheSize, StepsKeepTheSize};
+
+/// A Step that would not be recorded leaves the node as it is.
+pub fn quiet_step_changes_nothing()
+    ensures law { QuietStepChangesNothing }
+{}
+
+/// A Step that answers a fault leaves a node that has halted by it.
+pub fn fault_halts()
+    ensures law { FaultHalts }
+{}
+
+/// A Step that isn't quiet is recorded, and where it leaves a node that can step again it answered `Ran`.
+pub fn recorded_step_ran()
+    ensures recorded { BusyStepIsRecorded }
+    ensures ran { RecordedStepRan }
+{}
+
+/// Recorded Steps after recorded Steps are recorded Steps, as many as both, and the last of all is the last of the
+/// later ones, where there are any.
+pub fn steps_add_up()
+    ensures steps { StepsAddUp }
+    ensures last { LastAnswersAddUp }
+{}
+
+/// No Step changes how many bytes memory has, so a node that is cleared is as it was opened.
+pub fn steps_keep_the_size()
+    ensures one { StepKeepsTheSize }
+    ensures several { StepsKeepTheSize }
+{}

@@ -1,0 +1,23 @@
+//! A node: memory, four links and what it is doing. It boots from a link, and then runs.
+//!
+//! Transputer Reference Manual, bootstrapping from a link; T414 data sheet, memory map.
+#![tactic(auto)]
+
+mod booting;
+mod burst;
+mod laws;
+mod link_numbers;
+mod messages;
+mod node;
+mod seen;
+mod state;
+mod stepping;
+
+pub use crate::burst::Burst;
+pub use crate::laws::{
+    fault_halts, quiet_step_changes_nothing, recorded_step_ran, steps_add_up, steps_keep_the_size,
+};
+pub use crate::link_numbers::{link_of, number_of};
+pub use crate::messages::{BootFault, boot_message, peek_message, poke_message, word_of};
+pub use crate::node::Node;
+pub use crate::seen::{Activity, Seen};

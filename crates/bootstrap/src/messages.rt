@@ -1,0 +1,99 @@
+//! The messages to a node that boots.
+
+ghost use Rattle.std.specs.Prelude.{◌≡◌, ◌∷◌, ◌++◌};
+ghost use Rattle.node_memory.specs.Bytes.{word_from};
+ghost use Rattle.bootstrap.specs.Messages.{bytes_of, booted, number_of};
+
+use std::alloc::Global;
+use thiserror::Error;
+
+/// Why code can't be sent as a boot message.
+#[derive(Clone, Copy, Debug, PartialEq, Eq, Error)]
+pub enum BootFault {
+    /// It is shorter than 2 bytes, so its length would be a control byte of another meaning.
+    #[error("code is at least two bytes long")]
+    TooShort,
+    /// It is longer than 255 bytes, so its length is no byte.
+    #[error("code is at most 255 bytes long")]
+    TooLong,
+    /// The message can't be allocated.
+    #[error("no memory")]
+    NoMemory,
+}
+
+impl BootFault {
+    /// The number of the fault, from 1 to 3 in the order of the variants.
+    pub fn number(self) -> u8
+        ensures answer { result ≡ number_of self }
+    {
+        match self {
+            BootFault::TooShort => 1,
+            BootFault::TooLong => 2,
+            BootFault::NoMemory => 3,
+        }
+    }
+}
+
+// The bytes of a word, least significant first.
+fn bytes_of(word: u32) -> [u8; 4]
+    ensures answer { result ≡ bytes_of word }
+{
+    [
+        (word % 0x100) as u8,
+        ((word >> 8) % 0x100) as u8,
+        ((word >> 16) % 0x100) as u8,
+        (word >> 24) as u8,
+    ]
+}
+
+/// The message that asks for the word at an address: 1 and the address, least significant byte first.
+///
+/// Source: Transputer Reference Manual, peek.
+pub fn peek_message(address: u32) -> [u8; 5]
+    ensures answer { result ≡ 1 ∷ bytes_of address }
+{
+    let [a, b, c, d] = bytes_of(address);
+    [1, a, b, c, d]
+}
+
+/// The message that stores a word at an address: 0, the address and the word, least significant bytes first.
+///
+/// Source: Transputer Reference Manual, poke.
+pub fn poke_message(address: u32, word: u32) -> [u8; 9]
+    ensures answer { result ≡ 0 ∷ bytes_of address ++ bytes_of word }
+{
+    let [a, b, c, d] = bytes_of(address);
+    let [e, f, g, h] = bytes_of(word);
+    [0, a, b, c, d, e, f, g, h]
+}
+
+/// The message that loads code of 2 to 255 bytes and runs it: its length, and the code.
+///
+/// `TooShort` and `TooLong` where the code has another length, and else `NoMemory` where the message can't be
+/// allocated.
+///
+/// Source: Transputer Reference Manual, bootstrapping.
+pub fn boot_message(alloc: Global, code: &[u8]) -> Result<Vec<u8>, BootFault>
+    ensures answer { booted result code.now }
+{
+    if code.len() < 2 {
+        return Err(BootFault::TooShort);
+    }
+    let Ok(length) = u8::try_from(code.len()) else {
+        return Err(BootFault::TooLong);
+    };
+    let mut message = Vec::new(alloc);
+    message.push(length).map_err(|_| BootFault::NoMemory)?;
+    message
+        .extend_from_slice(code)
+        .map_err(|_| BootFault::NoMemory)?;
+    Ok(message)
+}
+
+/// The word that four bytes spell, least significant first.
+pub fn word_of(bytes: [u8; 4]) -> u32
+    ensures answer { result ≡ word_from bytes 0 }
+{
+    let [a, b, c, d] = bytes;
+    u32::from(a) + (u32::from(b) << 8) + (u32::from(c) << 16) + (u32::from(d) << 24)
+}

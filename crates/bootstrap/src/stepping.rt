@@ -1,0 +1,76 @@
+//! One Step of a node, and whether one would be recorded.
+
+ghost use Rattle.std.specs.Prelude.{◌≡◌};
+
+use crate::node::Node;
+use crate::state::{State, Task};
+use process_queue::NOT_PROCESS;
+use t414_step::{Stepped, step};
+
+impl Node {
+    ghost use Rattle.bootstrap.specs.Step.{node_step, is_quiet};
+
+    /// One Step: a node that boots takes one byte, or posts one of an answer; a node that runs steps its processor.
+    ///
+    /// It is `Idle` where there was nothing to do, and nothing has changed then. After a `Fault` the node has halted:
+    /// memory and links are as the instruction or the service left them, and the registers are given up. A node that
+    /// has halted answers its fault again, and nothing changes.
+    ///
+    /// Source: Transputer Reference Manual, bootstrapping and links; that each Step is one act, and the order of the
+    /// links, are our choice.
+    #[tactic(auto, unfolding(crate::specs::Step::node_step))]
+    pub fn step(&mut self) -> Stepped
+        ensures answer { (self.new, result) ≡ node_step self.old }
+    {
+        match &mut self.state {
+            State::WantsControl => {
+                let Some(link) = self.offered() else {
+                    return Stepped::Idle;
+                };
+                let Some(byte) = self.links.take_byte(link) else {
+                    return Stepped::Idle;
+                };
+                let task = Task::of(byte);
+                self.state = State::Takes { link, task };
+                Stepped::Ran
+            }
+            State::Takes { link, task } => {
+                let (link, task) = (*link, *task);
+                let Some(byte) = self.links.take_byte(link) else {
+                    return Stepped::Idle;
+                };
+                self.give(link, task, byte);
+                Stepped::Ran
+            }
+            State::Answers { link, left, word } => {
+                let (link, left, word) = (*link, *left, *word);
+                self.answer(link, left, word)
+            }
+            State::Runs(cpu) => {
+                let stepped = step(cpu, &mut self.memory, &mut self.links);
+                if let Stepped::Fault(fault) = stepped {
+                    self.state = State::Halted(fault);
+                }
+                stepped
+            }
+            State::Halted(fault) => Stepped::Fault(*fault),
+        }
+    }
+
+    /// Whether a Step would not be recorded: it would answer `Idle`, or the node has halted before it. Such a Step
+    /// changes nothing.
+    #[tactic(auto, unfolding(crate::specs::Step::node_step))]
+    pub fn quiet(&self) -> bool
+        ensures answer { result ≡ is_quiet self.now }
+    {
+        match &self.state {
+            State::WantsControl => self.offered().is_none(),
+            State::Takes { link, .. } => self.links.at(*link).end.input.buffer.is_none(),
+            State::Answers { link, .. } => !self.links.at(*link).end.output.acknowledged,
+            State::Runs(cpu) => {
+                !cpu.running && cpu.queue.front == NOT_PROCESS && !self.links.has_work()
+            }
+            State::Halted(_) => true,
+        }
+    }
+}
