@@ -1,8 +1,4 @@
 //! Switches over the domains of a plan.
-ghost use Rattle.std.specs.Prelude.{◌≡◌, IfOk};
-ghost use Rattle.crossbar.specs.Row.{switch_of};
-ghost use Rattle.crossbar.specs.Switch.{cleared};
-
 use crossbar::PlainOutputs;
 use plan_checker::{PlanFault, check, read_plan};
 use std::alloc::Global;
@@ -98,13 +94,17 @@ pub fn physical_of(switch: &Switch, port: u8) -> Option<u8> {
 
 /// The switch of a domain of the plan, to which nothing was said.
 pub fn switch_of(alloc: Global, plan: &str, domain: u8) -> Result<Switch, PlanFault> {
-    Ok(VirtualSwitch::new(outputs_of(alloc, plan, domain)?))
+    let plan = check(alloc, read_plan(alloc, plan.as_bytes())?)?;
+    if domain < plan.domains() {
+        let outputs = PlainOutputs::unused(plan.ranges(domain));
+        Ok(VirtualSwitch::new(outputs))
+    } else {
+        Err(PlanFault::DomainCount)
+    }
 }
 
 /// The outputs of a domain of the plan, all disconnected.
-pub fn outputs_of(alloc: Global, plan: &str, domain: u8) -> Result<PlainOutputs, PlanFault>
-    ensures { IfOk result (λ outputs. switch_of outputs.words ≡ cleared) }
-{
+pub fn outputs_of(alloc: Global, plan: &str, domain: u8) -> Result<PlainOutputs, PlanFault> {
     let plan = check(alloc, read_plan(alloc, plan.as_bytes())?)?;
     if domain < plan.domains() {
         Ok(PlainOutputs::unused(plan.ranges(domain)))

@@ -1,0 +1,68 @@
+-- A host: two queues of bytes, and one end of a link. Transputer Reference Manual, links; the queues are our choice.
+use Rattle.std.specs.Prelude.{ℕ, List, [], ◌∷◌, ◌++◌, Bool, false, not, nat_lt, length, Option, Some, None, if◌then◌else◌}
+use Rattle.os_link.specs.declared.end.LinkEnd.{LinkEnd}
+use Rattle.os_link.specs.declared.latch.Packet.{Packet}
+use Rattle.os_link.specs.declared.latch.Packet.TheVariants.{Byte, Ack}
+use Rattle.os_link.specs.End.{fresh, arrived, posted, emptied, without_next}
+
+-- what is to be sent, front first, with the byte whose acknowledge hasn't come; what was received; and the link end
+pub record HostState : Type 0 where
+  pub sending : List ℕ
+  pub received : List ℕ
+  pub end : LinkEnd
+
+abbrev pub opened : HostState
+opened = record { sending = []; received = []; end = fresh }
+
+-- 4,096 bytes are there
+abbrev pub is_full : List ℕ → Bool
+is_full queue = not (nat_lt (length queue) 4096)
+
+abbrev pub front : List ℕ → Option ℕ
+front [] = None
+front (byte ∷ queue) = Some byte
+
+abbrev pub behind : List ℕ → List ℕ
+behind [] = []
+behind (byte ∷ queue) = queue
+
+-- the front byte is posted as soon as none awaits its acknowledge
+abbrev pub front_posted : Option ℕ → LinkEnd → LinkEnd
+front_posted None e = e
+front_posted (Some byte) e = if e.output.awaits then e else posted byte e
+
+abbrev pub sending_on : HostState → HostState
+sending_on h = record h { end = front_posted (front h.sending) h.end }
+
+-- a byte is put in the sending queue, where there is room
+abbrev pub written : ℕ → HostState → HostState
+written byte h = if is_full h.sending then h else sending_on (record h { sending = h.sending ++ byte ∷ [] })
+
+-- the byte in the buffer goes into the receiving queue and is acknowledged, where there is room
+abbrev pub moved_in : Option ℕ → HostState → HostState
+moved_in None h = h
+moved_in (Some byte) h = if is_full h.received then h else record h { received = h.received ++ byte ∷ []; end = emptied h.end }
+
+abbrev pub receiving : HostState → HostState
+receiving h = moved_in h.end.input.buffer h
+
+-- the front byte of the receiving queue is taken, and a held byte moves in
+abbrev pub read : HostState → HostState
+read h = receiving (record h { received = behind h.received })
+
+-- the flag that an acknowledge has come is cleared: its byte leaves the queue
+abbrev pub heard : LinkEnd → LinkEnd
+heard e = record e { output = record e.output { acknowledged = false } }
+
+-- a packet arrives: a byte is received, or held where there is no room; an awaited acknowledge removes the front byte
+-- and the next is posted
+abbrev pub delivered : Packet → HostState → HostState
+delivered (Byte byte) h = receiving (record h { end = arrived (Byte byte) h.end })
+delivered Ack h =
+    if h.end.output.awaits
+    then sending_on (record { sending = behind h.sending; received = h.received; end = heard (arrived Ack h.end) })
+    else record h { end = arrived Ack h.end }
+
+-- the packet that leaves next is taken
+abbrev pub packet_left : HostState → HostState
+packet_left h = record h { end = record h.end { latch = without_next h.end.latch } }
