@@ -48,26 +48,39 @@ links = [0, -1, -1, -1]
 pub type Switch = VirtualSwitch<DomainSeat>;
 
 /// The plan of the text.
-pub fn plan_of(alloc: Global, text: &str) -> Result<AcceptedPlan, PlanFault> {
+fn plan_of(alloc: Global, text: &str) -> Result<AcceptedPlan, PlanFault> {
     check(alloc, read_plan(alloc, text.as_bytes())?)
 }
 
-/// The table of the plan, the seat of its last domain, and the operator's.
-pub fn last_seat(
+/// The table of the plan, the switch of its last domain, and the operator's seat.
+pub fn last_switch(
     alloc: Global,
     text: &str,
-) -> Result<(SwitchTable, DomainSeat, OperatorSeat), PlanFault>
+) -> Result<(SwitchTable, Switch, OperatorSeat), PlanFault>
     ensures { IfOk result (λ o. surveyed_table o.2 ≡ table_of o.0) }
 {
     let (table, mut seats, operator) = SwitchTable::open(alloc, &plan_of(alloc, text)?)?;
     let Some(seat) = seats.pop() else {
         return Err(PlanFault::DomainCount);
     };
-    Ok((table, seat, operator))
+    Ok((table, switch_over(seat), operator))
+}
+
+/// The table of ann and bob, the switch of each, and the operator's seat.
+pub fn both_switches(
+    alloc: Global,
+) -> Result<(SwitchTable, Switch, Switch, OperatorSeat), PlanFault>
+    ensures { IfOk result (λ o. surveyed_table o.3 ≡ table_of o.0) }
+{
+    let (table, mut seats, operator) = SwitchTable::open(alloc, &plan_of(alloc, ANN_AND_BOB)?)?;
+    let (Some(bob), Some(ann), None) = (seats.pop(), seats.pop(), seats.pop()) else {
+        return Err(PlanFault::DomainCount);
+    };
+    Ok((table, switch_over(ann), switch_over(bob), operator))
 }
 
 /// A switch to which nothing was said. Clearing a seat that never stored stores nothing.
-pub fn switch_over(mut seat: DomainSeat) -> Switch {
+fn switch_over(mut seat: DomainSeat) -> Switch {
     clear(&mut seat);
     VirtualSwitch::new(seat)
 }
