@@ -5,6 +5,8 @@
 #[cfg(test)]
 mod farm;
 #[cfg(test)]
+mod meeting;
+#[cfg(test)]
 mod rows;
 #[cfg(test)]
 mod surveys;

@@ -3,9 +3,11 @@ ghost use Rattle.std.specs.Prelude.{◌≡◌};
 ghost use Rattle.switch_table.specs.Seats.{surveyed_table, table_of};
 
 use crate::farm::{ANN_AND_BOB, Switch, TWO_RANGES, both_switches, fed, last_switch, word_of};
+use crate::meeting::meet;
 use crate::surveys::{all_are, look, look_apart, watch};
 use plan_checker::PlanFault;
 use std::alloc::Global;
+use std::sync::atomic::AtomicU64;
 use std::test::Fail;
 use std::thread;
 
@@ -38,10 +40,13 @@ fn survey_is_frozen(rt: HostRuntime) -> Result<(), Fail> {
     Ok(())
 }
 
-/// Connects input 2 and input 3 by turns to output 5, 500 times.
+/// Connects input 2 and input 3 by turns to output 5, 500 times, and lets other threads run.
 fn wired_by_turns(mut switch: Switch) -> Switch {
     for _ in 0..250 {
-        switch = fed(switch, &[0x00, 0x02, 0x05, 0x00, 0x03, 0x05]);
+        for input in [0x02, 0x03] {
+            switch = fed(switch, &[0x00, input, 0x05]);
+            thread::yield_now();
+        }
     }
     switch
 }
@@ -50,16 +55,22 @@ fn wired_by_turns(mut switch: Switch) -> Switch {
 #[test]
 fn an_output_of_no_domain_stays_unused(rt: HostRuntime) -> Result<(), Fail> {
     let (table, bob, operator) = last_switch(rt.alloc(), ANN_AND_BOB)?;
-    let shared = &table;
+    let (shared, here) = (&table, &AtomicU64::new(0));
     let (word, operator) = look_apart(&rt, shared, operator, 20);
     assert_eq!(rt; word.bits, 0);
     let (_bob, (watched, operator)) = thread::join(
         &rt,
-        move || wired_by_turns(bob),
+        move || {
+            meet(here);
+            wired_by_turns(bob)
+        },
         move ||
             requires { surveyed_table operator ≡ table_of shared.now }
             ensures { surveyed_table result.1 ≡ table_of shared.entry.now }
-        { watch(shared, operator, 20) },
+        {
+            meet(here);
+            watch(shared, operator, 20)
+        },
     );
     assert_eq!(rt; watched.greatest, 0);
     let (word, _operator) = look_apart(&rt, shared, operator, 20);
@@ -71,14 +82,20 @@ fn an_output_of_no_domain_stays_unused(rt: HostRuntime) -> Result<(), Fail> {
 #[test]
 fn surveys_beside_stores_never_see_the_count_fall(rt: HostRuntime) -> Result<(), Fail> {
     let (table, bob, operator) = last_switch(rt.alloc(), ANN_AND_BOB)?;
-    let shared = &table;
+    let (shared, here) = (&table, &AtomicU64::new(0));
     let (_bob, (watched, operator)) = thread::join(
         &rt,
-        move || wired_by_turns(bob),
+        move || {
+            meet(here);
+            wired_by_turns(bob)
+        },
         move ||
             requires { surveyed_table operator ≡ table_of shared.now }
             ensures { surveyed_table result.1 ≡ table_of shared.entry.now }
-        { watch(shared, operator, 13) },
+        {
+            meet(here);
+            watch(shared, operator, 13)
+        },
     );
     assert!(rt; watched.rises && watched.whole && watched.greatest <= 0x1_f48b);
     let (word, _operator) = look(shared, operator, 13);
@@ -111,10 +128,17 @@ fn keeps_its_words(mut switch: Switch, first: u8) -> bool {
 #[test]
 fn domains_that_store_at_once_read_their_own_words(rt: HostRuntime) -> Result<(), Fail> {
     let (table, ann, bob, operator) = both_switches(rt.alloc())?;
+    let here = &AtomicU64::new(0);
     let (ann_kept, bob_kept) = thread::join(
         &rt,
-        move || keeps_its_words(ann, 0),
-        move || keeps_its_words(bob, 8),
+        move || {
+            meet(here);
+            keeps_its_words(ann, 0)
+        },
+        move || {
+            meet(here);
+            keeps_its_words(bob, 8)
+        },
     );
     assert!(rt; ann_kept && bob_kept);
     let (stored, operator) = all_are(&table, operator, 0, 16, 256 * 300);

@@ -51,7 +51,7 @@ pub struct Watched {
     pub greatest: u64,
 }
 
-/// Surveys an output 1,000 times.
+/// Surveys an output 1,000 times, and lets other threads run between.
 pub fn watch(table: &SwitchTable, mut operator: OperatorSeat, output: u8) -> (Watched, OperatorSeat)
     requires here { surveyed_table operator ≡ table_of table.now }
     requires there { output < 32 }
@@ -67,6 +67,7 @@ pub fn watch(table: &SwitchTable, mut operator: OperatorSeat, output: u8) -> (Wa
         whole = whole && is_whole(word);
         greatest = word.bits.max(greatest);
         newest = word.changes();
+        thread::yield_now();
     }
     (
         Watched {
