@@ -1,0 +1,103 @@
+//! Tables over plans, and switches over their seats.
+ghost use Rattle.std.specs.Prelude.{◌≡◌, IfOk};
+ghost use Rattle.switch_table.specs.Seats.{surveyed_table, table_of};
+
+use crossbar::clear;
+use plan_checker::{AcceptedPlan, PlanFault, check, read_plan};
+use std::alloc::Global;
+use switch_table::{DomainSeat, OperatorSeat, SwitchTable};
+use virtual_switch::VirtualSwitch;
+
+/// Ann has ports 0 to 7, bob ports 8 to 15.
+pub const ANN_AND_BOB: &str = r#"
+version = 1
+[[domain]]
+name = "ann"
+first = 0
+last = 7
+limit = 1000000
+host = [7]
+[[domain.node]]
+memory = 4096
+links = [0, -1, -1, -1]
+[[domain]]
+name = "bob"
+first = 8
+last = 15
+limit = 1000000
+host = [7]
+[[domain.node]]
+memory = 4096
+links = [0, -1, -1, -1]
+"#;
+
+/// One domain has ports 16 to 19, and then ports 0 to 3.
+pub const TWO_RANGES: &str = r#"
+version = 2
+[[domain]]
+name = "ann"
+range = [[16, 19], [0, 3]]
+limit = 1000000
+host = [7]
+[[domain.node]]
+memory = 4096
+links = [0, -1, -1, -1]
+"#;
+
+/// A domain's switch over its seat.
+pub type Switch = VirtualSwitch<DomainSeat>;
+
+/// The plan of the text.
+fn plan_of(alloc: Global, text: &str) -> Result<AcceptedPlan, PlanFault> {
+    check(alloc, read_plan(alloc, text.as_bytes())?)
+}
+
+/// The table of the plan, the switch of its last domain, and the operator's seat.
+pub fn last_switch(
+    alloc: Global,
+    text: &str,
+) -> Result<(SwitchTable, Switch, OperatorSeat), PlanFault>
+    ensures { IfOk result (λ o. surveyed_table o.2 ≡ table_of o.0) }
+{
+    let (table, mut seats, operator) = SwitchTable::open(alloc, &plan_of(alloc, text)?)?;
+    let Some(seat) = seats.pop() else {
+        return Err(PlanFault::DomainCount);
+    };
+    Ok((table, switch_over(seat), operator))
+}
+
+/// The table of ann and bob, the switch of each, and the operator's seat.
+pub fn both_switches(
+    alloc: Global,
+) -> Result<(SwitchTable, Switch, Switch, OperatorSeat), PlanFault>
+    ensures { IfOk result (λ o. surveyed_table o.3 ≡ table_of o.0) }
+{
+    let (table, mut seats, operator) = SwitchTable::open(alloc, &plan_of(alloc, ANN_AND_BOB)?)?;
+    let (Some(bob), Some(ann), None) = (seats.pop(), seats.pop(), seats.pop()) else {
+        return Err(PlanFault::DomainCount);
+    };
+    Ok((table, switch_over(ann), switch_over(bob), operator))
+}
+
+/// A switch to which nothing was said. Clearing a seat that never stored stores nothing.
+fn switch_over(mut seat: DomainSeat) -> Switch {
+    clear(&mut seat);
+    VirtualSwitch::new(seat)
+}
+
+/// The word of an output, where it is there.
+pub fn word_of(switch: &mut Switch, output: u8) -> Option<u64> {
+    if output < switch.count() {
+        Some(switch.word(output).bits)
+    } else {
+        None
+    }
+}
+
+/// Feeds the bytes, and gives the switch back.
+pub fn fed(mut switch: Switch, bytes: &[u8]) -> Switch {
+    for byte in bytes {
+        switch.feed(*byte);
+    }
+    switch
+}
