@@ -102,6 +102,14 @@ fn wire_all<O: Outputs>(outputs: &mut O) {
     }
 }
 
+// A plan or a table that could not be had, as an error of the program.
+fn failed(fault: PlanFault) -> io::Error {
+    match fault {
+        PlanFault::NoMemory => io::Error::from(io::ErrorKind::OutOfMemory),
+        _ => io::Error::from(io::ErrorKind::InvalidData),
+    }
+}
+
 fn main(rt: HostRuntime) -> io::Result<()> {
     let alloc = rt.alloc();
     let words: Vec<String> = env::args(&rt)?.collect(alloc)?;
@@ -110,9 +118,12 @@ fn main(rt: HostRuntime) -> io::Result<()> {
         .and_then(|word| word.parse::<u32>().ok())
         .unwrap_or(1000);
     let work = words.get(2).map_or("all", |word| word.as_str());
-    let plan = read_plan(alloc, PLAN.as_bytes()).expect(&rt, "a plan");
-    let plan = check(alloc, plan).expect(&rt, "a separate plan");
-    let (table, mut seat, operator) = opened(alloc, &plan).expect(&rt, "a table");
+    let plan = read_plan(alloc, PLAN.as_bytes()).map_err(failed)?;
+    let plan = check(alloc, plan).map_err(failed)?;
+    let (table, mut seat, operator) = match opened(alloc, &plan) {
+        Ok(opened) => opened,
+        Err(fault) => return Err(failed(fault)),
+    };
     wire_all(&mut seat);
     if work == "all" || work == "seat-loads" {
         println!(rt; "seat-loads: sum {}", loads(&mut seat, count))?;

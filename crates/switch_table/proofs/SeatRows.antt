@@ -1,5 +1,5 @@
 -- The words of a seat's outputs are a row.
-use Rattle.std.proofs.Common.{◌≡◌, ℕ, zero, suc, ◌<◌, List, [], ◌∷◌, map, take, replicate, length, set, Some, slice_get, slice_set, slice_index, Contains, refl, sym, ap, ◌∙◌, subst, arith}
+use Rattle.std.proofs.Common.{◌≡◌, ℕ, zero, suc, ◌<◌, List, [], ◌∷◌, map, take, replicate, length, set, Some, slice_get, slice_set, slice_index, All, Contains, get_or, refl, sym, ap, ◌∙◌, subst, arith}
 use Rattle.std.proofs.lemmas.Option.{none-some, same_Some, slice_get-get_or, slice_get-map, get_or_from_slice_get, slice_get_within}
 use Rattle.std.specs.Option.{option_map}
 use Rattle.std.proofs.lemmas.List.{length-set}
@@ -8,9 +8,10 @@ use Rattle.atomic_table.specs.Seated.{TableId}
 use Rattle.atomic_table.specs.Table.{Me}
 use Rattle.crossbar.specs.declared.word.Word.{Word}
 use Rattle.crossbar.specs.Ranges.{IsNumbering}
-use Rattle.crossbar.specs.Row.{IsRow, IsWordOf}
+use Rattle.crossbar.specs.Row.{IsRow, IsWordOf, switch_of}
+use Rattle.crossbar.specs.Switch.{cleared}
 use Rattle.crossbar.proofs.Numberings.{few}
-use Rattle.crossbar.proofs.PlainRows.{set_row}
+use Rattle.crossbar.proofs.PlainRows.{set_row, unused_switch}
 use Rattle.switch_table.specs.declared.view.View.{View}
 use Rattle.switch_table.specs.Rule.{word_of, bits_of, words_of, with_word, Holds}
 use Rattle.switch_table.specs.SeatStates.{SeatState, IsSeated}
@@ -111,3 +112,7 @@ pub found_word : (view : View) (ports : List ℕ) (number port at found : ℕ) (
 found_word view ports number port at found seen s same view_is ports_is is at_is found_is =
     ap (λ (t : SeatState). slice_get (seat_words t) number) (sym same) ∙ ap (λ (p : View × List ℕ). slice_get (words_of p.0 p.1) number) (λ i. (view_is i, ports_is i))
     ∙ word_at view ports number port is ∙ ap (λ (w : ℕ). Some (word_of w)) (ap (slice_index view.words) (sym at_is) ∙ sym found_is)
+
+-- and nothing is connected in them
+pub cleared_seats : (seats : List SeatState) → All (λ s. seat_words s ≡ clear_words s.ports) seats → All (λ s. switch_of (seat_words s) ≡ cleared) seats
+cleared_seats seats clear k d inside = ap switch_of (clear k d inside) ∙ unused_switch (length (get_or seats k d).ports)

@@ -55,6 +55,7 @@ impl SwitchTable {
     ) -> Result<(SwitchTable, Vec<DomainSeat>, OperatorSeat), NoMemory>
         ensures ports { IfOk result (λ o. map (λ s. s.ports) o.1.items ≡ domains_of plan.now) }
         ensures clear { IfOk result (λ o. All (λ s. seat_words s ≡ clear_words s.ports) o.1.items) }
+        ensures switch { IfOk result (λ o. All (λ s. switch_of (seat_words s) ≡ cleared) o.1.items) }
         ensures table { IfOk result (λ o. All (λ s. s.table ≡ table_of o.0) o.1.items) }
         ensures operator { IfOk result (λ o. (surveyed_table o.2 ≡ table_of o.0) × (surveyed_domains o.2 ≡ domains_of plan.now) × (seen o.2 ≡ replicate 32 0)) }
     {

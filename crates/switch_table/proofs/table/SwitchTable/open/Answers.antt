@@ -9,7 +9,7 @@ use Rattle.switch_table.specs.SeatStates.{SeatState}
 use Rattle.switch_table.specs.Seats.{seat_words, clear_words}
 use Rattle.switch_table.proofs.Openings.{own_domain, length-domains}
 use Rattle.switch_table.proofs.Ports.{all_push, waiting, seated}
-use Rattle.switch_table.proofs.SeatRows.{clear_row}
+use Rattle.switch_table.proofs.SeatRows.{clear_row, cleared_seats}
 use Rattle.switch_table.proofs.table.SwitchTable.open.Goals as goal
 
 pub deal-requires-clause-next : goal.deal-requires-clause-next
@@ -44,3 +44,6 @@ loop-domain-preserved c =
       ports = ap (map (λ (s : SeatState). s.ports)) more ∙ map-append (λ (s : SeatState). s.ports) c.loop-domain.seats.items (seat ∷ []) ∙ (λ k. kept.ports k ++ ports k ∷ []) ∙ sym (seated domains i c.of-numbering.result inside own);
       clear = subst (All (λ (s : SeatState). seat_words s ≡ clear_words s.ports)) (sym more) (all_push (λ (s : SeatState). seat_words s ≡ clear_words s.ports) c.loop-domain.seats.items seat kept.clear words);
     }
+
+pub returns-clause-switch : goal.returns-clause-switch
+returns-clause-switch c = cleared_seats c.loop-domain.seats.items c.loop-domain.invariant.clear
