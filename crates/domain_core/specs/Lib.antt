@@ -1,1 +1,10 @@
+pub mod Devices
+pub mod Domain
 pub mod Hosts
+pub mod Journal
+pub mod Machine
+pub mod MachineValue
+pub mod Moves
+pub mod Numbers
+pub mod Private
+pub mod Ticket

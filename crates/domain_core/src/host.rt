@@ -46,6 +46,15 @@ impl Host {
         })
     }
 
+    /// Empties both queues and clears the link end: the host is as it was opened.
+    pub fn clear(&mut self)
+        ensures { self.new ≡ opened }
+    {
+        self.sending.clear();
+        self.received.clear();
+        self.end = LinkEnd::new();
+    }
+
     /// Puts a byte at the end of the sending queue, and answers whether there was room. A byte counts
     /// until its acknowledge has come.
     pub fn write(&mut self, byte: u8) -> bool

@@ -1,9 +1,16 @@
-//! One domain as its users have it: so far its hosts.
+//! One domain as its users have it: a private machine of a switch, nodes and hosts, and the journal
+//! of what it answered.
 #![tactic(auto)]
 
+mod device;
+mod event;
 mod host;
+mod journal;
 #[cfg(test)]
 mod tests;
 
+pub use device::Device;
+pub use event::{By, Event, Moved, Refusal, Reply};
 pub use host::{Host, QUEUE_BYTES};
+pub use journal::Entry;
 pub use std::alloc::AllocError as NoMemory;

@@ -1,0 +1,100 @@
+-- The devices of a domain: its nodes and hosts, and which link or host is joined to a virtual port.
+use Rattle.std.specs.Prelude.{ℕ, ◌+◌, ◌<◌, ◌==◌, List, [], ◌∷◌, length, map, Option, Some, None, if◌then◌else◌, slice_index_or, slice_set}
+use Rattle.os_link.specs.End.{next_of}
+use Rattle.os_link.specs.declared.latch.Packet.{Packet}
+use Rattle.link_channels.specs.Links.{at, packet_arrived, packet_taken}
+use Rattle.link_channels.specs.declared.number.LinkNumber.{LinkNumber}
+use Rattle.link_channels.specs.declared.number.LinkNumber.TheVariants.{Zero, One, Two, Three}
+use Rattle.bootstrap.specs.declared.node.Node.{Node}
+use Rattle.bootstrap.specs.Opening as node
+use Rattle.plan_checker.specs.declared.part.NodePart.{NodePart}
+use Rattle.plan_checker.specs.declared.part.HostPart.{HostPart}
+use Rattle.plan_checker.specs.Part.{PartData}
+use Rattle.domain_core.specs.declared.device.Device.{Device}
+use Rattle.domain_core.specs.declared.device.Device.TheVariants.{Host, Link}
+use Rattle.domain_core.specs.Hosts.{HostState, delivered, packet_left}
+use Rattle.domain_core.specs.Hosts as host
+
+-- ---- which device is joined to a port: the first host or link of the part that names it
+
+abbrev pub or_else : Option Device → Option Device → Option Device
+or_else None other = other
+or_else (Some device) other = Some device
+
+-- the first host at a port, of hosts whose first has this number
+abbrev pub host_at_port : ℕ → List HostPart → ℕ → Option Device
+host_at_port number [] port = None
+host_at_port number (h ∷ hosts) port = if h.port == port then Some (Host number) else host_at_port (number + 1) hosts port
+
+abbrev pub is_wired_to : Option ℕ → ℕ → Option Device → Option Device → Option Device
+is_wired_to None port device other = other
+is_wired_to (Some wired) port device other = if wired == port then device else other
+
+-- the first of four links, by their numbers, that is wired to a port
+abbrev pub link_of_four : ℕ → List (Option ℕ) → ℕ → Option Device
+link_of_four number (a ∷ b ∷ c ∷ d ∷ []) port =
+    is_wired_to a port (Some (Link number Zero))
+    (is_wired_to b port (Some (Link number One))
+    (is_wired_to c port (Some (Link number Two))
+    (is_wired_to d port (Some (Link number Three)) None)))
+link_of_four number _ port = None
+
+-- the first link at a port, of nodes whose first has this number
+abbrev pub link_at_port : ℕ → List NodePart → ℕ → Option Device
+link_at_port number [] port = None
+link_at_port number (n ∷ nodes) port = or_else (link_of_four number n.links port) (link_at_port (number + 1) nodes port)
+
+abbrev pub device_at : PartData → ℕ → Option Device
+device_at part port = or_else (host_at_port 0 part.hosts port) (link_at_port 0 part.nodes port)
+
+-- ---- the nodes and hosts of a domain
+
+pub record DeviceStates : Type 0 where
+  pub nodes : List Node
+  pub hosts : List HostState
+
+abbrev pub node_at : DeviceStates → ℕ → Node
+node_at d number = slice_index_or d.nodes number (node.opened 0)
+
+abbrev pub host_at : DeviceStates → ℕ → HostState
+host_at d number = slice_index_or d.hosts number host.opened
+
+abbrev pub with_node : ℕ → Node → DeviceStates → DeviceStates
+with_node number n d = record d { nodes = slice_set d.nodes number n }
+
+abbrev pub with_host : ℕ → HostState → DeviceStates → DeviceStates
+with_host number h d = record d { hosts = slice_set d.hosts number h }
+
+-- nodes and hosts as they are opened
+abbrev pub opened : PartData → DeviceStates
+opened part = record { nodes = map (λ n. node.opened n.memory) part.nodes; hosts = map (λ h. host.opened) part.hosts }
+
+-- the packet that leaves a device next
+abbrev pub waiting : DeviceStates → Device → Option Packet
+waiting d (Host number) = next_of (host_at d number).end.latch
+waiting d (Link number link) = next_of (at link (node_at d number).links).end.latch
+
+-- it is taken
+abbrev pub taken : Device → DeviceStates → DeviceStates
+taken (Host number) d = with_host number (packet_left (host_at d number)) d
+taken (Link number link) d = with_node number (record (node_at d number) { links = packet_taken link (node_at d number).links }) d
+
+-- a packet arrives at a device; at a port without one it is lost
+abbrev pub arrived : Packet → Option Device → DeviceStates → DeviceStates
+arrived packet None d = d
+arrived packet (Some (Host number)) d = with_host number (delivered packet (host_at d number)) d
+arrived packet (Some (Link number link)) d =
+    with_node number (record (node_at d number) { links = packet_arrived link packet (node_at d number).links }) d
+
+-- the device is one of these
+abbrev pub Holds : DeviceStates → Device → Type 0
+Holds d (Host number) = number < length d.hosts
+Holds d (Link number link) = number < length d.nodes
+
+-- how many bytes of memory each node has
+abbrev pub memories : DeviceStates → List ℕ
+memories d = map (λ n. length n.memory) d.nodes
+
+-- nodes and hosts as they are opened, each node with the memory that it has
+abbrev pub reopened : DeviceStates → DeviceStates
+reopened d = record { nodes = map (λ n. node.opened (length n.memory)) d.nodes; hosts = map (λ h. host.opened) d.hosts }

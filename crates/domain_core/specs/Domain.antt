@@ -1,0 +1,52 @@
+-- A domain: a machine and the journal of what it answered. What holds of every domain.
+use Rattle.std.specs.Prelude.{ℕ, List, [], ◌∷◌, length, ◌≡◌, ◌<◌, ◌≤◌, ◌^◌, Result, Ok, Err, true, false, if◌then◌else◌, slice_get, Some}
+use Rattle.crossbar.specs.Switch.{Switch}
+use Rattle.plan_checker.specs.Data.{DomainData}
+use Rattle.plan_checker.specs.Part.{PartData, part_of, physical_ports}
+use Rattle.bootstrap.specs.Step.{is_quiet}
+use Rattle.domain_core.specs.declared.event.Event.TheVariants.{Step, Move}
+use Rattle.domain_core.specs.declared.event.Refusal.TheVariants.{NoSuch, JournalFull, NoMemory}
+use Rattle.domain_core.specs.declared.journal.Entry.{Entry}
+use Rattle.domain_core.specs.Machine.{Machine, acted, is_recorded}
+use Rattle.domain_core.specs.MachineValue.{MachineValue, machine_of}
+use Rattle.domain_core.specs.Private.{State, Answer, Call}
+use Rattle.domain_core.specs.Journal.{Answered, expanded, IsHistory}
+
+pub record DomainValue : Type 0 where
+  pub machine : MachineValue
+  pub journal : List Entry
+
+-- what the domain stands for: its machine, and how many events its journal has
+abbrev pub state_of : DomainValue → State
+state_of d = record { machine = machine_of d.machine; recorded = length (expanded d.journal) }
+
+-- a domain is its journal: the state is what the journal leads to from the opening, and each reply is the answer there
+pub record IsMeant (d : DomainValue) : Type 0 where
+  pub history : IsHistory d.machine.part (expanded d.journal) (state_of d)
+  pub within_limit : length (expanded d.journal) ≤ d.machine.part.limit
+  pub limit : d.machine.part.limit ≤ 2 ^ 40
+
+-- what the journal gains by an answer
+abbrev pub gained : PartData → State → Call → Answer → List Answered
+gained part s call (Ok reply) =
+    if is_recorded part s.machine call.event then record { call = call; reply = reply } ∷ [] else []
+gained part s call (Err refusal) = []
+
+-- a fact, but for want of memory
+abbrev pub UnlessNoMemory : Answer → Type 0 → Type 0
+UnlessNoMemory (Ok reply) P = P
+UnlessNoMemory (Err NoSuch) P = P
+UnlessNoMemory (Err JournalFull) P = P
+UnlessNoMemory (Err NoMemory) P = Unit {0}
+
+-- no Step and no Move would be recorded
+pub record IsQuiet (part : PartData) (m : Machine) : Type 0 where
+  pub nodes : (node : ℕ) → node < length part.nodes → is_recorded part m (Step node) ≡ false
+  pub ports : (port : ℕ) → port < part.count → is_recorded part m (Move port) ≡ false
+
+-- the domain has the part and the ports of this domain of a plan
+pub record Fits (plan : List DomainData) (number : ℕ) (d : DomainValue) : Type 0 where
+  pub domain : DomainData
+  pub there : slice_get plan number ≡ Some domain
+  pub part : part_of domain ≡ d.machine.part
+  pub ports : physical_ports domain ≡ d.machine.switch.ports

@@ -1,0 +1,43 @@
+-- A journal: what was answered, in order.
+use Rattle.std.specs.Prelude.{ℕ, zero, suc, List, [], ◌∷◌, ◌++◌, map, replicate, Option, Some, None, Ok, ◌≡◌}
+use Rattle.plan_checker.specs.Part.{PartData}
+use Rattle.t414_step.specs.declared.stepping.Stepped.{Stepped}
+use Rattle.t414_step.specs.declared.stepping.Stepped.TheVariants.{Ran}
+use Rattle.domain_core.specs.declared.event.By.{By}
+use Rattle.domain_core.specs.declared.event.Event.TheVariants.{Step}
+use Rattle.domain_core.specs.declared.event.Reply.{Reply}
+use Rattle.domain_core.specs.declared.event.Reply.TheVariants as reply
+use Rattle.domain_core.specs.declared.journal.Entry.{Entry}
+use Rattle.domain_core.specs.declared.journal.Entry.TheVariants.{One, Run}
+use Rattle.domain_core.specs.Private.{State, Answer, Call, answers, after, opening}
+
+-- an event, with who asked and the reply
+pub record Answered : Type 0 where
+  pub call : Call
+  pub reply : Reply
+
+-- a Step of a node, with its answer
+abbrev pub stepped : By → ℕ → Stepped → Answered
+stepped by node answer = record { call = record { by = by; event = Step node }; reply = reply.Stepped answer }
+
+-- so many Steps of a node: the last answered this, all others Ran
+abbrev pub steps : By → ℕ → ℕ → Stepped → List Answered
+steps by node zero last = []
+steps by node (suc count) last = replicate count (stepped by node Ran) ++ stepped by node last ∷ []
+
+-- what the entries stand for
+abbrev pub expanded : List Entry → List Answered
+expanded [] = []
+expanded (One by event reply ∷ entries) = record { call = record { by = by; event = event }; reply = reply } ∷ expanded entries
+expanded (Run by node count last ∷ entries) = steps by node count last ++ expanded entries
+
+abbrev pub calls_of : List Answered → List Call
+calls_of history = map (λ a. a.call) history
+
+abbrev pub replies_of : List Answered → List Answer
+replies_of history = map (λ a. Ok a.reply) history
+
+-- a farm that holds the domain alone answers just so from its opening, and ends in this state
+pub record IsHistory (part : PartData) (history : List Answered) (s : State) : Type 0 where
+  pub state : after part (opening part) (calls_of history) ≡ s
+  pub replies : answers part (opening part) (calls_of history) ≡ replies_of history

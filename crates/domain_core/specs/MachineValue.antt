@@ -1,0 +1,46 @@
+-- What contracts see of a machine: its part, its switch, and its nodes and hosts; and what it stands for.
+use Rattle.std.specs.Prelude.{◌≡◌, ◌<◌, ◌==◌, ℕ, List, length, map, filter, Option, Some, Bool, if◌then◌else◌, slice_get}
+use Rattle.std.specs.Int.{bit_at}
+use Rattle.plan_checker.specs.Part.{PartData}
+use Rattle.virtual_switch.specs.Seen.{Seen, private_of}
+use Rattle.domain_core.specs.declared.device.Device.{Device}
+use Rattle.domain_core.specs.declared.event.Event.{Event}
+use Rattle.domain_core.specs.declared.event.Event.TheVariants.{Config, Write, Read, Reset, Look, Step, Move}
+use Rattle.domain_core.specs.Devices.{DeviceStates, device_at, memories}
+use Rattle.domain_core.specs.Machine.{Machine}
+
+pub record MachineValue : Type 0 where
+  pub part : PartData
+  pub switch : Seen
+  pub devices : DeviceStates
+
+abbrev pub machine_of : MachineValue → Machine
+machine_of v = record { switch = private_of v.switch; rest = v.switch.rest; devices = v.devices }
+
+-- it has the ports, the nodes and the hosts that its part says
+pub record IsOfPart (v : MachineValue) : Type 0 where
+  pub count : length v.switch.ports ≡ v.part.count
+  pub memories : memories v.devices ≡ map (λ n. n.memory) v.part.nodes
+  pub hosts : length v.devices.hosts ≡ length v.part.hosts
+
+-- the device of each port stands in a table
+abbrev pub AreJoined : PartData → List (Option Device) → Type 0
+AreJoined part table = (port : ℕ) → port < part.count → slice_get table port ≡ Some (device_at part port)
+
+-- the host, node or port of an event is one of the part's
+abbrev pub IsIn : PartData → Event → Type 0
+IsIn part (Config byte) = Unit {0}
+IsIn part (Write host byte) = host < length part.hosts
+IsIn part (Read host) = host < length part.hosts
+IsIn part (Reset node) = node < length part.nodes
+IsIn part (Look node) = node < length part.nodes
+IsIn part (Step node) = node < length part.nodes
+IsIn part (Move port) = port < part.count
+
+-- the outputs whose bits are set in a mask
+abbrev pub marked_in : ℕ → List ℕ → List ℕ
+marked_in mask outputs = filter (λ q. bit_at mask q == 1) outputs
+
+-- the bits of a mask are set just where a test holds
+abbrev pub Marks : ℕ → (ℕ → Bool) → Type 0
+Marks mask test = (q : ℕ) → bit_at mask q ≡ (if test q then 1 else 0)
