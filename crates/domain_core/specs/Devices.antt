@@ -1,5 +1,5 @@
 -- The devices of a domain: its nodes and hosts, and which link or host is joined to a virtual port.
-use Rattle.std.specs.Prelude.{ℕ, ◌+◌, ◌<◌, ◌==◌, List, [], ◌∷◌, length, map, Option, Some, None, if◌then◌else◌, slice_index_or, slice_set}
+use Rattle.std.specs.Prelude.{◌≡◌, false, ℕ, ◌+◌, ◌<◌, ◌==◌, List, [], ◌∷◌, length, map, Option, Some, None, if◌then◌else◌, slice_index_or, slice_set}
 use Rattle.os_link.specs.End.{next_of}
 use Rattle.os_link.specs.declared.latch.Packet.{Packet}
 use Rattle.link_channels.specs.Links.{at, packet_arrived, packet_taken}
@@ -7,6 +7,7 @@ use Rattle.link_channels.specs.declared.number.LinkNumber.{LinkNumber}
 use Rattle.link_channels.specs.declared.number.LinkNumber.TheVariants.{Zero, One, Two, Three}
 use Rattle.bootstrap.specs.declared.node.Node.{Node}
 use Rattle.bootstrap.specs.Opening as node
+use Rattle.bootstrap.specs.Step.{is_recorded}
 use Rattle.plan_checker.specs.declared.part.NodePart.{NodePart}
 use Rattle.plan_checker.specs.declared.part.HostPart.{HostPart}
 use Rattle.plan_checker.specs.Part.{PartData}
@@ -98,3 +99,7 @@ memories d = map (λ n. length n.memory) d.nodes
 -- nodes and hosts as they are opened, each node with the memory that it has
 abbrev pub reopened : DeviceStates → DeviceStates
 reopened d = record { nodes = map (λ n. node.opened (length n.memory)) d.nodes; hosts = map (λ h. host.opened) d.hosts }
+
+-- no Step of a node would be recorded
+abbrev pub AreQuiet : DeviceStates → Type 0
+AreQuiet d = (number : ℕ) → number < length d.nodes → is_recorded (node_at d number) ≡ false

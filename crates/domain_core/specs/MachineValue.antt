@@ -1,5 +1,5 @@
 -- What contracts see of a machine: its part, its switch, and its nodes and hosts; and what it stands for.
-use Rattle.std.specs.Prelude.{◌≡◌, ◌<◌, ◌==◌, ℕ, List, length, map, filter, Option, Some, Bool, if◌then◌else◌, slice_get}
+use Rattle.std.specs.Prelude.{◌≡◌, ◌<◌, ◌≤◌, ◌==◌, ℕ, List, length, map, filter, Option, None, Bool, if◌then◌else◌, slice_index_or}
 use Rattle.std.specs.Int.{bit_at}
 use Rattle.plan_checker.specs.Part.{PartData}
 use Rattle.virtual_switch.specs.Seen.{Seen, private_of}
@@ -17,15 +17,16 @@ pub record MachineValue : Type 0 where
 abbrev pub machine_of : MachineValue → Machine
 machine_of v = record { switch = private_of v.switch; rest = v.switch.rest; devices = v.devices }
 
--- it has the ports, the nodes and the hosts that its part says
+-- it has the ports, at most 32, and the nodes and the hosts that its part says
 pub record IsOfPart (v : MachineValue) : Type 0 where
+  pub few : v.part.count ≤ 32
   pub count : length v.switch.ports ≡ v.part.count
   pub memories : memories v.devices ≡ map (λ n. n.memory) v.part.nodes
   pub hosts : length v.devices.hosts ≡ length v.part.hosts
 
 -- the device of each port stands in a table
 abbrev pub AreJoined : PartData → List (Option Device) → Type 0
-AreJoined part table = (port : ℕ) → port < part.count → slice_get table port ≡ Some (device_at part port)
+AreJoined part table = (port : ℕ) → port < part.count → slice_index_or table port None ≡ device_at part port
 
 -- the host, node or port of an event is one of the part's
 abbrev pub IsIn : PartData → Event → Type 0

@@ -1,4 +1,8 @@
 //! The entries of a journal.
+ghost use Rattle.std.specs.Prelude.{◌≡◌, ◌<◌, ◌≤◌, ◌+◌, ◌^◌, ◌++◌, ◌∷◌, [], length, vec_len, vec_capacity};
+ghost use Rattle.domain_core.specs.Journal.{expanded, steps};
+ghost use Rattle.domain_core.specs.Ticket.{steps_told};
+
 use crate::event::{By, Event, Reply};
 use t414_step::Stepped;
 
@@ -25,4 +29,70 @@ pub enum Entry {
         /// What the last of them answered; all others answered `Ran`.
         last: Stepped,
     },
+}
+
+/// Notes an answered event, where there is room.
+#[tactic(auto, using(crate::proofs::Runs::expanded_one))]
+pub(crate) fn note(journal: &mut Vec<Entry>, by: By, event: Event, reply: Reply)
+    requires room { vec_len journal.old < vec_capacity journal.old }
+    requires few { length (expanded journal.old.items) < 2 ^ 40 }
+    ensures { expanded journal.new.items ≡ expanded journal.old.items ++ record { call = record { by = by; event = event }; reply = reply } ∷ [] }
+{
+    match (event, reply) {
+        (Event::Step(node), Reply::Stepped(last)) => note_steps(journal, by, node, 1, last),
+        _ => journal.push_reserved(Entry::One { by, event, reply }),
+    }
+}
+
+/// Notes so many Steps of a node, of which the last answered `last` and all others `Ran`, where there is room.
+#[tactic(auto, using(crate::proofs::Runs::expanded_grown, crate::proofs::Runs::expanded_new, crate::proofs::Runs::count_below))]
+pub(crate) fn note_steps(journal: &mut Vec<Entry>, by: By, node: u8, count: u64, last: Stepped)
+    requires room { vec_len journal.old < vec_capacity journal.old }
+    requires few { length (expanded journal.old.items) + count ≤ 2 ^ 40 }
+    ensures { expanded journal.new.items ≡ expanded journal.old.items ++ steps by node count last }
+{
+    if count == 0 {
+        return;
+    }
+    match journal.pop() {
+        Some(
+            Entry::Run {
+                by: asked,
+                node: stepped,
+                count: before,
+                last: Stepped::Ran,
+            },
+        ) if asked == by && stepped == node => journal.push_reserved(Entry::Run {
+            by,
+            node,
+            count: before + count,
+            last,
+        }),
+        Some(entry) => {
+            journal.push_reserved(entry);
+            journal.push_reserved(Entry::Run {
+                by,
+                node,
+                count,
+                last,
+            });
+        }
+        None => journal.push_reserved(Entry::Run {
+            by,
+            node,
+            count,
+            last,
+        }),
+    }
+}
+
+/// Notes the Steps of a ticket, of which the last answered `last`, where there is room.
+pub(crate) fn note_ticket(journal: &mut Vec<Entry>, node: u8, count: u64, last: Option<Stepped>)
+    requires room { vec_len journal.old < vec_capacity journal.old }
+    requires few { length (expanded journal.old.items) + count ≤ 2 ^ 40 }
+    ensures { expanded journal.new.items ≡ expanded journal.old.items ++ steps_told node count last }
+{
+    if let Some(last) = last {
+        note_steps(journal, By::Farm, node, count, last);
+    }
 }

@@ -3,14 +3,21 @@
 #![tactic(auto)]
 
 mod device;
+mod devices;
+mod domain;
 mod event;
 mod host;
 mod journal;
+mod machine;
+mod table;
 #[cfg(test)]
 mod tests;
+mod ticket;
 
 pub use device::Device;
+pub use domain::{Committed, Domain};
 pub use event::{By, Event, Moved, Refusal, Reply};
 pub use host::{Host, QUEUE_BYTES};
 pub use journal::Entry;
 pub use std::alloc::AllocError as NoMemory;
+pub use ticket::{MOST_STEPS, Ticket};

@@ -1,0 +1,12 @@
+pub mod Commits
+pub mod Histories
+pub mod Joined
+pub mod Lists
+pub mod Meant
+pub mod Outcomes
+pub mod Quiet
+pub mod Runs
+pub mod Sizes
+pub mod Tables
+pub mod Tickets
+pub mod Unchanged

@@ -1,0 +1,110 @@
+-- A domain that has answered one event more is still its journal.
+use Rattle.std.proofs.Common.{◌≡◌, ◌≢◌, ℕ, ◌+◌, ◌^◌, ◌<◌, ◌≤◌, ◌==◌, List, [], ◌∷◌, ◌++◌, length, Bool, true, false, not, ◌&&◌, Ok, refl, sym, ap, ◌∙◌, arith, subst, if◌then◌else◌}
+use Rattle.std.proofs.lemmas.Bool.Decides.{nat_tests}
+use Rattle.std.proofs.lemmas.List.{set-get_or, length-append}
+use Rattle.crossbar.specs.Switch.{Switch}
+use Rattle.plan_checker.specs.Part.{PartData}
+use Rattle.bootstrap.specs.declared.node.Node.{Node}
+use Rattle.bootstrap.specs.Laws.{QuietStepChangesNothing}
+use Rattle.bootstrap.specs.Opening as node
+use Rattle.bootstrap.specs.Step as step
+use Rattle.domain_core.specs.declared.event.Event.{Event}
+use Rattle.domain_core.specs.declared.event.Event.TheVariants.{Config, Write, Read, Reset, Look, Step, Move}
+use Rattle.domain_core.specs.declared.event.Reply.{Reply}
+use Rattle.domain_core.specs.declared.journal.Entry.{Entry}
+use Rattle.domain_core.specs.Devices.{DeviceStates, node_at, with_node}
+use Rattle.domain_core.specs.Domain.{DomainValue, state_of, IsMeant}
+use Rattle.domain_core.specs.Journal.{Answered, expanded, IsHistory}
+use Rattle.domain_core.specs.Machine.{Machine, with_devices, acted, is_recorded}
+use Rattle.domain_core.specs.MachineValue.{MachineValue, machine_of}
+use Rattle.domain_core.specs.Moves.{moved}
+use Rattle.domain_core.specs.Private.{State, Answer, Call, is_there, answered, next, opening}
+use Rattle.domain_core.proofs.Histories.{longer}
+use Rattle.domain_core.proofs.Outcomes.{still}
+
+-- ---- what is not recorded changes nothing
+
+quiet_of : (recorded : Bool) → recorded ≡ false → not recorded ≡ true
+quiet_of recorded is = rw is refl
+
+idle_step : QuietStepChangesNothing → (d : DeviceStates) (number : ℕ) → step.is_recorded (node_at d number) ≡ false → with_node number (step.node_step (node_at d number)).0 d ≡ d
+idle_step law d number quiet =
+    let same : (step.node_step (node_at d number)).0 ≡ node_at d number = law (node_at d number) (quiet_of (step.is_recorded (node_at d number)) quiet) in
+    ap (λ (n : Node). with_node number n d) same ∙ ap (λ (nodes : List Node). let e : DeviceStates = record { nodes = nodes; hosts = d.hosts } in e) (set-get_or d.nodes number (node.opened 0))
+
+unrecorded : QuietStepChangesNothing → (part : PartData) (m : Machine) (event : Event) → is_recorded part m event ≡ false → (acted part m event).0 ≡ m
+unrecorded law part m (Config byte) other = absurd cc
+unrecorded law part m (Write host byte) other = absurd cc
+unrecorded law part m (Read host) other = absurd cc
+unrecorded law part m (Reset node) other = absurd cc
+unrecorded law part m (Look node) other = refl
+unrecorded law part m (Step node) other = ap (λ (d : DeviceStates). with_devices d m) (idle_step law m.devices node other)
+unrecorded law part m (Move port) other = ap (λ (d : DeviceStates). with_devices d m) (still part m.switch m.devices port other)
+
+-- ---- an event that is there, below the limit
+
+differ : (m n : ℕ) → m ≢ n → (m == n) ≡ false
+differ m n other = grind (arith, nat_tests)
+
+pub next_told : (part : PartData) (s : State) (call : Call) → is_there part call ≡ true → s.recorded ≢ part.limit → next part s call ≡ (answered part s call.event, Ok (acted part s.machine call.event).1)
+next_told part s call there below = rw (there, differ s.recorded part.limit below) refl
+
+pub same_history : {P Q : PartData} {h k : List Answered} {s t : State} → P ≡ Q → h ≡ k → s ≡ t → IsHistory P h s → IsHistory Q k t
+same_history {P} {Q} {h} {k} {s} {t} parts histories states of =
+    subst (λ (x : State). IsHistory Q k x) states (subst (λ (x : List Answered). IsHistory Q x s) histories (subst (λ (x : PartData). IsHistory x h s) parts of))
+
+counted : (recorded : Bool) (n m : ℕ) → recorded ≡ true → m ≡ n + 1 → (if recorded then n + 1 else n) ≡ m
+counted recorded n m is more = rw (is, more) refl
+
+-- an event that is recorded
+pub meant_recorded : (d : DomainValue) (call : Call) (m : MachineValue) (reply : Reply) (entries : List Entry)
+    → IsMeant d → is_there d.machine.part call ≡ true → length (expanded d.journal) ≢ d.machine.part.limit
+    → machine_of m ≡ (acted d.machine.part (machine_of d.machine) call.event).0
+    → reply ≡ (acted d.machine.part (machine_of d.machine) call.event).1
+    → m.part ≡ d.machine.part
+    → is_recorded d.machine.part (machine_of d.machine) call.event ≡ true
+    → expanded entries ≡ expanded d.journal ++ record { call = call; reply = reply } ∷ []
+    → IsMeant (record { machine = m; journal = entries })
+meant_recorded d call m reply entries meant there below machine replies part recorded gains =
+    let s : State = state_of d in
+    let P : PartData = d.machine.part in
+    let one : Answered = record { call = call; reply = reply } in
+    let told : next P s call ≡ (answered P s call.event, Ok (acted P s.machine call.event).1) = next_told P s call there below in
+    let said : (next P s call).1 ≡ Ok reply = ap (λ (p : State × Answer). p.1) told ∙ ap (λ (r : Reply). let a : Answer = Ok r in a) (sym replies) in
+    let long : length (expanded entries) ≡ s.recorded + 1 = ap length gains ∙ length-append (expanded d.journal) (one ∷ []) in
+    let number : (answered P s call.event).recorded ≡ length (expanded entries) = counted (is_recorded P s.machine call.event) s.recorded (length (expanded entries)) recorded long in
+    let state : (next P s call).0 ≡ state_of (record { machine = m; journal = entries }) =
+    ap (λ (p : State × Answer). p.0) told
+    ∙ ap (λ (x : Machine). let y : State = record { machine = x; recorded = (answered P s call.event).recorded } in y) (sym machine)
+    ∙ ap (λ (n : ℕ). let y : State = record { machine = machine_of m; recorded = n } in y) number in
+    let history : IsHistory P (expanded d.journal ++ one ∷ []) (next P s call).0 = longer P (expanded d.journal) s call reply meant.history said in
+    record {
+      history = same_history (sym part) (sym gains) state history;
+      within_limit = within (length (expanded d.journal)) (length (expanded entries)) d.machine.part.limit m.part.limit meant.within_limit below long (ap (λ (x : PartData). x.limit) part);
+      limit = subst (λ (x : PartData). x.limit ≤ 2 ^ 40) (sym part) meant.limit;
+    }
+  where
+    within : (before now limit same : ℕ) → before ≤ limit → before ≢ limit → now ≡ before + 1 → same ≡ limit → now ≤ same
+    within before now limit same few other more is = omega (arith, few, other, more, is)
+
+-- one that is not
+pub meant_unrecorded : QuietStepChangesNothing → (d : DomainValue) (event : Event) (m : MachineValue) (entries : List Entry)
+    → IsMeant d
+    → machine_of m ≡ (acted d.machine.part (machine_of d.machine) event).0
+    → m.part ≡ d.machine.part
+    → is_recorded d.machine.part (machine_of d.machine) event ≡ false
+    → entries ≡ d.journal
+    → IsMeant (record { machine = m; journal = entries })
+meant_unrecorded law d event m entries meant machine part recorded same =
+    let still : machine_of m ≡ machine_of d.machine = machine ∙ unrecorded law d.machine.part (machine_of d.machine) event recorded in
+    let state : state_of (record { machine = m; journal = entries }) ≡ state_of d =
+    ap (λ (x : Machine). let y : State = record { machine = x; recorded = length (expanded entries) } in y) still
+    ∙ ap (λ (l : List Entry). let y : State = record { machine = machine_of d.machine; recorded = length (expanded l) } in y) same in
+    record {
+      history = same_history (sym part) (ap expanded (sym same)) (sym state) meant.history;
+      within_limit = within_part (length (expanded entries)) (length (expanded d.journal)) d.machine.part.limit m.part.limit (ap (λ (l : List Entry). length (expanded l)) same) meant.within_limit (ap (λ (x : PartData). x.limit) part);
+      limit = subst (λ (x : PartData). x.limit ≤ 2 ^ 40) (sym part) meant.limit;
+    }
+  where
+    within_part : (now before limit same : ℕ) → now ≡ before → before ≤ limit → same ≡ limit → now ≤ same
+    within_part now before limit same still few is = omega (arith, still, few, is)

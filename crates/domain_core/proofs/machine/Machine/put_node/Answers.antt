@@ -1,0 +1,11 @@
+use Rattle.std.proofs.Common.{refl, sym, ap, ◌∙◌, subst, rules, length, ◌≡◌}
+use Rattle.domain_core.specs.Devices.{DeviceStates, node_at, with_node}
+use Rattle.domain_core.specs.MachineValue.{MachineValue}
+use Rattle.domain_core.proofs.Sizes.{still_of_part, large_by, large_with_node}
+use Rattle.domain_core.proofs.machine.Machine.put_node.Goals as goal
+
+pub invariant_of-self : goal.invariant_of-self
+invariant_of-self g c =
+    let v : MachineValue = record { part = c.self.inside.part; switch = c.self.inside.switch; devices = c.self.inside.devices } in
+    let same : length c.args.node.memory ≡ length (node_at v.devices c.args.number).memory = c.requires.size ∙ ap (λ (w : MachineValue). length (node_at w.devices c.args.number).memory) (sym c.self.view_is) in
+    (still_of_part v v.switch c.put_node.new.self c.self.invariant.0 refl (large_by v.devices (with_node c.args.number c.args.node v.devices) c.put_node.new.self c.put_node.ensures (large_with_node v.devices c.args.number c.args.node same)), c.self.invariant.1)

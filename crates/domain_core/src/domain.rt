@@ -1,0 +1,234 @@
+//! A domain: its machine, with the journal of what it answered.
+ghost use Rattle.std.specs.Prelude.{◌≡◌, ◌≢◌, ◌<◌, ◌+◌, ◌++◌, [], None, Some, Ok, Err, length, IfOk, OnErr, IsTrue, ◌↔◌, slice_get, true};
+ghost use Rattle.std.specs.List.{AllZip};
+ghost use Rattle.crossbar.specs.Row.{switch_of};
+ghost use Rattle.crossbar.specs.Switch.{cleared};
+ghost use Rattle.crossbar.specs.Word.{CountsChange};
+ghost use Rattle.domain_core.specs.declared.domain.Committed.TheVariants.{Done, Stale};
+ghost use Rattle.domain_core.specs.declared.event.Refusal.TheVariants.{NoSuch, JournalFull};
+ghost use Rattle.domain_core.specs.MachineValue.{machine_of};
+ghost use Rattle.domain_core.specs.Private.{next, opening};
+ghost use Rattle.domain_core.specs.Journal.{expanded};
+ghost use Rattle.domain_core.specs.Domain.{state_of, IsMeant, gained, Fits, IsQuiet, UnlessNoMemory};
+ghost use Rattle.domain_core.specs.Ticket.{IsHome, Commits, fresh_ticket};
+
+use crate::NoMemory;
+use crate::event::{By, Event, Refusal, Reply};
+use crate::journal::{Entry, note, note_ticket};
+use crate::machine::{Acted, Machine};
+use crate::ticket::Ticket;
+use crossbar::{Numbering, Outputs, Word};
+use plan_checker::{AcceptedPlan, Part};
+use std::alloc::Global;
+use std::marker::Model;
+
+/// What became of a ticket.
+#[derive(Clone, Copy, Debug, PartialEq, Eq)]
+pub enum Committed {
+    /// The node came home, and its Steps are in the journal.
+    Done,
+    /// The home node isn't the ticket's start, or isn't there. Nothing has changed.
+    Stale,
+}
+
+/// A domain: a switch over its outputs, its nodes and its hosts, and the journal of the events that
+/// it answered. At every moment it is what its journal says: the state to which a farm that holds the
+/// domain alone comes by the same events, which it answers alike.
+#[derive(Drop)]
+pub struct Domain<O: Outputs> {
+    machine: Machine<O>,
+    journal: Vec<Entry>,
+    recorded: u64,
+}
+
+impl<O: Outputs> Model for Domain<O> {
+    ghost use Rattle.std.specs.Prelude.{◌≡◌, length};
+    ghost use Rattle.domain_core.specs.Domain.{DomainValue, IsMeant};
+    ghost use Rattle.domain_core.specs.Journal.{expanded};
+
+    ghost Value = { DomainValue };
+
+    ghost view = { λ d. record { machine = d.machine; journal = d.journal.items } };
+
+    ghost invariant = { λ d. IsMeant (record { machine = d.machine; journal = d.journal.items }) × (d.recorded ≡ length (expanded d.journal.items)) };
+}
+
+impl<O: Outputs + Drop> Domain<O> {
+    /// A domain as it is opened, with an empty journal.
+    ///
+    /// The outputs are as many as the part's ports, and all are disconnected. `NoMemory` where
+    /// memories or queues can't be allocated.
+    pub fn open(alloc: Global, part: Part, outputs: O) -> Result<Domain<O>, NoMemory>
+        requires count { length (O.ports outputs) ≡ part.count }
+        requires cleared { switch_of (O.words outputs) ≡ cleared }
+        ensures state { IfOk result (λ d. state_of d ≡ opening part) }
+        ensures journal { IfOk result (λ d. d.journal ≡ []) }
+        ensures part { IfOk result (λ d. d.machine.part ≡ part) }
+        ensures ports { IfOk result (λ d. d.machine.switch.ports ≡ O.ports outputs) }
+        ensures words { IfOk result (λ d. d.machine.switch.words ≡ O.words outputs) }
+    {
+        let machine = Machine::open(alloc, part, outputs)?;
+        Ok(Domain {
+            machine,
+            journal: Vec::new(alloc),
+            recorded: 0,
+        })
+    }
+
+    /// The part that the domain was opened with.
+    pub fn part(&self) -> &Part
+        ensures { result.now ≡ self.now.machine.part }
+    {
+        self.machine.part()
+    }
+
+    /// A domain is its journal.
+    ///
+    /// The call does nothing: its contract is the law.
+    pub fn meant(&self)
+        ensures { IsMeant self.now }
+    {
+        let _ = &self.journal;
+    }
+
+    /// Answers an event as a farm does that holds the domain alone.
+    ///
+    /// `NoSuch` where there is no such user, host, node or port, or the host isn't the user's; else
+    /// `JournalFull` where the recorded events number the limit; else `NoMemory` where the journal
+    /// can't grow. After a refusal nothing has changed.
+    #[tactic(auto, using(crate::proofs::Unchanged::each_counts_itself))]
+    pub fn apply(&mut self, by: By, event: Event) -> Result<Reply, Refusal>
+        ensures answer { UnlessNoMemory result (result ≡ (next self.old.machine.part (state_of self.old) (record { by = by; event = event })).1) }
+        ensures state { UnlessNoMemory result (state_of self.new ≡ (next self.old.machine.part (state_of self.old) (record { by = by; event = event })).0) }
+        ensures journal { expanded self.new.journal ≡ expanded self.old.journal ++ gained self.old.machine.part (state_of self.old) (record { by = by; event = event }) result }
+        ensures err { OnErr result (self.new ≡ self.old) }
+        ensures part { self.new.machine.part ≡ self.old.machine.part }
+        ensures ports { self.new.machine.switch.ports ≡ self.old.machine.switch.ports }
+        ensures counts { AllZip CountsChange self.old.machine.switch.words self.new.machine.switch.words }
+    {
+        if !self.machine.has(by, event) {
+            return Err(Refusal::NoSuch);
+        }
+        if self.recorded == self.machine.part().limit() {
+            return Err(Refusal::JournalFull);
+        }
+        if self.journal.reserve(1).is_err() {
+            return Err(Refusal::NoMemory);
+        }
+        bootstrap::quiet_step_changes_nothing();
+        let Acted { reply, recorded } = self.machine.act(event);
+        if recorded {
+            note(&mut self.journal, by, event, reply);
+            self.recorded += 1;
+        }
+        Ok(reply)
+    }
+
+    /// Whether no Step and no Move would be recorded, the limit aside. Nothing changes.
+    pub fn quiet(&mut self) -> bool
+        ensures quiet { IsTrue result ↔ IsQuiet self.old.machine.part (machine_of self.old.machine) }
+        ensures same { self.new ≡ self.old }
+    {
+        self.machine.quiet()
+    }
+
+    /// The switch word of a virtual output below the domain's count. Nothing changes.
+    pub fn word(&mut self, output: u8) -> Word
+        requires { output < self.old.machine.part.count }
+        ensures word { slice_get self.old.machine.switch.words output ≡ Some result }
+        ensures same { self.new ≡ self.old }
+    {
+        self.machine.word(output)
+    }
+
+    /// Whether the domain has the part and the physical ports of this domain of a plan. It hasn't
+    /// where the plan has no such domain.
+    pub fn fits(&self, plan: &AcceptedPlan, number: u8) -> bool
+        ensures { IsTrue result ↔ Fits plan.now number self.now }
+    {
+        number < plan.domains()
+            && self.machine.part().same(plan.part(number))
+            && self.machine.is_at(&Numbering::of(plan.ranges(number)))
+    }
+
+    /// Makes the domain as it was opened, with an empty journal. Change counts go on.
+    pub fn restart(&mut self)
+        ensures state { state_of self.new ≡ opening self.old.machine.part }
+        ensures journal { self.new.journal ≡ [] }
+        ensures part { self.new.machine.part ≡ self.old.machine.part }
+        ensures ports { self.new.machine.switch.ports ≡ self.old.machine.switch.ports }
+        ensures counts { AllZip CountsChange self.old.machine.switch.words self.new.machine.switch.words }
+    {
+        self.machine.clear();
+        self.journal.clear();
+        self.recorded = 0;
+    }
+
+    /// What the domain answered, in order.
+    pub fn journal(&self) -> &[Entry]
+        ensures { result.now ≡ self.now.journal }
+    {
+        self.journal.as_slice()
+    }
+
+    /// What the domain answered, in order, at its end.
+    pub fn into_journal(self) -> Vec<Entry>
+        ensures { result.items ≡ self.journal }
+    {
+        let Domain {
+            journal,
+            machine: _,
+            recorded: _,
+        } = self;
+        journal
+    }
+
+    /// A ticket of a node: a copy of it, with no Steps yet. The domain's number is only written into
+    /// the ticket.
+    ///
+    /// `NoSuch` where there is no such node, and else `NoMemory` where it can't be copied.
+    pub fn checkout(&self, domain: u8, node: u8) -> Result<Ticket, Refusal>
+        ensures no_such { (result ≡ Err NoSuch) ↔ (slice_get self.now.machine.devices.nodes node ≡ None) }
+        ensures ticket { IfOk result (λ t. (slice_get self.now.machine.devices.nodes node ≡ Some t.start) × (t ≡ fresh_ticket domain node t.start)) }
+        ensures full { result ≢ Err JournalFull }
+    {
+        match self.machine.node(node) {
+            None => Err(Refusal::NoSuch),
+            Some(home) => Ticket::of(domain, node, home).map_err(|_| Refusal::NoMemory),
+        }
+    }
+
+    /// Brings a ticket's node home, where the home node is still the ticket's start, and records its
+    /// Steps, for which the farm asked. The ticket is spent in each case.
+    ///
+    /// `Stale` where the home node isn't the start or isn't there; else `JournalFull` where the
+    /// recorded events and the ticket's Steps pass the limit; else `NoMemory` where the journal can't
+    /// grow. In each of these nothing has changed.
+    pub fn commit(&mut self, ticket: Ticket) -> Result<Committed, Refusal>
+        ensures stale { (result ≡ Ok Stale) ↔ ¬ IsHome self.old ticket }
+        ensures full { (result ≡ Err JournalFull) ↔ (IsHome self.old ticket × (self.old.machine.part.limit < length (expanded self.old.journal) + ticket.steps)) }
+        ensures no_such { result ≢ Err NoSuch }
+        ensures done { result ≡ Ok Done → Commits self.old ticket self.new }
+        ensures same { result ≢ Ok Done → self.new ≡ self.old }
+    {
+        if !self.machine.is_home(&ticket) {
+            return Ok(Committed::Stale);
+        }
+        if self.machine.part().limit() - self.recorded < ticket.steps() {
+            return Err(Refusal::JournalFull);
+        }
+        if self.journal.reserve(1).is_err() {
+            return Err(Refusal::NoMemory);
+        }
+        bootstrap::steps_keep_the_size();
+        bootstrap::recorded_step_ran();
+        ticket.stepped();
+        let number = ticket.number();
+        let steps = ticket.steps();
+        let last = ticket.last();
+        self.machine.put_node(number, ticket.into_node());
+        note_ticket(&mut self.journal, number, steps, last);
+        self.recorded += steps;
+        Ok(Committed::Done)
+    }
+}

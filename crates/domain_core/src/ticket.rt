@@ -1,0 +1,142 @@
+//! A copy of a node, whose Steps are done outside the lock of its domain.
+ghost use Rattle.std.specs.Prelude.{◌≡◌, IfOk, IsTrue, ◌↔◌, min};
+ghost use Rattle.bootstrap.specs.Laws.{later_or};
+ghost use Rattle.domain_core.specs.Ticket.{Bursts, fresh_ticket};
+
+use crate::NoMemory;
+use bootstrap::{Burst, Node};
+use std::marker::Model;
+use t414_step::Stepped;
+
+/// The most Steps of one ticket.
+pub const MOST_STEPS: u64 = 1 << 40;
+
+/// A copy of a node, and the Steps that it has done since it was copied. The home node may change
+/// meanwhile: then the ticket is stale.
+#[derive(Debug, Drop)]
+pub struct Ticket {
+    domain: u8,
+    number: u8,
+    start: Node,
+    node: Node,
+    steps: u64,
+    last: Option<Stepped>,
+}
+
+impl Model for Ticket {
+    ghost use Rattle.domain_core.specs.Ticket.{TicketValue, IsTicket};
+
+    ghost Value = { TicketValue };
+
+    ghost view = { λ t. record { domain = t.domain; number = t.number; start = t.start; node = t.node; steps = t.steps; last = t.last } };
+
+    ghost invariant = { λ t. IsTicket (record { domain = t.domain; number = t.number; start = t.start; node = t.node; steps = t.steps; last = t.last }) };
+}
+
+impl Ticket {
+    ghost use Rattle.domain_core.specs.Ticket.{IsTicket};
+
+    // A ticket of no Steps.
+    pub(crate) fn of(domain: u8, number: u8, home: &Node) -> Result<Ticket, NoMemory>
+        ensures { IfOk result (λ t. t ≡ fresh_ticket domain number home.now) }
+    {
+        let start = home.copy()?;
+        let node = home.copy()?;
+        Ok(Ticket {
+            domain,
+            number,
+            start,
+            node,
+            steps: 0,
+            last: None,
+        })
+    }
+
+    /// Does Steps up to the nth, to the first that would not be recorded, or until the ticket has
+    /// 2^40. It takes neither a lock nor memory.
+    pub fn burst(&mut self, n: u64)
+        ensures { Bursts n self.old self.new }
+    {
+        bootstrap::steps_add_up();
+        let most = at_most(n, MOST_STEPS - self.steps);
+        let Burst { steps, last } = self.node.burst(most);
+        self.steps += steps;
+        self.last = later_or(last, self.last);
+    }
+
+    /// The number of the domain that was written into the ticket at its checkout.
+    pub fn domain(&self) -> u8
+        ensures { result ≡ self.now.domain }
+    {
+        self.domain
+    }
+
+    /// The number of the node in its domain.
+    pub fn number(&self) -> u8
+        ensures { result ≡ self.now.number }
+    {
+        self.number
+    }
+
+    /// How many Steps were done since the checkout, at most 2^40.
+    pub fn steps(&self) -> u64
+        ensures { result ≡ self.now.steps }
+    {
+        self.steps
+    }
+
+    /// What the last Step answered, none where there was none.
+    pub fn last(&self) -> Option<Stepped>
+        ensures { result ≡ self.now.last }
+    {
+        self.last
+    }
+
+    /// The copy is its start after the Steps since, each of which would be recorded.
+    ///
+    /// The call does nothing: its contract is the law.
+    pub fn stepped(&self)
+        ensures { IsTicket self.now }
+    {
+        let _ = &self.node;
+    }
+
+    // Whether a node is the ticket's start.
+    pub(crate) fn starts_at(&self, home: &Node) -> bool
+        ensures { IsTrue result ↔ (home.now ≡ self.now.start) }
+    {
+        home.same(&self.start)
+    }
+
+    // The copy.
+    pub(crate) fn into_node(self) -> Node
+        ensures { result ≡ self.node }
+    {
+        let Ticket {
+            node,
+            start: _,
+            domain: _,
+            number: _,
+            steps: _,
+            last: _,
+        } = self;
+        node
+    }
+}
+
+// The lesser of two numbers.
+fn at_most(n: u64, most: u64) -> u64
+    ensures { result ≡ min n most }
+{
+    if n < most { n } else { most }
+}
+
+// What the last of the later Steps answered, or of those before them where there are no later ones.
+fn later_or(later: Option<Stepped>, before: Option<Stepped>) -> Option<Stepped>
+    ensures { result ≡ later_or later before }
+{
+    match later {
+        Some(answer) => Some(answer),
+        None => before,
+    }
+}
