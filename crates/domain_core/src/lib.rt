@@ -6,6 +6,7 @@ mod device;
 mod event;
 mod host;
 mod journal;
+mod laws;
 #[cfg(test)]
 mod tests;
 
@@ -13,4 +14,5 @@ pub use device::Device;
 pub use event::{By, Event, Moved, Refusal, Reply};
 pub use host::{Host, QUEUE_BYTES};
 pub use journal::Entry;
+pub use laws::peek_answers_the_word;
 pub use std::alloc::AllocError as NoMemory;
