@@ -1,3 +1,4 @@
+pub mod PeekBounds
 pub mod PeekBeginning
 pub mod PeekBytes
 pub mod PeekCalls

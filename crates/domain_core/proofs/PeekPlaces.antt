@@ -28,6 +28,7 @@ use Rattle.domain_core.specs.Machine.{Machine, with_devices, acted, is_recorded}
 use Rattle.domain_core.specs.Moves.{driven, moved}
 use Rattle.domain_core.specs.Private.{State, Call, is_known, is_there, next}
 use Rattle.domain_core.specs.Peek.{Route, CanPeek, packet_passed, node_ran}
+use Rattle.domain_core.proofs.PeekBounds.{driven-below, node-below}
 use Rattle.domain_core.proofs.PeekCalls.{next-recorded}
 
 -- ---- devices in their places
@@ -129,7 +130,7 @@ node-steps p count h n m lt e goes =
     let d : DeviceStates = p.start.machine.devices in
     let here : node_at (placed p.route d h n) p.route.node ≡ n = node-placed p.route d h n p.can.node in
     next-standing p count h h n m (Step p.route.node) (reply.Stepped Ran) lt
-    (rw (p.known, lt-ltb p.route.node (length p.part.nodes) p.can.route.node) refl)
+    (rw (p.known, lt-ltb p.route.node (length p.part.nodes) (node-below p.part p.route.link_port p.route.node p.route.link p.can.route.link_device)) refl)
     (step-acted p.part (standing p count h n).machine p.route.node n m here e
     ∙ ap (λ (x : DeviceStates). (with_devices x p.start.machine, reply.Stepped Ran)) (node-replaced p.route d h n m))
     (step-recorded p.part (standing p count h n).machine p.route.node n m here e goes)
@@ -146,7 +147,7 @@ pub host-moves : (p : Peeking) (count : ℕ) (h : HostState) (n : Node) (packet 
 host-moves p count h n packet lt waits =
     let d : DeviceStates = p.start.machine.devices in
     let link : Device = Link p.route.node p.route.link in
-    port-moves p count p.route.host_port h (packet_left h) n (packet_got p.route.link packet n) lt p.can.route.host_port
+    port-moves p count p.route.host_port h (packet_left h) n (packet_got p.route.link packet n) lt (driven-below p.part p.start.machine.switch p.route.link_port p.route.host_port p.can.switch.back)
     (moved-across p.part p.start.machine.switch (placed p.route d h n) p.route.host_port p.route.link_port (Host p.route.host) link packet p.can.route.host_device p.can.route.link_device
     p.can.switch.there p.can.switch.link_ready (ap (λ (g : HostState). next_of g.end.latch) (host-placed p.route d h n p.can.host) ∙ waits)
     ∙ ap (λ (x : DeviceStates). (arrived packet (Some link) x, Passed)) (host-taken p.route d h n p.can.host)
@@ -158,7 +159,7 @@ pub link-moves : (p : Peeking) (count : ℕ) (h : HostState) (n : Node) (packet 
 link-moves p count h n packet lt waits =
     let d : DeviceStates = p.start.machine.devices in
     let link : Device = Link p.route.node p.route.link in
-    port-moves p count p.route.link_port h (delivered packet h) n (packet_sent p.route.link n) lt p.can.route.link_port
+    port-moves p count p.route.link_port h (delivered packet h) n (packet_sent p.route.link n) lt (driven-below p.part p.start.machine.switch p.route.host_port p.route.link_port p.can.switch.there)
     (moved-across p.part p.start.machine.switch (placed p.route d h n) p.route.link_port p.route.host_port link (Host p.route.host) packet p.can.route.link_device p.can.route.host_device
     p.can.switch.back p.can.switch.host_ready (ap (λ (m : Node). next_of (at p.route.link m.links).end.latch) (node-placed p.route d h n p.can.node) ∙ waits)
     ∙ ap (λ (x : DeviceStates). (arrived packet (Some (Host p.route.host)) x, Passed)) (node-taken p.route d h n p.can.node)

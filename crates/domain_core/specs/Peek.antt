@@ -36,11 +36,8 @@ pub record Route : Type 0 where
 
 -- ---- where a peek may begin
 
--- the part has both devices at these ports
+-- the part has both devices at their ports
 pub record HasRoute (part : PartData) (r : Route) : Type 0 where
-  pub node : r.node < length part.nodes
-  pub host_port : r.host_port < part.count
-  pub link_port : r.link_port < part.count
   pub host_device : device_at part r.host_port ≡ Some (Host r.host)
   pub link_device : device_at part r.link_port ≡ Some (Link r.node r.link)
 
@@ -55,7 +52,8 @@ pub record IsOpen (part : PartData) (s : Switch) (r : Route) : Type 0 where
 abbrev pub peek_message : ℕ → List ℕ
 peek_message address = 1 ∷ bytes_of address
 
--- the whole message is in the sending queue, its first byte is posted and not acknowledged, and 4 bytes have room
+-- the sending queue is the message, its first byte is posted and its acknowledge awaited, nothing else waits or is
+-- held, and 4 bytes have room
 pub record Asks (address : ℕ) (h : HostState) : Type 0 where
   pub sending : h.sending ≡ peek_message address
   pub latch : h.end.latch ≡ record { byte = Some 1; acknowledge = false }
@@ -63,13 +61,14 @@ pub record Asks (address : ℕ) (h : HostState) : Type 0 where
   pub buffer : h.end.input.buffer ≡ None
   pub room : length h.received + 4 ≤ 4096
 
--- a control byte is wanted, no link holds a byte, and nothing waits or is awaited at the one
+-- a control byte is wanted, no link holds a byte, and at this one nothing waits or is awaited
 pub record Listens (link : LinkNumber) (n : Node) : Type 0 where
   pub state : n.state ≡ WantsControl
   pub buffers : (other : LinkNumber) → (at other n.links).end.input.buffer ≡ None
   pub latch : (at link n.links).end.latch ≡ fresh.latch
   pub output : (at link n.links).end.output ≡ fresh.output
 
+-- the machine has both devices, the host asks for the word, the node listens, and 27 events have room
 pub record CanPeek (part : PartData) (r : Route) (address : ℕ) (s : State) : Type 0 where
   pub route : HasRoute part r
   pub switch : IsOpen part s.machine.switch r
@@ -98,7 +97,7 @@ byte_back r = Move r.link_port ∷ Move r.host_port ∷ Step r.node ∷ []
 abbrev pub peek_calls : By → Route → List Call
 peek_calls by r = map (λ event. record { by = by; event = event }) (times 5 (byte_there r) ++ times 4 (byte_back r))
 
--- ---- what comes of it
+-- ---- what comes of them
 
 abbrev pub packet_passed : Answer
 packet_passed = Ok (reply.Moved Passed)
@@ -123,15 +122,17 @@ abbrev pub word_bytes : Node → ℕ → List ℕ
 word_bytes n address = bytes_of (or_zero (word_at n.memory address))
 
 -- the machine after a peek: the host was told the word, and all else is as before, so the node wants a control byte
+-- again
 abbrev pub after_peek : Route → ℕ → Machine → Machine
 after_peek r address m =
     with_devices (with_host r.host (told (word_bytes (node_at m.devices r.node) address) (host_at m.devices r.host)) m.devices) m
 
+-- the events leave just that, each is recorded, and no packet is lost or stays
 pub record Peeks (part : PartData) (by : By) (r : Route) (address : ℕ) (s : State) : Type 0 where
   pub state : after part s (peek_calls by r) ≡ record { machine = after_peek r address s.machine; recorded = s.recorded + 27 }
   pub answers : answers part s (peek_calls by r) ≡ peek_answers
 
--- a host that asks a node which listens is told the word
+-- a host that asks a node which listens is told the word, whoever asks for the events
 abbrev pub PeekAnswersTheWord : Type 0
 PeekAnswersTheWord =
     (part : PartData) (by : By) (r : Route) (address : ℕ) (s : State) → is_known part by ≡ true → CanPeek part r address s → Peeks part by r address s
