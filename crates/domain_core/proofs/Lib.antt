@@ -4,6 +4,14 @@ pub mod Joined
 pub mod Lists
 pub mod Meant
 pub mod Outcomes
+pub mod PeekBeginning
+pub mod PeekBounds
+pub mod PeekBytes
+pub mod PeekCalls
+pub mod PeekNodes
+pub mod PeekPlaces
+pub mod PeekRounds
+pub mod PeekWhole
 pub mod Quiet
 pub mod Runs
 pub mod Sizes

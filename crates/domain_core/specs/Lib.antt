@@ -6,5 +6,6 @@ pub mod Machine
 pub mod MachineValue
 pub mod Moves
 pub mod Numbers
+pub mod Peek
 pub mod Private
 pub mod Ticket

@@ -8,6 +8,7 @@ mod domain;
 mod event;
 mod host;
 mod journal;
+mod laws;
 mod machine;
 mod table;
 #[cfg(test)]
@@ -19,5 +20,6 @@ pub use domain::{Committed, Domain};
 pub use event::{By, Event, Moved, Refusal, Reply};
 pub use host::{Host, QUEUE_BYTES};
 pub use journal::Entry;
+pub use laws::peek_answers_the_word;
 pub use std::alloc::AllocError as NoMemory;
 pub use ticket::{MOST_STEPS, Ticket};

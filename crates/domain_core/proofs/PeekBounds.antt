@@ -1,0 +1,71 @@
+-- A port that is driven is one of the part's, and so is the node of a link that stands at a port.
+use Rattle.std.proofs.Common.{◌≡◌, ℕ, ◌+◌, ◌<◌, ◌≤◌, ◌==◌, Bool, true, false, List, [], ◌∷◌, length, Option, Some, None, if◌then◌else◌, subst, arith}
+use Rattle.std.specs.List.{All, range_with_len}
+use Rattle.std.proofs.lemmas.List.Elements.{All-filter}
+use Rattle.std.proofs.lemmas.List.FromFn.{get_or-range_with_len, length-range_with_len}
+use Rattle.std.proofs.Common.{get_or}
+use Rattle.link_channels.specs.declared.number.LinkNumber.{LinkNumber}
+use Rattle.crossbar.specs.Switch.{Switch, drives}
+use Rattle.plan_checker.specs.declared.part.HostPart.{HostPart}
+use Rattle.plan_checker.specs.declared.part.NodePart.{NodePart}
+use Rattle.plan_checker.specs.Part.{PartData}
+use Rattle.domain_core.specs.declared.device.Device.{Device}
+use Rattle.domain_core.specs.declared.device.Device.TheVariants.{Host, Link}
+use Rattle.domain_core.specs.Devices.{or_else, host_at_port, is_wired_to, link_of_four, link_at_port, device_at}
+use Rattle.domain_core.specs.Moves.{driven}
+
+range-below : (count : ℕ) → All (λ q. q < count) (range_with_len 0 count)
+range-below count k d lt =
+    let is : length (range_with_len 0 count) ≡ count = length-range_with_len 0 count in
+    let below : k < count = omega arith in
+    let value : get_or (range_with_len 0 count) k d ≡ 0 + k = get_or-range_with_len 0 count k d below in
+    omega arith
+
+-- an output that a port drives alone is below the count
+pub driven-below : (part : PartData) (s : Switch) (port output : ℕ) → driven part s port ≡ output ∷ [] → output < part.count
+driven-below part s port output e =
+    let all : All (λ q. q < part.count) (driven part s port) = All-filter (drives s port) (λ q. q < part.count) (range_with_len 0 part.count) (range-below part.count) in
+    let one : All (λ q. q < part.count) (output ∷ []) = subst (λ (xs : List ℕ). All (λ q. q < part.count) xs) e all in
+    one 0 0 (omega arith)
+
+-- the node of a link is below a number
+abbrev Below : ℕ → Option Device → Type 0
+Below bound None = Unit {0}
+Below bound (Some (Host number)) = Unit {0}
+Below bound (Some (Link number link)) = number < bound
+
+below-if : (bound : ℕ) (b : Bool) (x y : Option Device) → Below bound x → Below bound y → Below bound (if b then x else y)
+below-if bound true x y f g = f
+below-if bound false x y f g = g
+
+below-else : (bound : ℕ) (x y : Option Device) → Below bound x → Below bound y → Below bound (or_else x y)
+below-else bound None y f g = g
+below-else bound (Some device) y f g = f
+
+below-wired : (bound : ℕ) (wired : Option ℕ) (port : ℕ) (x y : Option Device) → Below bound x → Below bound y → Below bound (is_wired_to wired port x y)
+below-wired bound None port x y f g = g
+below-wired bound (Some w) port x y f g = below-if bound (w == port) x y f g
+
+hosts-below : (bound number : ℕ) (hosts : List HostPart) (port : ℕ) → Below bound (host_at_port number hosts port)
+hosts-below bound number [] port = tt
+hosts-below bound number (h ∷ hosts) port = below-if bound (h.port == port) (Some (Host number)) (host_at_port (number + 1) hosts port) tt (hosts-below bound (number + 1) hosts port)
+
+links-below : (bound number : ℕ) (links : List (Option ℕ)) (port : ℕ) → number < bound → Below bound (link_of_four number links port)
+links-below bound number (a ∷ b ∷ c ∷ d ∷ []) port lt =
+    below-wired bound a port _ _ lt (below-wired bound b port _ _ lt (below-wired bound c port _ _ lt (below-wired bound d port _ _ lt tt)))
+links-below bound number links port lt = tt
+
+nodes-below : (bound number : ℕ) (nodes : List NodePart) (port : ℕ) → number + length nodes ≤ bound → Below bound (link_at_port number nodes port)
+nodes-below bound number [] port le = tt
+nodes-below bound number (n ∷ nodes) port le =
+    below-else bound (link_of_four number n.links port) (link_at_port (number + 1) nodes port)
+    (links-below bound number n.links port (omega arith))
+    (nodes-below bound (number + 1) nodes port (omega arith))
+
+-- the node of a link that stands at a port is one of the part's
+pub node-below : (part : PartData) (port node : ℕ) (link : LinkNumber) → device_at part port ≡ Some (Link node link) → node < length part.nodes
+node-below part port node link e =
+    subst (Below (length part.nodes)) e
+    (below-else (length part.nodes) (host_at_port 0 part.hosts port) (link_at_port 0 part.nodes port)
+    (hosts-below (length part.nodes) 0 part.hosts port)
+    (nodes-below (length part.nodes) 0 part.nodes port (omega arith)))
