@@ -1,0 +1,7 @@
+pub mod Places
+pub mod Messages
+pub mod Packets
+pub mod Whole
+pub mod Projection
+pub mod Laws
+pub mod Merges

@@ -1,0 +1,40 @@
+-- Journals of several domains in one order.
+use Rattle.std.specs.Prelude.{◌≡◌, ℕ, List, [], Option, Some, None, Ok, slice_get, map, length}
+use Rattle.domain_core.specs.Private.{State, Answer, Call}
+use Rattle.domain_core.specs.Journal.{Answered, IsHistory}
+use Rattle.farm_core.specs.Places.{Place, IsSeparate}
+use Rattle.farm_core.specs.Whole.{whole_after, whole_opening}
+use Rattle.farm_core.specs.Projection.{projected, own}
+use Rattle.farm_core.specs.Laws.{told_by}
+
+abbrev pub journal_at : Option (List Answered) → List Answered
+journal_at None = []
+journal_at (Some journal) = journal
+
+-- the merge has of each domain just its journal, in its order, and nothing of a domain without one
+abbrev pub IsMerge : List (List Answered) → List (ℕ × Answered) → Type 0
+IsMerge journals merge = (domain : ℕ) → own domain merge ≡ journal_at (slice_get journals domain)
+
+abbrev pub calls_in : List (ℕ × Answered) → List (ℕ × Call)
+calls_in merge = map (λ x. (x.0, x.1.call)) merge
+
+abbrev pub replies_in : List (ℕ × Answered) → List Answer
+replies_in merge = map (λ x. Ok x.1.reply) merge
+
+-- there is a journal for each domain, and it is what leads the domain to its state
+pub record AreHistories (plan : List Place) (journals : List (List Answered)) (states : List State) : Type 0 where
+  pub journal_each : length journals ≡ length plan
+  pub state_each : length states ≡ length plan
+  pub each : (domain : ℕ) (place : Place) (journal : List Answered) (s : State) → slice_get plan domain ≡ Some place → slice_get journals domain ≡ Some journal
+      → slice_get states domain ≡ Some s → IsHistory place.part journal s
+
+-- the whole farm, from its opening, answers the calls of a merge by the stored replies, and each domain ends in its state
+pub record IsRun (plan : List Place) (merge : List (ℕ × Answered)) (states : List State) : Type 0 where
+  pub replies : told_by plan (calls_in merge) ≡ replies_in merge
+  pub ends : (domain : ℕ) (place : Place) (s : State) → slice_get plan domain ≡ Some place → slice_get states domain ≡ Some s
+      → projected place (whole_after plan (whole_opening plan) (calls_in merge)) domain ≡ s
+
+abbrev pub EachMergeIsARun : Type 0
+EachMergeIsARun =
+    (plan : List Place) (journals : List (List Answered)) (states : List State) (merge : List (ℕ × Answered)) → IsSeparate plan → AreHistories plan journals states
+    → IsMerge journals merge → IsRun plan merge states
