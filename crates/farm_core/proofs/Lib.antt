@@ -1,2 +1,3 @@
 pub mod Setting
 pub mod Messages
+pub mod Packets

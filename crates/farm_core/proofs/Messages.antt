@@ -21,7 +21,7 @@ use Rattle.farm_core.specs.Messages.{readied, emptied, is_among, raised, raised_
 use Rattle.farm_core.specs.Projection.{own_switch, driver_at, ready_at, lowered_config}
 use Rattle.farm_core.proofs.Setting.{SetsOutput, DrivesItself, sets_connected, sets_disconnected, one_set, get-own_switch, contains-own_switch, same_own_switch, own_switch_sets, untouched, still_drives, number_in-none, keys_of, contains-readied, get-emptied, contains-emptied}
 
-port_at : (ports : List ℕ) (v : ℕ) → v < length ports → slice_get ports v ≡ Some (raised ports v)
+pub port_at : (ports : List ℕ) (v : ℕ) → v < length ports → slice_get ports v ≡ Some (raised ports v)
 port_at ports v h = slice_get-get_or ports v 0 h
 
 one_below : (n a : ℕ) → are_below n (a ∷ []) ≡ true → a < n
