@@ -1,3 +1,4 @@
 pub mod Setting
 pub mod Messages
 pub mod Packets
+pub mod Steps
