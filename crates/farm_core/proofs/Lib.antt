@@ -2,3 +2,6 @@ pub mod Setting
 pub mod Messages
 pub mod Packets
 pub mod Steps
+pub mod Runs
+pub mod Merging
+pub mod Separation

@@ -1,10 +1,10 @@
 -- A Move of a domain in the whole farm is a Move of the domain alone, and no packet comes to another domain.
-use Rattle.std.proofs.Common.{◌≡◌, ◌≢◌, ◌⊎◌, inl, inr, ℕ, zero, suc, ◌<◌, ◌≤◌, ◌+◌, Bool, true, false, cond, ◌&&◌, Option, Some, None, List, [], ◌∷◌, ◌++◌, length, slice_get, map, filter, refl, sym, ap, ◌∙◌, subst, arith, ◌==◌, if◌then◌else◌}
+use Rattle.std.proofs.Common.{◌≡◌, ◌≢◌, inl, inr, ℕ, zero, suc, ◌<◌, ◌≤◌, ◌+◌, Bool, true, false, cond, ◌&&◌, Option, Some, None, List, [], ◌∷◌, ◌++◌, length, slice_get, map, filter, refl, sym, ap, ◌∙◌, subst, arith, ◌==◌}
 use Rattle.std.proofs.lemmas.Bool.{cases_eq, cases_Bool, eq-eqb, ne_eqb, cond-true, cond-false}
 use Rattle.std.proofs.lemmas.Option.{same_Some, none-some, slice_get_within}
 use Rattle.std.proofs.lemmas.List.Elements.{filter-append}
 use Rattle.std.specs.List.{AllByRecursion, range_with_len}
-use Rattle.std.specs.Option.{option_map, option_and_then}
+use Rattle.std.specs.Option.{option_and_then}
 use Rattle.std.specs.FinMap as fin
 use Rattle.os_link.specs.declared.latch.Packet.{Packet}
 use Rattle.crossbar.specs.Switch.{Switch, drives, names}
@@ -17,9 +17,9 @@ use Rattle.domain_core.specs.declared.event.Moved.{Moved}
 use Rattle.domain_core.specs.declared.event.Moved.TheVariants.{Nothing, Lost, Stayed, Passed}
 use Rattle.domain_core.specs.Devices.{DeviceStates, device_at, waiting, taken, arrived}
 use Rattle.domain_core.specs.Moves.{driven, are_ready, copied, outcome, moved_by, sent, moved_from, moved}
-use Rattle.farm_core.specs.Places.{Place, IsSeparate, Joined, joined_to, device_or, device_from, device_in, all_ports}
+use Rattle.farm_core.specs.Places.{Place, IsSeparate, joined_to, device_or, device_from, device_in, all_ports}
 use Rattle.farm_core.specs.Messages.{raised}
-use Rattle.farm_core.specs.Packets.{AllDevices, changed_at, driven_in, taken_in, arrived_in, copied_in, moved_by_in, sent_in, moved_from_in, moved_in}
+use Rattle.farm_core.specs.Packets.{AllDevices, changed_at, driven_in, arrived_in, copied_in, moved_by_in, sent_in, moved_from_in, moved_in}
 use Rattle.farm_core.specs.Projection.{own_switch, driver_at, ready_at}
 use Rattle.farm_core.proofs.Setting.{DrivesItself, get-own_switch, contains-own_switch, number_in-none}
 use Rattle.farm_core.proofs.Messages.{port_at, never_both}
@@ -137,11 +137,12 @@ driven_own plan s domain place w port separate own there at =
     never_both place.ports other.ports w from.0 port (separate.apart domain e place other ne there here) at from.1))
     ∙ filter-raised (raised place.ports) (drives s port) (drives (own_switch place.ports s) w) place.ports 0 (λ v output is_output.
     let from : 0 + v ≡ v = omega arith in
-    let inside = slice_get_within place.ports v output is_output in
-    (ap (raised place.ports) from ∙ same_Some _ _ (sym (port_at place.ports v inside) ∙ is_output),
-    driven-alike place.ports (fin.get s.pairs output) w port is.ports.one_to_one at (λ input. own domain place there v output input is_output)
-    ∙ ap (λ n. names n w) (sym (get-own_switch place.ports s v ∙ ap (driver_at place.ports s) is_output))
-    ∙ ap (drives (own_switch place.ports s) w) (sym from)))
+    let inside = slice_get_within place.ports v output is_output in (
+      ap (raised place.ports) from ∙ same_Some _ _ (sym (port_at place.ports v inside) ∙ is_output),
+      driven-alike place.ports (fin.get s.pairs output) w port is.ports.one_to_one at (λ input. own domain place there v output input is_output)
+          ∙ ap (λ n. names n w) (sym (get-own_switch place.ports s v ∙ ap (driver_at place.ports s) is_output))
+          ∙ ap (drives (own_switch place.ports s) w) (sym from),
+    ))
     ∙ ap (λ n. map (raised place.ports) (filter (drives (own_switch place.ports s) w) (range_with_len 0 n))) is.count
 
 -- ---- ready outputs
@@ -234,7 +235,7 @@ pub record MovesAlone (domain : ℕ) (all : AllDevices) (whole : AllDevices × M
 sends : (plan : List Place) (s : Switch) (domain : ℕ) (place : Place) (outputs : List ℕ) (device : Device) (packet : Option Packet) (all : AllDevices) → HasDevices plan domain place
     → AreBelow (length place.ports) outputs
     → MovesAlone domain all (sent_in plan s all (map (raised place.ports) outputs) (record { domain = domain; device = device }) packet)
-      (sent place.part (own_switch place.ports s) (all domain) outputs device packet)
+    (sent place.part (own_switch place.ports s) (all domain) outputs device packet)
 sends plan s domain place outputs device None all has below = record { answer = refl; devices = unchanged domain all }
 sends plan s domain place outputs device (Some packet) all has below =
     let same = outcome_alike place.ports s outputs below in
@@ -249,7 +250,7 @@ sends plan s domain place outputs device (Some packet) all has below =
 moves_from : (plan : List Place) (s : Switch) (domain : ℕ) (place : Place) (outputs : List ℕ) (device : Option Device) (all : AllDevices) → HasDevices plan domain place
     → AreBelow (length place.ports) outputs
     → MovesAlone domain all (moved_from_in plan s all (map (raised place.ports) outputs) (joined_to domain device))
-      (moved_from place.part (own_switch place.ports s) (all domain) outputs device)
+    (moved_from place.part (own_switch place.ports s) (all domain) outputs device)
 moves_from plan s domain place outputs None all has below = record { answer = refl; devices = unchanged domain all }
 moves_from plan s domain place outputs (Some device) all has below = sends plan s domain place outputs device (waiting (all domain) device) all has below
 

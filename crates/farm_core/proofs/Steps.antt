@@ -1,10 +1,10 @@
 -- One call in the whole farm is that call of the domain alone, and the other domains see nothing of it.
-use Rattle.std.proofs.Common.{◌≡◌, ◌≢◌, inl, inr, ℕ, ◌<◌, ◌+◌, Bool, true, false, cond, ◌&&◌, Option, Some, None, Ok, Err, List, [], ◌∷◌, ◌++◌, length, slice_get, refl, sym, ap, ◌∙◌, subst, arith, ◌==◌, if◌then◌else◌, nat_lt}
+use Rattle.std.proofs.Common.{◌≡◌, ◌≢◌, inl, inr, ℕ, ◌+◌, Bool, true, false, cond, Option, Some, None, Ok, Err, List, [], ◌∷◌, ◌++◌, slice_get, refl, sym, ap, ◌∙◌, subst, ◌==◌, if◌then◌else◌}
 use Rattle.std.proofs.lemmas.Bool.{cases_eq, eq-eqb, ne_eqb, ltb-true, and_parts, cond-true, cond-false}
 use Rattle.std.proofs.lemmas.Option.{same_Some}
 use Rattle.c004_commands.specs.Grammar.{Item, item_of}
 use Rattle.virtual_switch.specs.declared.reply.ConfigReply.{ConfigReply}
-use Rattle.virtual_switch.specs.Private.{Configured, configured, configured_by}
+use Rattle.virtual_switch.specs.Private.{Configured, configured_by}
 use Rattle.crossbar.specs.Switch.{Switch}
 use Rattle.domain_core.specs.declared.event.By.{By}
 use Rattle.domain_core.specs.declared.event.Event.{Event}
@@ -13,13 +13,12 @@ use Rattle.domain_core.specs.declared.event.Moved.{Moved}
 use Rattle.domain_core.specs.declared.event.Reply.{Reply}
 use Rattle.domain_core.specs.declared.event.Reply.TheVariants as reply
 use Rattle.domain_core.specs.declared.event.Refusal.TheVariants.{NoSuch, JournalFull}
-use Rattle.domain_core.specs.Devices.{DeviceStates, host_at}
+use Rattle.domain_core.specs.Devices.{host_at}
 use Rattle.domain_core.specs.Hosts.{is_full}
 use Rattle.domain_core.specs.Machine.{Machine, acted, is_recorded, has_moved}
-use Rattle.domain_core.specs.Private.{State, Call, Answer, is_there, names_own, is_known, answered, next}
+use Rattle.domain_core.specs.Private.{State, Call, Answer, is_there, names_own, answered, next}
 use Rattle.farm_core.specs.Places.{Place, AreApart, IsSeparate, IsPlace}
-use Rattle.farm_core.specs.Messages.{raised, configured_in, configured_by_in}
-use Rattle.farm_core.specs.Packets.{moved_in}
+use Rattle.farm_core.specs.Messages.{configured_by_in}
 use Rattle.farm_core.specs.Whole.{Farm, put_at, machine_in, acted_on_own, acted_in, is_recorded_in, answered_in, next_in, whole_next}
 use Rattle.farm_core.specs.Projection.{own_switch, projected, lowered_config, lowered_reply, lowered}
 use Rattle.farm_core.proofs.Setting.{DrivesItself}
@@ -150,7 +149,7 @@ refused place domain farm whole alone told = record { answer = told; state = ref
 answers-alone : (plan : List Place) (farm : Farm) (domain : ℕ) (place : Place) (call : Call) → IsSeparate plan → EachDrivesItself plan farm.switch → slice_get plan domain ≡ Some place
     → names_own place.part call.by call.event ≡ true
     → StepsAlone place domain farm (answered_in plan place farm domain call.event, Ok (acted_in plan place farm domain call.event).1)
-      (answered place.part (projected place farm domain) call.event, Ok (acted place.part (projected place farm domain).machine call.event).1)
+    (answered place.part (projected place farm domain) call.event, Ok (acted place.part (projected place farm domain).machine call.event).1)
 answers-alone plan farm domain place call separate own there named =
     let a = acts plan farm domain place call.by call.event separate own there named in
     let counts = put-own domain (if is_recorded_in plan place farm domain call.event then farm.recorded domain + 1 else farm.recorded domain) farm.recorded
@@ -168,8 +167,8 @@ answers-alone plan farm domain place call separate own there named =
 steps-by : (plan : List Place) (farm : Farm) (domain : ℕ) (place : Place) (call : Call) → IsSeparate plan → EachDrivesItself plan farm.switch → slice_get plan domain ≡ Some place
     → (named full : Bool) → is_there place.part call ≡ named
     → StepsAlone place domain farm (if named then (if full then (farm, Err JournalFull) else (answered_in plan place farm domain call.event, Ok (acted_in plan place farm domain call.event).1)) else (farm, Err NoSuch))
-      (if named then (if full then (projected place farm domain, Err JournalFull) else (answered place.part (projected place farm domain) call.event, Ok (acted place.part (projected place farm domain).machine call.event).1))
-      else (projected place farm domain, Err NoSuch))
+    (if named then (if full then (projected place farm domain, Err JournalFull) else (answered place.part (projected place farm domain) call.event, Ok (acted place.part (projected place farm domain).machine call.event).1))
+    else (projected place farm domain, Err NoSuch))
 steps-by plan farm domain place call separate own there false full is = refused place domain farm (Err NoSuch) _ refl
 steps-by plan farm domain place call separate own there true true is = refused place domain farm (Err JournalFull) _ refl
 steps-by plan farm domain place call separate own there true false is = answers-alone plan farm domain place call separate own there (and_parts _ _ is).1

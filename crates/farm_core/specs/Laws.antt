@@ -14,7 +14,7 @@ own_answers plan calls domain place = map (lowered place) (own domain (whole_ans
 
 -- a farm that holds the domain alone and takes its own calls in the same order answers so, and ends so
 pub record IsAlone (plan : List Place) (calls : List (ℕ × Call)) (domain : ℕ) (place : Place) : Type 0 where
-  pub answers : own_answers plan calls domain place ≡ answers place.part (opening place.part) (own domain calls)
+  pub told : own_answers plan calls domain place ≡ answers place.part (opening place.part) (own domain calls)
   pub state : projected place (whole_after plan (whole_opening plan) calls) domain ≡ after place.part (opening place.part) (own domain calls)
 
 abbrev pub EachDomainIsPrivate : Type 0

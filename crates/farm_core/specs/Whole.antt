@@ -11,7 +11,7 @@ use Rattle.domain_core.specs.Machine.{Machine, acted, is_recorded, has_moved}
 use Rattle.domain_core.specs.Private.{Call, Answer, is_there}
 use Rattle.farm_core.specs.Places.{Place}
 use Rattle.farm_core.specs.Messages.{raised, configured_in}
-use Rattle.farm_core.specs.Packets.{AllDevices, changed_at, moved_in}
+use Rattle.farm_core.specs.Packets.{AllDevices, moved_in}
 
 pub record Farm : Type 0 where
   pub switch : Switch

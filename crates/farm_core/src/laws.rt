@@ -1,14 +1,29 @@
-//! Laws of the whole farm.
+//! Laws of the whole farm, which is one machine in physical numbers.
 
-ghost use Rattle.farm_core.specs.Laws.{EachDomainIsPrivate};
+ghost use Rattle.farm_core.specs.Laws.{EachDomainIsPrivate, EqualDomainsAreAnsweredAlike, EachIsToldPrivately, NumberedDomainsAreSeparate};
 ghost use Rattle.farm_core.specs.Merges.{EachMergeIsARun};
 
-/// In the whole farm.
-pub fn each_domain_is_private()
-    ensures law { EachDomainIsPrivate }
+/// The places of a plan whose domains are numbered and share no port are separate.
+pub fn numbered_domains_are_separate()
+    ensures law { NumberedDomainsAreSeparate }
 {}
 
-/// merge.
+/// Under a separate plan, for every list of calls of all domains, each domain is answered as in a farm that holds it
+/// alone and that takes its own calls in the same order, and it ends in the state in which that farm ends. What all
+/// callers are told holds, at the domain's places, just these answers.
+pub fn each_domain_is_private()
+    ensures private { EachDomainIsPrivate }
+    ensures told { EachIsToldPrivately }
+{}
+
+/// Two domains with equal parts and equal calls of their own are answered alike, each in its own farm, wherever their
+/// ports lie, whoever their neighbours are and whatever these call.
+pub fn equal_domains_are_answered_alike()
+    ensures law { EqualDomainsAreAnsweredAlike }
+{}
+
+/// The whole farm, from its opening, answers the calls of every merge of its domains' journals by the stored replies,
+/// and each domain ends in the state to which its journal leads.
 pub fn each_merge_is_a_run()
     ensures law { EachMergeIsARun }
 {}
