@@ -1,7 +1,7 @@
 -- What an item of one domain does to what each domain sees.
 use Rattle.std.proofs.Common.{◌≡◌, ◌⊎◌, inl, inr, ℕ, ◌<◌, ◌+◌, ◌-◌, Bool, true, false, cond, Option, Some, None, List, [], ◌∷◌, length, slice_get, is_some, Contains, refl, sym, ap, ◌∙◌, subst, arith, ◌==◌, if◌then◌else◌}
 use Rattle.std.proofs.lemmas.Bool.{cases_Bool, ne_eqb, ltb-true, and_parts, cond-true, cond-false}
-use Rattle.std.proofs.lemmas.Option.{none-some, slice_get-get_or, slice_get_within, get_or_from_slice_get}
+use Rattle.std.proofs.lemmas.Option.{none-some, slice_get-get_or}
 use Rattle.std.specs.Option.{option_and_then}
 use Rattle.std.specs.FinMap as map
 use Rattle.std.specs.FinSet as set
@@ -19,7 +19,8 @@ use Rattle.crossbar.proofs.Numberings.{number_in-port, number_in-some}
 use Rattle.farm_core.specs.Places.{Place, AreApart}
 use Rattle.farm_core.specs.Messages.{readied, emptied, is_among, raised, raised_message, performed_in, after_item_in, reply_in}
 use Rattle.farm_core.specs.Projection.{own_switch, driver_at, ready_at, lowered_config}
-use Rattle.farm_core.proofs.Setting.{SetsOutput, DrivesItself, sets_connected, sets_disconnected, one_set, get-own_switch, contains-own_switch, same_own_switch, own_switch_sets, untouched, still_drives, number_in-none, keys_of, contains-readied, get-emptied, contains-emptied}
+use Rattle.farm_core.specs.Domains.{DrivesItself}
+use Rattle.farm_core.proofs.Setting.{SetsOutput, contains_at, at_contained, sets_connected, sets_disconnected, one_set, get-own_switch, contains-own_switch, same_own_switch, own_switch_sets, untouched, still_drives, number_in-none, keys_of, contains-readied, get-emptied, contains-emptied}
 
 pub port_at : (ports : List ℕ) (v : ℕ) → v < length ports → slice_get ports v ≡ Some (raised ports v)
 port_at ports v h = slice_get-get_or ports v 0 h
@@ -63,7 +64,7 @@ own_readied ports s own =
     readies : (q : ℕ) (found : Option ℕ) → slice_get ports q ≡ found → ready_at (readied ports s) found ≡ is_some (driver_at ports s found)
     readies q None e = refl
     readies q (Some port) e =
-        contains-readied ports s port ∙ cond-true _ _ _ (number_in-some ports port q e) ∙ known_driver ports (map.get s.pairs port) (λ input is. own q port input e is)
+        contains-readied ports s port ∙ cond-true _ _ _ (number_in-some ports port q e) ∙ known_driver ports (map.get s.pairs port) (λ input is. at_contained ports input (own port input (contains_at ports q port e) is))
 
 own_emptied : (ports : List ℕ) (s : Switch) → own_switch ports (emptied ports s) ≡ cleared
 own_emptied ports s =
@@ -134,9 +135,6 @@ own_reply place s (Command message) count =
 
 -- ---- another domain's message
 
-pub contains_at : (ports : List ℕ) (v port : ℕ) → slice_get ports v ≡ Some port → Contains ports port
-contains_at ports v port at = (v, slice_get_within ports v port at, get_or_from_slice_get ports v port port at)
-
 pub never_both : (ports others : List ℕ) (v w port : ℕ) → AreApart ports others → slice_get ports v ≡ Some port → slice_get others w ≡ Some port → ⊥
 never_both ports others v w port apart at there = apart port (contains_at ports v port at) (contains_at others w port there)
 
@@ -196,14 +194,14 @@ Beside ports others = (ports ≡ others) ⊎ AreApart ports others
 drives_connected : (ports others : List ℕ) (s : Switch) (input output : ℕ) → Beside ports others → DrivesItself others s → input < length ports → output < length ports
     → DrivesItself others (connected s (raised ports input) (raised ports output))
 drives_connected ports others s input output beside own i o =
-    still_drives others s _ (raised ports output) (Some (raised ports input)) own (sets_connected s (raised ports input) (raised ports output)) (λ v from at is.
+    still_drives others s _ (raised ports output) (Some (raised ports input)) own (sets_connected s (raised ports input) (raised ports output)) (λ from at is.
     elim beside [
-      | inl same ↦ (input, ap (λ ps. slice_get ps input) (sym same) ∙ port_at ports input i ∙ is)
-      | inr apart ↦ absurd (not_theirs ports others output apart o v at)
+      | inl same ↦ subst (λ ps. Contains ps from) same (contains_at ports input from (port_at ports input i ∙ is))
+      | inr apart ↦ absurd (apart (raised ports output) (contains_at ports output (raised ports output) (port_at ports output o)) at)
     ])
 
 drives_disconnected : (others : List ℕ) (s : Switch) (port : ℕ) → DrivesItself others s → DrivesItself others (disconnected s port)
-drives_disconnected others s port own = still_drives others s _ port None own (sets_disconnected s port) (λ v from at is. absurd (none-some from is))
+drives_disconnected others s port own = still_drives others s _ port None own (sets_disconnected s port) (λ from at is. absurd (none-some from is))
 
 from_cond : (b : Bool) (found : Option ℕ) (from : ℕ) → cond b None found ≡ Some from → found ≡ Some from
 from_cond true found from is = absurd (none-some from is)
@@ -216,8 +214,8 @@ drives_performed ports others s (ConnectBoth first second) beside own below =
     let h = two_below _ first second below in
     drives_connected ports others (connected s (raised ports first) (raised ports second)) second first beside (drives_connected ports others s first second beside own h.0 h.1) h.1 h.0
 drives_performed ports others s (Enquire output) beside own below = own
-drives_performed ports others s MakeReady beside own below = λ v port from at is. own v port from at is
-drives_performed ports others s Clear beside own below = λ v port from at is. own v port from at (from_cond (is_among ports port) _ from (sym (get-emptied ports s port) ∙ is))
+drives_performed ports others s MakeReady beside own below = λ port from at is. own port from at is
+drives_performed ports others s Clear beside own below = λ port from at is. own port from at (from_cond (is_among ports port) _ from (sym (get-emptied ports s port) ∙ is))
 drives_performed ports others s (Disconnect output) beside own below = drives_disconnected others s (raised ports output) own
 drives_performed ports others s (DisconnectBoth first second) beside own below =
     drives_disconnected others (disconnected s (raised ports first)) (raised ports second) (drives_disconnected others s (raised ports first) own)

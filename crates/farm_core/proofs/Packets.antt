@@ -17,11 +17,12 @@ use Rattle.domain_core.specs.declared.event.Moved.{Moved}
 use Rattle.domain_core.specs.declared.event.Moved.TheVariants.{Nothing, Lost, Stayed, Passed}
 use Rattle.domain_core.specs.Devices.{DeviceStates, device_at, waiting, taken, arrived}
 use Rattle.domain_core.specs.Moves.{driven, are_ready, copied, outcome, moved_by, sent, moved_from, moved}
-use Rattle.farm_core.specs.Places.{Place, IsSeparate, joined_to, device_or, device_from, device_in, all_ports}
+use Rattle.farm_core.specs.Places.{Place, put_at, IsSeparate, joined_to, device_or, device_from, device_in, all_ports}
 use Rattle.farm_core.specs.Messages.{raised}
 use Rattle.farm_core.specs.Packets.{AllDevices, changed_at, driven_in, arrived_in, copied_in, moved_by_in, sent_in, moved_from_in, moved_in}
 use Rattle.farm_core.specs.Projection.{own_switch, driver_at, ready_at}
-use Rattle.farm_core.proofs.Setting.{DrivesItself, get-own_switch, contains-own_switch, number_in-none}
+use Rattle.farm_core.specs.Domains.{EachDrivesItself}
+use Rattle.farm_core.proofs.Setting.{contains_at, at_contained, get-own_switch, contains-own_switch, number_in-none}
 use Rattle.farm_core.proofs.Messages.{port_at, never_both}
 
 -- ---- which device is joined to a port
@@ -123,23 +124,18 @@ driven-alike ports (Some input) w port one at own =
     same-test input port u.0 w (λ e. one u.0 w port (u.1 ∙ ap (λ (x : ℕ). Some x) e) at) (λ e. same_Some _ _ (sym u.1 ∙ ap (slice_get ports) e ∙ at))
     ∙ ap (λ n. names n w) (sym (number_in-port ports u.0 input one u.1))
 
--- every domain's outputs are driven from inside it
-abbrev pub EachDrivesItself : List Place → Switch → Type 0
-EachDrivesItself plan s = (domain : ℕ) (place : Place) → slice_get plan domain ≡ Some place → DrivesItself place.ports s
-
 pub driven_own : (plan : List Place) (s : Switch) (domain : ℕ) (place : Place) (w port : ℕ) → IsSeparate plan → EachDrivesItself plan s → slice_get plan domain ≡ Some place → slice_get place.ports w ≡ Some port
     → driven_in plan s port ≡ map (raised place.ports) (driven place.part (own_switch place.ports s) w)
 driven_own plan s domain place w port separate own there at =
     let is = separate.each domain place there in
     filter-only (drives s port) plan domain place there (λ e other v output ne here is_output.
     not-driven (fin.get s.pairs output) port (λ driven.
-    let from = own e other here v output port is_output driven in
-    never_both place.ports other.ports w from.0 port (separate.apart domain e place other ne there here) at from.1))
+    separate.apart domain e place other ne there here port (contains_at place.ports w port at) (own e other here output port (contains_at other.ports v output is_output) driven)))
     ∙ filter-raised (raised place.ports) (drives s port) (drives (own_switch place.ports s) w) place.ports 0 (λ v output is_output.
     let from : 0 + v ≡ v = omega arith in
     let inside = slice_get_within place.ports v output is_output in (
       ap (raised place.ports) from ∙ same_Some _ _ (sym (port_at place.ports v inside) ∙ is_output),
-      driven-alike place.ports (fin.get s.pairs output) w port is.ports.one_to_one at (λ input. own domain place there v output input is_output)
+      driven-alike place.ports (fin.get s.pairs output) w port is.ports.one_to_one at (λ input driven. at_contained place.ports input (own domain place there output input (contains_at place.ports v output is_output) driven))
           ∙ ap (λ n. names n w) (sym (get-own_switch place.ports s v ∙ ap (driver_at place.ports s) is_output))
           ∙ ap (drives (own_switch place.ports s) w) (sym from),
     ))
@@ -176,6 +172,12 @@ outcome_alike ports s (output ∷ outputs) below = ap (λ t. cond t Passed Staye
 
 -- ---- the devices of all domains
 
+pub put-own : {X : Type 0} (domain : ℕ) (x : X) (all : ℕ → X) → put_at domain x all domain ≡ x
+put-own domain x all = cond-true _ _ _ (eq-eqb domain domain refl)
+
+pub put-other : {X : Type 0} (domain : ℕ) (x : X) (all : ℕ → X) (d : ℕ) → d ≢ domain → put_at domain x all d ≡ all d
+put-other domain x all d ne = cond-false _ _ _ (ne_eqb d domain ne)
+
 -- one domain's nodes and hosts become these, and all others stay
 pub record Changes (domain : ℕ) (old new : AllDevices) (devices : DeviceStates) : Type 0 where
   pub own : new domain ≡ devices
@@ -185,10 +187,7 @@ pub unchanged : (domain : ℕ) (all : AllDevices) → Changes domain all all (al
 unchanged domain all = record { own = refl; others = λ d ne. refl }
 
 changes_at : (domain : ℕ) (change : DeviceStates → DeviceStates) (all : AllDevices) → Changes domain all (changed_at domain change all) (change (all domain))
-changes_at domain change all = record {
-  own = cond-true _ _ _ (eq-eqb domain domain refl);
-  others = λ d ne. cond-false _ _ _ (ne_eqb d domain ne);
-}
+changes_at domain change all = record { own = put-own domain (change (all domain)) all; others = put-other domain (change (all domain)) all }
 
 arrives_at : (domain : ℕ) (packet : Packet) (device : Option Device) (all : AllDevices)
     → Changes domain all (arrived_in packet (joined_to domain device) all) (arrived packet device (all domain))

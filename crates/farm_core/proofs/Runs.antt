@@ -16,7 +16,7 @@ use Rattle.farm_core.specs.Whole.{Farm, opened_at, whole_next, whole_answers, wh
 use Rattle.farm_core.specs.Projection.{own_switch, driver_at, ready_at, projected, lowered, lowered_for, own}
 use Rattle.farm_core.specs.Laws.{EachDomainIsPrivate, EqualDomainsAreAnsweredAlike, EachIsToldPrivately}
 use Rattle.farm_core.proofs.Setting.{get-own_switch, contains-own_switch}
-use Rattle.farm_core.proofs.Packets.{EachDrivesItself}
+use Rattle.farm_core.specs.Domains.{EachDrivesItself}
 use Rattle.farm_core.proofs.Steps.{StepsAlone, steps_alone, other_stays, still_each_drives}
 
 -- ---- one domain's own
@@ -81,7 +81,7 @@ runs-alone plan farm (call ∷ calls) domain place separate own there =
 -- ---- from the opening
 
 opening_drives : (plan : List Place) → EachDrivesItself plan (whole_opening plan).switch
-opening_drives plan domain place there v port input at driven = absurd (none-some input (sym (fin.get-empty nat_cmp port) ∙ driven))
+opening_drives plan domain place there port input at driven = absurd (none-some input (sym (fin.get-empty nat_cmp port) ∙ driven))
 
 own_cleared : (ports : List ℕ) → own_switch ports cleared ≡ cleared
 own_cleared ports =

@@ -1,7 +1,7 @@
 -- One output set in the switch of a whole farm, and what a domain sees of it.
-use Rattle.std.proofs.Common.{◌≡◌, inl, inr, ℕ, suc, Bool, true, false, cond, ◌&&◌, ◌||◌, not, Option, Some, None, List, [], ◌∷◌, length, slice_get, is_some, refl, sym, ap, ◌∙◌, nat_cmp, ◌==◌, Equal}
+use Rattle.std.proofs.Common.{◌≡◌, inl, inr, ℕ, suc, Bool, true, false, cond, ◌&&◌, ◌||◌, not, Option, Some, None, List, [], ◌∷◌, length, slice_get, is_some, Contains, refl, sym, ap, ◌∙◌, subst, nat_cmp, ◌==◌, Equal}
 use Rattle.std.proofs.lemmas.Bool.{cases_eq, cases_lt, ne_eqb, lt-ltb, le-ltb, cond-true, cond-false}
-use Rattle.std.proofs.lemmas.Option.{same_Some, none-some, slice_get_past}
+use Rattle.std.proofs.lemmas.Option.{same_Some, none-some, slice_get_past, slice_get_within, get_or_from_slice_get, slice_get-get_or}
 use Rattle.std.specs.Option.{option_map, option_and_then}
 use Rattle.std.specs.Ordering.{eq_by_cmp}
 use Rattle.std.specs.Cmp.{nat_cmp_total}
@@ -13,6 +13,7 @@ use Rattle.crossbar.specs.Row.{number_in}
 use Rattle.crossbar.proofs.Below.{get-map_below, contains-set_below, same_switch, tied, untied}
 use Rattle.farm_core.specs.Messages.{readied, emptied, is_among}
 use Rattle.farm_core.specs.Projection.{own_switch, driver_at, ready_at}
+use Rattle.farm_core.specs.Domains.{DrivesItself}
 
 -- the output has this driver and isn't ready, and all others are as before
 pub record SetsOutput (old new : Switch) (output : ℕ) (input : Option ℕ) : Type 0 where
@@ -28,9 +29,12 @@ sets_disconnected s output = record { pairs = λ q. map.get-remove nat_cmp_total
 pub one_set : (old a b : Switch) (output : ℕ) (input : Option ℕ) → SetsOutput old a output input → SetsOutput old b output input → a ≡ b
 one_set old a b output input h k = same_switch a b (λ q. h.pairs q ∙ sym (k.pairs q)) (λ q. h.ready q ∙ sym (k.ready q))
 
--- each output of the ports is driven by one of them
-abbrev pub DrivesItself : List ℕ → Switch → Type 0
-DrivesItself ports s = (v port input : ℕ) → slice_get ports v ≡ Some port → map.get s.pairs port ≡ Some input → (w : ℕ) × (slice_get ports w ≡ Some input)
+-- a port of a list has a number there, and a number of it a port
+pub contains_at : (ports : List ℕ) (v port : ℕ) → slice_get ports v ≡ Some port → Contains ports port
+contains_at ports v port at = (v, slice_get_within ports v port at, get_or_from_slice_get ports v port port at)
+
+pub at_contained : (ports : List ℕ) (port : ℕ) → Contains ports port → (v : ℕ) × (slice_get ports v ≡ Some port)
+at_contained ports port is = (is.0, slice_get-get_or ports is.0 port is.1 ∙ ap (λ (x : ℕ). Some x) is.2)
 
 -- ---- what a domain sees of a switch
 
@@ -105,11 +109,11 @@ untouched ports old new port input out h =
 
 -- the ports still drive themselves
 pub still_drives : (ports : List ℕ) (old new : Switch) (port : ℕ) (input : Option ℕ) → DrivesItself ports old → SetsOutput old new port input
-    → ((v from : ℕ) → slice_get ports v ≡ Some port → input ≡ Some from → (w : ℕ) × (slice_get ports w ≡ Some from)) → DrivesItself ports new
-still_drives ports old new port input own h own_input v p from at is =
+    → ((from : ℕ) → Contains ports port → input ≡ Some from → Contains ports from) → DrivesItself ports new
+still_drives ports old new port input own h own_input p from at is =
     elim (cases_eq p port) [
-      | inl same ↦ own_input v from (at ∙ ap (λ (x : ℕ). Some x) same) (sym (h.pairs p ∙ cond-true _ _ _ (tied p port same)) ∙ is)
-      | inr ne ↦ own v p from at (sym (h.pairs p ∙ cond-false _ _ _ (untied p port ne)) ∙ is)
+      | inl same ↦ own_input from (subst (Contains ports) same at) (sym (h.pairs p ∙ cond-true _ _ _ (tied p port same)) ∙ is)
+      | inr ne ↦ own p from at (sym (h.pairs p ∙ cond-false _ _ _ (untied p port ne)) ∙ is)
     ]
 
 -- ---- all outputs of a domain

@@ -1,6 +1,6 @@
 -- One call in the whole farm is that call of the domain alone, and the other domains see nothing of it.
 use Rattle.std.proofs.Common.{◌≡◌, ◌≢◌, inl, inr, ℕ, ◌+◌, Bool, true, false, cond, Option, Some, None, Ok, Err, List, [], ◌∷◌, ◌++◌, slice_get, refl, sym, ap, ◌∙◌, subst, ◌==◌, if◌then◌else◌}
-use Rattle.std.proofs.lemmas.Bool.{cases_eq, eq-eqb, ne_eqb, ltb-true, and_parts, cond-true, cond-false}
+use Rattle.std.proofs.lemmas.Bool.{cases_eq, ltb-true, and_parts}
 use Rattle.std.proofs.lemmas.Option.{same_Some}
 use Rattle.c004_commands.specs.Grammar.{Item, item_of}
 use Rattle.virtual_switch.specs.declared.reply.ConfigReply.{ConfigReply}
@@ -19,17 +19,11 @@ use Rattle.domain_core.specs.Machine.{Machine, acted, is_recorded, has_moved}
 use Rattle.domain_core.specs.Private.{State, Call, Answer, is_there, names_own, answered, next}
 use Rattle.farm_core.specs.Places.{Place, AreApart, IsSeparate, IsPlace}
 use Rattle.farm_core.specs.Messages.{configured_by_in}
-use Rattle.farm_core.specs.Whole.{Farm, put_at, machine_in, acted_on_own, acted_in, is_recorded_in, answered_in, next_in, whole_next}
+use Rattle.farm_core.specs.Whole.{Farm, machine_in, acted_on_own, acted_in, is_recorded_in, answered_in, next_in, whole_next}
 use Rattle.farm_core.specs.Projection.{own_switch, projected, lowered_config, lowered_reply, lowered}
-use Rattle.farm_core.proofs.Setting.{DrivesItself}
+use Rattle.farm_core.specs.Domains.{DrivesItself, EachDrivesItself}
 use Rattle.farm_core.proofs.Messages.{Beside, own_item, own_reply, other_item, drives_item}
-use Rattle.farm_core.proofs.Packets.{EachDrivesItself, moves_alone}
-
-put-own : {X : Type 0} (domain : ℕ) (x : X) (all : ℕ → X) → put_at domain x all domain ≡ x
-put-own domain x all = cond-true _ _ _ (eq-eqb domain domain refl)
-
-put-other : {X : Type 0} (domain : ℕ) (x : X) (all : ℕ → X) (d : ℕ) → d ≢ domain → put_at domain x all d ≡ all d
-put-other domain x all d ne = cond-false _ _ _ (ne_eqb d domain ne)
+use Rattle.farm_core.proofs.Packets.{moves_alone, put-own, put-other}
 
 -- the switch after an event of these ports: others see nothing of it, and every domain still drives itself
 record LeavesOthers (ports : List ℕ) (old new : Switch) : Type 0 where

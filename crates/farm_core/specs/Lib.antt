@@ -3,5 +3,6 @@ pub mod Messages
 pub mod Packets
 pub mod Whole
 pub mod Projection
+pub mod Domains
 pub mod Laws
 pub mod Merges

@@ -1,13 +1,13 @@
 -- A Move in the whole farm: the packet that waits at the device of a physical port goes to whichever devices are joined to the
 -- outputs that this port drives, whosever they are. IMS C004 data sheet, link switching.
-use Rattle.std.specs.Prelude.{ℕ, List, [], ◌∷◌, filter, Option, Some, None, if◌then◌else◌, ◌==◌}
+use Rattle.std.specs.Prelude.{ℕ, List, [], ◌∷◌, filter, Option, Some, None}
 use Rattle.os_link.specs.declared.latch.Packet.{Packet}
 use Rattle.crossbar.specs.Switch.{Switch, drives}
 use Rattle.domain_core.specs.declared.event.Moved.{Moved}
 use Rattle.domain_core.specs.declared.event.Moved.TheVariants.{Nothing, Lost, Stayed, Passed}
 use Rattle.domain_core.specs.Devices.{DeviceStates, waiting, taken, arrived}
 use Rattle.domain_core.specs.Moves.{outcome}
-use Rattle.farm_core.specs.Places.{Place, Joined, all_ports, device_in}
+use Rattle.farm_core.specs.Places.{Place, put_at, Joined, all_ports, device_in}
 
 -- the nodes and hosts of each domain
 abbrev pub AllDevices : Type 0
@@ -15,7 +15,7 @@ AllDevices = ℕ → DeviceStates
 
 -- one domain's nodes and hosts are changed so
 abbrev pub changed_at : ℕ → (DeviceStates → DeviceStates) → AllDevices → AllDevices
-changed_at domain change all = λ d. if d == domain then change (all d) else all d
+changed_at domain change all = put_at domain (change (all domain)) all
 
 -- all outputs of the farm that a physical port drives
 abbrev pub driven_in : List Place → Switch → ℕ → List ℕ

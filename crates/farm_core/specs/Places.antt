@@ -1,5 +1,5 @@
 -- The places of a farm's domains among the physical ports of the IMS C004, and which device is joined to each port.
-use Rattle.std.specs.Prelude.{◌≡◌, ◌≢◌, ℕ, ◌+◌, List, [], ◌∷◌, Option, Some, None, slice_get, length, Contains, map, flat_map}
+use Rattle.std.specs.Prelude.{◌≡◌, ◌≢◌, ℕ, ◌+◌, List, [], ◌∷◌, Option, Some, None, slice_get, length, Contains, map, flat_map, if◌then◌else◌, ◌==◌}
 use Rattle.std.specs.Option.{option_map}
 use Rattle.crossbar.specs.Ranges.{IsNumbering}
 use Rattle.crossbar.specs.Row.{number_in}
@@ -37,6 +37,10 @@ pub record IsSeparate (plan : List Place) : Type 0 where
 -- all ports of a plan: domain after domain, each one's by rising virtual numbers
 abbrev pub all_ports : List Place → List ℕ
 all_ports plan = flat_map (λ place. place.ports) plan
+
+-- what each domain has, once one of them has this in place of what it had
+abbrev pub put_at : {X : Type 0} → ℕ → X → (ℕ → X) → ℕ → X
+put_at domain x all = λ d. if d == domain then x else all d
 
 -- ---- the device that is joined to a physical port
 

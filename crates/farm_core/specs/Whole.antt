@@ -9,7 +9,7 @@ use Rattle.domain_core.specs.declared.event.Refusal.TheVariants.{NoSuch, Journal
 use Rattle.domain_core.specs.Devices.{DeviceStates, opened}
 use Rattle.domain_core.specs.Machine.{Machine, acted, is_recorded, has_moved}
 use Rattle.domain_core.specs.Private.{Call, Answer, is_there}
-use Rattle.farm_core.specs.Places.{Place}
+use Rattle.farm_core.specs.Places.{Place, put_at}
 use Rattle.farm_core.specs.Messages.{raised, configured_in}
 use Rattle.farm_core.specs.Packets.{AllDevices, moved_in}
 
@@ -20,10 +20,6 @@ pub record Farm : Type 0 where
   pub devices : AllDevices
   -- how many events of each domain were recorded
   pub recorded : ℕ → ℕ
-
--- a domain has this in place of what it had
-abbrev pub put_at : {X : Type 0} → ℕ → X → (ℕ → X) → ℕ → X
-put_at domain x all = λ d. if d == domain then x else all d
 
 -- the farm's switch, with what is one domain's own
 abbrev pub machine_in : Farm → ℕ → Machine
