@@ -8,6 +8,7 @@ use Rattle.farm_core.specs.Places.{Place, IsSeparate}
 use Rattle.farm_core.specs.Whole.{whole_answers, whole_opening}
 use Rattle.farm_core.specs.Projection.{own}
 use Rattle.farm_core.specs.Merges.{journal_at, IsMerge, calls_in, replies_in, AreHistories, EachMergeIsARun}
+use Rattle.farm_core.proofs.Making.{tidy_after, tidy_opening}
 use Rattle.farm_core.proofs.Runs.{own-here, own-there, own-map, told_pairs, own_told, told_domains, told_answers, each_domain_is_private}
 
 -- ---- a list is known by the order of its domains and by each domain's own
@@ -110,10 +111,17 @@ each_merge_is_a_run plan journals states merge separate are is = record {
       ∙ ap (map (λ t. t.1))
       (same-list (told_pairs plan heard) (stored merge) (told_domains plan (whole_opening plan) (calls_in merge) ∙ call_domains merge) (λ d. own_replies plan journals states merge d (slice_get plan d) refl separate are is))
       ∙ stored_replies merge;
-  ends = λ domain place s there at.
-      let h = history plan journals states domain place are there in
-      let has : own domain merge ≡ h.0 = is domain ∙ ap journal_at h.2 in
-      (each_domain_is_private plan (calls_in merge) domain place separate there).state
-      ∙ ap (after place.part (opening place.part)) (own_calls domain merge ∙ ap calls_of has)
-      ∙ (are.each domain place h.0 s there h.2 at).state;
+  ends =
+      let tidy = tidy_after plan (whole_opening plan) (calls_in merge) separate (tidy_opening plan) in
+      record {
+        state_each = are.state_each;
+        each = λ domain place s there at.
+            let h = history plan journals states domain place are there in
+            let has : own domain merge ≡ h.0 = is domain ∙ ap journal_at h.2 in
+            (each_domain_is_private plan (calls_in merge) domain place separate there).state
+            ∙ ap (after place.part (opening place.part)) (own_calls domain merge ∙ ap calls_of has)
+            ∙ (are.each domain place h.0 s there h.2 at).state;
+        within = tidy.within;
+        free = tidy.free;
+      };
 }

@@ -80,7 +80,7 @@ runs-alone plan farm (call ∷ calls) domain place separate own there =
 
 -- ---- from the opening
 
-opening_drives : (plan : List Place) → EachDrivesItself plan (whole_opening plan).switch
+pub opening_drives : (plan : List Place) → EachDrivesItself plan (whole_opening plan).switch
 opening_drives plan domain place there port input at driven = absurd (none-some input (sym (fin.get-empty nat_cmp port) ∙ driven))
 
 own_cleared : (ports : List ℕ) → own_switch ports cleared ≡ cleared
@@ -96,7 +96,7 @@ own_cleared ports =
     ready None = refl
     ready (Some port) = set.contains-empty nat_cmp port
 
-opens_alone : (plan : List Place) (domain : ℕ) (place : Place) → slice_get plan domain ≡ Some place → projected place (whole_opening plan) domain ≡ opening place.part
+pub opens_alone : (plan : List Place) (domain : ℕ) (place : Place) → slice_get plan domain ≡ Some place → projected place (whole_opening plan) domain ≡ opening place.part
 opens_alone plan domain place there =
     let devices = ap opened_at there in
     λ i. record { machine = record { switch = own_cleared place.ports i; rest = []; devices = devices i }; recorded = 0 }

@@ -135,10 +135,11 @@ pub record StepsAlone (place : Place) (domain : ℕ) (old : Farm) (whole : Farm 
   pub answer : lowered place whole.1 ≡ alone.1
   pub state : projected place whole.0 domain ≡ alone.0
   pub others : (d : ℕ) (other : Place) → d ≢ domain → AreApart place.ports other.ports → projected other whole.0 d ≡ projected other old d
+  pub unseen : (ports : List ℕ) → AreApart place.ports ports → own_switch ports whole.0.switch ≡ own_switch ports old.switch
   pub drives : (ports : List ℕ) → Beside place.ports ports → DrivesItself ports old.switch → DrivesItself ports whole.0.switch
 
 refused : (place : Place) (domain : ℕ) (farm : Farm) (whole alone : Answer) → lowered place whole ≡ alone → StepsAlone place domain farm (farm, whole) (projected place farm domain, alone)
-refused place domain farm whole alone told = record { answer = told; state = refl; others = λ d other ne apart. refl; drives = λ ports beside own. own }
+refused place domain farm whole alone told = record { answer = told; state = refl; others = λ d other ne apart. refl; unseen = λ ports apart. refl; drives = λ ports beside own. own }
 
 answers-alone : (plan : List Place) (farm : Farm) (domain : ℕ) (place : Place) (call : Call) → IsSeparate plan → EachDrivesItself plan farm.switch → slice_get plan domain ≡ Some place
     → names_own place.part call.by call.event ≡ true
@@ -155,6 +156,7 @@ answers-alone plan farm domain place call separate own there named =
           let switch = a.others.apart other.ports apart in
           let count = put-other domain (if is_recorded_in plan place farm domain call.event then farm.recorded domain + 1 else farm.recorded domain) farm.recorded d ne in
           λ i. record { machine = record { switch = switch i; rest = a.other_rests d ne i; devices = a.other_devices d ne i }; recorded = count i };
+      unseen = a.others.apart;
       drives = a.others.drives;
     }
 

@@ -1,11 +1,11 @@
 -- In the whole farm each domain is a farm of its own.
-use Rattle.std.specs.Prelude.{◌≡◌, ℕ, List, map, Some, slice_get, AllPairs, All}
+use Rattle.std.specs.Prelude.{◌≡◌, ℕ, List, ◌++◌, map, Some, slice_get, AllPairs, All}
 use Rattle.std.specs.List.{zip}
 use Rattle.plan_checker.specs.Data.{DomainData}
 use Rattle.plan_checker.specs.Part.{IsNumbered, AreSeparate}
 use Rattle.domain_core.specs.Private.{Call, Answer, answers, after, opening}
 use Rattle.farm_core.specs.Places.{Place, places_of, IsSeparate}
-use Rattle.farm_core.specs.Whole.{whole_answers, whole_after, whole_opening}
+use Rattle.farm_core.specs.Whole.{Farm, whole_answers, whole_after, whole_opening}
 use Rattle.farm_core.specs.Projection.{projected, lowered, lowered_for, own}
 
 -- what a domain is told of a run of the whole farm from its opening, in its own numbers
@@ -28,9 +28,12 @@ EqualDomainsAreAnsweredAlike =
     → slice_get plan domain ≡ Some place → slice_get other_plan other ≡ Some there → place.part ≡ there.part → own domain calls ≡ own other other_calls
     → own_answers plan calls domain place ≡ own_answers other_plan other_calls other there
 
--- what all callers are told, in order
+-- what all callers are told from a farm on, in order, and the same from the opening
+abbrev pub told_from : List Place → Farm → List (ℕ × Call) → List Answer
+told_from plan farm calls = map (λ t. lowered_for (slice_get plan t.0) t.1) (whole_answers plan farm calls)
+
 abbrev pub told_by : List Place → List (ℕ × Call) → List Answer
-told_by plan calls = map (λ t. lowered_for (slice_get plan t.0) t.1) (whole_answers plan (whole_opening plan) calls)
+told_by plan calls = told_from plan (whole_opening plan) calls
 
 -- what the callers of one domain are told among them
 abbrev pub told_to : ℕ → List (ℕ × Call) → List Answer → List Answer
@@ -40,6 +43,14 @@ abbrev pub EachIsToldPrivately : Type 0
 EachIsToldPrivately =
     (plan : List Place) (calls : List (ℕ × Call)) (domain : ℕ) (place : Place) → IsSeparate plan → slice_get plan domain ≡ Some place
     → told_to domain calls (told_by plan calls) ≡ answers place.part (opening place.part) (own domain calls)
+
+-- later calls go on from the farm that the earlier ones left
+pub record IsOneRun (plan : List Place) (farm : Farm) (calls later : List (ℕ × Call)) : Type 0 where
+  pub told : told_from plan farm (calls ++ later) ≡ told_from plan farm calls ++ told_from plan (whole_after plan farm calls) later
+  pub left : whole_after plan farm (calls ++ later) ≡ whole_after plan (whole_after plan farm calls) later
+
+abbrev pub RunsAddUp : Type 0
+RunsAddUp = (plan : List Place) (farm : Farm) (calls later : List (ℕ × Call)) → IsOneRun plan farm calls later
 
 -- the places of a plan whose domains are numbered and share no port are separate
 abbrev pub NumberedDomainsAreSeparate : Type 0

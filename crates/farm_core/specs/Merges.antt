@@ -4,7 +4,8 @@ use Rattle.domain_core.specs.Private.{State, Answer, Call}
 use Rattle.domain_core.specs.Journal.{Answered, IsHistory}
 use Rattle.farm_core.specs.Places.{Place, IsSeparate}
 use Rattle.farm_core.specs.Whole.{whole_after, whole_opening}
-use Rattle.farm_core.specs.Projection.{projected, own}
+use Rattle.farm_core.specs.Projection.{own}
+use Rattle.farm_core.specs.Domains.{IsMadeOf}
 use Rattle.farm_core.specs.Laws.{told_by}
 
 abbrev pub journal_at : Option (List Answered) → List Answered
@@ -28,11 +29,10 @@ pub record AreHistories (plan : List Place) (journals : List (List Answered)) (s
   pub each : (domain : ℕ) (place : Place) (journal : List Answered) (s : State) → slice_get plan domain ≡ Some place → slice_get journals domain ≡ Some journal
       → slice_get states domain ≡ Some s → IsHistory place.part journal s
 
--- the whole farm, from its opening, answers the calls of a merge by the stored replies, and each domain ends in its state
+-- the whole farm, from its opening, answers the calls of a merge by the stored replies, and ends made of these states
 pub record IsRun (plan : List Place) (merge : List (ℕ × Answered)) (states : List State) : Type 0 where
   pub replies : told_by plan (calls_in merge) ≡ replies_in merge
-  pub ends : (domain : ℕ) (place : Place) (s : State) → slice_get plan domain ≡ Some place → slice_get states domain ≡ Some s
-      → projected place (whole_after plan (whole_opening plan) (calls_in merge)) domain ≡ s
+  pub ends : IsMadeOf plan (whole_after plan (whole_opening plan) (calls_in merge)) states
 
 abbrev pub EachMergeIsARun : Type 0
 EachMergeIsARun =

@@ -1,11 +1,31 @@
 //! Laws of the whole farm, which is one machine in physical numbers.
 
-ghost use Rattle.farm_core.specs.Laws.{EachDomainIsPrivate, EqualDomainsAreAnsweredAlike, EachIsToldPrivately, NumberedDomainsAreSeparate};
+ghost use Rattle.farm_core.specs.Domains.{OpeningIsMadeOfOpenings, EachCallIsPrivate, NoDomainNoChange, EachOutputIsOfItsDomain};
+ghost use Rattle.farm_core.specs.Laws.{EachDomainIsPrivate, EqualDomainsAreAnsweredAlike, EachIsToldPrivately, RunsAddUp, NumberedDomainsAreSeparate};
 ghost use Rattle.farm_core.specs.Merges.{EachMergeIsARun};
 
 /// The places of a plan whose domains are numbered and share no port are separate.
 pub fn numbered_domains_are_separate()
     ensures law { NumberedDomainsAreSeparate }
+{}
+
+/// Under a separate plan the whole farm is made of its domains' states, at its opening and after every call: a call of a
+/// domain is answered as by the domain alone, which becomes what it would become alone, and all others stay. A call of a
+/// domain that isn't in the plan changes nothing.
+pub fn each_call_is_private()
+    ensures opening { OpeningIsMadeOfOpenings }
+    ensures call { EachCallIsPrivate }
+    ensures elsewhere { NoDomainNoChange }
+{}
+
+/// A physical output of the whole farm is driven and ready just as its domain, alone, says of its virtual number.
+pub fn each_output_is_of_its_domain()
+    ensures law { EachOutputIsOfItsDomain }
+{}
+
+/// Later calls go on from the farm that the earlier ones left.
+pub fn runs_add_up()
+    ensures law { RunsAddUp }
 {}
 
 /// Under a separate plan, for every list of calls of all domains, each domain is answered as in a farm that holds it
