@@ -1,13 +1,15 @@
 -- A merge of the domains' journals is a run of the whole farm.
-use Rattle.std.proofs.Common.{◌≡◌, inl, inr, ℕ, ◌<◌, ◌≤◌, List, [], ◌∷◌, Option, Some, None, Ok, length, slice_get, map, refl, sym, ap, ◌∙◌, arith}
+use Rattle.std.proofs.Common.{◌≡◌, inl, inr, ℕ, ◌<◌, ◌≤◌, List, [], ◌∷◌, Option, Some, None, Ok, length, slice_get, map, option_map, All, refl, sym, ap, ◌∙◌, arith, subst}
 use Rattle.std.proofs.lemmas.Bool.{cases_eq}
-use Rattle.std.proofs.lemmas.Option.{slice_get_within, slice_get_past, slice_get_cases, none-some}
+use Rattle.std.proofs.lemmas.List.{length-map}
+use Rattle.std.proofs.lemmas.Option.{slice_get_within, slice_get_past, slice_get_cases, none-some, same_Some, slice_get-map, get_or_from_slice_get}
 use Rattle.domain_core.specs.Private.{State, Call, Answer, answers, after, opening}
+use Rattle.domain_core.specs.Domain.{DomainValue, state_of, IsMeant}
 use Rattle.domain_core.specs.Journal.{Answered, IsHistory, calls_of, replies_of}
 use Rattle.farm_core.specs.Places.{Place, IsSeparate}
 use Rattle.farm_core.specs.Whole.{whole_answers, whole_opening}
 use Rattle.farm_core.specs.Projection.{own}
-use Rattle.farm_core.specs.Merges.{journal_at, IsMerge, calls_in, replies_in, AreHistories, EachMergeIsARun}
+use Rattle.farm_core.specs.Merges.{journal_at, IsMerge, calls_in, replies_in, AreHistories, EachMergeIsARun, own_place, own_journal, EachMergeOfDomainsIsARun}
 use Rattle.farm_core.proofs.Making.{tidy_after, tidy_opening}
 use Rattle.farm_core.proofs.Runs.{own-here, own-there, own-map, told_pairs, own_told, told_domains, told_answers, each_domain_is_private}
 
@@ -125,3 +127,32 @@ each_merge_is_a_run plan journals states merge separate are is = record {
         free = tidy.free;
       };
 }
+
+-- ---- of domains, each with its journal
+
+-- what stands at a place of a list that was made of another
+made_of : {X Y : Type 0} (make : X → Y) (found : Option X) (y : Y) → option_map make found ≡ Some y → (x : X) × (found ≡ Some x) × (make x ≡ y)
+made_of make None y is = absurd (none-some y is)
+made_of make (Some x) y is = (x, refl, same_Some _ _ is)
+
+domain_of : {Y : Type 0} (make : DomainValue → Y) (domains : List DomainValue) (number : ℕ) (y : Y) → slice_get (map make domains) number ≡ Some y
+    → (d : DomainValue) × (slice_get domains number ≡ Some d) × (make d ≡ y)
+domain_of make domains number y at = made_of make (slice_get domains number) y (sym (slice_get-map make domains number) ∙ at)
+
+are_histories : (domains : List DomainValue) → All IsMeant domains → AreHistories (map own_place domains) (map own_journal domains) (map state_of domains)
+are_histories domains meant = record {
+  journal_each = length-map domains own_journal ∙ sym (length-map domains own_place);
+  state_each = length-map domains state_of ∙ sym (length-map domains own_place);
+  each = λ number place journal s there journal_at state_at.
+      let d = domain_of own_place domains number place there in
+      let j = domain_of own_journal domains number journal journal_at in
+      let t = domain_of state_of domains number s state_at in
+      let same_j : own_journal d.0 ≡ journal = ap own_journal (same_Some _ _ (sym d.1 ∙ j.1)) ∙ j.2 in
+      let same_s : state_of d.0 ≡ s = ap state_of (same_Some _ _ (sym d.1 ∙ t.1)) ∙ t.2 in
+      let is : IsMeant d.0 = subst IsMeant (get_or_from_slice_get domains number d.0 d.0 d.1) (meant number d.0 (slice_get_within domains number d.0 d.1)) in
+      subst (λ (p : Place). IsHistory p.part journal s) d.2 (subst (λ x. IsHistory d.0.machine.part journal x) same_s (subst (λ h. IsHistory d.0.machine.part h (state_of d.0)) same_j is.history));
+}
+
+pub each_merge_of_domains_is_a_run : EachMergeOfDomainsIsARun
+each_merge_of_domains_is_a_run domains merge separate meant is =
+    each_merge_is_a_run (map own_place domains) (map own_journal domains) (map state_of domains) merge separate (are_histories domains meant) is

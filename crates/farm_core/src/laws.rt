@@ -2,7 +2,7 @@
 
 ghost use Rattle.farm_core.specs.Domains.{OpeningIsMadeOfOpenings, EachCallIsPrivate, NoDomainNoChange, EachOutputIsOfItsDomain};
 ghost use Rattle.farm_core.specs.Laws.{EachDomainIsPrivate, EqualDomainsAreAnsweredAlike, EachIsToldPrivately, RunsAddUp, NumberedDomainsAreSeparate};
-ghost use Rattle.farm_core.specs.Merges.{EachMergeIsARun};
+ghost use Rattle.farm_core.specs.Merges.{EachMergeIsARun, EachMergeOfDomainsIsARun};
 
 /// The places of a plan whose domains are numbered and share no port are separate.
 pub fn numbered_domains_are_separate()
@@ -43,7 +43,8 @@ pub fn equal_domains_are_answered_alike()
 {}
 
 /// The whole farm, from its opening, answers the calls of every merge of its domains' journals by the stored replies,
-/// and each domain ends in the state to which its journal leads.
+/// and ends made of the states to which the journals lead; so for the domains themselves, each with its own journal.
 pub fn each_merge_is_a_run()
-    ensures law { EachMergeIsARun }
+    ensures journals { EachMergeIsARun }
+    ensures domains { EachMergeOfDomainsIsARun }
 {}
