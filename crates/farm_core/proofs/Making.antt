@@ -1,0 +1,176 @@
+-- The whole farm is made of its domains' states, at its opening and after every call.
+use Rattle.std.proofs.Common.{◌≡◌, ◌≢◌, inl, inr, ℕ, zero, suc, Option, Some, None, List, [], ◌∷◌, slice_get, slice_set, option_map, is_some, Contains, refl, sym, ap, ◌∙◌, subst}
+use Rattle.std.proofs.lemmas.Bool.{cases_eq}
+use Rattle.std.proofs.lemmas.Bool.{true≢false}
+use Rattle.std.proofs.lemmas.Option.{same_Some, none-some, slice_get-map, slice_get_within}
+use Rattle.std.proofs.lemmas.List.{length-set, length-map}
+use Rattle.std.specs.Option.{option_and_then}
+use Rattle.std.specs.Ordering.{nat_cmp}
+use Rattle.std.specs.FinMap as fin
+use Rattle.std.specs.FinSet as set
+use Rattle.crossbar.specs.Switch.{Switch}
+use Rattle.crossbar.specs.Ranges.{IsOneToOne}
+use Rattle.crossbar.specs.Row.{number_in}
+use Rattle.crossbar.proofs.Numberings.{number_in-port, number_in-some}
+use Rattle.domain_core.specs.Private.{State, Call, Answer, next, opening}
+use Rattle.farm_core.specs.Places.{Place, AreApart, IsSeparate}
+use Rattle.farm_core.specs.Messages.{raised}
+use Rattle.farm_core.specs.Whole.{Farm, next_in, whole_next, whole_after, whole_opening}
+use Rattle.farm_core.specs.Projection.{own_switch, driver_at, ready_at, projected, lowered_for}
+use Rattle.farm_core.specs.Domains.{DrivesItself, EachDrivesItself, IsFree, Output, output_of, disconnected_output, OpeningIsMadeOfOpenings, EachCallIsPrivate, NoDomainNoChange, EachOutputIsOfItsDomain}
+use Rattle.farm_core.specs.Laws.{RunsAddUp}
+use Rattle.farm_core.proofs.Setting.{contains_at, at_contained, get-own_switch, contains-own_switch}
+use Rattle.farm_core.proofs.Messages.{port_at}
+use Rattle.farm_core.proofs.Steps.{StepsAlone, steps_alone, other_stays, still_each_drives}
+use Rattle.farm_core.proofs.Runs.{opening_drives, opens_alone}
+
+-- ---- a port of no domain
+
+-- seen as a domain of one port
+alone-is : (port other : ℕ) → Contains (port ∷ []) other → other ≡ port
+alone-is port other is =
+    let at = at_contained (port ∷ []) other is in only (at.0) at.1
+  where
+    only : (v : ℕ) → slice_get (port ∷ []) v ≡ Some other → other ≡ port
+    only zero at = sym (same_Some _ _ at)
+    only (suc v) at = absurd (none-some other at)
+
+ready-of_one : (port : ℕ) (s : Switch) → set.contains (own_switch (port ∷ []) s).ready 0 ≡ set.contains s.ready port
+ready-of_one port s = contains-own_switch (port ∷ []) s 0
+
+driver-of_one : (port : ℕ) (s : Switch) → fin.get (own_switch (port ∷ []) s).pairs 0 ≡ option_and_then (number_in (port ∷ [])) (fin.get s.pairs port)
+driver-of_one port s = get-own_switch (port ∷ []) s 0
+
+no-driver : (port : ℕ) (found : Option ℕ) → ((input : ℕ) → found ≡ Some input → Contains (port ∷ []) input) → option_and_then (number_in (port ∷ [])) found ≡ None → found ≡ None
+no-driver port None own none = refl
+no-driver port (Some input) own none =
+    let at = at_contained (port ∷ []) input (own input refl) in
+    absurd (true≢false (sym (number_in-some (port ∷ []) input at.0 at.1) ∙ ap is_some none))
+
+apart_from_one : (ports : List ℕ) (port : ℕ) → (Contains ports port → ⊥) → AreApart ports (port ∷ [])
+apart_from_one ports port out other mine is = out (subst (Contains ports) (alone-is port other is) mine)
+
+still_free : (place : Place) (domain : ℕ) (old : Farm) (whole : Farm × Answer) (alone : State × Answer) (port : ℕ) → (Contains place.ports port → ⊥) → StepsAlone place domain old whole alone
+    → output_of old.switch port ≡ disconnected_output → output_of whole.0.switch port ≡ disconnected_output
+still_free place domain old whole alone port out step free =
+    let apart = apart_from_one place.ports port out in
+    let same = step.unseen (port ∷ []) apart in
+    let old_none : fin.get old.switch.pairs port ≡ None = ap (λ (o : Output). o.driver) free in
+    let old_drives : DrivesItself (port ∷ []) old.switch = λ output input is driven. absurd (none-some input (sym old_none ∙ ap (fin.get old.switch.pairs) (sym (alone-is port output is)) ∙ driven)) in
+    let drives = step.drives (port ∷ []) (inr apart) old_drives in
+    let driver = no-driver port (fin.get whole.0.switch.pairs port) (λ input driven. drives port input (contains_at (port ∷ []) 0 port refl) driven)
+    (sym (driver-of_one port whole.0.switch) ∙ ap (λ (s : Switch). fin.get s.pairs 0) same ∙ driver-of_one port old.switch ∙ ap (option_and_then (number_in (port ∷ []))) old_none) in
+    let ready = sym (ready-of_one port whole.0.switch) ∙ ap (λ (s : Switch). set.contains s.ready 0) same ∙ ready-of_one port old.switch ∙ ap (λ (o : Output). o.ready) free in
+    λ i. record { driver = driver i; ready = ready i }
+
+-- no connection leaves a domain, and ports of no domain are disconnected
+pub record IsTidy (plan : List Place) (s : Switch) : Type 0 where
+  pub within : EachDrivesItself plan s
+  pub free : (port : ℕ) → IsFree plan port → output_of s port ≡ disconnected_output
+
+free-by : (plan : List Place) (farm : Farm) (caller : ℕ) (call : Call) (found : Option Place) → slice_get plan caller ≡ found → IsSeparate plan → IsTidy plan farm.switch
+    → (port : ℕ) → IsFree plan port → output_of (next_in plan farm caller call found).0.switch port ≡ disconnected_output
+free-by plan farm caller call None at separate tidy port free = tidy.free port free
+free-by plan farm caller call (Some place) at separate tidy port free =
+    let step = steps_alone plan farm caller place call separate tidy.within at in
+    subst (λ (found : Option Place). output_of (next_in plan farm caller call found).0.switch port ≡ disconnected_output) at
+    (still_free place caller farm _ _ port (free caller place at) step (tidy.free port free))
+
+pub tidy_next : (plan : List Place) (farm : Farm) (call : ℕ × Call) → IsSeparate plan → IsTidy plan farm.switch → IsTidy plan (whole_next plan farm call).0.switch
+tidy_next plan farm call separate tidy = record {
+  within = still_each_drives plan farm call separate tidy.within;
+  free = free-by plan farm call.0 call.1 (slice_get plan call.0) refl separate tidy;
+}
+
+pub tidy_after : (plan : List Place) (farm : Farm) (calls : List (ℕ × Call)) → IsSeparate plan → IsTidy plan farm.switch → IsTidy plan (whole_after plan farm calls).switch
+tidy_after plan farm [] separate tidy = tidy
+tidy_after plan farm (call ∷ calls) separate tidy = tidy_after plan (whole_next plan farm call).0 calls separate (tidy_next plan farm call separate tidy)
+
+pub tidy_opening : (plan : List Place) → IsTidy plan (whole_opening plan).switch
+tidy_opening plan = record {
+  within = opening_drives plan;
+  free = λ port free. λ i. record { driver = fin.get-empty nat_cmp port i; ready = set.contains-empty nat_cmp port i };
+}
+
+-- ---- the states of all domains
+
+get-set_same : {X : Type 0} (xs : List X) (i : ℕ) (x y : X) → slice_get xs i ≡ Some y → slice_get (slice_set xs i x) i ≡ Some x
+get-set_same [] i x y at = absurd (none-some y at)
+get-set_same (z ∷ xs) zero x y at = refl
+get-set_same (z ∷ xs) (suc i) x y at = get-set_same xs i x y at
+
+get-set_other : {X : Type 0} (xs : List X) (i j : ℕ) (x : X) → j ≢ i → slice_get (slice_set xs i x) j ≡ slice_get xs j
+get-set_other [] i j x ne = refl
+get-set_other (z ∷ xs) zero zero x ne = absurd (ne refl)
+get-set_other (z ∷ xs) zero (suc j) x ne = refl
+get-set_other (z ∷ xs) (suc i) zero x ne = refl
+get-set_other (z ∷ xs) (suc i) (suc j) x ne = get-set_other xs i j x (λ e. ne (ap suc e))
+
+pub opening_is_made_of_openings : OpeningIsMadeOfOpenings
+opening_is_made_of_openings plan = record {
+  state_each = length-map plan (λ place. opening place.part);
+  each = λ domain place s there at.
+      let opened : Some (opening place.part) ≡ Some s =
+      ap (option_map (λ (p : Place). opening p.part)) (sym there) ∙ sym (slice_get-map (λ (p : Place). opening p.part) plan domain) ∙ at in
+      opens_alone plan domain place there ∙ same_Some _ _ opened;
+  within = opening_drives plan;
+  free = (tidy_opening plan).free;
+}
+
+pub each_call_is_private : EachCallIsPrivate
+each_call_is_private plan farm states domain call place s separate made there at =
+    let step = steps_alone plan farm domain place call separate made.within there in
+    let is = made.each domain place s there at in
+    let tidy = tidy_next plan farm (domain, call) separate (record { within = made.within; free = made.free }) in
+    let new = (next place.part s call).0 in
+    record {
+      answer = step.answer ∙ ap (λ t. (next place.part t call).1) is;
+      made = record {
+        state_each = length-set states domain new ∙ made.state_each;
+        each = λ d other t here has.
+            elim (cases_eq d domain) [
+              | inl same ↦
+                  let mine : place ≡ other = same_Some _ _ (sym there ∙ ap (slice_get plan) (sym same) ∙ here) in
+                  let state : new ≡ t = same_Some _ _ (sym (get-set_same states domain new s at) ∙ ap (slice_get (slice_set states domain new)) (sym same) ∙ has) in
+                  (λ i. projected (sym mine i) (whole_next plan farm (domain, call)).0 (same i))
+                  ∙ step.state ∙ ap (λ t. (next place.part t call).0) is ∙ state
+              | inr ne ↦
+                  other_stays plan farm domain call d other separate made.within here ne
+                  ∙ made.each d other t here (sym (get-set_other states domain d new ne) ∙ has)
+            ];
+        within = tidy.within;
+        free = tidy.free;
+      };
+    }
+
+pub no_domain_no_change : NoDomainNoChange
+no_domain_no_change plan farm domain call none = ap (next_in plan farm domain call) none
+
+-- ---- what the outputs say
+
+raised-number : (ports : List ℕ) (found : Option ℕ) → IsOneToOne ports → ((input : ℕ) → found ≡ Some input → Contains ports input) → found ≡ option_map (raised ports) (option_and_then (number_in ports) found)
+raised-number ports None one own = refl
+raised-number ports (Some input) one own =
+    let at = at_contained ports input (own input refl) in
+    let back : raised ports at.0 ≡ input = same_Some _ _ (sym (port_at ports at.0 (slice_get_within ports at.0 input at.1)) ∙ at.1) in
+    ap (λ (x : ℕ). Some x) (sym back) ∙ ap (option_map (raised ports)) (sym (number_in-port ports at.0 input one at.1))
+
+pub each_output_is_of_its_domain : EachOutputIsOfItsDomain
+each_output_is_of_its_domain plan farm states domain place s output port separate made there at is =
+    let own = made.within domain place there in
+    let seen : own_switch place.ports farm.switch ≡ s.machine.switch = ap (λ (t : State). t.machine.switch) (made.each domain place s there at) in
+    let driver = raised-number place.ports (fin.get farm.switch.pairs port) (separate.each domain place there).ports.one_to_one (λ input driven. own port input (contains_at place.ports output port is) driven)
+    ∙ ap (option_map (raised place.ports)) (sym (get-own_switch place.ports farm.switch output ∙ ap (driver_at place.ports farm.switch) is) ∙ ap (λ (t : Switch). fin.get t.pairs output) seen) in
+    let ready = sym (contains-own_switch place.ports farm.switch output ∙ ap (ready_at farm.switch) is) ∙ ap (λ (t : Switch). set.contains t.ready output) seen in
+    λ i. record { driver = driver i; ready = ready i }
+
+-- ---- run after run
+
+pub runs_add_up : RunsAddUp
+runs_add_up plan farm [] later = record { told = refl; left = refl }
+runs_add_up plan farm (call ∷ calls) later =
+    let rest = runs_add_up plan (whole_next plan farm call).0 calls later in
+    record {
+      told = ap (λ told. lowered_for (slice_get plan call.0) (whole_next plan farm call).1 ∷ told) rest.told;
+      left = rest.left;
+    }

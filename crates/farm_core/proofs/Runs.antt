@@ -1,0 +1,160 @@
+-- A run of the whole farm is, for each domain, a run of a farm that holds it alone.
+use Rattle.std.proofs.Common.{◌≡◌, ◌≢◌, inl, inr, ℕ, true, false, Option, Some, None, List, [], ◌∷◌, slice_get, map, refl, sym, ap, ◌∙◌, subst, ◌==◌}
+use Rattle.std.proofs.lemmas.Bool.{cases_eq, eq-eqb, ne_eqb}
+use Rattle.std.proofs.lemmas.Option.{none-some}
+use Rattle.std.specs.List.{zip}
+use Rattle.std.specs.FinMap as fin
+use Rattle.std.specs.FinSet as set
+use Rattle.std.specs.Ordering.{nat_cmp}
+use Rattle.std.specs.Option.{option_and_then}
+use Rattle.crossbar.specs.Row.{number_in}
+use Rattle.crossbar.specs.Switch.{cleared}
+use Rattle.crossbar.proofs.Below.{same_switch}
+use Rattle.domain_core.specs.Private.{Call, Answer, next, answers, after, opening}
+use Rattle.farm_core.specs.Places.{Place, IsSeparate}
+use Rattle.farm_core.specs.Whole.{Farm, opened_at, whole_next, whole_answers, whole_after, whole_opening}
+use Rattle.farm_core.specs.Projection.{own_switch, driver_at, ready_at, projected, lowered, lowered_for, own}
+use Rattle.farm_core.specs.Laws.{EachDomainIsPrivate, EqualDomainsAreAnsweredAlike, EachIsToldPrivately}
+use Rattle.farm_core.proofs.Setting.{get-own_switch, contains-own_switch}
+use Rattle.farm_core.specs.Domains.{EachDrivesItself}
+use Rattle.farm_core.proofs.Steps.{StepsAlone, steps_alone, other_stays, still_each_drives}
+
+-- ---- one domain's own
+
+pub own-here : {X : Type 0} (domain : ℕ) (x : ℕ × X) (xs : List (ℕ × X)) → x.0 ≡ domain → own domain (x ∷ xs) ≡ x.1 ∷ own domain xs
+own-here domain x xs same = let test : (x.0 == domain) ≡ true = eq-eqb _ _ same in rw test refl
+
+pub own-there : {X : Type 0} (domain : ℕ) (x : ℕ × X) (xs : List (ℕ × X)) → x.0 ≢ domain → own domain (x ∷ xs) ≡ own domain xs
+own-there domain x xs ne = let test : (x.0 == domain) ≡ false = ne_eqb _ _ ne in rw test refl
+
+-- ---- run after run
+
+-- from any farm on, a domain is told what it would be told alone, and becomes what it would become
+record RunsAlone (plan : List Place) (farm : Farm) (calls : List (ℕ × Call)) (domain : ℕ) (place : Place) : Type 0 where
+  told : map (lowered place) (own domain (whole_answers plan farm calls)) ≡ answers place.part (projected place farm domain) (own domain calls)
+  state : projected place (whole_after plan farm calls) domain ≡ after place.part (projected place farm domain) (own domain calls)
+
+-- its own call
+own-call : (plan : List Place) (farm : Farm) (call : ℕ × Call) (calls : List (ℕ × Call)) (domain : ℕ) (place : Place) → call.0 ≡ domain
+    → StepsAlone place domain farm (whole_next plan farm call) (next place.part (projected place farm domain) call.1)
+    → RunsAlone plan (whole_next plan farm call).0 calls domain place → RunsAlone plan farm (call ∷ calls) domain place
+own-call plan farm call calls domain place same step rest =
+    let asked = own-here domain call calls same in
+    let answer : ℕ × Answer = (call.0, (whole_next plan farm call).1) in
+    let heard = own-here domain answer (whole_answers plan (whole_next plan farm call).0 calls) same in
+    record {
+      told =
+          ap (map (lowered place)) heard
+          ∙ (λ i. step.answer i ∷ (rest.told ∙ ap (λ s. answers place.part s (own domain calls)) step.state) i)
+          ∙ sym (ap (answers place.part (projected place farm domain)) asked);
+      state = rest.state ∙ ap (λ s. after place.part s (own domain calls)) step.state ∙ sym (ap (after place.part (projected place farm domain)) asked);
+    }
+
+-- another's
+other-call : (plan : List Place) (farm : Farm) (call : ℕ × Call) (calls : List (ℕ × Call)) (domain : ℕ) (place : Place) → call.0 ≢ domain
+    → projected place (whole_next plan farm call).0 domain ≡ projected place farm domain → RunsAlone plan (whole_next plan farm call).0 calls domain place
+    → RunsAlone plan farm (call ∷ calls) domain place
+other-call plan farm call calls domain place ne stays rest =
+    let asked = own-there domain call calls ne in
+    let answer : ℕ × Answer = (call.0, (whole_next plan farm call).1) in
+    let heard = own-there domain answer (whole_answers plan (whole_next plan farm call).0 calls) ne in
+    record {
+      told =
+          ap (map (lowered place)) heard ∙ rest.told ∙ ap (λ s. answers place.part s (own domain calls)) stays
+          ∙ sym (ap (answers place.part (projected place farm domain)) asked);
+      state = rest.state ∙ ap (λ s. after place.part s (own domain calls)) stays ∙ sym (ap (after place.part (projected place farm domain)) asked);
+    }
+
+runs-alone : (plan : List Place) (farm : Farm) (calls : List (ℕ × Call)) (domain : ℕ) (place : Place) → IsSeparate plan → EachDrivesItself plan farm.switch → slice_get plan domain ≡ Some place
+    → RunsAlone plan farm calls domain place
+runs-alone plan farm [] domain place separate own there = record { told = refl; state = refl }
+runs-alone plan farm (call ∷ calls) domain place separate own there =
+    let rest = runs-alone plan (whole_next plan farm call).0 calls domain place separate (still_each_drives plan farm call separate own) there in
+    elim (cases_eq call.0 domain) [
+      | inl same ↦
+          own-call plan farm call calls domain place same
+          (subst (λ d. StepsAlone place d farm (whole_next plan farm call) (next place.part (projected place farm d) call.1)) same
+          (steps_alone plan farm call.0 place call.1 separate own (ap (slice_get plan) same ∙ there))) rest
+      | inr ne ↦ other-call plan farm call calls domain place ne (other_stays plan farm call.0 call.1 domain place separate own there (λ e. ne (sym e))) rest
+    ]
+
+-- ---- from the opening
+
+pub opening_drives : (plan : List Place) → EachDrivesItself plan (whole_opening plan).switch
+opening_drives plan domain place there port input at driven = absurd (none-some input (sym (fin.get-empty nat_cmp port) ∙ driven))
+
+own_cleared : (ports : List ℕ) → own_switch ports cleared ≡ cleared
+own_cleared ports =
+    same_switch _ _ (λ q. get-own_switch ports cleared q ∙ driver (slice_get ports q) ∙ sym (fin.get-empty nat_cmp q)) (λ q.
+    contains-own_switch ports cleared q ∙ ready (slice_get ports q) ∙ sym (set.contains-empty nat_cmp q))
+  where
+    driver : (found : Option ℕ) → driver_at ports cleared found ≡ None
+    driver None = refl
+    driver (Some port) = ap (option_and_then (number_in ports)) (fin.get-empty nat_cmp port)
+
+    ready : (found : Option ℕ) → ready_at cleared found ≡ false
+    ready None = refl
+    ready (Some port) = set.contains-empty nat_cmp port
+
+pub opens_alone : (plan : List Place) (domain : ℕ) (place : Place) → slice_get plan domain ≡ Some place → projected place (whole_opening plan) domain ≡ opening place.part
+opens_alone plan domain place there =
+    let devices = ap opened_at there in
+    λ i. record { machine = record { switch = own_cleared place.ports i; rest = []; devices = devices i }; recorded = 0 }
+
+pub each_domain_is_private : EachDomainIsPrivate
+each_domain_is_private plan calls domain place separate there =
+    let run = runs-alone plan (whole_opening plan) calls domain place separate (opening_drives plan) there in
+    let opens = opens_alone plan domain place there in
+    record {
+      told = run.told ∙ ap (λ s. answers place.part s (own domain calls)) opens;
+      state = run.state ∙ ap (λ s. after place.part s (own domain calls)) opens;
+    }
+
+pub equal_domains_are_answered_alike : EqualDomainsAreAnsweredAlike
+equal_domains_are_answered_alike plan other_plan calls other_calls domain other place there separate other_separate at other_at parts asked =
+    (each_domain_is_private plan calls domain place separate at).told ∙ (λ i. answers (parts i) (opening (parts i)) (asked i))
+    ∙ sym (each_domain_is_private other_plan other_calls other there other_separate other_at).told
+
+-- ---- what all callers are told
+
+-- one domain's own of what is made of each
+pub own-map : {X Y : Type 0} (make : ℕ → X → Y) (domain : ℕ) (xs : List (ℕ × X)) → own domain (map (λ x. (x.0, make x.0 x.1)) xs) ≡ map (make domain) (own domain xs)
+own-map make domain [] = refl
+own-map {X} {Y} make domain (x ∷ xs) =
+    let made : ℕ × Y = (x.0, make x.0 x.1) in
+    elim (cases_eq x.0 domain) [
+      | inl same ↦
+          own-here domain made (map (λ x. (x.0, make x.0 x.1)) xs) same
+          ∙ (λ i. make (same i) x.1 ∷ own-map make domain xs i)
+          ∙ sym (ap (map (make domain)) (own-here domain x xs same))
+      | inr ne ↦ own-there domain made (map (λ x. (x.0, make x.0 x.1)) xs) ne ∙ own-map make domain xs ∙ sym (ap (map (make domain)) (own-there domain x xs ne))
+    ]
+
+-- each answer as it is told, with the domain that it goes to
+abbrev pub told_pairs : List Place → List (ℕ × Answer) → List (ℕ × Answer)
+told_pairs plan heard = map (λ t. (t.0, lowered_for (slice_get plan t.0) t.1)) heard
+
+pub own_told : (plan : List Place) (calls : List (ℕ × Call)) (domain : ℕ) (place : Place) → IsSeparate plan → slice_get plan domain ≡ Some place
+    → own domain (told_pairs plan (whole_answers plan (whole_opening plan) calls)) ≡ answers place.part (opening place.part) (own domain calls)
+own_told plan calls domain place separate there =
+    own-map (λ d answer. lowered_for (slice_get plan d) answer) domain (whole_answers plan (whole_opening plan) calls)
+    ∙ ap (λ found. map (lowered_for found) (own domain (whole_answers plan (whole_opening plan) calls))) there
+    ∙ (each_domain_is_private plan calls domain place separate there).told
+
+pub told_domains : (plan : List Place) (farm : Farm) (calls : List (ℕ × Call)) → map (λ t. t.0) (told_pairs plan (whole_answers plan farm calls)) ≡ map (λ c. c.0) calls
+told_domains plan farm [] = refl
+told_domains plan farm (call ∷ calls) = ap (λ ds. call.0 ∷ ds) (told_domains plan (whole_next plan farm call).0 calls)
+
+pub told_answers : (plan : List Place) (heard : List (ℕ × Answer)) → map (λ t. t.1) (told_pairs plan heard) ≡ map (λ t. lowered_for (slice_get plan t.0) t.1) heard
+told_answers plan [] = refl
+told_answers plan (t ∷ heard) = ap (λ rest. lowered_for (slice_get plan t.0) t.1 ∷ rest) (told_answers plan heard)
+
+zip-parts : {X : Type 0} (xs : List (ℕ × X)) → zip (map (λ x. x.0) xs) (map (λ x. x.1) xs) ≡ xs
+zip-parts [] = refl
+zip-parts (x ∷ xs) = ap (λ rest. x ∷ rest) (zip-parts xs)
+
+pub each_is_told_privately : EachIsToldPrivately
+each_is_told_privately plan calls domain place separate there =
+    let heard = whole_answers plan (whole_opening plan) calls in
+    (λ i. own domain (zip (sym (told_domains plan (whole_opening plan) calls) i) (sym (told_answers plan heard) i)))
+    ∙ ap (own domain) (zip-parts (told_pairs plan heard)) ∙ own_told plan calls domain place separate there

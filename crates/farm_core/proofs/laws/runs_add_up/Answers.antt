@@ -1,0 +1,5 @@
+use Rattle.farm_core.proofs.Making as making
+use Rattle.farm_core.proofs.laws.runs_add_up.Goals as goal
+
+pub returns : goal.returns
+returns c = record { law = making.runs_add_up }

@@ -1,0 +1,57 @@
+-- In the whole farm each domain is a farm of its own.
+use Rattle.std.specs.Prelude.{◌≡◌, ℕ, List, ◌++◌, map, Some, slice_get, AllPairs, All}
+use Rattle.std.specs.List.{zip}
+use Rattle.plan_checker.specs.Data.{DomainData}
+use Rattle.plan_checker.specs.Part.{IsNumbered, AreSeparate}
+use Rattle.domain_core.specs.Private.{Call, Answer, answers, after, opening}
+use Rattle.farm_core.specs.Places.{Place, places_of, IsSeparate}
+use Rattle.farm_core.specs.Whole.{Farm, whole_answers, whole_after, whole_opening}
+use Rattle.farm_core.specs.Projection.{projected, lowered, lowered_for, own}
+
+-- what a domain is told of a run of the whole farm from its opening, in its own numbers
+abbrev pub own_answers : List Place → List (ℕ × Call) → ℕ → Place → List Answer
+own_answers plan calls domain place = map (lowered place) (own domain (whole_answers plan (whole_opening plan) calls))
+
+-- a farm that holds the domain alone and takes its own calls in the same order answers so, and ends so
+pub record IsAlone (plan : List Place) (calls : List (ℕ × Call)) (domain : ℕ) (place : Place) : Type 0 where
+  pub told : own_answers plan calls domain place ≡ answers place.part (opening place.part) (own domain calls)
+  pub state : projected place (whole_after plan (whole_opening plan) calls) domain ≡ after place.part (opening place.part) (own domain calls)
+
+abbrev pub EachDomainIsPrivate : Type 0
+EachDomainIsPrivate =
+    (plan : List Place) (calls : List (ℕ × Call)) (domain : ℕ) (place : Place) → IsSeparate plan → slice_get plan domain ≡ Some place → IsAlone plan calls domain place
+
+-- two farms with equal domains, in ports of their own and beside whatever others, answer these alike, whatever the others call
+abbrev pub EqualDomainsAreAnsweredAlike : Type 0
+EqualDomainsAreAnsweredAlike =
+    (plan other_plan : List Place) (calls other_calls : List (ℕ × Call)) (domain other : ℕ) (place there : Place) → IsSeparate plan → IsSeparate other_plan
+    → slice_get plan domain ≡ Some place → slice_get other_plan other ≡ Some there → place.part ≡ there.part → own domain calls ≡ own other other_calls
+    → own_answers plan calls domain place ≡ own_answers other_plan other_calls other there
+
+-- what all callers are told from a farm on, in order, and the same from the opening
+abbrev pub told_from : List Place → Farm → List (ℕ × Call) → List Answer
+told_from plan farm calls = map (λ t. lowered_for (slice_get plan t.0) t.1) (whole_answers plan farm calls)
+
+abbrev pub told_by : List Place → List (ℕ × Call) → List Answer
+told_by plan calls = told_from plan (whole_opening plan) calls
+
+-- what the callers of one domain are told among them
+abbrev pub told_to : ℕ → List (ℕ × Call) → List Answer → List Answer
+told_to domain calls told = own domain (zip (map (λ c. c.0) calls) told)
+
+abbrev pub EachIsToldPrivately : Type 0
+EachIsToldPrivately =
+    (plan : List Place) (calls : List (ℕ × Call)) (domain : ℕ) (place : Place) → IsSeparate plan → slice_get plan domain ≡ Some place
+    → told_to domain calls (told_by plan calls) ≡ answers place.part (opening place.part) (own domain calls)
+
+-- later calls go on from the farm that the earlier ones left
+pub record IsOneRun (plan : List Place) (farm : Farm) (calls later : List (ℕ × Call)) : Type 0 where
+  pub told : told_from plan farm (calls ++ later) ≡ told_from plan farm calls ++ told_from plan (whole_after plan farm calls) later
+  pub left : whole_after plan farm (calls ++ later) ≡ whole_after plan (whole_after plan farm calls) later
+
+abbrev pub RunsAddUp : Type 0
+RunsAddUp = (plan : List Place) (farm : Farm) (calls later : List (ℕ × Call)) → IsOneRun plan farm calls later
+
+-- the places of a plan whose domains are numbered and share no port are separate
+abbrev pub NumberedDomainsAreSeparate : Type 0
+NumberedDomainsAreSeparate = (plan : List DomainData) → All IsNumbered plan → AllPairs AreSeparate plan → IsSeparate (places_of plan)
