@@ -1,26 +1,26 @@
 -- A history that is so many Steps of one node longer.
-use Rattle.std.proofs.Common.{◌≡◌, ◌≢◌, ℕ, zero, suc, ◌+◌, ◌^◌, ◌<◌, ◌≤◌, List, [], ◌∷◌, ◌++◌, length, Bool, true, false, Option, Some, None, Ok, refl, sym, ap, ◌∙◌, arith, subst, append_assoc, add-zero, if◌then◌else◌, set, replicate}
+use Rattle.std.proofs.Common.{◌≡◌, ◌≢◌, ℕ, zero, suc, ◌+◌, ◌^◌, ◌<◌, ◌≤◌, List, [], ◌∷◌, ◌++◌, length, Bool, true, Option, Some, None, Ok, refl, sym, ap, ◌∙◌, arith, subst, append_assoc, add-zero, if◌then◌else◌, set, replicate}
 use Rattle.std.specs.Prelude.{slice_get}
 use Rattle.std.proofs.lemmas.List.{get_or-set_same, append-nil, length-append, length-replicate}
-use Rattle.std.proofs.lemmas.Option.{slice_get_within, get_or_from_slice_get}
+use Rattle.std.proofs.lemmas.Option.{slice_get_within}
 use Rattle.plan_checker.specs.Part.{PartData}
 use Rattle.t414_step.specs.declared.stepping.Stepped.{Stepped}
 use Rattle.t414_step.specs.declared.stepping.Stepped.TheVariants.{Ran}
 use Rattle.bootstrap.specs.declared.node.Node.{Node}
-use Rattle.bootstrap.specs.Laws.{RecordedStepRan, StepsKeepTheSize}
+use Rattle.bootstrap.specs.Laws.{RecordedStepRan}
 use Rattle.bootstrap.specs.Opening as node
 use Rattle.bootstrap.specs.Step.{node_step, is_recorded}
-use Rattle.bootstrap.specs.Steps.{after_steps, last_answer, IsAfter}
+use Rattle.bootstrap.specs.Steps.{after_steps, last_answer}
 use Rattle.domain_core.specs.declared.event.By.TheVariants.{Farm}
 use Rattle.domain_core.specs.declared.event.Event.TheVariants.{Step}
 use Rattle.domain_core.specs.declared.event.Reply.TheVariants as reply
 use Rattle.domain_core.specs.declared.journal.Entry.{Entry}
-use Rattle.domain_core.specs.Devices.{DeviceStates, node_at, with_node}
+use Rattle.domain_core.specs.Devices.{node_at, with_node}
 use Rattle.domain_core.specs.Domain.{DomainValue, state_of, IsMeant}
 use Rattle.domain_core.specs.Journal.{Answered, stepped, steps, expanded, IsHistory}
-use Rattle.domain_core.specs.Machine.{Machine, with_devices, acted}
+use Rattle.domain_core.specs.Machine.{with_devices, acted}
 use Rattle.domain_core.specs.MachineValue.{MachineValue, machine_of}
-use Rattle.domain_core.specs.Private.{State, Answer, Call, is_there, answered, next, opening}
+use Rattle.domain_core.specs.Private.{State, Answer, Call, is_there, answered, next}
 use Rattle.domain_core.specs.Ticket.{TicketValue, IsTicket, steps_told}
 use Rattle.domain_core.proofs.Histories.{longer}
 use Rattle.domain_core.proofs.Meant.{next_told, same_history}

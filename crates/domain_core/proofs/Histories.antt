@@ -1,5 +1,5 @@
 -- A history that is one event longer.
-use Rattle.std.proofs.Common.{◌≡◌, List, [], ◌∷◌, ◌++◌, map, Ok, refl, ap}
+use Rattle.std.proofs.Common.{◌≡◌, List, [], ◌∷◌, ◌++◌, Ok, refl, ap}
 use Rattle.std.proofs.lemmas.List.{map-append}
 use Rattle.plan_checker.specs.Part.{PartData}
 use Rattle.domain_core.specs.declared.event.Reply.{Reply}

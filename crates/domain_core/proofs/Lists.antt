@@ -1,5 +1,5 @@
 -- Lists that are changed from their front on.
-use Rattle.std.proofs.Common.{◌≡◌, ℕ, zero, suc, ◌+◌, ◌<◌, List, [], ◌∷◌, ◌++◌, length, map, replicate, set, get_or, refl, ap, sym, ◌∙◌, arith, add-one}
+use Rattle.std.proofs.Common.{◌≡◌, ℕ, zero, suc, ◌+◌, List, [], ◌∷◌, ◌++◌, length, map, replicate, set, get_or, refl, ap, sym, ◌∙◌, add-one}
 use Rattle.std.proofs.lemmas.List.{replicate_more}
 
 -- the first so many members changed

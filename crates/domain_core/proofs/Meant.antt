@@ -1,8 +1,7 @@
 -- A domain that has answered one event more is still its journal.
-use Rattle.std.proofs.Common.{◌≡◌, ◌≢◌, ℕ, ◌+◌, ◌^◌, ◌<◌, ◌≤◌, ◌==◌, List, [], ◌∷◌, ◌++◌, length, Bool, true, false, not, ◌&&◌, Ok, refl, sym, ap, ◌∙◌, arith, subst, if◌then◌else◌}
+use Rattle.std.proofs.Common.{◌≡◌, ◌≢◌, ℕ, ◌+◌, ◌^◌, ◌≤◌, ◌==◌, List, [], ◌∷◌, ◌++◌, length, Bool, true, false, not, Ok, refl, sym, ap, ◌∙◌, arith, subst, if◌then◌else◌}
 use Rattle.std.proofs.lemmas.Bool.Decides.{nat_tests}
 use Rattle.std.proofs.lemmas.List.{set-get_or, length-append}
-use Rattle.crossbar.specs.Switch.{Switch}
 use Rattle.plan_checker.specs.Part.{PartData}
 use Rattle.bootstrap.specs.declared.node.Node.{Node}
 use Rattle.bootstrap.specs.Laws.{QuietStepChangesNothing}
@@ -17,8 +16,7 @@ use Rattle.domain_core.specs.Domain.{DomainValue, state_of, IsMeant}
 use Rattle.domain_core.specs.Journal.{Answered, expanded, IsHistory}
 use Rattle.domain_core.specs.Machine.{Machine, with_devices, acted, is_recorded}
 use Rattle.domain_core.specs.MachineValue.{MachineValue, machine_of}
-use Rattle.domain_core.specs.Moves.{moved}
-use Rattle.domain_core.specs.Private.{State, Answer, Call, is_there, answered, next, opening}
+use Rattle.domain_core.specs.Private.{State, Answer, Call, is_there, answered, next}
 use Rattle.domain_core.proofs.Histories.{longer}
 use Rattle.domain_core.proofs.Outcomes.{still}
 

@@ -1,5 +1,5 @@
 -- Machines of which no Step and no Move would be recorded.
-use Rattle.std.proofs.Common.{◌≡◌, ◌≢◌, ℕ, ◌+◌, ◌<◌, ◌≤◌, Bool, true, false, not, List, length, Option, Some, refl, ap, sym, ◌∙◌, subst, below_more, arith}
+use Rattle.std.proofs.Common.{◌≡◌, ℕ, ◌+◌, ◌<◌, ◌≤◌, Bool, true, false, not, length, refl, ap, sym, ◌∙◌, subst, below_more, arith}
 use Rattle.bootstrap.specs.declared.node.Node.{Node}
 use Rattle.bootstrap.specs.Step.{is_recorded, is_quiet}
 use Rattle.domain_core.specs.Devices.{DeviceStates, node_at, AreQuiet}
@@ -10,7 +10,7 @@ use Rattle.domain_core.specs.Moves.{moved}
 use Rattle.domain_core.specs.declared.event.Moved.{Moved}
 use Rattle.virtual_switch.specs.Seen.{private_of}
 use Rattle.domain_core.specs.MachineValue.{MachineValue, IsOfPart, machine_of}
-use Rattle.domain_core.specs.declared.event.Event.TheVariants.{Step, Move}
+use Rattle.domain_core.specs.declared.event.Event.TheVariants.{Move}
 use Rattle.domain_core.proofs.Outcomes.{of_part_nodes}
 
 not_twice : (recorded quiet : Bool) → quiet ≡ not recorded → quiet ≡ true → recorded ≡ false

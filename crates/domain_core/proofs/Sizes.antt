@@ -20,7 +20,7 @@ use Rattle.domain_core.specs.declared.event.Event.TheVariants.{Config, Write, Re
 use Rattle.domain_core.specs.declared.event.Moved.{Moved}
 use Rattle.domain_core.specs.declared.event.Moved.TheVariants.{Nothing, Lost, Stayed, Passed}
 use Rattle.domain_core.specs.Devices.{DeviceStates, memories, opened, reopened, node_at, with_node, taken, arrived, waiting, device_at}
-use Rattle.domain_core.specs.Moves.{copied, outcome, driven, moved_by, sent, moved_from, moved}
+use Rattle.domain_core.specs.Moves.{copied, outcome, driven, moved_by, sent, moved_from}
 use Rattle.domain_core.specs.Machine.{Machine, acted}
 
 same_sizes : (nodes : List Node) (i : ℕ) (n d : Node) → length n.memory ≡ length (get_or nodes i d).memory → map (λ k. length k.memory) (set nodes i n) ≡ map (λ k. length k.memory) nodes

@@ -1,12 +1,12 @@
 -- Devices looked for from a place in a list on.
-use Rattle.std.proofs.Common.{◌≡◌, ◌≢◌, ℕ, ◌+◌, ◌<◌, ◌≤◌, List, [], ◌∷◌, length, drop, get_or, Option, Some, None, refl, ap, sym, ◌∙◌, arith}
+use Rattle.std.proofs.Common.{◌≡◌, ◌≢◌, ℕ, ◌+◌, ◌<◌, ◌≤◌, List, ◌∷◌, length, drop, get_or, Some, None, refl, ap, ◌∙◌, arith}
 use Rattle.std.proofs.lemmas.Bool.Decides.{nat_tests}
 use Rattle.std.proofs.lemmas.List.{drop_more, drop_all}
 use Rattle.plan_checker.specs.declared.part.HostPart.{HostPart}
 use Rattle.plan_checker.specs.declared.part.NodePart.{NodePart}
 use Rattle.domain_core.specs.declared.device.Device.{Device}
 use Rattle.domain_core.specs.declared.device.Device.TheVariants.{Host}
-use Rattle.domain_core.specs.Devices.{or_else, host_at_port, link_at_port, link_of_four}
+use Rattle.domain_core.specs.Devices.{host_at_port, link_at_port, link_of_four}
 
 first_host : (number port : ℕ) (h : HostPart) (hosts : List HostPart) → h.port ≡ port → host_at_port number (h ∷ hosts) port ≡ Some (Host number)
 first_host number port h hosts here = grind (arith, nat_tests)

@@ -1,13 +1,13 @@
 -- A ticket that goes on.
-use Rattle.std.proofs.Common.{◌≡◌, ℕ, zero, ◌+◌, ◌-◌, ◌<◌, ◌≤◌, ◌^◌, true, false, min, Option, Some, None, ◌⊎◌, inl, inr, refl, sym, ap, ◌∙◌, subst, arith}
+use Rattle.std.proofs.Common.{◌≡◌, ℕ, zero, ◌+◌, ◌-◌, ◌<◌, ◌≤◌, true, min, Option, None, ◌⊎◌, inl, inr, refl, sym, ap, ◌∙◌, arith}
 use Rattle.std.proofs.lemmas.Bool.{cases_lt}
 use Rattle.t414_step.specs.declared.stepping.Stepped.{Stepped}
 use Rattle.bootstrap.specs.declared.burst.Burst.{Burst}
 use Rattle.bootstrap.specs.declared.node.Node.{Node}
 use Rattle.bootstrap.specs.Laws.{later_or, StepsAddUp, LastAnswersAddUp}
 use Rattle.bootstrap.specs.Step.{is_quiet}
-use Rattle.bootstrap.specs.Steps.{after_steps, last_answer, IsAfter, IsBurst}
-use Rattle.domain_core.specs.Ticket.{TicketValue, IsTicket, Bursts, most_steps, fresh_ticket}
+use Rattle.bootstrap.specs.Steps.{after_steps, last_answer, IsBurst}
+use Rattle.domain_core.specs.Ticket.{TicketValue, IsTicket, Bursts, most_steps}
 
 no_steps : (n : Node) → after_steps zero n ≡ n
 unfolding after_steps

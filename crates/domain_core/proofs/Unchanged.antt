@@ -1,5 +1,5 @@
 -- Switch words that stay.
-use Rattle.std.proofs.Common.{◌≡◌, List, ap, subst}
+use Rattle.std.proofs.Common.{List}
 use Rattle.std.specs.List.{AllZip}
 use Rattle.crossbar.specs.declared.word.Word.{Word}
 use Rattle.crossbar.specs.Word.{CountsChange}

@@ -3,7 +3,6 @@ use Rattle.std.specs.Prelude.{◌≡◌, false, ℕ, ◌+◌, ◌<◌, ◌==◌,
 use Rattle.os_link.specs.End.{next_of}
 use Rattle.os_link.specs.declared.latch.Packet.{Packet}
 use Rattle.link_channels.specs.Links.{at, packet_arrived, packet_taken}
-use Rattle.link_channels.specs.declared.number.LinkNumber.{LinkNumber}
 use Rattle.link_channels.specs.declared.number.LinkNumber.TheVariants.{Zero, One, Two, Three}
 use Rattle.bootstrap.specs.declared.node.Node.{Node}
 use Rattle.bootstrap.specs.Opening as node

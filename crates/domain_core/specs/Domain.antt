@@ -1,13 +1,11 @@
 -- A domain: a machine and the journal of what it answered. What holds of every domain.
-use Rattle.std.specs.Prelude.{ℕ, List, [], ◌∷◌, length, ◌≡◌, ◌<◌, ◌≤◌, ◌^◌, Result, Ok, Err, true, false, if◌then◌else◌, slice_get, Some}
-use Rattle.crossbar.specs.Switch.{Switch}
+use Rattle.std.specs.Prelude.{ℕ, List, [], ◌∷◌, length, ◌≡◌, ◌<◌, ◌≤◌, ◌^◌, Ok, Err, false, if◌then◌else◌, slice_get, Some}
 use Rattle.plan_checker.specs.Data.{DomainData}
 use Rattle.plan_checker.specs.Part.{PartData, part_of, physical_ports}
-use Rattle.bootstrap.specs.Step.{is_quiet}
 use Rattle.domain_core.specs.declared.event.Event.TheVariants.{Step, Move}
 use Rattle.domain_core.specs.declared.event.Refusal.TheVariants.{NoSuch, JournalFull, NoMemory}
 use Rattle.domain_core.specs.declared.journal.Entry.{Entry}
-use Rattle.domain_core.specs.Machine.{Machine, acted, is_recorded}
+use Rattle.domain_core.specs.Machine.{Machine, is_recorded}
 use Rattle.domain_core.specs.MachineValue.{MachineValue, machine_of}
 use Rattle.domain_core.specs.Private.{State, Answer, Call}
 use Rattle.domain_core.specs.Journal.{Answered, expanded, IsHistory}

@@ -1,5 +1,5 @@
 -- The machine that a domain is: its switch, and its nodes and hosts. What an event does to it, and its reply.
-use Rattle.std.specs.Prelude.{ℕ, Bool, true, false, not, List, [], if◌then◌else◌}
+use Rattle.std.specs.Prelude.{ℕ, Bool, true, false, List, [], if◌then◌else◌}
 use Rattle.crossbar.specs.Switch.{Switch, cleared}
 use Rattle.virtual_switch.specs.Private.{configured}
 use Rattle.bootstrap.specs.Opening.{restarted}

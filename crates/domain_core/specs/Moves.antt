@@ -1,6 +1,6 @@
 -- A Move of a port: the packet that waits at its device goes through the switch. IMS C004 data sheet, link switching;
 -- what is lost, what stays and the order of copies are our choice.
-use Rattle.std.specs.Prelude.{ℕ, Bool, true, false, List, [], ◌∷◌, filter, Option, Some, None, if◌then◌else◌}
+use Rattle.std.specs.Prelude.{ℕ, Bool, List, [], ◌∷◌, filter, Option, Some, None, if◌then◌else◌}
 use Rattle.std.specs.List.{list_all, range_with_len}
 use Rattle.std.specs.FinSet as set
 use Rattle.os_link.specs.declared.latch.Packet.{Packet}

@@ -1,6 +1,5 @@
 -- A ticket: a node that was copied from its home, and the Steps that the copy has done since.
-use Rattle.std.specs.Prelude.{ℕ, ◌+◌, ◌<◌, ◌≤◌, ◌^◌, ◌≡◌, ◌⊎◌, true, List, [], ◌++◌, length, Option, Some, None, slice_get}
-use Rattle.crossbar.specs.Switch.{Switch}
+use Rattle.std.specs.Prelude.{ℕ, ◌+◌, ◌<◌, ◌≤◌, ◌^◌, ◌≡◌, ◌⊎◌, true, List, [], ◌++◌, Option, Some, None, slice_get}
 use Rattle.t414_step.specs.declared.stepping.Stepped.{Stepped}
 use Rattle.bootstrap.specs.declared.node.Node.{Node}
 use Rattle.bootstrap.specs.Laws.{later_or}
@@ -10,7 +9,6 @@ use Rattle.domain_core.specs.declared.event.By.TheVariants.{Farm}
 use Rattle.domain_core.specs.Devices.{with_node}
 use Rattle.domain_core.specs.Domain.{DomainValue}
 use Rattle.domain_core.specs.Journal.{Answered, expanded, steps}
-use Rattle.domain_core.specs.MachineValue.{MachineValue}
 
 pub record TicketValue : Type 0 where
   -- the numbers of the home's domain and node

@@ -1,4 +1,4 @@
-use Rattle.std.proofs.Common.{rules, ◌∙◌, sym, Some, None}
+use Rattle.std.proofs.Common.{rules, ◌∙◌, Some, None}
 use Rattle.domain_core.proofs.Outcomes.{held_at, joined_is, copied_one}
 use Rattle.domain_core.proofs.machine.copy_at.Goals as goal
 

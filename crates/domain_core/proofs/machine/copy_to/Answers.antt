@@ -1,4 +1,4 @@
-use Rattle.std.proofs.Common.{rules, ◌∙◌}
+use Rattle.std.proofs.Common.{◌∙◌}
 use Rattle.domain_core.proofs.Outcomes.{copied_more}
 use Rattle.domain_core.proofs.machine.copy_to.Goals as goal
 

@@ -1,4 +1,4 @@
-use Rattle.std.proofs.Common.{rules, arith, ◌≡◌, ap, sym, ◌∙◌, length, ◌++◌, ◌∷◌, [], ◌+◌}
+use Rattle.std.proofs.Common.{rules, ◌≡◌, ap, sym, ◌∙◌, length, ◌++◌, ◌∷◌, [], ◌+◌}
 use Rattle.std.proofs.lemmas.List.{length-append}
 use Rattle.domain_core.specs.Domain.{DomainValue}
 use Rattle.domain_core.specs.Journal.{Answered, expanded}

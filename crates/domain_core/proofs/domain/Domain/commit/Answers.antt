@@ -1,9 +1,8 @@
-use Rattle.std.proofs.Common.{rules, arith, ◌≡◌, ◌≤◌, ◌++◌, ◌+◌, length, ap, sym, ◌∙◌, ℕ, List, true}
+use Rattle.std.proofs.Common.{rules, arith, ◌≡◌, ◌++◌, ◌+◌, length, ap, sym, ◌∙◌, ℕ, true}
 use Rattle.std.proofs.lemmas.Bool.Decides.{nat_tests}
 use Rattle.std.proofs.lemmas.List.{length-append}
 use Rattle.domain_core.specs.declared.event.By.TheVariants.{Farm}
 use Rattle.domain_core.specs.declared.event.Event.TheVariants.{Step}
-use Rattle.domain_core.specs.declared.journal.Entry.{Entry}
 use Rattle.plan_checker.specs.Part.{PartData}
 use Rattle.domain_core.specs.Domain.{DomainValue}
 use Rattle.domain_core.specs.Journal.{expanded}

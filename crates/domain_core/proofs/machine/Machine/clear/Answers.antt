@@ -1,9 +1,9 @@
-use Rattle.std.proofs.Common.{refl, sym, ap, ◌∙◌, rules, length, ◌≡◌, List, [], ℕ}
-use Rattle.crossbar.specs.Switch.{Switch, cleared}
+use Rattle.std.proofs.Common.{ap, ◌∙◌, length, []}
+use Rattle.crossbar.specs.Switch.{cleared}
 use Rattle.virtual_switch.specs.Seen.{private_of}
-use Rattle.domain_core.specs.Devices.{DeviceStates, reopened, opened}
-use Rattle.domain_core.specs.Machine.{Machine, fresh}
-use Rattle.domain_core.specs.MachineValue.{MachineValue, machine_of}
+use Rattle.domain_core.specs.Devices.{reopened, opened}
+use Rattle.domain_core.specs.Machine.{fresh}
+use Rattle.domain_core.specs.MachineValue.{MachineValue}
 use Rattle.domain_core.proofs.Sizes.{still_of_part, large_by, large_reopened, reopened_opened, machine_by}
 use Rattle.domain_core.proofs.machine.Machine.clear.Goals as goal
 

@@ -1,4 +1,4 @@
-use Rattle.std.proofs.Common.{ap, ◌∙◌, length, arith, rules, ◌≤◌, pos}
+use Rattle.std.proofs.Common.{ap, ◌∙◌, length, rules}
 use Rattle.domain_core.proofs.Sizes.{opened_of_part}
 use Rattle.domain_core.proofs.machine.Machine.open.Goals as goal
 

@@ -1,5 +1,5 @@
-use Rattle.std.proofs.Common.{refl, sym, ap, ◌∙◌, subst, rules, length, ◌≡◌}
-use Rattle.domain_core.specs.Devices.{DeviceStates, node_at, with_node}
+use Rattle.std.proofs.Common.{refl, sym, ap, ◌∙◌, length, ◌≡◌}
+use Rattle.domain_core.specs.Devices.{node_at, with_node}
 use Rattle.domain_core.specs.MachineValue.{MachineValue}
 use Rattle.domain_core.proofs.Sizes.{still_of_part, large_by, large_with_node}
 use Rattle.domain_core.proofs.machine.Machine.put_node.Goals as goal
