@@ -170,7 +170,10 @@ fn turns(domain: &mut Plain, node: u8, count: u64) -> Result<u64, Refusal> {
     for done in 0..count {
         let mut ticket = domain.checkout(0, node)?;
         ticket.burst(QUANTUM);
-        if ticket.steps() != QUANTUM || domain.commit(ticket)? != Committed::Done {
+        if ticket.steps() != QUANTUM {
+            return Ok(done);
+        }
+        if domain.commit(ticket)? != Committed::Done {
             return Ok(done);
         }
     }

@@ -2,7 +2,7 @@
 use crate::plans::{ANN_AND_BOB, LIMIT_3, LIMIT_2000000, domain_of};
 use crate::work::{
     ANN, LOOP, ann, configured, events, join, joined, loaded, move_port, moved, one, peek, poke,
-    run, send, step, stepped, wire, word, write,
+    run, send, since, step, stepped, wire, word, write,
 };
 use domain_core::{By, Committed, Entry, Event, Moved, Refusal, Reply};
 use node_memory::Fault;
@@ -102,12 +102,14 @@ fn steps_of_a_user_and_of_the_farm_are_told_apart(rt: HostRuntime) -> Result<(),
     for by in [By::Farm, By::Farm, ANN, ANN, ANN, By::Farm] {
         assert!(rt; domain.apply(by, Event::Step(0)) == stepped(Stepped::Ran));
     }
-    let wanted = [
-        run(By::Farm, 2, Stepped::Ran),
-        run(ANN, 3, Stepped::Ran),
-        run(By::Farm, 1, Stepped::Ran),
-    ];
-    assert_eq!(rt; &domain.journal()[before..], wanted.as_slice());
+    let by_ann = Entry::Run {
+        by: ANN,
+        node: 0,
+        count: 3,
+        last: Stepped::Ran,
+    };
+    let wanted = [run(0, 2, Stepped::Ran), by_ann, run(0, 1, Stepped::Ran)];
+    assert_eq!(rt; since(domain.journal(), before), wanted.as_slice());
     Ok(())
 }
 
@@ -119,8 +121,8 @@ fn run_ends_with_a_fault(rt: HostRuntime) -> Result<(), Fail> {
     for answer in [Stepped::Ran, fault, fault, fault] {
         assert!(rt; step(&mut domain, 0) == stepped(answer));
     }
-    let wanted = [run(By::Farm, 2, fault)];
-    assert_eq!(rt; &domain.journal()[before..], wanted.as_slice());
+    let wanted = [run(0, 2, fault)];
+    assert_eq!(rt; since(domain.journal(), before), wanted.as_slice());
     Ok(())
 }
 
@@ -140,8 +142,8 @@ fn journal_is_handed_out_at_the_end(rt: HostRuntime) -> Result<(), Fail> {
 #[test]
 fn a_million_steps_are_one_entry(rt: HostRuntime) -> Result<(), Fail> {
     let mut domain = loaded(rt.alloc(), LIMIT_2000000, &LOOP)?;
-    let before = events(domain.journal());
-    let entries = domain.journal().len();
+    assert_eq!(rt; events(domain.journal()), 32);
+    let before = domain.journal().len();
     for _ in 0..10_000u32 {
         assert!(rt; step(&mut domain, 0) == stepped(Stepped::Ran));
     }
@@ -150,8 +152,8 @@ fn a_million_steps_are_one_entry(rt: HostRuntime) -> Result<(), Fail> {
         ticket.burst(3000);
         assert!(rt; domain.commit(ticket)? == Committed::Done, "turn {turn}");
     }
-    let wanted = [run(By::Farm, 1_000_000, Stepped::Ran)];
-    assert_eq!(rt; &domain.journal()[entries..], wanted.as_slice());
-    assert_eq!(rt; events(domain.journal()), before + 1_000_000);
+    let wanted = [run(0, 1_000_000, Stepped::Ran)];
+    assert_eq!(rt; since(domain.journal(), before), wanted.as_slice());
+    assert_eq!(rt; events(domain.journal()), 1_000_032);
     Ok(())
 }

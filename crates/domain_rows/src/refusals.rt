@@ -123,14 +123,12 @@ fn refused_calls_change_nothing(rt: HostRuntime) -> Result<(), Fail> {
     assert_eq!(rt; domain.journal().len(), 17);
     assert_eq!(rt; events(domain.journal()), 116);
     let last = domain.journal().last().copied();
-    assert!(rt; last == Some(run(By::Farm, 100, Stepped::Ran)));
+    assert!(rt; last == Some(run(0, 100, Stepped::Ran)));
     let mut untroubled = loaded_again(&rt, rt.alloc())?;
     assert!(rt; come_home_again(&rt, &mut untroubled, 100) == Ok(Committed::Done));
     assert_eq!(rt; domain.journal(), untroubled.journal());
     assert!(rt; shown(&mut domain) == shown(&mut untroubled));
-    for domain in [&mut domain, &mut untroubled] {
-        assert!(rt; asked_again(&rt, domain, ANN, Event::Look(0)).is_ok());
-    }
-    assert_eq!(rt; domain.journal(), untroubled.journal());
+    let seen = asked_again(&rt, &mut domain, ANN, Event::Look(0));
+    assert!(rt; seen.is_ok() && seen == untroubled.apply(ANN, Event::Look(0)));
     Ok(())
 }

@@ -72,13 +72,20 @@ fn clearing_leaves_another_domain_connected(rt: HostRuntime) -> Result<(), Fail>
 
 #[test]
 fn bad_port_comes_with_the_last_byte_and_changes_nothing(rt: HostRuntime) -> Result<(), Fail> {
-    let mut ann = domain_of(rt.alloc(), ANN_AND_BOB, 0)?;
-    let replies = config(rt.alloc(), &mut ann, &[2, 8])?;
-    assert_eq!(rt; replies.as_slice(), [NOTHING, BAD_PORT].as_slice());
-    let replies = config(rt.alloc(), &mut ann, &[0, 1, 0, 6, 0, 8, 2, 0])?;
-    let connected = [NOTHING; 5].as_slice();
-    assert_eq!(rt; &replies[..5], connected);
-    assert_eq!(rt; &replies[5..], [BAD_PORT, NOTHING, answer(0x81)].as_slice());
+    let bytes = [2, 8, 0, 1, 0, 6, 0, 8, 2, 0];
+    let wanted = [
+        NOTHING,
+        BAD_PORT,
+        NOTHING,
+        NOTHING,
+        NOTHING,
+        NOTHING,
+        NOTHING,
+        BAD_PORT,
+        NOTHING,
+        answer(0x81),
+    ];
+    assert!(rt; answers(rt.alloc(), ANN_AND_BOB, 0, &bytes, &wanted)?);
     Ok(())
 }
 

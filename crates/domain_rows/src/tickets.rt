@@ -1,11 +1,11 @@
 //! Tickets: Steps of a copy of a node, and what becomes of them when they come home.
 use crate::plans::{ANN_AND_BOB, LIMIT_115, Plain, TWO_NODES, domain_of};
 use crate::work::{
-    ANN, LOOP, ann, events, loaded, look, move_port, moved, one, run, seen, step, stepped, wire,
-    write,
+    ANN, LOOP, ann, events, loaded, look, move_port, moved, one, run, seen, since, step, stepped,
+    wire, write,
 };
 use bootstrap::Activity;
-use domain_core::{By, Committed, Entry, Event, Moved, Refusal, Reply};
+use domain_core::{By, Committed, Event, Moved, Refusal, Reply};
 use node_memory::Fault;
 use std::test::Fail;
 use t414_step::Stepped;
@@ -27,8 +27,8 @@ fn bursts_of_one_node_are_one_run(rt: HostRuntime) -> Result<(), Fail> {
     let before = domain.journal().len();
     for (steps, entry, all) in [(100, 100, 116), (28, 128, 144)] {
         assert!(rt; turn(&mut domain, steps) == Ok(Committed::Done));
-        let wanted = [run(By::Farm, entry, Stepped::Ran)];
-        assert_eq!(rt; &domain.journal()[before..], wanted.as_slice());
+        let wanted = [run(0, entry, Stepped::Ran)];
+        assert_eq!(rt; since(domain.journal(), before), wanted.as_slice());
         assert_eq!(rt; events(domain.journal()), all);
     }
     Ok(())
@@ -62,7 +62,7 @@ fn node_that_took_a_packet_makes_its_ticket_stale(rt: HostRuntime) -> Result<(),
         one(ANN, Event::Write(0, 7), Reply::Written),
         one(By::Farm, Event::Move(7), Reply::Moved(Moved::Passed)),
     ];
-    assert_eq!(rt; &domain.journal()[before..], wanted.as_slice());
+    assert_eq!(rt; since(domain.journal(), before), wanted.as_slice());
     assert!(rt; turn(&mut domain, 5) == Ok(Committed::Done));
     Ok(())
 }
@@ -121,14 +121,8 @@ fn tickets_of_two_nodes_both_come_home(rt: HostRuntime) -> Result<(), Fail> {
     second.burst(3000);
     assert!(rt; domain.commit(second) == Ok(Committed::Done));
     assert!(rt; domain.commit(first) == Ok(Committed::Done));
-    let entry = |node: u8, count: u64| Entry::Run {
-        by: By::Farm,
-        node,
-        count,
-        last: Stepped::Ran,
-    };
-    let wanted = [entry(1, 3000), entry(0, 2000)];
-    assert_eq!(rt; &domain.journal()[before..], wanted.as_slice());
+    let wanted = [run(1, 3000, Stepped::Ran), run(0, 2000, Stepped::Ran)];
+    assert_eq!(rt; since(domain.journal(), before), wanted.as_slice());
     Ok(())
 }
 
@@ -154,11 +148,12 @@ fn ticket_brings_a_fault_home(rt: HostRuntime) -> Result<(), Fail> {
     ticket.burst(100);
     assert!(rt; ticket.steps() == 2 && ticket.last() == Some(Stepped::Fault(fault)));
     assert!(rt; domain.commit(ticket) == Ok(Committed::Done));
-    let wanted = [run(By::Farm, 2, Stepped::Fault(fault))];
-    assert_eq!(rt; &domain.journal()[before..], wanted.as_slice());
+    let wanted = [run(0, 2, Stepped::Fault(fault))];
+    assert_eq!(rt; since(domain.journal(), before), wanted.as_slice());
     assert!(rt; look(&mut domain, 0) == seen(Activity::Halted(fault)));
     assert!(rt; turn(&mut domain, 100) == Ok(Committed::Done));
     assert!(rt; step(&mut domain, 0) == stepped(Stepped::Fault(fault)));
-    assert_eq!(rt; domain.journal().len(), before + 2);
+    // The Look is recorded, and the Steps of a halted node are not.
+    assert_eq!(rt; since(domain.journal(), before).len(), 2);
     Ok(())
 }

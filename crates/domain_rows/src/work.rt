@@ -212,13 +212,22 @@ pub fn one(by: By, event: Event, reply: Reply) -> Entry {
     Entry::One { by, event, reply }
 }
 
-/// The entry of Steps of node 0.
-pub fn run(by: By, count: u64, last: Stepped) -> Entry {
+/// The entry of Steps of a node, for which the farm asked.
+pub fn run(node: u8, count: u64, last: Stepped) -> Entry {
     Entry::Run {
-        by,
-        node: 0,
+        by: By::Farm,
+        node,
         count,
         last,
+    }
+}
+
+/// The entries after the first so many.
+pub fn since(journal: &[Entry], before: usize) -> &[Entry] {
+    if before <= journal.len() {
+        &journal[before..]
+    } else {
+        &[]
     }
 }
 
