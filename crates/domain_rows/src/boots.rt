@@ -1,8 +1,8 @@
 //! Pokes, peeks and programs that a host sends to a node.
 use crate::plans::ANN_AND_BOB;
 use crate::work::{
-    ann, boot, joined, look, move_port, moved, peek, poke, read, read_word, seen, send, settle,
-    step, stepped, write,
+    ann, boot, first_wrong, joined, moves, peek, poke, read, read_word, sees, send, settle, steps,
+    write,
 };
 use bootstrap::{Activity, peek_message};
 use domain_core::{Event, Moved, Reply};
@@ -35,33 +35,14 @@ fn peek_takes_nine_rounds_of_single_events(rt: HostRuntime) -> Result<(), Fail> 
     let mut domain = joined(rt.alloc(), ANN_AND_BOB)?;
     assert!(rt; poke(&mut domain, 0x8000_0048, 0x1234_5678)?);
     assert!(rt; write(&mut domain, 0, &peek_message(0x8000_0048)));
+    let (passes, runs) = (Moved::Passed, Stepped::Ran);
     for byte in 0..5u32 {
-        assert!(rt;
-            move_port(&mut domain, 7) == moved(Moved::Passed),
-            "byte {byte}"
-        );
-        assert!(rt;
-            step(&mut domain, 0) == stepped(Stepped::Ran),
-            "byte {byte}"
-        );
-        assert!(rt;
-            move_port(&mut domain, 0) == moved(Moved::Passed),
-            "byte {byte}"
-        );
+        let lines = [moves(7, passes), steps(0, runs), moves(0, passes)];
+        assert_eq!(rt; first_wrong(&mut domain, &lines), None, "byte {byte}");
     }
     for byte in 0..4u32 {
-        assert!(rt;
-            move_port(&mut domain, 0) == moved(Moved::Passed),
-            "answer {byte}"
-        );
-        assert!(rt;
-            move_port(&mut domain, 7) == moved(Moved::Passed),
-            "answer {byte}"
-        );
-        assert!(rt;
-            step(&mut domain, 0) == stepped(Stepped::Ran),
-            "answer {byte}"
-        );
+        let lines = [moves(0, passes), moves(7, passes), steps(0, runs)];
+        assert_eq!(rt; first_wrong(&mut domain, &lines), None, "answer {byte}");
     }
     assert!(rt; domain.quiet());
     assert!(rt; read_word(&mut domain, 0) == Some(0x1234_5678));
@@ -74,9 +55,12 @@ fn peek_takes_nine_rounds_of_single_events(rt: HostRuntime) -> Result<(), Fail> 
 fn stopped_process_leaves_its_place_over_its_code(rt: HostRuntime) -> Result<(), Fail> {
     let mut domain = joined(rt.alloc(), ANN_AND_BOB)?;
     assert!(rt; send(&mut domain, &[0x02, 0x21, 0xf5])?);
-    assert!(rt; look(&mut domain, 0) == seen(Activity::Idle));
+    assert_eq!(rt; first_wrong(&mut domain, &[sees(0, Activity::Idle)]), None);
     assert!(rt; ann(&mut domain, Event::Reset(0)) == Ok(Reply::Reset));
-    assert!(rt; look(&mut domain, 0) == seen(Activity::Booting));
+    assert_eq!(rt;
+        first_wrong(&mut domain, &[sees(0, Activity::Booting)]),
+        None
+    );
     assert!(rt; send(&mut domain, &peek_message(0x8000_0048))?);
     for byte in [Some(0x4a), Some(0), Some(0), Some(0x80), None] {
         assert!(rt; read(&mut domain, 0) == byte);
@@ -91,7 +75,7 @@ fn program_sends_a_byte_to_its_host(rt: HostRuntime) -> Result<(), Fail> {
     assert!(rt; send(&mut domain, &bytes)?);
     assert!(rt; read(&mut domain, 0) == Some(0x41));
     assert!(rt; read(&mut domain, 0).is_none());
-    assert!(rt; look(&mut domain, 0) == seen(Activity::Idle));
+    assert_eq!(rt; first_wrong(&mut domain, &[sees(0, Activity::Idle)]), None);
     Ok(())
 }
 
@@ -104,10 +88,8 @@ fn faults_halt_a_node(rt: HostRuntime) -> Result<(), Fail> {
     for (message, fault) in programs {
         let mut domain = joined(rt.alloc(), ANN_AND_BOB)?;
         assert!(rt; send(&mut domain, message)?, "{fault}");
-        assert!(rt;
-            look(&mut domain, 0) == seen(Activity::Halted(fault)),
-            "{fault}"
-        );
+        let halted = sees(0, Activity::Halted(fault));
+        assert_eq!(rt; first_wrong(&mut domain, &[halted]), None, "{fault}");
     }
     Ok(())
 }
@@ -133,7 +115,7 @@ fn longest_code_boots(rt: HostRuntime) -> Result<(), Fail> {
         code.push(0)?;
     }
     assert!(rt; boot(rt.alloc(), &mut domain, code.as_slice())?);
-    assert!(rt; look(&mut domain, 0) == seen(Activity::Idle));
+    assert_eq!(rt; first_wrong(&mut domain, &[sees(0, Activity::Idle)]), None);
     assert!(rt; ann(&mut domain, Event::Reset(0)) == Ok(Reply::Reset));
     assert!(rt; peek(&mut domain, 0x8000_0144)? == Some(0x8000_004a));
     assert!(rt; peek(&mut domain, 0x8000_0148)? == Some(0));

@@ -1,8 +1,8 @@
 //! What a domain's journal holds, its limit, and the domain's restart.
 use crate::plans::{ANN_AND_BOB, LIMIT_3, LIMIT_2000000, domain_of};
 use crate::work::{
-    ANN, LOOP, ann, configured, events, join, joined, loaded, move_port, moved, one, peek, poke,
-    run, send, since, step, stepped, wire, word, write,
+    ANN, LOOP, ann, configured, events, first_wrong, join, joined, loaded, moves, one, peek, poke,
+    reads, run, send, since, step, steps, wire, word, write, writes,
 };
 use domain_core::{By, Committed, Entry, Event, Moved, Refusal, Reply};
 use node_memory::Fault;
@@ -27,10 +27,13 @@ fn fourth_event_passes_a_limit_of_three(rt: HostRuntime) -> Result<(), Fail> {
 fn full_journal_refuses_every_event_that_is_there(rt: HostRuntime) -> Result<(), Fail> {
     let mut domain = domain_of(rt.alloc(), LIMIT_3, 0)?;
     assert!(rt; wire(&mut domain, &[1, 0, 7]));
-    assert!(rt; step(&mut domain, 0) == Err(Refusal::JournalFull));
-    assert!(rt; move_port(&mut domain, 0) == Err(Refusal::JournalFull));
-    assert!(rt; ann(&mut domain, Event::Look(0)) == Err(Refusal::JournalFull));
-    assert!(rt; ann(&mut domain, Event::Read(9)) == Err(Refusal::NoSuch));
+    let lines = [
+        (By::Farm, Event::Step(0), Err(Refusal::JournalFull)),
+        (By::Farm, Event::Move(0), Err(Refusal::JournalFull)),
+        (ANN, Event::Look(0), Err(Refusal::JournalFull)),
+        (ANN, Event::Read(9), Err(Refusal::NoSuch)),
+    ];
+    assert_eq!(rt; first_wrong(&mut domain, &lines), None);
     assert!(rt; domain.quiet());
     assert!(rt; domain.journal().len() == 3);
     Ok(())
@@ -39,8 +42,8 @@ fn full_journal_refuses_every_event_that_is_there(rt: HostRuntime) -> Result<(),
 #[test]
 fn what_changes_nothing_is_not_recorded(rt: HostRuntime) -> Result<(), Fail> {
     let mut domain = domain_of(rt.alloc(), ANN_AND_BOB, 0)?;
-    assert!(rt; step(&mut domain, 0) == stepped(Stepped::Idle));
-    assert!(rt; move_port(&mut domain, 0) == moved(Moved::Nothing));
+    let lines = [steps(0, Stepped::Idle), moves(0, Moved::Nothing)];
+    assert_eq!(rt; first_wrong(&mut domain, &lines), None);
     assert!(rt; domain.journal().is_empty());
     assert!(rt; domain.quiet());
     Ok(())
@@ -49,18 +52,18 @@ fn what_changes_nothing_is_not_recorded(rt: HostRuntime) -> Result<(), Fail> {
 #[test]
 fn each_answered_event_is_an_entry(rt: HostRuntime) -> Result<(), Fail> {
     let mut domain = domain_of(rt.alloc(), ANN_AND_BOB, 0)?;
-    assert!(rt; write(&mut domain, 0, &[5]));
-    assert!(rt; ann(&mut domain, Event::Config(7)).is_ok());
-    assert!(rt; move_port(&mut domain, 7) == moved(Moved::Lost));
-    assert!(rt; domain.apply(By::Farm, Event::Reset(0)) == Ok(Reply::Reset));
-    assert!(rt; ann(&mut domain, Event::Read(0)) == Ok(Reply::Read(None)));
+    let bad_command = Reply::Config(ConfigReply::BadCommand);
+    let lines = [
+        writes(0, 5),
+        (ANN, Event::Config(7), Ok(bad_command)),
+        moves(7, Moved::Lost),
+        (By::Farm, Event::Reset(0), Ok(Reply::Reset)),
+        reads(0, None),
+    ];
+    assert_eq!(rt; first_wrong(&mut domain, &lines), None);
     let wanted = [
         one(ANN, Event::Write(0, 5), Reply::Written),
-        one(
-            ANN,
-            Event::Config(7),
-            Reply::Config(ConfigReply::BadCommand),
-        ),
+        one(ANN, Event::Config(7), bad_command),
         one(By::Farm, Event::Move(7), Reply::Moved(Moved::Lost)),
         one(By::Farm, Event::Reset(0), Reply::Reset),
         one(ANN, Event::Read(0), Reply::Read(None)),
@@ -100,7 +103,8 @@ fn steps_of_a_user_and_of_the_farm_are_told_apart(rt: HostRuntime) -> Result<(),
     let mut domain = loaded(rt.alloc(), ANN_AND_BOB, &LOOP)?;
     let before = domain.journal().len();
     for by in [By::Farm, By::Farm, ANN, ANN, ANN, By::Farm] {
-        assert!(rt; domain.apply(by, Event::Step(0)) == stepped(Stepped::Ran));
+        let line = (by, Event::Step(0), Ok(Reply::Stepped(Stepped::Ran)));
+        assert_eq!(rt; first_wrong(&mut domain, &[line]), None);
     }
     let by_ann = Entry::Run {
         by: ANN,
@@ -118,9 +122,13 @@ fn run_ends_with_a_fault(rt: HostRuntime) -> Result<(), Fail> {
     let mut domain = loaded(rt.alloc(), ANN_AND_BOB, &[0x02, 0x21, 0xf1])?;
     let before = domain.journal().len();
     let fault = Stepped::Fault(Fault::UnknownOperation(0x11));
-    for answer in [Stepped::Ran, fault, fault, fault] {
-        assert!(rt; step(&mut domain, 0) == stepped(answer));
-    }
+    let lines = [
+        steps(0, Stepped::Ran),
+        steps(0, fault),
+        steps(0, fault),
+        steps(0, fault),
+    ];
+    assert_eq!(rt; first_wrong(&mut domain, &lines), None);
     let wanted = [run(0, 2, fault)];
     assert_eq!(rt; since(domain.journal(), before), wanted.as_slice());
     Ok(())
@@ -145,7 +153,7 @@ fn a_million_steps_are_one_entry(rt: HostRuntime) -> Result<(), Fail> {
     assert_eq!(rt; events(domain.journal()), 32);
     let before = domain.journal().len();
     for _ in 0..10_000u32 {
-        assert!(rt; step(&mut domain, 0) == stepped(Stepped::Ran));
+        step(&mut domain, 0)?;
     }
     for turn in 0..330u32 {
         let mut ticket = domain.checkout(0, 0)?;

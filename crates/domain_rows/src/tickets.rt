@@ -1,8 +1,8 @@
 //! Tickets: Steps of a copy of a node, and what becomes of them when they come home.
 use crate::plans::{ANN_AND_BOB, LIMIT_115, Plain, TWO_NODES, domain_of};
 use crate::work::{
-    ANN, LOOP, ann, events, loaded, look, move_port, moved, one, run, seen, since, step, stepped,
-    wire, write,
+    ANN, LOOP, ann, events, first_wrong, loaded, move_port, moves, one, run, sees, since, step,
+    steps, wire, writes,
 };
 use bootstrap::Activity;
 use domain_core::{By, Committed, Event, Moved, Refusal, Reply};
@@ -54,8 +54,8 @@ fn node_that_took_a_packet_makes_its_ticket_stale(rt: HostRuntime) -> Result<(),
     assert!(rt; turn(&mut domain, 28) == Ok(Committed::Done));
     let before = domain.journal().len();
     let mut ticket = domain.checkout(0, 0)?;
-    assert!(rt; ann(&mut domain, Event::Write(0, 7)) == Ok(Reply::Written));
-    assert!(rt; move_port(&mut domain, 7) == moved(Moved::Passed));
+    let lines = [writes(0, 7), moves(7, Moved::Passed)];
+    assert_eq!(rt; first_wrong(&mut domain, &lines), None);
     ticket.burst(5);
     assert!(rt; domain.commit(ticket) == Ok(Committed::Stale));
     let wanted = [
@@ -150,9 +150,13 @@ fn ticket_brings_a_fault_home(rt: HostRuntime) -> Result<(), Fail> {
     assert!(rt; domain.commit(ticket) == Ok(Committed::Done));
     let wanted = [run(0, 2, Stepped::Fault(fault))];
     assert_eq!(rt; since(domain.journal(), before), wanted.as_slice());
-    assert!(rt; look(&mut domain, 0) == seen(Activity::Halted(fault)));
+    assert_eq!(rt;
+        first_wrong(&mut domain, &[sees(0, Activity::Halted(fault))]),
+        None
+    );
     assert!(rt; turn(&mut domain, 100) == Ok(Committed::Done));
-    assert!(rt; step(&mut domain, 0) == stepped(Stepped::Fault(fault)));
+    let halted = steps(0, Stepped::Fault(fault));
+    assert_eq!(rt; first_wrong(&mut domain, &[halted]), None);
     // The Look is recorded, and the Steps of a halted node are not.
     assert_eq!(rt; since(domain.journal(), before).len(), 2);
     Ok(())

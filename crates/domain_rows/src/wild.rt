@@ -1,6 +1,6 @@
 //! Programs and routes that nobody should send.
 use crate::plans::{ANN_AND_BOB, domain_of};
-use crate::work::{joined, look, move_port, moved, read, seen, send, wire, write};
+use crate::work::{first_wrong, joined, moves, read, sees, send, wire, write};
 use bootstrap::Activity;
 use domain_core::Moved;
 use node_memory::Fault;
@@ -28,10 +28,8 @@ fn wild_programs_halt_with_their_faults(rt: HostRuntime) -> Result<(), Fail> {
     for (message, fault) in wild {
         let mut domain = joined(rt.alloc(), ANN_AND_BOB)?;
         assert!(rt; send(&mut domain, message)?, "{fault}");
-        assert!(rt;
-            look(&mut domain, 0) == seen(Activity::Halted(fault)),
-            "{fault}"
-        );
+        let halted = sees(0, Activity::Halted(fault));
+        assert_eq!(rt; first_wrong(&mut domain, &[halted]), None, "{fault}");
     }
     Ok(())
 }
@@ -42,7 +40,10 @@ fn host_that_is_joined_one_way_waits_for_ever(rt: HostRuntime) -> Result<(), Fai
     let mut domain = domain_of(rt.alloc(), ANN_AND_BOB, 0)?;
     assert!(rt; wire(&mut domain, &[0, 7, 0, 3]));
     assert!(rt; send(&mut domain, &[0x02, 0x21, 0xf5])?);
-    assert!(rt; look(&mut domain, 0) == seen(Activity::Booting));
+    assert_eq!(rt;
+        first_wrong(&mut domain, &[sees(0, Activity::Booting)]),
+        None
+    );
     assert!(rt; read(&mut domain, 0).is_none());
     assert!(rt; domain.quiet());
     Ok(())
@@ -53,8 +54,8 @@ fn byte_to_a_cut_connection_is_lost(rt: HostRuntime) -> Result<(), Fail> {
     let mut domain = joined(rt.alloc(), ANN_AND_BOB)?;
     assert!(rt; write(&mut domain, 0, &[0x02]));
     assert!(rt; wire(&mut domain, &[5, 0]));
-    assert!(rt; move_port(&mut domain, 7) == moved(Moved::Lost));
+    assert_eq!(rt; first_wrong(&mut domain, &[moves(7, Moved::Lost)]), None);
     assert!(rt; wire(&mut domain, &[0, 7, 0, 3]));
-    assert!(rt; move_port(&mut domain, 7) == moved(Moved::Nothing));
+    assert_eq!(rt; first_wrong(&mut domain, &[moves(7, Moved::Nothing)]), None);
     Ok(())
 }

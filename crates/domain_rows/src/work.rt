@@ -66,14 +66,48 @@ pub fn move_port(domain: &mut Plain, port: u8) -> Result<Reply, Refusal> {
     domain.apply(By::Farm, Event::Move(port))
 }
 
-/// The reply to a Step.
-pub fn stepped(answer: Stepped) -> Result<Reply, Refusal> {
-    Ok(Reply::Stepped(answer))
+/// An event, who asks for it, and its answer.
+pub type Line = (By, Event, Result<Reply, Refusal>);
+
+/// The first line whose event is answered otherwise, where they are asked for in turn.
+pub fn first_wrong(domain: &mut Plain, lines: &[Line]) -> Option<usize> {
+    for (number, (by, event, answer)) in lines.iter().enumerate() {
+        if domain.apply(*by, *event) != *answer {
+            return Some(number);
+        }
+    }
+    None
 }
 
-/// The reply to a Move.
-pub fn moved(answer: Moved) -> Result<Reply, Refusal> {
-    Ok(Reply::Moved(answer))
+/// A Step of a node for the farm, with its answer.
+pub const fn steps(node: u8, answer: Stepped) -> Line {
+    (By::Farm, Event::Step(node), Ok(Reply::Stepped(answer)))
+}
+
+/// A Move of a port for the farm, with its answer.
+pub const fn moves(port: u8, answer: Moved) -> Line {
+    (By::Farm, Event::Move(port), Ok(Reply::Moved(answer)))
+}
+
+/// A byte of ann's to a host that has room.
+pub const fn writes(host: u8, byte: u8) -> Line {
+    (ANN, Event::Write(host, byte), Ok(Reply::Written))
+}
+
+/// What ann reads of a host.
+pub const fn reads(host: u8, byte: Option<u8>) -> Line {
+    (ANN, Event::Read(host), Ok(Reply::Read(byte)))
+}
+
+/// What ann sees of a node.
+pub const fn looks(node: u8, seen: Seen) -> Line {
+    (ANN, Event::Look(node), Ok(Reply::Look(seen)))
+}
+
+/// What ann sees of a node whose links dropped nothing.
+pub const fn sees(node: u8, state: Activity) -> Line {
+    let overruns = [0; 4];
+    looks(node, Seen { state, overruns })
 }
 
 /// The reply to a configuration byte.
@@ -114,22 +148,6 @@ pub fn write(domain: &mut Plain, host: u8, bytes: &[u8]) -> bool {
 pub fn read(domain: &mut Plain, host: u8) -> Option<u8> {
     match ann(domain, Event::Read(host)) {
         Ok(Reply::Read(byte)) => byte,
-        _ => None,
-    }
-}
-
-/// What is seen of a node whose links dropped nothing.
-pub fn seen(state: Activity) -> Option<Seen> {
-    Some(Seen {
-        state,
-        overruns: [0; 4],
-    })
-}
-
-/// What ann sees of a node.
-pub fn look(domain: &mut Plain, node: u8) -> Option<Seen> {
-    match ann(domain, Event::Look(node)) {
-        Ok(Reply::Look(seen)) => Some(seen),
         _ => None,
     }
 }
