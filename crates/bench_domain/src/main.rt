@@ -1,0 +1,236 @@
+//! Events through a domain, and Steps of tickets, so that their rates can be measured: `COUNT [WORK]`, where WORK is one of
+//!
+//! - `steps`: Steps of a node that runs a loop of two instruction bytes;
+//! - `pings`: a byte from host to host, and its acknowledge back: a Write, two Moves and a Read each;
+//! - `configs`: three configuration bytes that connect an output, and two that enquire it;
+//! - `checkouts-2048`, `checkouts-65536`: tickets of a node with so many bytes of memory, dropped at once;
+//! - `turns-2048`, `turns-65536`: such tickets that do 256 Steps and come home.
+//!
+//! Without WORK all run.
+#![tactic(auto)]
+
+use crossbar::{Outputs, PlainOutputs};
+use domain_core::{By, Committed, Domain, Event, Moved, Refusal, Reply};
+use plan_checker::{PlanFault, check, read_plan};
+use std::alloc::Global;
+use std::{env, io};
+use t414_step::Stepped;
+use virtual_switch::ConfigReply;
+
+/// Node 0 has the least memory and node 1 the most.
+const PLAN: &str = r#"
+version = 1
+[[domain]]
+name = "ann"
+first = 0
+last = 7
+limit = 1099511627776
+host = [3, 2]
+[[domain.node]]
+memory = 2048
+links = [0, -1, -1, -1]
+[[domain.node]]
+memory = 65536
+links = [1, -1, -1, -1]
+"#;
+
+/// Each host is joined to the node of its number.
+const NODES_JOINED: [u8; 7] = [1, 0, 3, 1, 1, 2, 3];
+
+/// The hosts are joined to each other.
+const HOSTS_JOINED: [u8; 4] = [1, 2, 3, 3];
+
+/// The boot message of a loop of two instruction bytes, with room where the process saves its place.
+const LOOP: [u8; 7] = [0x06, 0x60, 0x0e, 0, 0, 0, 0];
+
+/// A ticket's Steps.
+const QUANTUM: u64 = 256;
+
+/// How many pings or rounds of configuration bytes a journal holds before it is emptied.
+const ROUNDS: u64 = 200_000;
+
+const ANN: By = By::User(0);
+
+type Plain = Domain<PlainOutputs>;
+
+// The domain of the plan, as it is opened.
+fn opened(alloc: Global) -> Result<Plain, PlanFault> {
+    let plan = check(alloc, read_plan(alloc, PLAN.as_bytes())?)?;
+    if plan.domains() == 0 {
+        return Err(PlanFault::DomainCount);
+    }
+    let part = plan.part(0).copy(alloc)?;
+    let outputs = PlainOutputs::unused(plan.ranges(0));
+    if outputs.count() != part.count() {
+        return Err(PlanFault::DomainCount);
+    }
+    Ok(Domain::open(alloc, part, outputs)?)
+}
+
+// Restarts the domain, and sends its switch the bytes.
+fn begin(domain: &mut Plain, bytes: &[u8]) -> Result<(), Refusal> {
+    domain.restart();
+    for byte in bytes {
+        domain.apply(ANN, Event::Config(*byte))?;
+    }
+    Ok(())
+}
+
+// Boots both nodes with the loop, each by its own host.
+fn boot(domain: &mut Plain) -> Result<(), Refusal> {
+    begin(domain, &NODES_JOINED)?;
+    for byte in LOOP {
+        domain.apply(ANN, Event::Write(0, byte))?;
+        domain.apply(ANN, Event::Write(1, byte))?;
+        for port in [3, 2] {
+            domain.apply(By::Farm, Event::Move(port))?;
+        }
+        for node in 0..2 {
+            domain.apply(By::Farm, Event::Step(node))?;
+        }
+        for port in 0..2 {
+            domain.apply(By::Farm, Event::Move(port))?;
+        }
+    }
+    Ok(())
+}
+
+// Steps node 0 until a Step doesn't run, at most so many times; how many ran.
+fn steps(domain: &mut Plain, count: u64) -> u64 {
+    for done in 0..count {
+        if domain.apply(By::Farm, Event::Step(0)) != Ok(Reply::Stepped(Stepped::Ran)) {
+            return done;
+        }
+    }
+    count
+}
+
+// Moves the packet that waits at a port; whether it passed.
+fn passes(domain: &mut Plain, port: u8) -> bool {
+    domain.apply(By::Farm, Event::Move(port)) == Ok(Reply::Moved(Moved::Passed))
+}
+
+// Sends a byte from host 0 to host 1, and its acknowledge back; whether it came.
+fn ping(domain: &mut Plain, byte: u8) -> bool {
+    domain.apply(ANN, Event::Write(0, byte)) == Ok(Reply::Written)
+        && passes(domain, 3)
+        && passes(domain, 2)
+        && domain.apply(ANN, Event::Read(1)) == Ok(Reply::Read(Some(byte)))
+}
+
+// Pings until a byte doesn't come, at most so many times; how many came.
+fn pings(domain: &mut Plain, count: u64) -> Result<u64, Refusal> {
+    for done in 0..count {
+        if done % ROUNDS == 0 {
+            begin(domain, &HOSTS_JOINED)?;
+        }
+        if !ping(domain, (done % 256) as u8) {
+            return Ok(done);
+        }
+    }
+    Ok(count)
+}
+
+// Connects input 2 to output 5, and enquires it; whether that is answered.
+fn is_connected(domain: &mut Plain) -> bool {
+    for byte in [0, 2, 5, 2] {
+        if domain.apply(ANN, Event::Config(byte)) != Ok(Reply::Config(ConfigReply::Nothing)) {
+            return false;
+        }
+    }
+    domain.apply(ANN, Event::Config(5)) == Ok(Reply::Config(ConfigReply::Answer(0x82)))
+}
+
+// Rounds of five configuration bytes, at most so many; how many were answered.
+fn configs(domain: &mut Plain, count: u64) -> Result<u64, Refusal> {
+    for done in 0..count {
+        if done % ROUNDS == 0 {
+            begin(domain, &[])?;
+        }
+        if !is_connected(domain) {
+            return Ok(done);
+        }
+    }
+    Ok(count)
+}
+
+// Tickets of a node that are dropped at once.
+fn checkouts(domain: &Plain, node: u8, count: u64) -> Result<u64, Refusal> {
+    for done in 0..count {
+        let ticket = domain.checkout(0, node)?;
+        if ticket.number() != node {
+            return Ok(done);
+        }
+    }
+    Ok(count)
+}
+
+// Tickets of a node that do Steps and come home, until one doesn't do them all; how many did.
+fn turns(domain: &mut Plain, node: u8, count: u64) -> Result<u64, Refusal> {
+    for done in 0..count {
+        let mut ticket = domain.checkout(0, node)?;
+        ticket.burst(QUANTUM);
+        if ticket.steps() != QUANTUM {
+            return Ok(done);
+        }
+        if domain.commit(ticket)? != Committed::Done {
+            return Ok(done);
+        }
+    }
+    Ok(count)
+}
+
+// A plan or a domain that could not be had, as an error of the program.
+fn no_domain(fault: PlanFault) -> io::Error {
+    match fault {
+        PlanFault::NoMemory => io::Error::from(io::ErrorKind::OutOfMemory),
+        _ => io::Error::from(io::ErrorKind::InvalidData),
+    }
+}
+
+// An event that was refused, as an error of the program.
+fn refused(refusal: Refusal) -> io::Error {
+    match refusal {
+        Refusal::NoMemory => io::Error::from(io::ErrorKind::OutOfMemory),
+        _ => io::Error::from(io::ErrorKind::InvalidData),
+    }
+}
+
+fn main(rt: HostRuntime) -> io::Result<()> {
+    let alloc = rt.alloc();
+    let words: Vec<String> = env::args(&rt)?.collect(alloc)?;
+    let count = words
+        .get(1)
+        .and_then(|word| word.parse::<u64>().ok())
+        .unwrap_or(100);
+    let runs = |name: &str| words.get(2).is_none_or(|word| word.as_str() == name);
+    let mut domain = match opened(alloc) {
+        Ok(domain) => domain,
+        Err(fault) => return Err(no_domain(fault)),
+    };
+    if runs("pings") {
+        let done = pings(&mut domain, count).map_err(refused)?;
+        println!(rt; "pings: {done}")?;
+    }
+    if runs("configs") {
+        let done = configs(&mut domain, count).map_err(refused)?;
+        println!(rt; "configs: {done}")?;
+    }
+    boot(&mut domain).map_err(refused)?;
+    if runs("steps") {
+        println!(rt; "steps: {}", steps(&mut domain, count))?;
+    }
+    for (node, memory) in [(0, "2048"), (1, "65536")] {
+        let name = format!(in alloc; "checkouts-{memory}")?;
+        if runs(name.as_str()) {
+            let done = checkouts(&domain, node, count).map_err(refused)?;
+            println!(rt; "{name}: {done}")?;
+        }
+        let name = format!(in alloc; "turns-{memory}")?;
+        if runs(name.as_str()) {
+            let done = turns(&mut domain, node, count).map_err(refused)?;
+            println!(rt; "{name}: {done}")?;
+        }
+    }
+    Ok(())
+}
