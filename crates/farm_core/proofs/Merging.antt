@@ -59,7 +59,7 @@ stored_replies (x ∷ merge) = ap (λ (rest : List Answer). (let a : Answer = Ok
 
 -- ---- what is there at each domain's number
 
-there_is : {X : Type 0} (xs : List X) (i : ℕ) → i < length xs → (x : X) × (slice_get xs i ≡ Some x)
+pub there_is : {X : Type 0} (xs : List X) (i : ℕ) → i < length xs → (x : X) × (slice_get xs i ≡ Some x)
 there_is xs i inside =
     elim (slice_get_cases xs i).1 [
       | inl found ↦ (found.0, found.2)
