@@ -58,6 +58,17 @@ told_one_more plan told domain call left all domains later answer so is places =
       told_is = append_assoc told (answer ∷ []) (told_from plan after left) ∙ ap (λ a. told ++ a ∷ told_from plan after left) says ∙ so.told_is;
     }
 
+-- the same at an index of the calls that were asked
+pub told_next : (plan : List Place) (told : List Answer) (asked : List (ℕ × By × Event)) (index : ℕ) (d : ℕ × By × Event) (domains later : List DomainValue) (answer : Answer) → index < length asked
+    → IsToldSoFar plan told (calls_asked (drop index asked)) (calls_asked asked) domains
+    → IsCallOfEachWhole (get_or asked index d).0 (record { by = (get_or asked index d).1; event = (get_or asked index d).2 }) answer domains later → places_in later ≡ places_in domains
+    → IsToldSoFar plan (told ++ answer ∷ []) (calls_asked (drop (index + 1) asked)) (calls_asked asked) later
+told_next plan told asked index d domains later answer within so is places =
+    let x = get_or asked index d in
+    let left : drop index asked ≡ x ∷ drop (index + 1) asked = rw add-one (drop-cons asked index d within) in
+    told_one_more plan told x.0 (record { by = x.1; event = x.2 }) (calls_asked (drop (index + 1) asked)) (calls_asked asked) domains later answer
+    (subst (λ (rest : List (ℕ × By × Event)). IsToldSoFar plan told (calls_asked rest) (calls_asked asked) domains) left so) is places
+
 pub told_all : (plan : List Place) (told : List Answer) (left all : List (ℕ × Call)) (domains : List DomainValue) → left ≡ [] → IsToldSoFar plan told left all domains → told ≡ told_by plan all
 told_all plan told left all domains none so = sym (append_none told) ∙ sym (ap (λ calls. told ++ told_from plan so.farm calls) none) ∙ so.told_is
   where

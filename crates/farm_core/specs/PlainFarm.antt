@@ -64,6 +64,11 @@ IsCallOfEachWhole domain call told old new = (farm : Farm) → IsMadeOfDomains f
 abbrev pub output_in : Word → Output
 output_in word = record { driver = input_of (connection_of word); ready = is_ready (connection_of word) }
 
+-- the output has this number in the domain that is there
+abbrev pub HasOutput : Option DomainValue → ℕ → ℕ → Type 0
+HasOutput None number output = ⊥
+HasOutput (Some d) number output = slice_get d.machine.switch.ports number ≡ Some output
+
 -- it is the word of the domain whose output this is
 abbrev pub IsWordOfOwner : List DomainValue → ℕ → Word → Type 0
 IsWordOfOwner domains output word =

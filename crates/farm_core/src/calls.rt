@@ -1,5 +1,5 @@
 //! A run of a plan from its opening.
-ghost use Rattle.std.specs.Prelude.{◌≡◌, IfOk, IfErr, length};
+ghost use Rattle.std.specs.Prelude.{◌≡◌, ◌↔◌, IsTrue, Err, IfOk, IfErr, length};
 ghost use Rattle.domain_core.specs.declared.event.Refusal.TheVariants.{NoMemory as WantOfMemory};
 ghost use Rattle.farm_core.specs.Places.{places_of};
 ghost use Rattle.farm_core.specs.Laws.{told_by};
@@ -13,7 +13,14 @@ use std::alloc::Global;
 /// What each event of a run is answered, in order.
 pub type Answers = Vec<Result<Reply, Refusal>>;
 
-// The same, with want of memory as the only error.
+// Whether an event met want of memory.
+fn met_want(answer: Result<Reply, Refusal>) -> bool
+    ensures { IsTrue result ↔ (answer ≡ Err WantOfMemory) }
+{
+    matches!(answer, Err(Refusal::NoMemory))
+}
+
+// The answers of a run, in which want of memory is the only error.
 fn answers_to(
     alloc: Global,
     plan: &AcceptedPlan,
@@ -25,7 +32,7 @@ fn answers_to(
     let mut told = Vec::new(alloc);
     for (domain, by, event) in calls {
         let answer = farm.apply(*domain, *by, *event);
-        if answer == Err(Refusal::NoMemory) {
+        if met_want(answer) {
             return Err(NoMemory);
         }
         told.push(answer)?;

@@ -1,15 +1,16 @@
 //! All domains of a plan, on one thread.
-ghost use Rattle.std.specs.Prelude.{◌≡◌, ◌<◌, [], length, slice_get, All, IfOk, IfSome, OnErr, Some};
+ghost use Rattle.std.specs.Prelude.{◌≡◌, ◌<◌, ◌↔◌, [], length, slice_get, All, IfOk, IfSome, IsTrue, OnErr, None};
 ghost use Rattle.plan_checker.specs.Part.{part_of};
-ghost use Rattle.domain_core.specs.Domain.{state_of, UnlessNoMemory};
+ghost use Rattle.domain_core.specs.Domain.{state_of, IsQuiet, UnlessNoMemory};
+ghost use Rattle.domain_core.specs.MachineValue.{machine_of};
 ghost use Rattle.domain_core.specs.Private.{opening};
 ghost use Rattle.farm_core.specs.Places.{place_of, places_of};
 ghost use Rattle.farm_core.specs.Whole.{whole_opening};
-ghost use Rattle.farm_core.specs.Domains.{IsMadeOf};
+ghost use Rattle.farm_core.specs.Domains.{IsFree, IsMadeOf};
 ghost use Rattle.farm_core.specs.Merges.{own_place};
-ghost use Rattle.farm_core.specs.PlainFarm.{places_in, states_in, openings, OthersStay, IsCalledAt, IsCallOfEachWhole};
+ghost use Rattle.farm_core.specs.PlainFarm.{places_in, states_in, openings, OthersStay, IsCalledAt, IsCallOfEachWhole, HasOutput, IsWordOfOwner, SaysEachWhole, IsRestartedAt, FitsAt};
 
-use crossbar::PlainOutputs;
+use crossbar::{PlainOutputs, Word};
 use domain_core::{By, Domain, Event, NoMemory, Refusal, Reply};
 use plan_checker::AcceptedPlan;
 use std::alloc::Global;
@@ -105,5 +106,73 @@ impl PlainFarm {
             return Err(Refusal::NoSuch);
         };
         domain.apply(by, event)
+    }
+
+    /// The switch word of a physical output, below 32: that of the domain whose output it is, and 0
+    /// where it is no domain's. In the whole farm the output is driven and ready as the word says.
+    /// Nothing changes.
+    pub fn word(&mut self, output: u8) -> Word
+        ensures owner { IsWordOfOwner self.old output result }
+        ensures free { IsFree (places_in self.old) output → result ≡ record { bits = 0 } }
+        ensures whole { SaysEachWhole self.old output result }
+        ensures same { self.new ≡ self.old }
+    {
+        let Some((domain, number)) = self.owner(output) else {
+            return Word::UNUSED;
+        };
+        self.domains[domain].word(number)
+    }
+
+    // The index of the domain whose output this is, and the output's number there.
+    fn owner(&self, output: u8) -> Option<(usize, u8)>
+        ensures owned { IfSome result (λ owner. HasOutput (slice_get self.now owner.0) owner.1 output) }
+        ensures free { result ≡ None → IsFree (places_in self.now) output }
+    {
+        for (index, domain) in self.domains.iter().enumerate() {
+            if let Some(number) = domain.virtual_of(output) {
+                return Some((index, number));
+            }
+        }
+        None
+    }
+
+    /// Whether no Step and no Move of a domain that is there would be recorded, the limit aside.
+    /// Nothing changes.
+    pub fn quiet(&mut self, domain: u8) -> bool
+        requires { domain < length self.old }
+        ensures quiet { IfSome (slice_get self.old domain) (λ d. IsTrue result ↔ IsQuiet d.machine.part (machine_of d.machine)) }
+        ensures same { self.new ≡ self.old }
+    {
+        self.domains[usize::from(domain)].quiet()
+    }
+
+    /// Makes a domain that is there as it was opened, with an empty journal. Its change counts go on,
+    /// and all other domains stay.
+    pub fn restart(&mut self, domain: u8)
+        requires { domain < length self.old }
+        ensures own { IsRestartedAt (slice_get self.old domain) (slice_get self.new domain) }
+        ensures others { OthersStay domain self.old self.new }
+        ensures places { places_in self.new ≡ places_in self.old }
+    {
+        self.domains[usize::from(domain)].restart();
+    }
+
+    /// Whether the domain of this number has the part and the physical ports of that of a plan. It
+    /// hasn't where the farm or the plan has no such domain.
+    pub fn fits(&self, plan: &AcceptedPlan, number: u8) -> bool
+        ensures { IsTrue result ↔ FitsAt plan.now number (slice_get self.now number) }
+    {
+        let Some(domain) = self.domains.get(usize::from(number)) else {
+            return false;
+        };
+        domain.fits(plan, number)
+    }
+
+    /// The domains at their end, in the order of the plan.
+    pub fn into_domains(self) -> Vec<Domain<PlainOutputs>>
+        ensures { result.items ≡ self }
+    {
+        let PlainFarm { domains } = self;
+        domains
     }
 }
