@@ -9,3 +9,4 @@ pub mod Separation
 pub mod Plain
 pub mod Opened
 pub mod Told
+pub mod Owners

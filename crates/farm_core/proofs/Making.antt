@@ -148,7 +148,7 @@ no_domain_no_change plan farm domain call none = ap (next_in plan farm domain ca
 
 -- ---- what the outputs say
 
-raised-number : (ports : List ℕ) (found : Option ℕ) → IsOneToOne ports → ((input : ℕ) → found ≡ Some input → Contains ports input) → found ≡ option_map (raised ports) (option_and_then (number_in ports) found)
+pub raised-number : (ports : List ℕ) (found : Option ℕ) → IsOneToOne ports → ((input : ℕ) → found ≡ Some input → Contains ports input) → found ≡ option_map (raised ports) (option_and_then (number_in ports) found)
 raised-number ports None one own = refl
 raised-number ports (Some input) one own =
     let at = at_contained ports input (own input refl) in

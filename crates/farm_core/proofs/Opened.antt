@@ -1,13 +1,13 @@
 -- The domains of a plan as they are opened, one after another.
-use Rattle.std.proofs.Common.{◌≡◌, ℕ, ◌+◌, ◌<◌, Option, Some, List, [], ◌∷◌, ◌++◌, length, get_or, take, map, slice_get, IfSome, All, refl, sym, ap, ◌∙◌, subst}
+use Rattle.std.proofs.Common.{◌≡◌, ℕ, ◌+◌, ◌<◌, Some, List, [], ◌∷◌, ◌++◌, length, get_or, take, slice_get, IfSome, All, sym, ap, ◌∙◌, subst}
 use Rattle.std.proofs.lemmas.Option.{slice_get-get_or}
 use Rattle.std.proofs.lemmas.List.{take_more, map-append}
 use Rattle.std.proofs.lemmas.List.Elements.{All-push}
 use Rattle.plan_checker.specs.Data.{DomainData}
 use Rattle.plan_checker.specs.Part.{part_of}
-use Rattle.domain_core.specs.Private.{State, opening}
+use Rattle.domain_core.specs.Private.{opening}
 use Rattle.domain_core.specs.Domain.{DomainValue, state_of}
-use Rattle.farm_core.specs.Places.{Place, place_of, places_of, IsSeparate}
+use Rattle.farm_core.specs.Places.{Place, place_of, places_of}
 use Rattle.farm_core.specs.Whole.{whole_opening}
 use Rattle.farm_core.specs.Domains.{IsMadeOf}
 use Rattle.farm_core.specs.Merges.{own_place}
@@ -20,7 +20,6 @@ pub record AreOpened (plan : List DomainData) (domains : List DomainValue) : Typ
   pub places : places_in domains ≡ places_of plan
   pub states : states_in domains ≡ openings (places_of plan)
   pub journals : All (λ d. d.journal ≡ []) domains
-
 
 one_more : (plan : List DomainData) (of : DomainData) (domains : List DomainValue) (d : DomainValue) → AreOpened plan domains → own_place d ≡ place_of of → state_of d ≡ opening (part_of of) → d.journal ≡ []
     → AreOpened (plan ++ of ∷ []) (domains ++ d ∷ [])

@@ -1,17 +1,17 @@
 -- One domain of a list of separate domains is changed, and what this is for every whole farm made of them.
-use Rattle.std.proofs.Common.{◌≡◌, ◌≢◌, ℕ, ◌<◌, Option, Some, None, Ok, Err, List, length, get_or, slice_get, slice_set, map, option_map, refl, sym, ap, ◌∙◌, subst}
+use Rattle.std.proofs.Common.{◌≡◌, ℕ, ◌<◌, Some, None, Ok, Err, List, length, get_or, slice_get, slice_set, option_map, refl, sym, ap, ◌∙◌, subst}
 use Rattle.std.proofs.lemmas.Option.{slice_get-map, slice_get_read, get_or_from_slice_get}
 use Rattle.std.proofs.lemmas.List.{map-set}
 use Rattle.std.proofs.Math.Seq.{map-set_same}
 use Rattle.domain_core.specs.declared.event.Refusal.TheVariants.{NoSuch, JournalFull, NoMemory}
-use Rattle.domain_core.specs.Private.{State, Answer, Call, next}
+use Rattle.domain_core.specs.Private.{Answer, Call, next}
 use Rattle.domain_core.specs.Domain.{DomainValue, state_of, UnlessNoMemory}
-use Rattle.farm_core.specs.Places.{Place, IsSeparate}
+use Rattle.farm_core.specs.Places.{IsSeparate}
 use Rattle.farm_core.specs.Whole.{Farm, whole_next}
 use Rattle.farm_core.specs.Projection.{lowered_for}
 use Rattle.farm_core.specs.Domains.{IsMadeOf}
 use Rattle.farm_core.specs.Merges.{own_place}
-use Rattle.farm_core.specs.PlainFarm.{places_in, states_in, IsMadeOfDomains, OthersStay, IsCalled, IsCalledAt, IsWholeCall, IsCallOfEachWhole}
+use Rattle.farm_core.specs.PlainFarm.{places_in, states_in, OthersStay, IsCalled, IsCalledAt, IsCallOfEachWhole, IsRestarted, IsRestartedAt}
 use Rattle.farm_core.proofs.Making.{get-set_same, get-set_other, each_call_is_private, no_domain_no_change}
 
 -- ---- one domain for another
@@ -24,6 +24,9 @@ pub record Replaces (domains later : List DomainValue) (domain : ℕ) (old new :
 
 pub read_at : (items domains : List DomainValue) (i domain : ℕ) (d : DomainValue) → items ≡ domains → i ≡ domain → i < length items → d ≡ get_or items i d → slice_get domains domain ≡ Some d
 read_at items domains i domain d same number within is = (λ k. slice_get (sym same k) (sym number k)) ∙ slice_get_read items (length items) i d refl within is
+
+pub read_there : (items domains : List DomainValue) (i domain : ℕ) (d : DomainValue) → items ≡ domains → i ≡ domain → domain < length domains → d ≡ get_or items i d → slice_get domains domain ≡ Some d
+read_there items domains i domain d same number within is = slice_get_read domains (length domains) domain d refl within (is ∙ (λ k. get_or (same k) (number k) d))
 
 pub new_at : (domains later : List DomainValue) (domain : ℕ) (old new : DomainValue) → Replaces domains later domain old new → slice_get later domain ≡ Some new
 new_at domains later domain old new is = ap (λ ds. slice_get ds domain) is.later_is ∙ get-set_same domains domain new old is.there
@@ -88,3 +91,11 @@ call_elsewhere domains domain call none farm made =
       answer = sym (ap (λ found. lowered_for found (whole_next plan farm (domain, call)).1) no_place ∙ ap (λ (r : Farm × Answer). r.1) stays);
       made = subst (λ (r : Farm × Answer). IsMadeOf plan r.0 (states_in domains)) (sym stays) made;
     }
+
+-- ---- a restart
+
+pub restarted_at : (domains later : List DomainValue) (domain : ℕ) (old new : DomainValue) → Replaces domains later domain old new → IsRestarted old new
+    → IsRestartedAt (slice_get domains domain) (slice_get later domain)
+restarted_at domains later domain old new is restarted =
+    subst (λ found. IsRestartedAt found (slice_get later domain)) (sym is.there)
+    (subst (λ found. IsRestartedAt (Some old) found) (sym (new_at domains later domain old new is)) restarted)

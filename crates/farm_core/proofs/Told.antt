@@ -1,5 +1,5 @@
 -- What the callers of a run are told, call by call.
-use Rattle.std.proofs.Common.{◌≡◌, ◌≢◌, inl, inr, ℕ, suc, ◌+◌, ◌<◌, ◌≤◌, Option, Some, None, Ok, Err, List, [], ◌∷◌, ◌++◌, length, get_or, drop, map, slice_get, All, refl, sym, ap, ◌∙◌, subst, arith, add-one, drop-cons, append_assoc}
+use Rattle.std.proofs.Common.{◌≡◌, inl, inr, ℕ, suc, ◌+◌, ◌<◌, None, Ok, Err, List, [], ◌∷◌, ◌++◌, length, get_or, drop, slice_get, All, refl, sym, ap, ◌∙◌, subst, add-one, drop-cons, append_assoc}
 use Rattle.std.proofs.lemmas.Bool.{cases_eq}
 use Rattle.std.specs.List.{zip}
 use Rattle.std.proofs.lemmas.List.{length-map}
@@ -7,7 +7,7 @@ use Rattle.std.proofs.lemmas.List.Elements.{All-nil, All-cons}
 use Rattle.domain_core.specs.declared.event.By.{By}
 use Rattle.domain_core.specs.declared.event.Event.{Event}
 use Rattle.domain_core.specs.declared.event.Refusal.TheVariants.{NoSuch, JournalFull, NoMemory}
-use Rattle.domain_core.specs.Private.{State, Call, Answer}
+use Rattle.domain_core.specs.Private.{Call, Answer}
 use Rattle.domain_core.specs.Domain.{UnlessNoMemory, DomainValue}
 use Rattle.plan_checker.specs.Data.{DomainData}
 use Rattle.farm_core.specs.Places.{Place, places_of}
@@ -15,7 +15,7 @@ use Rattle.farm_core.specs.Whole.{Farm, whole_next, whole_answers, whole_opening
 use Rattle.farm_core.specs.Projection.{lowered_for, own}
 use Rattle.farm_core.specs.Domains.{IsMadeOf}
 use Rattle.farm_core.specs.Laws.{told_from, told_by, told_to}
-use Rattle.farm_core.specs.PlainFarm.{places_in, states_in, IsMadeOfDomains, IsWholeCall, IsCallOfEachWhole}
+use Rattle.farm_core.specs.PlainFarm.{places_in, states_in, IsCallOfEachWhole}
 use Rattle.farm_core.specs.Run.{calls_asked, NobodyElsewhere}
 use Rattle.farm_core.proofs.Making.{no_domain_no_change}
 use Rattle.farm_core.proofs.Runs.{own-here, own-there, told_pairs, told_domains, told_answers, zip-parts}

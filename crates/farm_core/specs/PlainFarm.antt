@@ -1,5 +1,5 @@
 -- What contracts see of a farm on one thread: its domains in the order of the plan, each with its journal.
-use Rattle.std.specs.Prelude.{◌≡◌, ◌≢◌, ◌++◌, ℕ, List, [], map, Option, Some, None, Err, slice_get, All}
+use Rattle.std.specs.Prelude.{◌≡◌, ◌≢◌, ◌++◌, ℕ, List, [], map, Option, Some, None, Err, slice_get}
 use Rattle.std.specs.List.{AllZip}
 use Rattle.crossbar.specs.declared.word.Word.{Word}
 use Rattle.crossbar.specs.Word.{connection_of, CountsChange}
@@ -12,7 +12,7 @@ use Rattle.domain_core.specs.Journal.{expanded}
 use Rattle.farm_core.specs.Places.{Place}
 use Rattle.farm_core.specs.Whole.{Farm, whole_next}
 use Rattle.farm_core.specs.Projection.{lowered_for}
-use Rattle.farm_core.specs.Domains.{Output, IsMadeOf, IsFree, output_of}
+use Rattle.farm_core.specs.Domains.{Output, IsMadeOf, output_of}
 use Rattle.farm_core.specs.Merges.{own_place}
 
 -- the places of the domains, and their states

@@ -54,10 +54,7 @@ fn open_domain(
 }
 
 // All domains of a plan as they are opened, in its order.
-fn open_domains(
-    alloc: Global,
-    plan: &AcceptedPlan,
-) -> Result<Vec<Domain<PlainOutputs>>, NoMemory>
+fn open_domains(alloc: Global, plan: &AcceptedPlan) -> Result<Vec<Domain<PlainOutputs>>, NoMemory>
     ensures places { IfOk result (λ domains. places_in domains.items ≡ places_of plan.now) }
     ensures states { IfOk result (λ domains. states_in domains.items ≡ openings (places_of plan.now)) }
     ensures journals { IfOk result (λ domains. All (λ d. d.journal ≡ []) domains.items) }

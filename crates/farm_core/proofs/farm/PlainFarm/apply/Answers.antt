@@ -1,7 +1,6 @@
 use Rattle.std.proofs.Common.{◌≡◌, ◌<◌, List, length, slice_set, subst}
 use Rattle.domain_core.specs.Domain.{DomainValue}
 use Rattle.farm_core.specs.Places.{IsSeparate}
-use Rattle.farm_core.specs.Merges.{own_place}
 use Rattle.farm_core.specs.PlainFarm.{places_in, IsCalled}
 use Rattle.farm_core.proofs.Plain.{Replaces, read_at, still_separate, called_at, others_stay, places_stay, call_of_each_whole}
 use Rattle.farm_core.proofs.farm.PlainFarm.apply.Goals as goal
