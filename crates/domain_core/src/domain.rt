@@ -1,7 +1,7 @@
 //! A domain: its machine, with the journal of what it answered.
 ghost use Rattle.std.specs.Prelude.{◌≡◌, ◌≢◌, ◌<◌, ◌+◌, ◌++◌, [], None, Some, Ok, Err, length, IfOk, OnErr, IsTrue, ◌↔◌, slice_get, true};
 ghost use Rattle.std.specs.List.{AllZip};
-ghost use Rattle.crossbar.specs.Row.{switch_of};
+ghost use Rattle.crossbar.specs.Row.{switch_of, IsRow, number_in};
 ghost use Rattle.crossbar.specs.Switch.{cleared};
 ghost use Rattle.crossbar.specs.Word.{CountsChange};
 ghost use Rattle.domain_core.specs.declared.domain.Committed.TheVariants.{Done, Stale};
@@ -136,9 +136,17 @@ impl<O: Outputs + Drop> Domain<O> {
     pub fn word(&mut self, output: u8) -> Word
         requires { output < self.old.machine.part.count }
         ensures word { slice_get self.old.machine.switch.words output ≡ Some result }
+        ensures row { IsRow self.old.machine.switch.ports self.old.machine.switch.words }
         ensures same { self.new ≡ self.old }
     {
         self.machine.word(output)
+    }
+
+    /// The virtual number of a physical port, or `None` where it is none of the domain's.
+    pub fn virtual_of(&self, port: u8) -> Option<u8>
+        ensures { result ≡ number_in self.now.machine.switch.ports port }
+    {
+        self.machine.virtual_of(port)
     }
 
     /// Whether the domain has the part and the physical ports of this domain of a plan. It hasn't

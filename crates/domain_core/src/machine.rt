@@ -5,7 +5,7 @@ ghost use Rattle.domain_core.specs.declared.event.Event.{Event as SpecEvent};
 ghost use Rattle.domain_core.specs.Domain.{IsQuiet};
 ghost use Rattle.std.specs.Int.{bit_at};
 ghost use Rattle.std.specs.List.{AllZip, range_with_len};
-ghost use Rattle.crossbar.specs.Row.{switch_of};
+ghost use Rattle.crossbar.specs.Row.{switch_of, IsRow, number_in};
 ghost use Rattle.crossbar.specs.Switch.{cleared, drives};
 ghost use Rattle.crossbar.specs.Word.{CountsChange};
 ghost use Rattle.virtual_switch.specs.Seen.{private_of};
@@ -290,9 +290,17 @@ impl<O: Outputs + Drop> Machine<O> {
     pub(crate) fn word(&mut self, output: u8) -> Word
         requires { output < self.old.part.count }
         ensures word { slice_get self.old.switch.words output ≡ Some result }
+        ensures row { IsRow self.old.switch.ports self.old.switch.words }
         ensures same { self.new ≡ self.old }
     {
         self.switch.word(output)
+    }
+
+    /// The virtual number of a physical port, or `None` where it is none of the domain's.
+    pub(crate) fn virtual_of(&self, port: u8) -> Option<u8>
+        ensures { result ≡ number_in self.now.switch.ports port }
+    {
+        self.switch.virtual_of(port)
     }
 
     /// Whether the outputs lie at these physical ports.

@@ -6,3 +6,7 @@ pub mod Runs
 pub mod Making
 pub mod Merging
 pub mod Separation
+pub mod Plain
+pub mod Opened
+pub mod Told
+pub mod Owners

@@ -94,12 +94,12 @@ tidy_opening plan = record {
 
 -- ---- the states of all domains
 
-get-set_same : {X : Type 0} (xs : List X) (i : ℕ) (x y : X) → slice_get xs i ≡ Some y → slice_get (slice_set xs i x) i ≡ Some x
+pub get-set_same : {X : Type 0} (xs : List X) (i : ℕ) (x y : X) → slice_get xs i ≡ Some y → slice_get (slice_set xs i x) i ≡ Some x
 get-set_same [] i x y at = absurd (none-some y at)
 get-set_same (z ∷ xs) zero x y at = refl
 get-set_same (z ∷ xs) (suc i) x y at = get-set_same xs i x y at
 
-get-set_other : {X : Type 0} (xs : List X) (i j : ℕ) (x : X) → j ≢ i → slice_get (slice_set xs i x) j ≡ slice_get xs j
+pub get-set_other : {X : Type 0} (xs : List X) (i j : ℕ) (x : X) → j ≢ i → slice_get (slice_set xs i x) j ≡ slice_get xs j
 get-set_other [] i j x ne = refl
 get-set_other (z ∷ xs) zero zero x ne = absurd (ne refl)
 get-set_other (z ∷ xs) zero (suc j) x ne = refl
@@ -148,7 +148,7 @@ no_domain_no_change plan farm domain call none = ap (next_in plan farm domain ca
 
 -- ---- what the outputs say
 
-raised-number : (ports : List ℕ) (found : Option ℕ) → IsOneToOne ports → ((input : ℕ) → found ≡ Some input → Contains ports input) → found ≡ option_map (raised ports) (option_and_then (number_in ports) found)
+pub raised-number : (ports : List ℕ) (found : Option ℕ) → IsOneToOne ports → ((input : ℕ) → found ≡ Some input → Contains ports input) → found ≡ option_map (raised ports) (option_and_then (number_in ports) found)
 raised-number ports None one own = refl
 raised-number ports (Some input) one own =
     let at = at_contained ports input (own input refl) in

@@ -59,7 +59,7 @@ stored_replies (x ∷ merge) = ap (λ (rest : List Answer). (let a : Answer = Ok
 
 -- ---- what is there at each domain's number
 
-there_is : {X : Type 0} (xs : List X) (i : ℕ) → i < length xs → (x : X) × (slice_get xs i ≡ Some x)
+pub there_is : {X : Type 0} (xs : List X) (i : ℕ) → i < length xs → (x : X) × (slice_get xs i ≡ Some x)
 there_is xs i inside =
     elim (slice_get_cases xs i).1 [
       | inl found ↦ (found.0, found.2)
@@ -135,7 +135,7 @@ made_of : {X Y : Type 0} (make : X → Y) (found : Option X) (y : Y) → option_
 made_of make None y is = absurd (none-some y is)
 made_of make (Some x) y is = (x, refl, same_Some _ _ is)
 
-domain_of : {Y : Type 0} (make : DomainValue → Y) (domains : List DomainValue) (number : ℕ) (y : Y) → slice_get (map make domains) number ≡ Some y
+pub domain_of : {Y : Type 0} (make : DomainValue → Y) (domains : List DomainValue) (number : ℕ) (y : Y) → slice_get (map make domains) number ≡ Some y
     → (d : DomainValue) × (slice_get domains number ≡ Some d) × (make d ≡ y)
 domain_of make domains number y at = made_of make (slice_get domains number) y (sym (slice_get-map make domains number) ∙ at)
 

@@ -6,3 +6,5 @@ pub mod Projection
 pub mod Domains
 pub mod Laws
 pub mod Merges
+pub mod PlainFarm
+pub mod Run

@@ -1,0 +1,96 @@
+-- What contracts see of a farm on one thread: its domains in the order of the plan, each with its journal.
+use Rattle.std.specs.Prelude.{◌≡◌, ◌≢◌, ◌++◌, ℕ, List, [], map, Option, Some, None, Err, slice_get}
+use Rattle.std.specs.List.{AllZip}
+use Rattle.crossbar.specs.declared.word.Word.{Word}
+use Rattle.crossbar.specs.Word.{connection_of, CountsChange}
+use Rattle.crossbar.specs.Row.{input_of, is_ready}
+use Rattle.plan_checker.specs.Data.{DomainData}
+use Rattle.domain_core.specs.declared.event.Refusal.TheVariants.{NoSuch}
+use Rattle.domain_core.specs.Private.{State, Answer, Call, next, opening}
+use Rattle.domain_core.specs.Domain.{DomainValue, state_of, gained, Fits, UnlessNoMemory}
+use Rattle.domain_core.specs.Journal.{expanded}
+use Rattle.farm_core.specs.Places.{Place}
+use Rattle.farm_core.specs.Whole.{Farm, whole_next}
+use Rattle.farm_core.specs.Projection.{lowered_for}
+use Rattle.farm_core.specs.Domains.{Output, IsMadeOf, output_of}
+use Rattle.farm_core.specs.Merges.{own_place}
+
+-- the places of the domains, and their states
+abbrev pub places_in : List DomainValue → List Place
+places_in domains = map own_place domains
+
+abbrev pub states_in : List DomainValue → List State
+states_in domains = map state_of domains
+
+-- the whole farm is made of what the domains are
+abbrev pub IsMadeOfDomains : Farm → List DomainValue → Type 0
+IsMadeOfDomains farm domains = IsMadeOf (places_in domains) farm (states_in domains)
+
+-- the state of each place as it is opened
+abbrev pub openings : List Place → List State
+openings plan = map (λ place. opening place.part) plan
+
+-- all other domains are as they were
+abbrev pub OthersStay : ℕ → List DomainValue → List DomainValue → Type 0
+OthersStay domain old new = (other : ℕ) → other ≢ domain → slice_get new other ≡ slice_get old other
+
+-- ---- a call
+
+-- the domain answers as a farm does that holds it alone, becomes what it would become alone, and its journal gains what is recorded
+pub record IsCalled (call : Call) (told : Answer) (old new : DomainValue) : Type 0 where
+  pub answer : UnlessNoMemory told (told ≡ (next old.machine.part (state_of old) call).1)
+  pub state : UnlessNoMemory told (state_of new ≡ (next old.machine.part (state_of old) call).0)
+  pub journal : expanded new.journal ≡ expanded old.journal ++ gained old.machine.part (state_of old) call told
+  pub counts : AllZip CountsChange old.machine.switch.words new.machine.switch.words
+
+-- the same of a domain that may not be there
+abbrev pub IsCalledAt : Call → Answer → Option DomainValue → Option DomainValue → Type 0
+IsCalledAt call told None new = told ≡ Err NoSuch
+IsCalledAt call told (Some old) None = ⊥
+IsCalledAt call told (Some old) (Some new) = IsCalled call told old new
+
+-- the whole farm answers a call of a domain so, and is then made of these domains
+pub record IsWholeCall (farm : Farm) (domain : ℕ) (call : Call) (told : Answer) (old new : List DomainValue) : Type 0 where
+  pub answer : told ≡ lowered_for (slice_get (places_in old) domain) (whole_next (places_in old) farm (domain, call)).1
+  pub made : IsMadeOfDomains (whole_next (places_in old) farm (domain, call)).0 new
+
+-- the same of every whole farm that is made of the domains before
+abbrev pub IsCallOfEachWhole : ℕ → Call → Answer → List DomainValue → List DomainValue → Type 0
+IsCallOfEachWhole domain call told old new = (farm : Farm) → IsMadeOfDomains farm old → IsWholeCall farm domain call told old new
+
+-- ---- a word
+
+-- what a word says of its output, the driver by its physical number
+abbrev pub output_in : Word → Output
+output_in word = record { driver = input_of (connection_of word); ready = is_ready (connection_of word) }
+
+-- the output has this number in the domain that is there
+abbrev pub HasOutput : Option DomainValue → ℕ → ℕ → Type 0
+HasOutput None number output = ⊥
+HasOutput (Some d) number output = slice_get d.machine.switch.ports number ≡ Some output
+
+-- it is the word of the domain whose output this is
+abbrev pub IsWordOfOwner : List DomainValue → ℕ → Word → Type 0
+IsWordOfOwner domains output word =
+    (domain number : ℕ) (d : DomainValue) → slice_get domains domain ≡ Some d → slice_get d.machine.switch.ports number ≡ Some output → slice_get d.machine.switch.words number ≡ Some word
+
+-- in every whole farm that is made of the domains the output is what the word says
+abbrev pub SaysEachWhole : List DomainValue → ℕ → Word → Type 0
+SaysEachWhole domains output word = (farm : Farm) → IsMadeOfDomains farm domains → output_of farm.switch output ≡ output_in word
+
+-- ---- an opening
+
+-- the domain is as it was opened, but that change counts went on
+pub record IsRestarted (old new : DomainValue) : Type 0 where
+  pub state : state_of new ≡ opening old.machine.part
+  pub journal : new.journal ≡ []
+  pub counts : AllZip CountsChange old.machine.switch.words new.machine.switch.words
+
+abbrev pub IsRestartedAt : Option DomainValue → Option DomainValue → Type 0
+IsRestartedAt (Some old) (Some new) = IsRestarted old new
+IsRestartedAt _ _ = ⊥
+
+-- the domain that is there has the part and the ports of this domain of a plan
+abbrev pub FitsAt : List DomainData → ℕ → Option DomainValue → Type 0
+FitsAt plan number None = ⊥
+FitsAt plan number (Some d) = Fits plan number d

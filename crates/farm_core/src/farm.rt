@@ -1,0 +1,175 @@
+//! All domains of a plan, on one thread.
+ghost use Rattle.std.specs.Prelude.{◌≡◌, ◌<◌, ◌↔◌, [], length, slice_get, All, IfOk, IfSome, IsTrue, OnErr, None};
+ghost use Rattle.plan_checker.specs.Part.{part_of};
+ghost use Rattle.domain_core.specs.Domain.{state_of, IsQuiet, UnlessNoMemory};
+ghost use Rattle.domain_core.specs.MachineValue.{machine_of};
+ghost use Rattle.domain_core.specs.Private.{opening};
+ghost use Rattle.farm_core.specs.Places.{place_of, places_of};
+ghost use Rattle.farm_core.specs.Whole.{whole_opening};
+ghost use Rattle.farm_core.specs.Domains.{IsFree, IsMadeOf};
+ghost use Rattle.farm_core.specs.Merges.{own_place};
+ghost use Rattle.farm_core.specs.PlainFarm.{places_in, states_in, openings, OthersStay, IsCalledAt, IsCallOfEachWhole, HasOutput, IsWordOfOwner, SaysEachWhole, IsRestartedAt, FitsAt};
+
+use crossbar::{PlainOutputs, Word};
+use domain_core::{By, Domain, Event, NoMemory, Refusal, Reply};
+use plan_checker::AcceptedPlan;
+use std::alloc::Global;
+use std::marker::Model;
+
+/// The domains of a plan, each over words of its own. Contracts see them in the order of the plan, as
+/// their numbers go. The farm keeps no plan: each domain knows its part and its physical ports, and
+/// no two have a port in common.
+#[derive(Drop)]
+pub struct PlainFarm {
+    domains: Vec<Domain<PlainOutputs>>,
+}
+
+impl Model for PlainFarm {
+    ghost use Rattle.std.specs.Prelude.{List};
+    ghost use Rattle.domain_core.specs.Domain.{DomainValue};
+    ghost use Rattle.farm_core.specs.Places.{IsSeparate};
+    ghost use Rattle.farm_core.specs.PlainFarm.{places_in};
+
+    ghost Value = { List DomainValue };
+
+    ghost view = { λ f. f.domains.items };
+
+    ghost invariant = { λ f. IsSeparate (places_in f.domains.items) };
+}
+
+// A domain of a plan as it is opened.
+fn open_domain(
+    alloc: Global,
+    plan: &AcceptedPlan,
+    number: u8,
+) -> Result<Domain<PlainOutputs>, NoMemory>
+    requires { number < length plan.now }
+    ensures place { IfOk result (λ d. IfSome (slice_get plan.now number) (λ of. own_place d ≡ place_of of)) }
+    ensures state { IfOk result (λ d. IfSome (slice_get plan.now number) (λ of. state_of d ≡ opening (part_of of))) }
+    ensures journal { IfOk result (λ d. d.journal ≡ []) }
+{
+    plan.separate();
+    let part = plan.part(number).copy(alloc)?;
+    Domain::open(alloc, part, PlainOutputs::unused(plan.ranges(number)))
+}
+
+// All domains of a plan as they are opened, in its order.
+fn open_domains(alloc: Global, plan: &AcceptedPlan) -> Result<Vec<Domain<PlainOutputs>>, NoMemory>
+    ensures places { IfOk result (λ domains. places_in domains.items ≡ places_of plan.now) }
+    ensures states { IfOk result (λ domains. states_in domains.items ≡ openings (places_of plan.now)) }
+    ensures journals { IfOk result (λ domains. All (λ d. d.journal ≡ []) domains.items) }
+{
+    let mut domains = Vec::new(alloc);
+    for number in 0..plan.domains() {
+        domains.push(open_domain(alloc, plan, number)?)?;
+    }
+    Ok(domains)
+}
+
+impl PlainFarm {
+    /// The farm of a plan as it is opened: all outputs disconnected, nothing come of any message,
+    /// nodes and hosts fresh, all journals empty.
+    ///
+    /// # Errors
+    ///
+    /// `NoMemory` where parts, memories or queues can't be allocated.
+    pub fn open(alloc: Global, plan: &AcceptedPlan) -> Result<PlainFarm, NoMemory>
+        ensures whole { IfOk result (λ farm. IsMadeOf (places_of plan.now) (whole_opening (places_of plan.now)) (states_in farm)) }
+        ensures places { IfOk result (λ farm. places_in farm ≡ places_of plan.now) }
+        ensures states { IfOk result (λ farm. states_in farm ≡ openings (places_of plan.now)) }
+        ensures journals { IfOk result (λ farm. All (λ d. d.journal ≡ []) farm) }
+    {
+        plan.separate();
+        let domains = open_domains(alloc, plan)?;
+        Ok(PlainFarm { domains })
+    }
+
+    /// Answers an event of one domain as a farm does that holds the domain alone. In the whole farm,
+    /// which is one machine in physical numbers, it is one call, with the answer in the domain's
+    /// virtual numbers; all other domains stay.
+    ///
+    /// # Errors
+    ///
+    /// `NoSuch` where there is no such domain, and else those of [`Domain::apply`]. After a refusal
+    /// nothing has changed.
+    pub fn apply(&mut self, domain: u8, by: By, event: Event) -> Result<Reply, Refusal>
+        ensures own { IsCalledAt (record { by = by; event = event }) result (slice_get self.old domain) (slice_get self.new domain) }
+        ensures others { OthersStay domain self.old self.new }
+        ensures whole { UnlessNoMemory result (IsCallOfEachWhole domain (record { by = by; event = event }) result self.old self.new) }
+        ensures places { places_in self.new ≡ places_in self.old }
+        ensures err { OnErr result (self.new ≡ self.old) }
+    {
+        let Some(domain) = self.domains.get_mut(usize::from(domain)) else {
+            return Err(Refusal::NoSuch);
+        };
+        domain.apply(by, event)
+    }
+
+    /// The switch word of a physical output, below 32: that of the domain whose output it is, and 0
+    /// where it is no domain's. In the whole farm the output is driven and ready as the word says.
+    /// Nothing changes.
+    pub fn word(&mut self, output: u8) -> Word
+        ensures owner { IsWordOfOwner self.old output result }
+        ensures free { IsFree (places_in self.old) output → result ≡ record { bits = 0 } }
+        ensures whole { SaysEachWhole self.old output result }
+        ensures same { self.new ≡ self.old }
+    {
+        let Some((domain, number)) = self.owner(output) else {
+            return Word::UNUSED;
+        };
+        self.domains[domain].word(number)
+    }
+
+    // The index of the domain whose output this is, and the output's number there.
+    fn owner(&self, output: u8) -> Option<(usize, u8)>
+        ensures owned { IfSome result (λ owner. HasOutput (slice_get self.now owner.0) owner.1 output) }
+        ensures free { result ≡ None → IsFree (places_in self.now) output }
+    {
+        for (index, domain) in self.domains.iter().enumerate() {
+            if let Some(number) = domain.virtual_of(output) {
+                return Some((index, number));
+            }
+        }
+        None
+    }
+
+    /// Whether no Step and no Move of a domain that is there would be recorded, the limit aside.
+    /// Nothing changes.
+    pub fn quiet(&mut self, domain: u8) -> bool
+        requires { domain < length self.old }
+        ensures quiet { IfSome (slice_get self.old domain) (λ d. IsTrue result ↔ IsQuiet d.machine.part (machine_of d.machine)) }
+        ensures same { self.new ≡ self.old }
+    {
+        self.domains[usize::from(domain)].quiet()
+    }
+
+    /// Makes a domain that is there as it was opened, with an empty journal. Its change counts go on,
+    /// and all other domains stay.
+    pub fn restart(&mut self, domain: u8)
+        requires { domain < length self.old }
+        ensures own { IsRestartedAt (slice_get self.old domain) (slice_get self.new domain) }
+        ensures others { OthersStay domain self.old self.new }
+        ensures places { places_in self.new ≡ places_in self.old }
+    {
+        self.domains[usize::from(domain)].restart();
+    }
+
+    /// Whether the domain of this number has the part and the physical ports of that of a plan. It
+    /// hasn't where the farm or the plan has no such domain.
+    pub fn fits(&self, plan: &AcceptedPlan, number: u8) -> bool
+        ensures { IsTrue result ↔ FitsAt plan.now number (slice_get self.now number) }
+    {
+        let Some(domain) = self.domains.get(usize::from(number)) else {
+            return false;
+        };
+        domain.fits(plan, number)
+    }
+
+    /// The domains at their end, in the order of the plan.
+    pub fn into_domains(self) -> Vec<Domain<PlainOutputs>>
+        ensures { result.items ≡ self }
+    {
+        let PlainFarm { domains } = self;
+        domains
+    }
+}
