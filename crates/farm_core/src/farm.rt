@@ -84,6 +84,13 @@ impl PlainFarm {
         Ok(PlainFarm { domains })
     }
 
+    /// How many domains there are. They are numbered from 0.
+    pub fn domains(&self) -> usize
+        ensures { result ≡ length self.now }
+    {
+        self.domains.len()
+    }
+
     /// Answers an event of one domain as a farm does that holds the domain alone. In the whole farm,
     /// which is one machine in physical numbers, it is one call, with the answer in the domain's
     /// virtual numbers; all other domains stay.
