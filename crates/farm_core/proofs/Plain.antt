@@ -1,5 +1,5 @@
 -- One domain of a list of separate domains is changed, and what this is for every whole farm made of them.
-use Rattle.std.proofs.Common.{◌≡◌, ℕ, ◌<◌, Some, None, Ok, Err, List, length, get_or, slice_get, slice_set, option_map, refl, sym, ap, ◌∙◌, subst}
+use Rattle.std.proofs.Common.{◌≡◌, ℕ, ◌<◌, Some, Ok, Err, List, length, get_or, slice_get, slice_set, option_map, refl, sym, ap, ◌∙◌, subst}
 use Rattle.std.proofs.lemmas.Option.{slice_get-map, slice_get_read, get_or_from_slice_get}
 use Rattle.std.proofs.lemmas.List.{map-set}
 use Rattle.std.proofs.Math.Seq.{map-set_same}
@@ -7,12 +7,12 @@ use Rattle.domain_core.specs.declared.event.Refusal.TheVariants.{NoSuch, Journal
 use Rattle.domain_core.specs.Private.{Answer, Call, next}
 use Rattle.domain_core.specs.Domain.{DomainValue, state_of, UnlessNoMemory}
 use Rattle.farm_core.specs.Places.{IsSeparate}
-use Rattle.farm_core.specs.Whole.{Farm, whole_next}
+use Rattle.farm_core.specs.Whole.{whole_next}
 use Rattle.farm_core.specs.Projection.{lowered_for}
 use Rattle.farm_core.specs.Domains.{IsMadeOf}
 use Rattle.farm_core.specs.Merges.{own_place}
 use Rattle.farm_core.specs.PlainFarm.{places_in, states_in, OthersStay, IsCalled, IsCalledAt, IsCallOfEachWhole, IsRestarted, IsRestartedAt}
-use Rattle.farm_core.proofs.Making.{get-set_same, get-set_other, each_call_is_private, no_domain_no_change}
+use Rattle.farm_core.proofs.Making.{get-set_same, get-set_other, each_call_is_private}
 
 -- ---- one domain for another
 
@@ -80,17 +80,6 @@ pub call_of_each_whole : (domains later : List DomainValue) (domain : ℕ) (old 
     → IsCalled call told old new → UnlessNoMemory told (IsCallOfEachWhole domain call told domains later)
 call_of_each_whole domains later domain old new call told is separate called =
     unless_no_memory told (λ answer state. whole_call domains later domain old new call told is separate answer state) called.answer called.state
-
--- a call of a domain that isn't there
-pub call_elsewhere : (domains : List DomainValue) (domain : ℕ) (call : Call) → slice_get domains domain ≡ None → IsCallOfEachWhole domain call (Err NoSuch) domains domains
-call_elsewhere domains domain call none farm made =
-    let plan = places_in domains in
-    let no_place : slice_get plan domain ≡ None = slice_get-map own_place domains domain ∙ ap (option_map own_place) none in
-    let stays = no_domain_no_change plan farm domain call no_place in
-    record {
-      answer = sym (ap (λ found. lowered_for found (whole_next plan farm (domain, call)).1) no_place ∙ ap (λ (r : Farm × Answer). r.1) stays);
-      made = subst (λ (r : Farm × Answer). IsMadeOf plan r.0 (states_in domains)) (sym stays) made;
-    }
 
 -- ---- a restart
 

@@ -27,22 +27,18 @@ fn equal_domains_are_answered_alike_wherever_they_lie(rt: HostRuntime) -> Result
         &plan_of(rt.alloc(), ANN_AND_BOB)?,
         calls.as_slice(),
     )?;
-    let count = calls.len();
-    assert_eq!(rt; beside_bob.len(), count);
-    assert_eq!(rt;
-        beside_bob.as_slice().last().copied(),
-        Some(Err(Refusal::NoSuch))
-    );
-    let idle = Seen {
+    assert_eq!(rt; beside_bob.len(), calls.len());
+    let seen = Seen {
         state: Activity::Idle,
         overruns: [0, 0, 0, 0],
     };
-    assert_eq!(rt;
-        beside_bob.as_slice().get(count - 4).copied(),
-        Some(Ok(Reply::Look(idle)))
-    );
-    let sent = Some(Ok(Reply::Read(Some(0x41))));
-    assert_eq!(rt; beside_bob.as_slice().get(count - 3).copied(), sent);
+    let last = [
+        Ok(Reply::Look(seen)),
+        Ok(Reply::Read(Some(0x41))),
+        Ok(Reply::Read(None)),
+        Err(Refusal::NoSuch),
+    ];
+    assert!(rt; beside_bob.as_slice().ends_with(&last));
     for text in [ANN_ALONE, ANN_IN_TWO_RANGES] {
         let alone = run(rt.alloc(), &plan_of(rt.alloc(), text)?, calls.as_slice())?;
         assert!(rt; alone.as_slice() == beside_bob.as_slice());
