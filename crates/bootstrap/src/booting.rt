@@ -12,7 +12,7 @@ use process_queue::{NOT_PROCESS, Queue};
 use t414_step::{Cpu, Stepped};
 
 /// MemStart, where code is loaded: the first word that isn't the processor's own. T414 data sheet, memory map.
-pub(crate) const CODE_START: u32 = 0x8000_0048;
+pub const CODE_START: u32 = 0x8000_0048;
 
 // How many words at the start of memory are channels: those of four links in two directions, and the event channel.
 const CHANNELS: u32 = 9;

@@ -5,6 +5,7 @@
 
 mod booting;
 mod burst;
+mod examined;
 mod laws;
 mod link_numbers;
 mod messages;
@@ -13,6 +14,7 @@ mod seen;
 mod state;
 mod stepping;
 
+pub use crate::booting::CODE_START;
 pub use crate::burst::Burst;
 pub use crate::laws::{
     fault_halts, quiet_step_changes_nothing, recorded_step_ran, steps_add_up, steps_keep_the_size,
@@ -21,3 +23,7 @@ pub use crate::link_numbers::{link_of, number_of};
 pub use crate::messages::{BootFault, boot_message, peek_message, poke_message, word_of};
 pub use crate::node::Node;
 pub use crate::seen::{Activity, Seen};
+pub use link_channels::{LinkNumber, Links};
+pub use node_memory::{Fault, Memory, NoMemory};
+pub use os_link::Packet;
+pub use t414_step::{Cpu, Stepped};

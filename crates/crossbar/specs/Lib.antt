@@ -1,7 +1,9 @@
+-- what must be believed
 pub mod Word
 pub mod Switch
 pub mod Ranges
 pub mod Row
+-- what only helps contracts
 pub mod Numbers
 pub mod Fits
 pub mod Plain

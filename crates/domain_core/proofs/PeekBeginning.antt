@@ -5,7 +5,6 @@ use Rattle.std.proofs.lemmas.List.{set-get_or}
 use Rattle.os_link.specs.End.{fresh}
 use Rattle.os_link.specs.declared.end.LinkEnd.{LinkEnd}
 use Rattle.os_link.specs.declared.latch.Latch.{Latch}
-use Rattle.os_link.specs.declared.outgoing.LinkOut.{LinkOut}
 use Rattle.link_channels.specs.Links.{at}
 use Rattle.link_channels.specs.declared.number.LinkNumber.{LinkNumber}
 use Rattle.bootstrap.specs.Messages.{bytes_of}
@@ -15,11 +14,11 @@ use Rattle.bootstrap.specs.declared.state.State as doing
 use Rattle.bootstrap.specs.declared.state.State.TheVariants.{WantsControl}
 use Rattle.domain_core.specs.Hosts.{HostState}
 use Rattle.domain_core.specs.Hosts as host
-use Rattle.domain_core.specs.Devices.{DeviceStates, node_at, host_at, with_host}
+use Rattle.domain_core.specs.Devices.{DeviceStates, node_at, host_at}
 use Rattle.domain_core.specs.Machine.{with_devices}
-use Rattle.domain_core.specs.Peek.{Asks, Listens, after_peek, told, word_bytes}
+use Rattle.domain_core.specs.Peek.{Asks, Listens, quieted, after_peek, told, word_bytes}
 use Rattle.domain_core.specs.Private.{State}
-use Rattle.domain_core.proofs.PeekNodes.{end_of, resting, with_end, own-end}
+use Rattle.domain_core.proofs.PeekNodes.{end_of, listening, resting, with_end, own-end, quieted-end}
 use Rattle.domain_core.proofs.PeekPlaces.{Peeking, standing}
 use Rattle.domain_core.proofs.PeekRounds.{host_of, host_posting, reached}
 
@@ -36,21 +35,29 @@ asks-is address h a =
     ∙ ap (λ (x : Option ℕ). record h { sending = sending; end = record h.end { latch = latch; input = record h.end.input { buffer = x } } }) a.buffer
     ∙ ap (λ (x : Bool). host_of sending h.received (end_of (Some 1) false None h.end.input.overruns x h.end.output.acknowledged)) a.awaits
 
-end-rests : (e : LinkEnd) → e.latch ≡ fresh.latch → e.input.buffer ≡ None → e.output ≡ fresh.output → e ≡ resting e.input.overruns
+end-rests : (e : LinkEnd) → e.latch ≡ fresh.latch → e.input.buffer ≡ None → e.output.awaits ≡ false → e ≡ listening e.input.overruns e.output.acknowledged
 end-rests e latch buffer output =
     ap (λ (x : Latch). record e { latch = x }) latch
     ∙ ap (λ (x : Option ℕ). record e { latch = fresh.latch; input = record e.input { buffer = x } }) buffer
-    ∙ ap (λ (x : LinkOut). record e { latch = fresh.latch; input = record e.input { buffer = None }; output = x }) output
+    ∙ ap (λ (x : Bool). end_of None false None e.input.overruns x e.output.acknowledged) output
 
 -- how many bytes a link of a node has lost
 abbrev pub lost_at : LinkNumber → Node → ℕ
 lost_at link n = (at link n.links).end.input.overruns
 
-pub listens-is : (link : LinkNumber) (n : Node) → Listens link n → n ≡ with_end link (resting (lost_at link n)) WantsControl n
+-- whether it knows of an acknowledge that came
+abbrev pub heard_at : LinkNumber → Node → Bool
+heard_at link n = (at link n.links).end.output.acknowledged
+
+pub listens-is : (link : LinkNumber) (n : Node) → Listens link n → n ≡ with_end link (listening (lost_at link n) (heard_at link n)) WantsControl n
 listens-is link n l =
     sym (own-end link n)
     ∙ ap (λ (x : doing.State). with_end link (at link n.links).end x n) l.state
     ∙ ap (λ (x : LinkEnd). with_end link x WantsControl n) (end-rests (at link n.links).end l.latch (l.buffers link) l.output)
+
+-- the node once its link knows of none
+quieted-is : (link : LinkNumber) (n : Node) → Listens link n → quieted link n ≡ with_end link (resting (lost_at link n)) WantsControl n
+quieted-is link n l = ap (quieted link) (listens-is link n l) ∙ quieted-end link (lost_at link n) (heard_at link n) WantsControl n
 
 -- the host and the node of a peek at its start
 abbrev pub first_host : Peeking → HostState
@@ -61,6 +68,9 @@ first_node p = node_at p.start.machine.devices p.route.node
 
 abbrev pub first_lost : Peeking → ℕ
 first_lost p = lost_at p.route.link (first_node p)
+
+abbrev pub first_heard : Peeking → Bool
+first_heard p = heard_at p.route.link (first_node p)
 
 start-stands : (p : Peeking) → p.start ≡ standing p 0 (first_host p) (first_node p)
 start-stands p =
@@ -73,7 +83,7 @@ start-stands p =
     (sym (set-get_or d.hosts p.route.host host.opened))
 
 -- where a peek starts
-pub begins : (p : Peeking) → p.start ≡ reached p 0 (asking p.address (first_host p)) (resting (first_lost p)) WantsControl (first_node p)
+pub begins : (p : Peeking) → p.start ≡ reached p 0 (asking p.address (first_host p)) (listening (first_lost p) (first_heard p)) WantsControl (first_node p)
 begins p =
     start-stands p
     ∙ ap (λ (x : HostState). standing p 0 x (first_node p)) (asks-is p.address (first_host p) p.can.asks)
@@ -83,13 +93,7 @@ begins p =
 abbrev pub told_word : Peeking → HostState
 told_word p = told (word_bytes (first_node p) p.address) (first_host p)
 
--- where it ends: the node is as it was
+-- where it ends: the node is as it was, but that its link knows of no acknowledge
 pub ends : (p : Peeking) → reached p 27 (told_word p) (resting (first_lost p)) WantsControl (first_node p)
     ≡ record { machine = after_peek p.route p.address p.start.machine; recorded = p.start.recorded + 27 }
-ends p =
-    let d : DeviceStates = p.start.machine.devices in
-    ap (λ (x : Node). standing p 27 (told_word p) x) (sym (listens-is p.route.link (first_node p) p.can.listens))
-    ∙ ap (λ (x : List Node). record {
-      machine = with_devices (with_host p.route.host (told_word p) (record d { nodes = x })) p.start.machine;
-      recorded = p.start.recorded + 27;
-    }) (set-get_or d.nodes p.route.node (node.opened 0))
+ends p = ap (λ (x : Node). standing p 27 (told_word p) x) (sym (quieted-is p.route.link (first_node p) p.can.listens))

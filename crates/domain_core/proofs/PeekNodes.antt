@@ -15,6 +15,7 @@ use Rattle.bootstrap.specs.declared.node.Node.{Node}
 use Rattle.bootstrap.specs.declared.state.State.{State}
 use Rattle.bootstrap.specs.declared.state.State.TheVariants.{WantsControl, Takes, Answers}
 use Rattle.bootstrap.specs.declared.state.Task.TheVariants.{Peek}
+use Rattle.domain_core.specs.Peek.{quieted}
 use Rattle.domain_core.proofs.PeekPlaces.{packet_sent, packet_got}
 
 -- ---- link ends, with so many overruns
@@ -26,7 +27,11 @@ end_of byte acknowledge buffer overruns awaits acknowledged = record {
   output = record { awaits = awaits; acknowledged = acknowledged };
 }
 
--- nothing waits, is buffered or is awaited
+-- nothing waits, is buffered or is awaited, whether or not an acknowledge has come before
+abbrev pub listening : ℕ → Bool → LinkEnd
+listening overruns heard = end_of None false None overruns false heard
+
+-- nothing waits, is buffered or is awaited, and none has come
 abbrev pub resting : ℕ → LinkEnd
 resting overruns = end_of None false None overruns false false
 
@@ -35,8 +40,8 @@ abbrev pub posting : ℕ → ℕ → LinkEnd
 posting byte overruns = end_of (Some byte) false None overruns true false
 
 -- a byte is in the buffer
-abbrev pub holding : ℕ → ℕ → LinkEnd
-holding byte overruns = end_of None false (Some byte) overruns false false
+abbrev pub holding : ℕ → ℕ → Bool → LinkEnd
+holding byte overruns heard = end_of None false (Some byte) overruns false heard
 
 -- an acknowledge has come
 abbrev pub acknowledged : ℕ → LinkEnd
@@ -78,33 +83,33 @@ sent-end Three e state n = refl
 -- ---- its Steps
 
 -- the control byte is taken
-pub control-step : (link : LinkNumber) (n : Node) (byte overruns : ℕ) → ((other : LinkNumber) → (at other n.links).end.input.buffer ≡ None)
-    → node_step (with_end link (holding byte overruns) WantsControl n) ≡ (with_end link (acknowledging (resting overruns)) (Takes link (task_of byte)) n, Ran)
+pub control-step : (link : LinkNumber) (n : Node) (byte overruns : ℕ) (heard : Bool) → ((other : LinkNumber) → (at other n.links).end.input.buffer ≡ None)
+    → node_step (with_end link (holding byte overruns heard) WantsControl n) ≡ (with_end link (acknowledging (listening overruns heard)) (Takes link (task_of byte)) n, Ran)
 unfolding node_step
-control-step Zero n byte overruns none = refl
-control-step One n byte overruns none = rw (none Zero) refl
-control-step Two n byte overruns none = rw (none Zero, none One) refl
-control-step Three n byte overruns none = rw (none Zero, none One, none Two) refl
+control-step Zero n byte overruns heard none = refl
+control-step One n byte overruns heard none = rw (none Zero) refl
+control-step Two n byte overruns heard none = rw (none Zero, none One) refl
+control-step Three n byte overruns heard none = rw (none Zero, none One, none Two) refl
 
 -- a byte of the address is taken, but for the last
-pub address-step : (link : LinkNumber) (n : Node) (byte overruns left address : ℕ) → nat_lt 1 left ≡ true
-    → node_step (with_end link (holding byte overruns) (Takes link (Peek left address)) n)
-    ≡ (with_end link (acknowledging (resting overruns)) (Takes link (Peek (left - 1) (shifted_in byte address))) n, Ran)
+pub address-step : (link : LinkNumber) (n : Node) (byte overruns left address : ℕ) (heard : Bool) → nat_lt 1 left ≡ true
+    → node_step (with_end link (holding byte overruns heard) (Takes link (Peek left address)) n)
+    ≡ (with_end link (acknowledging (listening overruns heard)) (Takes link (Peek (left - 1) (shifted_in byte address))) n, Ran)
 unfolding node_step
-address-step Zero n byte overruns left address more = rw more refl
-address-step One n byte overruns left address more = rw more refl
-address-step Two n byte overruns left address more = rw more refl
-address-step Three n byte overruns left address more = rw more refl
+address-step Zero n byte overruns left address heard more = rw more refl
+address-step One n byte overruns left address heard more = rw more refl
+address-step Two n byte overruns left address heard more = rw more refl
+address-step Three n byte overruns left address heard more = rw more refl
 
 -- the last byte of the address is taken, and the first of the word is posted
-pub last-address-step : (link : LinkNumber) (n : Node) (byte overruns address word : ℕ) → or_zero (word_at n.memory (shifted_in byte address)) ≡ word
-    → node_step (with_end link (holding byte overruns) (Takes link (Peek 1 address)) n)
+pub last-address-step : (link : LinkNumber) (n : Node) (byte overruns address word : ℕ) (heard : Bool) → or_zero (word_at n.memory (shifted_in byte address)) ≡ word
+    → node_step (with_end link (holding byte overruns heard) (Takes link (Peek 1 address)) n)
     ≡ (with_end link (acknowledging (posting (word % 2 ^ 8) overruns)) (Answers link 3 (word / 2 ^ 8)) n, Ran)
 unfolding node_step
-last-address-step Zero n byte overruns address word e = rw e refl
-last-address-step One n byte overruns address word e = rw e refl
-last-address-step Two n byte overruns address word e = rw e refl
-last-address-step Three n byte overruns address word e = rw e refl
+last-address-step Zero n byte overruns address word heard e = rw e refl
+last-address-step One n byte overruns address word heard e = rw e refl
+last-address-step Two n byte overruns address word heard e = rw e refl
+last-address-step Three n byte overruns address word heard e = rw e refl
 
 -- the acknowledge of a byte of the word is heard, and the next byte is posted
 pub answer-step : (link : LinkNumber) (n : Node) (overruns left word : ℕ) → (left == 0) ≡ false
@@ -123,3 +128,11 @@ last-answer-step Zero n overruns word = refl
 last-answer-step One n overruns word = refl
 last-answer-step Two n overruns word = refl
 last-answer-step Three n overruns word = refl
+
+-- ---- the node once its link knows of no acknowledge
+
+pub quieted-end : (link : LinkNumber) (overruns : ℕ) (heard : Bool) (state : State) (n : Node) → quieted link (with_end link (listening overruns heard) state n) ≡ with_end link (resting overruns) state n
+quieted-end Zero overruns heard state n = refl
+quieted-end One overruns heard state n = refl
+quieted-end Two overruns heard state n = refl
+quieted-end Three overruns heard state n = refl

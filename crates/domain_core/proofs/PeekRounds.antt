@@ -13,7 +13,7 @@ use Rattle.domain_core.specs.Hosts.{HostState, delivered, packet_left, sending_o
 use Rattle.domain_core.specs.Private.{State, Answer, Call, next}
 use Rattle.domain_core.specs.Peek.{packet_passed, node_ran}
 use Rattle.domain_core.proofs.PeekCalls.{Leads, leads-none, leads-first}
-use Rattle.domain_core.proofs.PeekNodes.{end_of, resting, posting, holding, acknowledged, with_end, end-there, got-end, sent-end}
+use Rattle.domain_core.proofs.PeekNodes.{end_of, listening, resting, posting, holding, acknowledged, with_end, end-there, got-end, sent-end}
 use Rattle.domain_core.proofs.PeekPlaces.{Peeking, standing, asked, host-moves, link-moves, node-steps}
 
 abbrev pub host_of : List ℕ → List ℕ → LinkEnd → HostState
@@ -58,19 +58,19 @@ link-sends p count h e state n packet lt waits =
     ∙ ap (λ (m : Node). (standing p (count + 1) (delivered packet h) m, packet_passed)) (sent-end p.route.link e state n)
 
 -- a byte of the message: the node takes it, and the host posts the next, if there is one
-pub round-there : (p : Peeking) (count byte : ℕ) (rest received : List ℕ) (overruns lost : ℕ) (heard : Bool) (latched : Option ℕ) (awaits : Bool) (before after : doing.State) (n : Node)
+pub round-there : (p : Peeking) (count byte : ℕ) (rest received : List ℕ) (overruns lost : ℕ) (heard : Bool) (latched : Option ℕ) (awaits known later : Bool) (before after : doing.State) (n : Node)
     → count + 3 ≤ 27 → has_halted before ≡ false
-    → node_step (with_end p.route.link (holding byte lost) before n) ≡ (with_end p.route.link (end_of latched true None lost awaits false) after n, Ran)
-    → Leads p.part (reached p count (host_posting byte rest received overruns heard) (resting lost) before n) (calls_there p) answers_there
-    (reached p (count + 1 + 1 + 1) (sending_on (host_resting rest received overruns)) (end_of latched false None lost awaits false) after n)
-round-there p count byte rest received overruns lost heard latched awaits before after n room goes steps =
+    → node_step (with_end p.route.link (holding byte lost known) before n) ≡ (with_end p.route.link (end_of latched true None lost awaits later) after n, Ran)
+    → Leads p.part (reached p count (host_posting byte rest received overruns heard) (listening lost known) before n) (calls_there p) answers_there
+    (reached p (count + 1 + 1 + 1) (sending_on (host_resting rest received overruns)) (end_of latched false None lost awaits later) after n)
+round-there p count byte rest received overruns lost heard latched awaits known later before after n room goes steps =
     let sent : HostState = host_of (byte ∷ rest) received (end_of None false None overruns true heard) in
     leads-first p.part _ _ _ _ _ _ _
-    (host-sends p count (host_posting byte rest received overruns heard) (resting lost) before n (Byte byte) (omega arith) refl)
+    (host-sends p count (host_posting byte rest received overruns heard) (listening lost known) before n (Byte byte) (omega arith) refl)
     (leads-first p.part _ _ _ _ _ _ _
-    (node-steps p (count + 1) sent (with_end p.route.link (holding byte lost) before n) (with_end p.route.link (end_of latched true None lost awaits false) after n) (omega arith) steps goes)
+    (node-steps p (count + 1) sent (with_end p.route.link (holding byte lost known) before n) (with_end p.route.link (end_of latched true None lost awaits later) after n) (omega arith) steps goes)
     (leads-first p.part _ _ _ _ _ _ _
-    (link-sends p (count + 1 + 1) sent (end_of latched true None lost awaits false) after n Ack (omega arith) refl)
+    (link-sends p (count + 1 + 1) sent (end_of latched true None lost awaits later) after n Ack (omega arith) refl)
     (leads-none p.part _)))
 
 -- a byte of the word: the host takes it, and the node hears the acknowledge

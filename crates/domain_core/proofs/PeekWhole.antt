@@ -1,5 +1,5 @@
 -- The whole peek: five rounds for the message, then four for the word.
-use Rattle.std.proofs.Common.{◌≡◌, ℕ, ◌+◌, ◌/◌, ◌%◌, ◌^◌, ◌<◌, ◌≤◌, true, false, List, [], ◌∷◌, ◌++◌, length, None, Some, refl, ap, sym, subst, arith}
+use Rattle.std.proofs.Common.{◌≡◌, ℕ, ◌+◌, ◌/◌, ◌%◌, ◌^◌, ◌<◌, ◌≤◌, Bool, true, false, List, [], ◌∷◌, ◌++◌, length, None, Some, refl, ap, sym, subst, arith}
 use Rattle.std.proofs.lemmas.List.{append-nil, append_assoc, length-append}
 use Rattle.std.proofs.lemmas.Bool.{lt-ltb}
 use Rattle.os_link.specs.declared.end.LinkEnd.{LinkEnd}
@@ -13,10 +13,10 @@ use Rattle.bootstrap.specs.declared.state.Task.TheVariants.{Peek}
 use Rattle.domain_core.specs.Hosts.{HostState, is_full}
 use Rattle.domain_core.specs.Private.{State}
 use Rattle.domain_core.specs.Peek.{PeekAnswersTheWord, after_peek, peek_answers, peek_calls, times, word_bytes}
-use Rattle.domain_core.proofs.PeekBeginning.{asking, begins, ends, first_host, first_lost, first_node}
+use Rattle.domain_core.proofs.PeekBeginning.{asking, begins, ends, first_host, first_heard, first_lost, first_node}
 use Rattle.domain_core.proofs.PeekBytes.{four_in, bytes-come-to, bytes-in-turn}
 use Rattle.domain_core.proofs.PeekCalls.{Leads, leads-none, leads-on, leads-between}
-use Rattle.domain_core.proofs.PeekNodes.{resting, posting, acknowledged, with_end, control-step, address-step, last-address-step, answer-step, last-answer-step}
+use Rattle.domain_core.proofs.PeekNodes.{listening, resting, posting, acknowledged, with_end, control-step, address-step, last-address-step, answer-step, last-answer-step}
 use Rattle.domain_core.proofs.PeekPlaces.{Peeking}
 use Rattle.domain_core.proofs.PeekRounds.{answers_there, answers_back, calls_there, calls_back, host_resting, reached, round-there, round-back}
 
@@ -33,7 +33,7 @@ asked_for p =
     (Answers p.route.link 3 (word_of p / 2 ^ 8)) (first_node p)
 
 message-goes : (p : Peeking)
-    → Leads p.part (reached p 0 (asking p.address (first_host p)) (resting (first_lost p)) WantsControl (first_node p)) (times 5 (calls_there p)) (times 5 answers_there) (asked_for p)
+    → Leads p.part (reached p 0 (asking p.address (first_host p)) (listening (first_lost p) (first_heard p)) WantsControl (first_node p)) (times 5 (calls_there p)) (times 5 answers_there) (asked_for p)
 message-goes p =
     let first : ℕ = p.address % 2 ^ 8 in
     let second : ℕ = p.address / 2 ^ 8 % 2 ^ 8 in
@@ -46,23 +46,24 @@ message-goes p =
     let received : List ℕ = (first_host p).received in
     let overruns : ℕ = (first_host p).end.input.overruns in
     let lost : ℕ = first_lost p in
+    let heard : Bool = first_heard p in
     let takes : ℕ → ℕ → doing.State = λ left address. Takes p.route.link (Peek left address) in
     let word : ℕ = word_of p in
     leads-on p.part _ _ _ _ _ _ _
-    (round-there p 0 1 (first ∷ second ∷ third ∷ fourth ∷ []) received overruns lost (first_host p).end.output.acknowledged None false WantsControl (takes 4 0) (first_node p) (omega arith) refl
-    (control-step p.route.link (first_node p) 1 lost p.can.listens.buffers))
+    (round-there p 0 1 (first ∷ second ∷ third ∷ fourth ∷ []) received overruns lost (first_host p).end.output.acknowledged None false heard heard WantsControl (takes 4 0) (first_node p) (omega arith) refl
+    (control-step p.route.link (first_node p) 1 lost heard p.can.listens.buffers))
     (leads-on p.part _ _ _ _ _ _ _
-    (round-there p 3 first (second ∷ third ∷ fourth ∷ []) received overruns lost false None false (takes 4 0) (takes 3 one) (first_node p) (omega arith) refl
-    (address-step p.route.link (first_node p) first lost 4 0 refl))
+    (round-there p 3 first (second ∷ third ∷ fourth ∷ []) received overruns lost false None false heard heard (takes 4 0) (takes 3 one) (first_node p) (omega arith) refl
+    (address-step p.route.link (first_node p) first lost 4 0 heard refl))
     (leads-on p.part _ _ _ _ _ _ _
-    (round-there p 6 second (third ∷ fourth ∷ []) received overruns lost false None false (takes 3 one) (takes 2 two) (first_node p) (omega arith) refl
-    (address-step p.route.link (first_node p) second lost 3 one refl))
+    (round-there p 6 second (third ∷ fourth ∷ []) received overruns lost false None false heard heard (takes 3 one) (takes 2 two) (first_node p) (omega arith) refl
+    (address-step p.route.link (first_node p) second lost 3 one heard refl))
     (leads-on p.part _ _ _ _ _ _ _
-    (round-there p 9 third (fourth ∷ []) received overruns lost false None false (takes 2 two) (takes 1 three) (first_node p) (omega arith) refl
-    (address-step p.route.link (first_node p) third lost 2 two refl))
+    (round-there p 9 third (fourth ∷ []) received overruns lost false None false heard heard (takes 2 two) (takes 1 three) (first_node p) (omega arith) refl
+    (address-step p.route.link (first_node p) third lost 2 two heard refl))
     (leads-on p.part _ _ _ _ _ _ _
-    (round-there p 12 fourth [] received overruns lost false (Some (word % 2 ^ 8)) true (takes 1 three) (Answers p.route.link 3 (word / 2 ^ 8)) (first_node p) (omega arith) refl
-    (last-address-step p.route.link (first_node p) fourth lost three word (ap (λ (a : ℕ). or_zero (word_at (first_node p).memory a)) whole)))
+    (round-there p 12 fourth [] received overruns lost false (Some (word % 2 ^ 8)) true heard false (takes 1 three) (Answers p.route.link 3 (word / 2 ^ 8)) (first_node p) (omega arith) refl
+    (last-address-step p.route.link (first_node p) fourth lost three word heard (ap (λ (a : ℕ). or_zero (word_at (first_node p).memory a)) whole)))
     (leads-none p.part _)))))
 
 -- ---- the word comes

@@ -4,7 +4,7 @@ use Rattle.std.specs.Prelude.{ℕ, zero, suc, ◌+◌, ◌<◌, ◌≤◌, ◌^�
 use Rattle.std.specs.FinSet as set
 use Rattle.os_link.specs.End.{fresh}
 use Rattle.os_link.specs.declared.end.LinkEnd.{LinkEnd}
-use Rattle.link_channels.specs.Links.{at}
+use Rattle.link_channels.specs.Links.{at, acknowledge_heard}
 use Rattle.link_channels.specs.declared.number.LinkNumber.{LinkNumber}
 use Rattle.node_memory.specs.Bytes.{word_at}
 use Rattle.crossbar.specs.Switch.{Switch}
@@ -21,7 +21,7 @@ use Rattle.domain_core.specs.declared.event.Event.TheVariants.{Step, Move}
 use Rattle.domain_core.specs.declared.event.Reply.TheVariants as reply
 use Rattle.domain_core.specs.declared.event.Moved.TheVariants.{Passed}
 use Rattle.domain_core.specs.Hosts.{HostState}
-use Rattle.domain_core.specs.Devices.{device_at, node_at, host_at, with_host}
+use Rattle.domain_core.specs.Devices.{device_at, node_at, host_at, with_node, with_host}
 use Rattle.domain_core.specs.Machine.{Machine, with_devices}
 use Rattle.domain_core.specs.Moves.{driven}
 use Rattle.domain_core.specs.Private.{State, Answer, Call, is_known, answers, after}
@@ -61,12 +61,12 @@ pub record Asks (address : ℕ) (h : HostState) : Type 0 where
   pub buffer : h.end.input.buffer ≡ None
   pub room : length h.received + 4 ≤ 4096
 
--- a control byte is wanted, no link holds a byte, and at this one nothing waits or is awaited
+-- a control byte is wanted, no link holds a byte, and at this one nothing waits and no acknowledge is awaited
 pub record Listens (link : LinkNumber) (n : Node) : Type 0 where
   pub state : n.state ≡ WantsControl
   pub buffers : (other : LinkNumber) → (at other n.links).end.input.buffer ≡ None
   pub latch : (at link n.links).end.latch ≡ fresh.latch
-  pub output : (at link n.links).end.output ≡ fresh.output
+  pub output : (at link n.links).end.output.awaits ≡ false
 
 -- the machine has both devices, the host asks for the word, the node listens, and 27 events have room
 pub record CanPeek (part : PartData) (r : Route) (address : ℕ) (s : State) : Type 0 where
@@ -121,11 +121,17 @@ told bytes h = record { sending = []; received = h.received ++ bytes; end = at_r
 abbrev pub word_bytes : Node → ℕ → List ℕ
 word_bytes n address = bytes_of (or_zero (word_at n.memory address))
 
--- the machine after a peek: the host was told the word, and all else is as before, so the node wants a control byte
--- again
+-- a node whose link no longer knows of an acknowledge that came
+abbrev pub quieted : LinkNumber → Node → Node
+quieted link n = record n { links = acknowledge_heard link n.links }
+
+-- the machine after a peek: the host was told the word, the link knows of no acknowledge, and all else is as before, so
+-- the node wants a control byte again
 abbrev pub after_peek : Route → ℕ → Machine → Machine
 after_peek r address m =
-    with_devices (with_host r.host (told (word_bytes (node_at m.devices r.node) address) (host_at m.devices r.host)) m.devices) m
+    let n = node_at m.devices r.node in
+    let h = host_at m.devices r.host in
+    with_devices (with_host r.host (told (word_bytes n address) h) (with_node r.node (quieted r.link n) m.devices)) m
 
 -- the events leave just that, each is recorded, and no packet is lost or stays
 pub record Peeks (part : PartData) (by : By) (r : Route) (address : ℕ) (s : State) : Type 0 where

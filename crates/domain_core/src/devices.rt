@@ -59,6 +59,13 @@ fn open_hosts(alloc: Global, parts: &[HostPart]) -> Result<Vec<Host>, NoMemory>
     Ok(hosts)
 }
 
+// Makes a node as it was opened, with the memory that it has.
+fn clear_node(home: &mut Node)
+    ensures { home.new ≡ node.opened (length home.old.memory) }
+{
+    home.clear();
+}
+
 impl Devices {
     /// The nodes and hosts of a part, as they are opened.
     pub(crate) fn open(alloc: Global, part: &Part) -> Result<Devices, NoMemory>
@@ -74,7 +81,7 @@ impl Devices {
         ensures { self.new ≡ reopened self.old }
     {
         for node in self.nodes.iter_mut() {
-            node.clear();
+            clear_node(node);
         }
         for host in self.hosts.iter_mut() {
             host.clear();

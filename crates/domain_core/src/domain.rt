@@ -1,11 +1,13 @@
 //! A domain: its machine, with the journal of what it answered.
-ghost use Rattle.std.specs.Prelude.{◌≡◌, ◌≢◌, ◌<◌, ◌+◌, ◌++◌, [], None, Some, Ok, Err, length, IfOk, OnErr, IsTrue, ◌↔◌, slice_get, true};
+ghost use Rattle.std.specs.Prelude.{◌≡◌, ◌≢◌, ◌<◌, ◌+◌, ◌++◌, [], None, Some, Ok, Err, length, IfOk, OnErr, IsTrue, ◌↔◌, slice_get, true, not};
 ghost use Rattle.std.specs.List.{AllZip};
 ghost use Rattle.crossbar.specs.Row.{switch_of, IsRow, number_in};
 ghost use Rattle.crossbar.specs.Switch.{cleared};
 ghost use Rattle.crossbar.specs.Word.{CountsChange};
 ghost use Rattle.domain_core.specs.declared.domain.Committed.TheVariants.{Done, Stale};
+ghost use Rattle.domain_core.specs.declared.event.Event.{Event as SpecEvent};
 ghost use Rattle.domain_core.specs.declared.event.Refusal.TheVariants.{NoSuch, JournalFull};
+ghost use Rattle.domain_core.specs.Machine.{is_recorded};
 ghost use Rattle.domain_core.specs.MachineValue.{machine_of};
 ghost use Rattle.domain_core.specs.Private.{next, opening};
 ghost use Rattle.domain_core.specs.Journal.{expanded};
@@ -82,13 +84,17 @@ impl<O: Outputs + Drop> Domain<O> {
         self.machine.part()
     }
 
-    /// A domain is its journal.
+    /// A domain is its journal. Its words are a row of its ports, which are as many as the part's count, and it has as
+    /// many nodes as the part.
     ///
     /// The call does nothing: its contract is the law.
     pub fn meant(&self)
-        ensures { IsMeant self.now }
+        ensures journal { IsMeant self.now }
+        ensures row { IsRow self.now.machine.switch.ports self.now.machine.switch.words }
+        ensures count { length self.now.machine.switch.ports ≡ self.now.machine.part.count }
+        ensures nodes { length self.now.machine.devices.nodes ≡ length self.now.machine.part.nodes }
     {
-        let _ = &self.journal;
+        self.machine.of_part();
     }
 
     /// Answers an event as a farm does that holds the domain alone.
@@ -100,6 +106,7 @@ impl<O: Outputs + Drop> Domain<O> {
     pub fn apply(&mut self, by: By, event: Event) -> Result<Reply, Refusal>
         ensures answer { UnlessNoMemory result (result ≡ (next self.old.machine.part (state_of self.old) (record { by = by; event = event })).1) }
         ensures state { UnlessNoMemory result (state_of self.new ≡ (next self.old.machine.part (state_of self.old) (record { by = by; event = event })).0) }
+        ensures refused { let alone = (next self.old.machine.part (state_of self.old) (record { by = by; event = event })).1 in OnErr alone (result ≡ alone) }
         ensures journal { expanded self.new.journal ≡ expanded self.old.journal ++ gained self.old.machine.part (state_of self.old) (record { by = by; event = event }) result }
         ensures err { OnErr result (self.new ≡ self.old) }
         ensures part { self.new.machine.part ≡ self.old.machine.part }
@@ -130,6 +137,14 @@ impl<O: Outputs + Drop> Domain<O> {
         ensures same { self.new ≡ self.old }
     {
         self.machine.quiet()
+    }
+
+    /// Whether a Step of this node of the part would not be recorded, the limit aside.
+    pub fn node_is_quiet(&self, node: u8) -> bool
+        requires { node < length self.now.machine.part.nodes }
+        ensures { result ≡ not (is_recorded self.now.machine.part (machine_of self.now.machine) (SpecEvent.Step node)) }
+    {
+        self.machine.node_is_quiet(node)
     }
 
     /// The switch word of a virtual output below the domain's count. Nothing changes.
@@ -172,6 +187,13 @@ impl<O: Outputs + Drop> Domain<O> {
         self.recorded = 0;
     }
 
+    /// How many events are recorded, at most the part's limit.
+    pub fn recorded(&self) -> u64
+        ensures { result ≡ length (expanded self.now.journal) }
+    {
+        self.recorded
+    }
+
     /// What the domain answered, in order.
     pub fn journal(&self) -> &[Entry]
         ensures { result.now ≡ self.now.journal }
@@ -202,7 +224,7 @@ impl<O: Outputs + Drop> Domain<O> {
     {
         match self.machine.node(node) {
             None => Err(Refusal::NoSuch),
-            Some(home) => Ticket::of(domain, node, home).map_err(|_| Refusal::NoMemory),
+            Some(home) => Ok(Ticket::of(domain, node, home)?),
         }
     }
 

@@ -1,8 +1,10 @@
 //! What is asked of a domain, by whom, and what it answers.
 ghost use Rattle.std.specs.Prelude.{◌≡◌};
 ghost use Rattle.domain_core.specs.Numbers.{number_of};
+ghost use Rattle.domain_core.specs.declared.event.Refusal.TheVariants.{NoMemory};
 
 use bootstrap::Seen;
+use std::alloc::{AllocError, AllocFailed};
 use t414_step::Stepped;
 use thiserror::Error;
 use virtual_switch::ConfigReply;
@@ -93,5 +95,21 @@ impl Refusal {
             Refusal::JournalFull => 2,
             Refusal::NoMemory => 3,
         }
+    }
+}
+
+impl From<AllocError> for Refusal {
+    ghost from_gives = { λ _ refusal. refusal ≡ NoMemory };
+
+    fn from(_error: AllocError) -> Refusal {
+        Refusal::NoMemory
+    }
+}
+
+impl<T: Drop> From<AllocFailed<T>> for Refusal {
+    ghost from_gives = { λ _ refusal. refusal ≡ NoMemory };
+
+    fn from(_error: AllocFailed<T>) -> Refusal {
+        Refusal::NoMemory
     }
 }

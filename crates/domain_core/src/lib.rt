@@ -8,7 +8,7 @@ mod domain;
 mod event;
 mod host;
 mod journal;
-mod laws;
+pub mod laws;
 mod machine;
 mod table;
 #[cfg(test)]

@@ -1,5 +1,5 @@
 //! A domain without its journal: its switch, nodes and hosts, event by event.
-ghost use Rattle.std.specs.Prelude.{◌≡◌, ◌<◌, ◌≤◌, ◌==◌, ◌↔◌, IsTrue, true, false, length, IfOk, Some, slice_get, ℕ, List, [], ◌∷◌, ◌++◌};
+ghost use Rattle.std.specs.Prelude.{◌≡◌, ◌<◌, ◌≤◌, ◌==◌, ◌↔◌, IsTrue, true, false, not, length, IfOk, Some, slice_get, ℕ, List, [], ◌∷◌, ◌++◌};
 ghost use Rattle.std.specs.Option.{option_copied};
 ghost use Rattle.domain_core.specs.declared.event.Event.{Event as SpecEvent};
 ghost use Rattle.domain_core.specs.Domain.{IsQuiet};
@@ -184,6 +184,23 @@ impl<O: Outputs + Drop> Machine<O> {
         ensures { result.now ≡ self.now.part }
     {
         &self.part
+    }
+
+    /// The words are a row of the ports, which are as many as the part's count, and the nodes are as many as the part's.
+    pub(crate) fn of_part(&self)
+        ensures row { IsRow self.now.switch.ports self.now.switch.words }
+        ensures count { length self.now.switch.ports ≡ self.now.part.count }
+        ensures nodes { length self.now.devices.nodes ≡ length self.now.part.nodes }
+    {
+        self.switch.row();
+    }
+
+    /// Whether a Step of a node would not be recorded.
+    pub(crate) fn node_is_quiet(&self, node: u8) -> bool
+        requires { node < length self.now.part.nodes }
+        ensures { result ≡ not (is_recorded self.now.part (machine_of self.now) (SpecEvent.Step node)) }
+    {
+        self.devices.is_quiet(node)
     }
 
     /// Whether he who asks is known, and the host, node or port of his event is there for him.

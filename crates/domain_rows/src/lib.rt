@@ -1,25 +1,12 @@
-//! Worked rows of one domain: its switch, hosts and nodes, its users, its journal and its tickets. Tests alone.
+//! What only typed calls of a domain show: which domain of which plan it is, the journal at its end, and refused memory.
+//! All other worked rows of a domain are texts. Tests alone.
 #![tactic(auto)]
 
 #[cfg(test)]
-mod boots;
-#[cfg(test)]
 mod fits;
-#[cfg(test)]
-mod hosts;
-#[cfg(test)]
-mod journals;
 #[cfg(test)]
 mod plans;
 #[cfg(test)]
 mod refusals;
-#[cfg(test)]
-mod switching;
-#[cfg(test)]
-mod tickets;
-#[cfg(test)]
-mod users;
-#[cfg(test)]
-mod wild;
 #[cfg(test)]
 mod work;

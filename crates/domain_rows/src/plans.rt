@@ -41,54 +41,12 @@ memory = 4096
 links = [0, -1, -1, -1]
 "#;
 
-/// As ann and bob have it, but ann's journal holds 115 events.
-pub const LIMIT_115: &str = r#"
-version = 1
-[[domain]]
-name = "ann"
-first = 0
-last = 7
-limit = 115
-host = [7]
-[[domain.node]]
-memory = 4096
-links = [0, -1, -1, -1]
-"#;
-
-/// As ann and bob have it, but ann's journal holds two million events.
-pub const LIMIT_2000000: &str = r#"
-version = 1
-[[domain]]
-name = "ann"
-first = 0
-last = 7
-limit = 2000000
-host = [7]
-[[domain.node]]
-memory = 4096
-links = [0, -1, -1, -1]
-"#;
-
 /// As ann and bob have it, but ann's ports 0 to 3 are the crossbar's 4 to 7, and her ports 4 to 7 its 0 to 3.
 pub const OTHER_RANGES: &str = r#"
 version = 2
 [[domain]]
 name = "ann"
 range = [[4, 7], [0, 3]]
-limit = 1000000
-host = [7]
-[[domain.node]]
-memory = 4096
-links = [0, -1, -1, -1]
-"#;
-
-/// One domain has all ports.
-pub const FULL_RANGE: &str = r#"
-version = 1
-[[domain]]
-name = "ann"
-first = 0
-last = 31
 limit = 1000000
 host = [7]
 [[domain.node]]
@@ -111,20 +69,6 @@ links = [0, -1, -1, -1]
 [[domain.node]]
 memory = 2048
 links = [1, -1, -1, -1]
-"#;
-
-/// One node on port 0, hosts 0, 1 and 2 on ports 3, 2 and 1.
-pub const THREE_HOSTS: &str = r#"
-version = 1
-[[domain]]
-name = "ann"
-first = 0
-last = 3
-limit = 1000000
-host = [3, 2, 1]
-[[domain.node]]
-memory = 2048
-links = [0, -1, -1, -1]
 "#;
 
 /// Ann has host 0 on port 7, cas host 1 on port 6.

@@ -2,7 +2,7 @@
 //!
 //! `bench/domain_refusals` runs these tests while the Nth allocation is refused, for each N.
 use crate::plans::{ANN_AND_BOB, Plain, opened, plan_of};
-use crate::work::{ANN, events, run, word};
+use crate::work::{ANN, run, word};
 use domain_core::{By, Committed, Entry, Event, Refusal, Reply, Ticket};
 use plan_checker::{AcceptedPlan, PlanFault};
 use std::alloc::Global;
@@ -121,7 +121,7 @@ fn refused_calls_change_nothing(rt: HostRuntime) -> Result<(), Fail> {
     assert_eq!(rt; domain.journal().len(), 16);
     assert!(rt; come_home_again(&rt, &mut domain, 100) == Ok(Committed::Done));
     assert_eq!(rt; domain.journal().len(), 17);
-    assert_eq!(rt; events(domain.journal()), 116);
+    assert_eq!(rt; domain.recorded(), 116);
     let last = domain.journal().last().copied();
     assert!(rt; last == Some(run(0, 100, Stepped::Ran)));
     let mut untroubled = loaded_again(&rt, rt.alloc())?;
@@ -130,5 +130,9 @@ fn refused_calls_change_nothing(rt: HostRuntime) -> Result<(), Fail> {
     assert!(rt; shown(&mut domain) == shown(&mut untroubled));
     let seen = asked_again(&rt, &mut domain, ANN, Event::Look(0));
     assert!(rt; seen.is_ok() && seen == untroubled.apply(ANN, Event::Look(0)));
+    // The journal that is handed out at the end is the one that was shown.
+    let shown = domain.journal().len();
+    assert_eq!(rt; shown, 18);
+    assert_eq!(rt; domain.into_journal().len(), shown);
     Ok(())
 }

@@ -22,6 +22,7 @@ fn main(rt: HostRuntime) -> ExitCode {
         }
     };
     ExitCode::from(run(
+        &rt,
         alloc,
         words.as_slice(),
         &mut input,

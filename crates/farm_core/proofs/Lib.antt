@@ -10,3 +10,5 @@ pub mod Plain
 pub mod Opened
 pub mod Told
 pub mod Owners
+pub mod Wholes
+pub mod Plans

@@ -18,7 +18,7 @@ use Rattle.virtual_switch.specs.Private.{ports_named, are_below, answer_byte, pe
 use Rattle.crossbar.proofs.Numberings.{number_in-port, number_in-some}
 use Rattle.farm_core.specs.Places.{Place, AreApart}
 use Rattle.farm_core.specs.Messages.{readied, emptied, is_among, raised, raised_message, performed_in, after_item_in, reply_in}
-use Rattle.farm_core.specs.Projection.{own_switch, driver_at, ready_at, lowered_config}
+use Rattle.farm_core.specs.Projection.{own_switch, driver_at, ready_at, lowered_byte, lowered_config}
 use Rattle.farm_core.specs.Domains.{DrivesItself}
 use Rattle.farm_core.proofs.Setting.{SetsOutput, contains_at, at_contained, sets_connected, sets_disconnected, one_set, get-own_switch, contains-own_switch, same_own_switch, own_switch_sets, untouched, still_drives, number_in-none, keys_of, contains-readied, get-emptied, contains-emptied}
 
@@ -95,25 +95,32 @@ own_performed ports s (DisconnectBoth first second) one own below =
     own_disconnected ports (disconnected s (raised ports first)) second one h.1
     ∙ ap (λ s. disconnected s second) (own_disconnected ports s first one h.0)
 
-lowered_enquiry : (ports : List ℕ) (found : Option ℕ) → (if answer_byte found == 0 then None else number_in ports (answer_byte found - 128)) ≡ option_and_then (number_in ports) found
-lowered_enquiry ports None = refl
-lowered_enquiry ports (Some input) =
+as_answered : (byte : ℕ) (found : Option ℕ) → is_some found ≡ true → lowered_byte byte found ≡ answer_byte found
+as_answered byte None none = absurd cc
+as_answered byte (Some input) some = refl
+
+lowered_enquiry : (ports : List ℕ) (found : Option ℕ) → ((input : ℕ) → found ≡ Some input → (w : ℕ) × (slice_get ports w ≡ Some input))
+    → (if answer_byte found == 0 then 0 else lowered_byte (answer_byte found) (number_in ports (answer_byte found - 128))) ≡ answer_byte (option_and_then (number_in ports) found)
+lowered_enquiry ports None own = refl
+lowered_enquiry ports (Some input) own =
     let some : (128 + input == 0) ≡ false = ne_eqb _ _ (λ e. omega arith) in
     let back : 128 + input - 128 ≡ input = omega arith in
-    rw some (ap (number_in ports) back)
+    let at = own input refl in
+    rw some (ap (λ n. lowered_byte (128 + input) (number_in ports n)) back ∙ as_answered (128 + input) (number_in ports input) (number_in-some ports input at.0 at.1))
 
-own_answer : (ports : List ℕ) (s : Switch) (message : Message) → are_below (length ports) (ports_named message) ≡ true
+own_answer : (ports : List ℕ) (s : Switch) (message : Message) → DrivesItself ports s → are_below (length ports) (ports_named message) ≡ true
     → lowered_config ports (answer_to s (raised_message ports message)) ≡ answer_to (own_switch ports s) message
-own_answer ports s (Connect input output) below = refl
-own_answer ports s (ConnectBoth first second) below = refl
-own_answer ports s (Enquire output) below =
-    ap (λ (found : Option ℕ). Answer (answer_byte found)) (
-    lowered_enquiry ports (map.get s.pairs (raised ports output))
-    ∙ sym (get-own_switch ports s output ∙ ap (driver_at ports s) (port_at ports output (one_below _ output below))))
-own_answer ports s MakeReady below = refl
-own_answer ports s Clear below = refl
-own_answer ports s (Disconnect output) below = refl
-own_answer ports s (DisconnectBoth first second) below = refl
+own_answer ports s (Connect input output) own below = refl
+own_answer ports s (ConnectBoth first second) own below = refl
+own_answer ports s (Enquire output) own below =
+    let at = port_at ports output (one_below _ output below) in
+    ap (λ (byte : ℕ). Answer byte) (
+    lowered_enquiry ports (map.get s.pairs (raised ports output)) (λ input is. at_contained ports input (own (raised ports output) input (contains_at ports output (raised ports output) at) is))
+    ∙ ap answer_byte (sym (get-own_switch ports s output ∙ ap (driver_at ports s) at)))
+own_answer ports s MakeReady own below = refl
+own_answer ports s Clear own below = refl
+own_answer ports s (Disconnect output) own below = refl
+own_answer ports s (DisconnectBoth first second) own below = refl
 
 pub own_item : (place : Place) (s : Switch) (item : Item) → IsOneToOne place.ports → length place.ports ≡ place.part.count → DrivesItself place.ports s
     → own_switch place.ports (after_item_in place s item) ≡ after_item place.part.count (own_switch place.ports s) item
@@ -124,12 +131,12 @@ own_item place s (Command message) one count own =
       | inr not_below ↦ rw not_below refl
     ]
 
-pub own_reply : (place : Place) (s : Switch) (item : Item) → length place.ports ≡ place.part.count
+pub own_reply : (place : Place) (s : Switch) (item : Item) → length place.ports ≡ place.part.count → DrivesItself place.ports s
     → lowered_config place.ports (reply_in place s item) ≡ reply_to place.part.count (own_switch place.ports s) item
-own_reply place s (Stray byte) count = refl
-own_reply place s (Command message) count =
+own_reply place s (Stray byte) count own = refl
+own_reply place s (Command message) count own =
     elim (cases_Bool (are_below place.part.count (ports_named message))) [
-      | inl below ↦ rw below (own_answer place.ports s message (ap (λ n. are_below n (ports_named message)) count ∙ below))
+      | inl below ↦ rw below (own_answer place.ports s message own (ap (λ n. are_below n (ports_named message)) count ∙ below))
       | inr not_below ↦ rw not_below refl
     ]
 

@@ -1,8 +1,13 @@
 -- The domains of a plan as they are opened, one after another.
-use Rattle.std.proofs.Common.{◌≡◌, ℕ, ◌+◌, ◌<◌, Some, List, [], ◌∷◌, ◌++◌, length, get_or, take, slice_get, IfSome, All, sym, ap, ◌∙◌, subst}
-use Rattle.std.proofs.lemmas.Option.{slice_get-get_or}
+use Rattle.std.proofs.Common.{◌≡◌, ℕ, zero, suc, ◌+◌, ◌<◌, Option, Some, None, refl, arith, replicate, List, [], ◌∷◌, ◌++◌, length, get_or, take, slice_get, IfSome, Result, Ok, Err, IfOk, All, sym, ap, ◌∙◌, subst}
+use Rattle.std.proofs.lemmas.Option.{slice_get-get_or, slice_get_past, same_Some, none-some}
+use Rattle.std.specs.List.{cons_option}
+use Rattle.crossbar.specs.declared.word.Word.{Word}
+use Rattle.crossbar.specs.Plain.{Row, row_of, words_at}
+use Rattle.crossbar.specs.Ranges.{ports_in}
+use Rattle.crossbar.specs.declared.range.PortRange.{PortRange}
 use Rattle.std.proofs.lemmas.List.{take_more, map-append}
-use Rattle.std.proofs.lemmas.List.Elements.{All-push}
+use Rattle.std.proofs.lemmas.List.Elements.{All-push, All-cons, All-nil}
 use Rattle.plan_checker.specs.Data.{DomainData}
 use Rattle.plan_checker.specs.Part.{part_of}
 use Rattle.domain_core.specs.Private.{opening}
@@ -12,34 +17,60 @@ use Rattle.farm_core.specs.Whole.{whole_opening}
 use Rattle.farm_core.specs.Domains.{IsMadeOf}
 use Rattle.farm_core.specs.Merges.{own_place}
 use Rattle.farm_core.specs.PlainFarm.{places_in, states_in, openings}
+use Rattle.farm_core.specs.Words.{IsUnused}
 use Rattle.farm_core.proofs.Making.{opening_is_made_of_openings}
 use Rattle.farm_core.proofs.Merging.{there_is}
+
+-- ---- words of 0
+
+replicated : (n k : ℕ) (x w : Word) → slice_get (replicate n x) k ≡ Some w → w ≡ x
+replicated zero k x w at = absurd (none-some w (sym (slice_get_past {X = Word} [] k (omega arith)) ∙ at))
+replicated (suc n) zero x w at = sym (same_Some _ _ at)
+replicated (suc n) (suc k) x w at = replicated n k x w at
+
+one_more_word : (x : Word) (found : Option Word) (rest : List Word) → ((w : Word) → found ≡ Some w → w ≡ x) → All (λ w. w ≡ x) rest → All (λ w. w ≡ x) (cons_option found rest)
+one_more_word x None rest is all = all
+one_more_word x (Some w) rest is all = All-cons (λ v. v ≡ x) w rest (is w refl) all
+
+pub words_of_a_row : (n : ℕ) (x : Word) (ports : List ℕ) → All (λ w. w ≡ x) (words_at (replicate n x) ports)
+words_of_a_row n x [] = All-nil (λ w. w ≡ x)
+words_of_a_row n x (port ∷ ports) = one_more_word x (slice_get (replicate n x) port) (words_at (replicate n x) ports) (λ w at. replicated n port x w at) (words_of_a_row n x ports)
+
+pub opened_unused : {E : Type 0} (r : Result DomainValue E) (n : ℕ) (row : Row) (ranges : List (Option PortRange)) → row ≡ row_of (replicate n (record { bits = 0 })) ranges
+    → IfOk r (λ d. d.machine.switch.words ≡ row.words) → IfOk r IsUnused
+opened_unused (Ok d) n row ranges is same =
+    subst (λ (words : List Word). All (λ w. w ≡ record { bits = 0 }) words) (sym (same ∙ ap (λ (r : Row). r.words) is)) (words_of_a_row n (record { bits = 0 }) (ports_in ranges))
+opened_unused (Err e) n row ranges is same = tt
+
+-- ---- domain after domain
 
 -- the domains are those of a plan, each as it is opened
 pub record AreOpened (plan : List DomainData) (domains : List DomainValue) : Type 0 where
   pub places : places_in domains ≡ places_of plan
   pub states : states_in domains ≡ openings (places_of plan)
   pub journals : All (λ d. d.journal ≡ []) domains
+  pub words : All IsUnused domains
 
 one_more : (plan : List DomainData) (of : DomainData) (domains : List DomainValue) (d : DomainValue) → AreOpened plan domains → own_place d ≡ place_of of → state_of d ≡ opening (part_of of) → d.journal ≡ []
-    → AreOpened (plan ++ of ∷ []) (domains ++ d ∷ [])
-one_more plan of domains d before place state journal = record {
+    → IsUnused d → AreOpened (plan ++ of ∷ []) (domains ++ d ∷ [])
+one_more plan of domains d before place state journal unused = record {
   places = map-append own_place domains (d ∷ []) ∙ (λ i. before.places i ++ place i ∷ []) ∙ sym (map-append place_of plan (of ∷ []));
   states =
       map-append state_of domains (d ∷ []) ∙ (λ i. before.states i ++ state i ∷ [])
       ∙ sym (ap openings (map-append place_of plan (of ∷ [])) ∙ map-append (λ (place : Place). opening place.part) (places_of plan) (place_of of ∷ []));
   journals = All-push (λ (x : DomainValue). x.journal ≡ []) domains d before.journals journal;
+  words = All-push IsUnused domains d before.words unused;
 }
 
 pub opened_more : (plan : List DomainData) (i : ℕ) (domains : List DomainValue) (d : DomainValue) → i < length plan → AreOpened (take i plan) domains
-    → IfSome (slice_get plan i) (λ of. own_place d ≡ place_of of) → IfSome (slice_get plan i) (λ of. state_of d ≡ opening (part_of of)) → d.journal ≡ []
+    → IfSome (slice_get plan i) (λ of. own_place d ≡ place_of of) → IfSome (slice_get plan i) (λ of. state_of d ≡ opening (part_of of)) → d.journal ≡ [] → IsUnused d
     → AreOpened (take (i + 1) plan) (domains ++ d ∷ [])
-opened_more plan i domains d within before place state journal =
+opened_more plan i domains d within before place state journal unused =
     let x = there_is plan i within in
     let of = get_or plan i x.0 in
     let at : slice_get plan i ≡ Some of = slice_get-get_or plan i x.0 within in
     subst (λ opened. AreOpened opened (domains ++ d ∷ [])) (sym (take_more plan i x.0 within))
-    (one_more (take i plan) of domains d before (subst (λ found. IfSome found (λ o. own_place d ≡ place_of o)) at place) (subst (λ found. IfSome found (λ o. state_of d ≡ opening (part_of o))) at state) journal)
+    (one_more (take i plan) of domains d before (subst (λ found. IfSome found (λ o. own_place d ≡ place_of o)) at place) (subst (λ found. IfSome found (λ o. state_of d ≡ opening (part_of o))) at state) journal unused)
 
 pub opened_is_whole : (plan : List DomainData) (domains : List DomainValue) → states_in domains ≡ openings (places_of plan) → IsMadeOf (places_of plan) (whole_opening (places_of plan)) (states_in domains)
 opened_is_whole plan domains states = subst (IsMadeOf (places_of plan) (whole_opening (places_of plan))) (sym states) (opening_is_made_of_openings (places_of plan))

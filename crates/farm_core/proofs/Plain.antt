@@ -1,9 +1,13 @@
 -- One domain of a list of separate domains is changed, and what this is for every whole farm made of them.
-use Rattle.std.proofs.Common.{◌≡◌, ℕ, ◌<◌, Some, Ok, Err, List, length, get_or, slice_get, slice_set, option_map, refl, sym, ap, ◌∙◌, subst}
+use Rattle.std.proofs.Common.{◌≡◌, ℕ, ◌<◌, Some, Result, Ok, Err, List, length, get_or, slice_get, slice_set, option_map, refl, sym, ap, ◌∙◌, subst}
 use Rattle.std.proofs.lemmas.Option.{slice_get-map, slice_get_read, get_or_from_slice_get}
-use Rattle.std.proofs.lemmas.List.{map-set}
+use Rattle.std.proofs.lemmas.List.{map-set, set-get_or}
 use Rattle.std.proofs.Math.Seq.{map-set_same}
+use Rattle.domain_core.specs.declared.domain.Committed.{Committed}
+use Rattle.domain_core.specs.declared.domain.Committed.TheVariants.{Done, Stale}
+use Rattle.domain_core.specs.declared.event.Refusal.{Refusal}
 use Rattle.domain_core.specs.declared.event.Refusal.TheVariants.{NoSuch, JournalFull, NoMemory}
+use Rattle.domain_core.specs.Ticket.{TicketValue}
 use Rattle.domain_core.specs.Private.{Answer, Call, next}
 use Rattle.domain_core.specs.Domain.{DomainValue, state_of, UnlessNoMemory}
 use Rattle.farm_core.specs.Places.{IsSeparate}
@@ -11,7 +15,7 @@ use Rattle.farm_core.specs.Whole.{whole_next}
 use Rattle.farm_core.specs.Projection.{lowered_for}
 use Rattle.farm_core.specs.Domains.{IsMadeOf}
 use Rattle.farm_core.specs.Merges.{own_place}
-use Rattle.farm_core.specs.PlainFarm.{places_in, states_in, OthersStay, IsCalled, IsCalledAt, IsCallOfEachWhole, IsRestarted, IsRestartedAt}
+use Rattle.farm_core.specs.PlainFarm.{places_in, states_in, OthersStay, IsCalled, IsCalledAt, IsCallOfEachWhole, IsCommitted, IsCommittedAt, IsRestarted, IsRestartedAt}
 use Rattle.farm_core.proofs.Making.{get-set_same, get-set_other, each_call_is_private}
 
 -- ---- one domain for another
@@ -80,6 +84,24 @@ pub call_of_each_whole : (domains later : List DomainValue) (domain : ℕ) (old 
     → IsCalled call told old new → UnlessNoMemory told (IsCallOfEachWhole domain call told domains later)
 call_of_each_whole domains later domain old new call told is separate called =
     unless_no_memory told (λ answer state. whole_call domains later domain old new call told is separate answer state) called.answer called.state
+
+-- ---- a ticket
+
+pub place_of_committed : (t : TicketValue) (told : Result Committed Refusal) (old new : DomainValue) → IsCommitted t told old new → own_place new ≡ own_place old
+place_of_committed t (Ok Done) old new is = let done = is.done refl in λ i. record { part = done.part i; ports = (done.switch i).ports }
+place_of_committed t (Ok Stale) old new is = ap own_place (is.same (λ e. cc))
+place_of_committed t (Err refusal) old new is = ap own_place (is.same (λ e. cc))
+
+pub committed_at : (domains later : List DomainValue) (domain : ℕ) (old new : DomainValue) (t : TicketValue) (told : Result Committed Refusal) → Replaces domains later domain old new
+    → IsCommitted t told old new → IsCommittedAt t told (slice_get domains domain) (slice_get later domain)
+committed_at domains later domain old new t told is committed =
+    subst (λ found. IsCommittedAt t told found (slice_get later domain)) (sym is.there)
+    (subst (λ found. IsCommittedAt t told (Some old) found) (sym (new_at domains later domain old new is)) committed)
+
+-- a domain that stays leaves all as they were
+pub all_stay : (domains later : List DomainValue) (domain : ℕ) (old new : DomainValue) → Replaces domains later domain old new → new ≡ old → later ≡ domains
+all_stay domains later domain old new is same =
+    is.later_is ∙ ap (slice_set domains domain) (same ∙ sym (get_or_from_slice_get domains domain old old is.there)) ∙ set-get_or domains domain old
 
 -- ---- a restart
 

@@ -101,6 +101,11 @@ opens_alone plan domain place there =
     let devices = ap opened_at there in
     λ i. record { machine = record { switch = own_cleared place.ports i; rest = []; devices = devices i }; recorded = 0 }
 
+-- after each list of calls every domain's outputs are driven from inside it
+drives_after : (plan : List Place) (farm : Farm) (calls : List (ℕ × Call)) → IsSeparate plan → EachDrivesItself plan farm.switch → EachDrivesItself plan (whole_after plan farm calls).switch
+drives_after plan farm [] separate own = own
+drives_after plan farm (call ∷ calls) separate own = drives_after plan (whole_next plan farm call).0 calls separate (still_each_drives plan farm call separate own)
+
 pub each_domain_is_private : EachDomainIsPrivate
 each_domain_is_private plan calls domain place separate there =
     let run = runs-alone plan (whole_opening plan) calls domain place separate (opening_drives plan) there in
@@ -108,6 +113,7 @@ each_domain_is_private plan calls domain place separate there =
     record {
       told = run.told ∙ ap (λ s. answers place.part s (own domain calls)) opens;
       state = run.state ∙ ap (λ s. after place.part s (own domain calls)) opens;
+      inside = drives_after plan (whole_opening plan) calls separate (opening_drives plan) domain place there;
     }
 
 pub equal_domains_are_answered_alike : EqualDomainsAreAnsweredAlike

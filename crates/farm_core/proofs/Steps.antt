@@ -45,7 +45,7 @@ configures-by : (place : Place) (s : Switch) (bytes : List ℕ) (found : Option 
     → ConfiguresAlone place s (configured_by_in place s bytes found) (configured_by place.part.count (own_switch place.ports s) bytes found)
 configures-by place s bytes None is own = record { told = refl; seen = refl; left = refl; others = same-switch place.ports s }
 configures-by place s bytes (Some item) is own = record {
-  told = own_reply place s item is.count;
+  told = own_reply place s item is.count own;
   seen = own_item place s item is.ports.one_to_one is.count own;
   left = refl;
   others = record {

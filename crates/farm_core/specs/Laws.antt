@@ -2,20 +2,24 @@
 use Rattle.std.specs.Prelude.{◌≡◌, ℕ, List, ◌++◌, map, Some, slice_get, AllPairs, All}
 use Rattle.std.specs.List.{zip}
 use Rattle.plan_checker.specs.Data.{DomainData}
-use Rattle.plan_checker.specs.Part.{IsNumbered, AreSeparate}
+use Rattle.plan_checker.specs.Part.{IsNumbered, AreSeparate, part_of}
+use Rattle.plan_checker.specs.Separate as checker
 use Rattle.domain_core.specs.Private.{Call, Answer, answers, after, opening}
-use Rattle.farm_core.specs.Places.{Place, places_of, IsSeparate}
+use Rattle.farm_core.specs.Places.{Place, place_of, places_of, IsSeparate}
 use Rattle.farm_core.specs.Whole.{Farm, whole_answers, whole_after, whole_opening}
 use Rattle.farm_core.specs.Projection.{projected, lowered, lowered_for, own}
+use Rattle.farm_core.specs.Domains.{DrivesItself}
 
 -- what a domain is told of a run of the whole farm from its opening, in its own numbers
 abbrev pub own_answers : List Place → List (ℕ × Call) → ℕ → Place → List Answer
 own_answers plan calls domain place = map (lowered place) (own domain (whole_answers plan (whole_opening plan) calls))
 
--- a farm that holds the domain alone and takes its own calls in the same order answers so, and ends so
+-- a farm that holds the domain alone and takes its own calls in the same order answers so, and ends so; and no connection of the domain's outputs
+-- comes from outside, so that none is hidden from it
 pub record IsAlone (plan : List Place) (calls : List (ℕ × Call)) (domain : ℕ) (place : Place) : Type 0 where
   pub told : own_answers plan calls domain place ≡ answers place.part (opening place.part) (own domain calls)
   pub state : projected place (whole_after plan (whole_opening plan) calls) domain ≡ after place.part (opening place.part) (own domain calls)
+  pub inside : DrivesItself place.ports (whole_after plan (whole_opening plan) calls).switch
 
 abbrev pub EachDomainIsPrivate : Type 0
 EachDomainIsPrivate =
@@ -55,3 +59,22 @@ RunsAddUp = (plan : List Place) (farm : Farm) (calls later : List (ℕ × Call))
 -- the places of a plan whose domains are numbered and share no port are separate
 abbrev pub NumberedDomainsAreSeparate : Type 0
 NumberedDomainsAreSeparate = (plan : List DomainData) → All IsNumbered plan → AllPairs AreSeparate plan → IsSeparate (places_of plan)
+
+-- ---- the same of plans, by nothing but the checker's rules
+
+abbrev pub EachDomainOfAPlanIsPrivate : Type 0
+EachDomainOfAPlanIsPrivate =
+    (plan : List DomainData) (calls : List (ℕ × Call)) (domain : ℕ) (d : DomainData) → checker.IsSeparate plan → slice_get plan domain ≡ Some d
+    → IsAlone (places_of plan) calls domain (place_of d)
+
+abbrev pub EachOfAPlanIsToldPrivately : Type 0
+EachOfAPlanIsToldPrivately =
+    (plan : List DomainData) (calls : List (ℕ × Call)) (domain : ℕ) (d : DomainData) → checker.IsSeparate plan → slice_get plan domain ≡ Some d
+    → told_to domain calls (told_by (places_of plan) calls) ≡ answers (part_of d) (opening (part_of d)) (own domain calls)
+
+-- two plans agree on a domain
+abbrev pub EqualDomainsOfPlansAreAnsweredAlike : Type 0
+EqualDomainsOfPlansAreAnsweredAlike =
+    (plan other_plan : List DomainData) (calls other_calls : List (ℕ × Call)) (domain other : ℕ) (d e : DomainData) → checker.IsSeparate plan → checker.IsSeparate other_plan
+    → slice_get plan domain ≡ Some d → slice_get other_plan other ≡ Some e → part_of d ≡ part_of e → own domain calls ≡ own other other_calls
+    → own_answers (places_of plan) calls domain (place_of d) ≡ own_answers (places_of other_plan) other_calls other (place_of e)

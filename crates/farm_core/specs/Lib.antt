@@ -1,3 +1,4 @@
+-- what must be believed
 pub mod Places
 pub mod Messages
 pub mod Packets
@@ -8,3 +9,4 @@ pub mod Laws
 pub mod Merges
 pub mod PlainFarm
 pub mod Run
+pub mod Words

@@ -1,14 +1,21 @@
 -- What contracts see of a farm on one thread: its domains in the order of the plan, each with its journal.
-use Rattle.std.specs.Prelude.{◌≡◌, ◌≢◌, ◌++◌, ℕ, List, [], map, Option, Some, None, Err, slice_get}
+use Rattle.std.specs.Prelude.{◌≡◌, ◌≢◌, ◌↔◌, ◌<◌, ◌+◌, ◌++◌, ℕ, List, [], length, map, Option, Some, None, Result, Ok, Err, OnErr, slice_get}
 use Rattle.std.specs.List.{AllZip}
+use Rattle.std.specs.Option.{option_map, option_and_then}
 use Rattle.crossbar.specs.declared.word.Word.{Word}
 use Rattle.crossbar.specs.Word.{connection_of, CountsChange}
 use Rattle.crossbar.specs.Row.{input_of, is_ready}
 use Rattle.plan_checker.specs.Data.{DomainData}
-use Rattle.domain_core.specs.declared.event.Refusal.TheVariants.{NoSuch}
+use Rattle.bootstrap.specs.declared.node.Node.{Node}
+use Rattle.domain_core.specs.declared.domain.Committed.{Committed}
+use Rattle.domain_core.specs.declared.domain.Committed.TheVariants.{Done, Stale}
+use Rattle.domain_core.specs.declared.event.Refusal.{Refusal}
+use Rattle.domain_core.specs.declared.event.Refusal.TheVariants.{NoSuch, JournalFull}
+use Rattle.domain_core.specs.declared.journal.Entry.{Entry}
 use Rattle.domain_core.specs.Private.{State, Answer, Call, next, opening}
 use Rattle.domain_core.specs.Domain.{DomainValue, state_of, gained, Fits, UnlessNoMemory}
 use Rattle.domain_core.specs.Journal.{expanded}
+use Rattle.domain_core.specs.Ticket.{TicketValue, IsHome, Commits}
 use Rattle.farm_core.specs.Places.{Place}
 use Rattle.farm_core.specs.Whole.{Farm, whole_next}
 use Rattle.farm_core.specs.Projection.{lowered_for}
@@ -36,10 +43,12 @@ OthersStay domain old new = (other : ℕ) → other ≢ domain → slice_get new
 
 -- ---- a call
 
--- the domain answers as a farm does that holds it alone, becomes what it would become alone, and its journal gains what is recorded
+-- the domain answers as a farm does that holds it alone, with the same refusal where that refuses, becomes what it would become alone, and its journal
+-- gains what is recorded
 pub record IsCalled (call : Call) (told : Answer) (old new : DomainValue) : Type 0 where
   pub answer : UnlessNoMemory told (told ≡ (next old.machine.part (state_of old) call).1)
   pub state : UnlessNoMemory told (state_of new ≡ (next old.machine.part (state_of old) call).0)
+  pub refused : OnErr (next old.machine.part (state_of old) call).1 (told ≡ (next old.machine.part (state_of old) call).1)
   pub journal : expanded new.journal ≡ expanded old.journal ++ gained old.machine.part (state_of old) call told
   pub counts : AllZip CountsChange old.machine.switch.words new.machine.switch.words
 
@@ -57,6 +66,39 @@ pub record IsWholeCall (farm : Farm) (domain : ℕ) (call : Call) (told : Answer
 -- the same of every whole farm that is made of the domains before
 abbrev pub IsCallOfEachWhole : ℕ → Call → Answer → List DomainValue → List DomainValue → Type 0
 IsCallOfEachWhole domain call told old new = (farm : Farm) → IsMadeOfDomains farm old → IsWholeCall farm domain call told old new
+
+-- ---- a ticket
+
+-- the node of this number in the domain that is there
+abbrev pub node_in : Option DomainValue → ℕ → Option Node
+node_in found number = option_and_then (λ d. slice_get d.machine.devices.nodes number) found
+
+-- the node comes home where it is still the ticket's start and its Steps are within the limit; else nothing changes
+pub record IsCommitted (t : TicketValue) (told : Result Committed Refusal) (old new : DomainValue) : Type 0 where
+  pub stale : (told ≡ Ok Stale) ↔ ¬ IsHome old t
+  pub full : (told ≡ Err JournalFull) ↔ (IsHome old t × (old.machine.part.limit < length (expanded old.journal) + t.steps))
+  pub no_such : told ≢ Err NoSuch
+  pub done : told ≡ Ok Done → Commits old t new
+  pub same : told ≢ Ok Done → new ≡ old
+
+-- the same of a domain that may not be there
+abbrev pub IsCommittedAt : TicketValue → Result Committed Refusal → Option DomainValue → Option DomainValue → Type 0
+IsCommittedAt t told None new = told ≡ Err NoSuch
+IsCommittedAt t told (Some old) None = ⊥
+IsCommittedAt t told (Some old) (Some new) = IsCommitted t told old new
+
+-- ---- what is read of a domain that may not be there
+
+-- the word of a virtual output
+abbrev pub word_in : Option DomainValue → ℕ → Option Word
+word_in found output = option_and_then (λ d. slice_get d.machine.switch.words output) found
+
+abbrev pub journal_in : Option DomainValue → Option (List Entry)
+journal_in found = option_map (λ d. d.journal) found
+
+-- how many events are recorded
+abbrev pub recorded_in : Option DomainValue → Option ℕ
+recorded_in found = option_map (λ d. length (expanded d.journal)) found
 
 -- ---- a word
 

@@ -37,10 +37,15 @@ projected place farm domain = record {
   recorded = farm.recorded domain;
 }
 
+-- the byte that says a virtual number, or else the byte as it is: a port that isn't among the domain's stays in sight
+abbrev pub lowered_byte : ℕ → Option ℕ → ℕ
+lowered_byte byte None = byte
+lowered_byte byte (Some input) = answer_byte (Some input)
+
 -- an enquiry's answer with the input's virtual number; 0 is kept
 abbrev pub lowered_config : List ℕ → ConfigReply → ConfigReply
 lowered_config ports Nothing = Nothing
-lowered_config ports (Answer byte) = Answer (answer_byte (if byte == 0 then None else number_in ports (byte - 128)))
+lowered_config ports (Answer byte) = Answer (if byte == 0 then 0 else lowered_byte byte (number_in ports (byte - 128)))
 lowered_config ports BadCommand = BadCommand
 lowered_config ports BadPort = BadPort
 

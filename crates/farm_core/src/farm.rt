@@ -1,17 +1,23 @@
 //! All domains of a plan, on one thread.
-ghost use Rattle.std.specs.Prelude.{◌≡◌, ◌<◌, ◌↔◌, [], length, slice_get, All, IfOk, IfSome, IsTrue, OnErr, None};
+ghost use Rattle.std.specs.Prelude.{◌≡◌, ◌≢◌, ◌<◌, ◌↔◌, [], length, slice_get, All, IfOk, IfSome, IsTrue, OnErr, None, Some, Ok, Err};
+ghost use Rattle.std.specs.Option.{option_copied};
+ghost use Rattle.crossbar.specs.Word.{IsProper};
 ghost use Rattle.plan_checker.specs.Part.{part_of};
-ghost use Rattle.domain_core.specs.Domain.{state_of, IsQuiet, UnlessNoMemory};
+ghost use Rattle.domain_core.specs.declared.domain.Committed.TheVariants.{Done};
+ghost use Rattle.domain_core.specs.declared.event.Refusal.TheVariants.{NoSuch, JournalFull};
+ghost use Rattle.domain_core.specs.Domain.{state_of, IsMeant, IsQuiet, UnlessNoMemory};
+ghost use Rattle.domain_core.specs.Ticket.{fresh_ticket};
 ghost use Rattle.domain_core.specs.MachineValue.{machine_of};
 ghost use Rattle.domain_core.specs.Private.{opening};
-ghost use Rattle.farm_core.specs.Places.{place_of, places_of};
+ghost use Rattle.farm_core.specs.Places.{place_of, places_of, IsSeparate};
 ghost use Rattle.farm_core.specs.Whole.{whole_opening};
 ghost use Rattle.farm_core.specs.Domains.{IsFree, IsMadeOf};
 ghost use Rattle.farm_core.specs.Merges.{own_place};
-ghost use Rattle.farm_core.specs.PlainFarm.{places_in, states_in, openings, OthersStay, IsCalledAt, IsCallOfEachWhole, HasOutput, IsWordOfOwner, SaysEachWhole, IsRestartedAt, FitsAt};
+ghost use Rattle.farm_core.specs.PlainFarm.{places_in, states_in, openings, OthersStay, IsCalledAt, IsCallOfEachWhole, node_in, IsCommittedAt, word_in, journal_in, recorded_in, HasOutput, IsWordOfOwner, SaysEachWhole, IsRestartedAt, FitsAt};
+ghost use Rattle.farm_core.specs.Words.{HasRow, IsUnused, HaveAWhole};
 
 use crossbar::{PlainOutputs, Word};
-use domain_core::{By, Domain, Event, NoMemory, Refusal, Reply};
+use domain_core::{By, Committed, Domain, Entry, Event, NoMemory, Refusal, Reply, Ticket};
 use plan_checker::AcceptedPlan;
 use std::alloc::Global;
 use std::marker::Model;
@@ -47,10 +53,25 @@ fn open_domain(
     ensures place { IfOk result (λ d. IfSome (slice_get plan.now number) (λ of. own_place d ≡ place_of of)) }
     ensures state { IfOk result (λ d. IfSome (slice_get plan.now number) (λ of. state_of d ≡ opening (part_of of))) }
     ensures journal { IfOk result (λ d. d.journal ≡ []) }
+    ensures words { IfOk result IsUnused }
 {
     plan.separate();
     let part = plan.part(number).copy(alloc)?;
     Domain::open(alloc, part, PlainOutputs::unused(plan.ranges(number)))
+}
+
+// The word of a domain's virtual output, if it has that output.
+fn word_of(domain: &mut Domain<PlainOutputs>, output: u8) -> Option<Word>
+    ensures word { result ≡ slice_get domain.old.machine.switch.words output }
+    ensures proper { IfSome result IsProper }
+    ensures same { domain.new ≡ domain.old }
+{
+    domain.meant();
+    if output < domain.part().count() {
+        Some(domain.word(output))
+    } else {
+        None
+    }
 }
 
 // All domains of a plan as they are opened, in its order.
@@ -58,6 +79,7 @@ fn open_domains(alloc: Global, plan: &AcceptedPlan) -> Result<Vec<Domain<PlainOu
     ensures places { IfOk result (λ domains. places_in domains.items ≡ places_of plan.now) }
     ensures states { IfOk result (λ domains. states_in domains.items ≡ openings (places_of plan.now)) }
     ensures journals { IfOk result (λ domains. All (λ d. d.journal ≡ []) domains.items) }
+    ensures words { IfOk result (λ domains. All IsUnused domains.items) }
 {
     let mut domains = Vec::new(alloc);
     for number in 0..plan.domains() {
@@ -67,8 +89,8 @@ fn open_domains(alloc: Global, plan: &AcceptedPlan) -> Result<Vec<Domain<PlainOu
 }
 
 impl PlainFarm {
-    /// The farm of a plan as it is opened: all outputs disconnected, nothing come of any message,
-    /// nodes and hosts fresh, all journals empty.
+    /// The farm of a plan as it is opened: all outputs disconnected, with words of 0, nothing come of any
+    /// message, nodes and hosts fresh, all journals empty.
     ///
     /// # Errors
     ///
@@ -78,10 +100,27 @@ impl PlainFarm {
         ensures places { IfOk result (λ farm. places_in farm ≡ places_of plan.now) }
         ensures states { IfOk result (λ farm. states_in farm ≡ openings (places_of plan.now)) }
         ensures journals { IfOk result (λ farm. All (λ d. d.journal ≡ []) farm) }
+        ensures words { IfOk result (λ farm. All IsUnused farm) }
     {
         plan.separate();
         let domains = open_domains(alloc, plan)?;
         Ok(PlainFarm { domains })
+    }
+
+    /// There is a whole farm that is made of the domains: some merge of their journals leads it from its
+    /// opening, by the stored replies, to what they are. Their ports are separate, each domain is its
+    /// journal, and the words of each are a row of its ports.
+    ///
+    /// The call changes nothing: its contract is the law.
+    pub fn whole(&self)
+        ensures separate { IsSeparate (places_in self.now) }
+        ensures meant { All IsMeant self.now }
+        ensures rows { All HasRow self.now }
+        ensures whole { HaveAWhole self.now }
+    {
+        for domain in &self.domains {
+            domain.meant();
+        }
     }
 
     /// How many domains there are. They are numbered from 0.
@@ -106,16 +145,97 @@ impl PlainFarm {
         ensures places { places_in self.new ≡ places_in self.old }
         ensures err { OnErr result (self.new ≡ self.old) }
     {
+        self.answer(domain, by, event)
+    }
+
+    // The one place where an event changes a domain.
+    fn answer(&mut self, domain: u8, by: By, event: Event) -> Result<Reply, Refusal>
+        ensures own { IsCalledAt (record { by = by; event = event }) result (slice_get self.old domain) (slice_get self.new domain) }
+        ensures others { OthersStay domain self.old self.new }
+        ensures whole { UnlessNoMemory result (IsCallOfEachWhole domain (record { by = by; event = event }) result self.old self.new) }
+        ensures places { places_in self.new ≡ places_in self.old }
+        ensures err { OnErr result (self.new ≡ self.old) }
+    {
         let Some(domain) = self.domains.get_mut(usize::from(domain)) else {
             return Err(Refusal::NoSuch);
         };
         domain.apply(by, event)
     }
 
+    /// A ticket of a node: a copy of it, with no Steps yet and the domain's number in it.
+    ///
+    /// # Errors
+    ///
+    /// `NoSuch` where there is no such domain or node, and else `NoMemory` where it can't be copied.
+    pub fn checkout(&self, domain: u8, node: u8) -> Result<Ticket, Refusal>
+        ensures no_such { (result ≡ Err NoSuch) ↔ (node_in (slice_get self.now domain) node ≡ None) }
+        ensures ticket { IfOk result (λ t. (node_in (slice_get self.now domain) node ≡ Some t.start) × (t ≡ fresh_ticket domain node t.start)) }
+        ensures full { result ≢ Err JournalFull }
+    {
+        let Some(home) = self.domains.get(usize::from(domain)) else {
+            return Err(Refusal::NoSuch);
+        };
+        home.checkout(domain, node)
+    }
+
+    /// Brings a ticket's node home to a domain, where the home node is still the ticket's start, and
+    /// records its Steps, for which the farm asked. The ticket is spent in each case, and all other
+    /// domains stay.
+    ///
+    /// # Errors
+    ///
+    /// `NoSuch` where there is no such domain, and else those of [`Domain::commit`]. After a refusal,
+    /// and where the ticket is stale, nothing has changed.
+    pub fn commit(&mut self, domain: u8, ticket: Ticket) -> Result<Committed, Refusal>
+        ensures own { IsCommittedAt ticket result (slice_get self.old domain) (slice_get self.new domain) }
+        ensures others { OthersStay domain self.old self.new }
+        ensures places { places_in self.new ≡ places_in self.old }
+        ensures same { result ≢ Ok Done → self.new ≡ self.old }
+    {
+        let Some(home) = self.domains.get_mut(usize::from(domain)) else {
+            return Err(Refusal::NoSuch);
+        };
+        home.commit(ticket)
+    }
+
+    /// What a domain answered, in order; `None` where there is no such domain.
+    pub fn journal(&self, domain: u8) -> Option<&[Entry]>
+        ensures { option_copied result ≡ journal_in (slice_get self.now domain) }
+    {
+        match self.domains.get(usize::from(domain)) {
+            Some(domain) => Some(domain.journal()),
+            None => None,
+        }
+    }
+
+    /// How many events of a domain are recorded; `None` where there is no such domain.
+    pub fn recorded(&self, domain: u8) -> Option<u64>
+        ensures { result ≡ recorded_in (slice_get self.now domain) }
+    {
+        match self.domains.get(usize::from(domain)) {
+            Some(domain) => Some(domain.recorded()),
+            None => None,
+        }
+    }
+
+    /// The switch word of a virtual output of a domain; `None` where there is no such domain, or it
+    /// has no such output. It is proper, as that of `word`. Nothing changes.
+    pub fn domain_word(&mut self, domain: u8, output: u8) -> Option<Word>
+        ensures word { result ≡ word_in (slice_get self.old domain) output }
+        ensures proper { IfSome result IsProper }
+        ensures same { self.new ≡ self.old }
+    {
+        match self.domains.get_mut(usize::from(domain)) {
+            Some(domain) => word_of(domain, output),
+            None => None,
+        }
+    }
+
     /// The switch word of a physical output, below 32: that of the domain whose output it is, and 0
-    /// where it is no domain's. In the whole farm the output is driven and ready as the word says.
+    /// where it is no domain's. It is proper: bits 0 to 7 are just those of what it says. In the whole farm the output is driven and ready as the word says.
     /// Nothing changes.
     pub fn word(&mut self, output: u8) -> Word
+        ensures proper { IsProper result }
         ensures owner { IsWordOfOwner self.old output result }
         ensures free { IsFree (places_in self.old) output → result ≡ record { bits = 0 } }
         ensures whole { SaysEachWhole self.old output result }

@@ -2,7 +2,9 @@
 
 ghost use Rattle.farm_core.specs.Domains.{OpeningIsMadeOfOpenings, EachCallIsPrivate, NoDomainNoChange, EachOutputIsOfItsDomain};
 ghost use Rattle.farm_core.specs.Laws.{EachDomainIsPrivate, EqualDomainsAreAnsweredAlike, EachIsToldPrivately, RunsAddUp, NumberedDomainsAreSeparate};
+ghost use Rattle.farm_core.specs.Laws.{EachDomainOfAPlanIsPrivate, EachOfAPlanIsToldPrivately, EqualDomainsOfPlansAreAnsweredAlike};
 ghost use Rattle.farm_core.specs.Merges.{EachMergeIsARun, EachMergeOfDomainsIsARun};
+ghost use Rattle.farm_core.specs.Words.{EachWholeIsAsWordsSay, EachMergeEndsAsWordsSay, FittingDomainsHaveItsPlaces};
 
 /// The places of a plan whose domains are numbered and share no port are separate.
 pub fn numbered_domains_are_separate()
@@ -30,7 +32,7 @@ pub fn runs_add_up()
 
 /// Under a separate plan, for every list of calls of all domains, each domain is answered as in a farm that holds it
 /// alone and that takes its own calls in the same order, and it ends in the state in which that farm ends. What all
-/// callers are told holds, at the domain's places, just these answers.
+/// callers are told holds, at the domain's places, just these answers. No connection of its outputs comes from outside.
 pub fn each_domain_is_private()
     ensures private { EachDomainIsPrivate }
     ensures told { EachIsToldPrivately }
@@ -47,4 +49,26 @@ pub fn equal_domains_are_answered_alike()
 pub fn each_merge_is_a_run()
     ensures journals { EachMergeIsARun }
     ensures domains { EachMergeOfDomainsIsARun }
+{}
+
+/// Under every plan that breaks none of the checker's rules each domain is answered as in a farm that holds it alone, and
+/// two farms that agree on a domain answer it alike.
+pub fn each_domain_of_a_plan_is_private()
+    ensures private { EachDomainOfAPlanIsPrivate }
+    ensures told { EachOfAPlanIsToldPrivately }
+    ensures alike { EqualDomainsOfPlansAreAnsweredAlike }
+{
+    plan_checker::laws::faultless_plans_are_separate();
+}
+
+/// Each output of the whole farm is driven and ready as its domain's switch word says, in every whole farm that is made of
+/// the domains, and so at the end of every merge of their journals.
+pub fn each_word_is_of_its_output()
+    ensures whole { EachWholeIsAsWordsSay }
+    ensures merge { EachMergeEndsAsWordsSay }
+{}
+
+/// Domains that fit a plan, each at its number, have its places.
+pub fn fitting_domains_have_its_places()
+    ensures law { FittingDomainsHaveItsPlaces }
 {}

@@ -2,8 +2,8 @@
 ghost use Rattle.std.specs.Prelude.{◌≡◌};
 ghost use Rattle.farm_program.specs.declared.failure.Failure.TheVariants.{Memory};
 
-use crate::output::write_whole;
 use plan_checker::PlanFault;
+use script_text::{ReadFault, write_whole};
 use std::alloc::{AllocError, AllocFailed, Global};
 use std::io::{self, Write};
 use thiserror::Error;
@@ -44,6 +44,14 @@ impl Failure {
         match error.kind() {
             io::ErrorKind::OutOfMemory => Failure::Memory,
             _ => Failure::Arguments,
+        }
+    }
+
+    /// Standard input couldn't be read.
+    pub fn of_input(fault: ReadFault) -> Failure {
+        match fault {
+            ReadFault::Failed => Failure::Io,
+            ReadFault::NoMemory => Failure::Memory,
         }
     }
 

@@ -2,19 +2,19 @@
 //! line, a plan and a script in, one line of output for each script line out.
 #![tactic(auto)]
 
-mod answers;
+mod acts;
 mod command_line;
 mod configuration;
 mod failure;
-mod hexadecimal;
-mod input;
-mod output;
+mod farm;
 mod program;
+mod quantum;
 mod script;
 #[cfg(test)]
 mod tests;
+mod visits;
 
 pub use command_line::settings;
 pub use configuration::Settings;
-pub use hexadecimal::{HexFault, bytes_of};
 pub use program::{refuse_arguments, run};
+pub use script_text::{HexFault, bytes_of};

@@ -1,28 +1,30 @@
 //! The program over its words and its streams.
-use crate::answers::answers_of;
 use crate::command_line::settings;
 use crate::failure::Failure;
-use crate::input::{divide, read_whole};
-use crate::output::{WriteFailed, write_whole};
+use crate::farm::texts_on;
 use crate::script::lines_of;
 use clap::error::ErrorKind;
 use plan_checker::{AcceptedPlan, PlanFault, check, read_plan};
+use script_text::{WriteFailed, divide, read_whole, write_whole};
 use std::alloc::Global;
 use std::convert::AsStr;
 use std::io::{self, Read, Write};
+use std::sync::Wait;
+use std::thread::Threads;
 
 /// Runs the program over the words of its command line, of which the first is its name, its
 /// standard input and its two outputs, and gives its status: 0 where all is done, 2 for wrong
 /// words, 3 for a refused plan, 4 for a refused script line, 5 for want of memory, 6 where a stream
 /// failed. For 2 to 5 nothing goes to the first output; for all but 0 a text goes to the second.
-pub fn run<S: AsStr, R: Read, W: Write, E: Write>(
+pub fn run<R: Threads + Wait + Sync, S: AsStr, I: Read, W: Write, E: Write>(
+    rt: &R,
     alloc: Global,
     words: &[S],
-    input: &mut R,
+    input: &mut I,
     output: &mut W,
     errors: &mut E,
 ) -> u8 {
-    match texts_of(alloc, words, input) {
+    match texts_of(rt, alloc, words, input) {
         Ok(texts) => match write_texts(output, texts.as_slice()) {
             Ok(()) => 0,
             Err(WriteFailed) => Failure::Io.report(alloc, errors),
@@ -45,19 +47,21 @@ fn write_texts<W: Write>(output: &mut W, texts: &[String]) -> Result<(), WriteFa
 }
 
 /// What goes to standard output.
-fn texts_of<S: AsStr, R: Read>(
+fn texts_of<R: Threads + Wait + Sync, S: AsStr, I: Read>(
+    rt: &R,
     alloc: Global,
     words: &[S],
-    input: &mut R,
+    input: &mut I,
 ) -> Result<Vec<String>, Failure> {
-    if let Err(error) = settings(alloc, words) {
-        return help_of(alloc, error);
-    }
-    let text = read_whole(alloc, input)?;
-    let (plan, script) = divide(text.as_slice());
+    let settings = match settings(alloc, words) {
+        Ok(settings) => settings,
+        Err(error) => return help_of(alloc, error),
+    };
+    let text = read_whole(alloc, input).map_err(Failure::of_input)?;
+    let (plan, script) = divide(text.as_slice(), b"---");
     let plan = accepted(alloc, plan)?;
     let lines = lines_of(alloc, &plan, script)?;
-    Ok(answers_of(alloc, &plan, lines.as_slice())?)
+    texts_on(rt, alloc, plan, lines.as_slice(), settings)
 }
 
 /// The text of `--help`, where that is why the words give no settings.

@@ -1,8 +1,7 @@
 //! Script lines, and the tests that each of them passes before any runs.
 use crate::failure::{Failure, LineFault};
-use crate::hexadecimal::{HexFault, bytes_of};
-use crate::input::split_line;
 use plan_checker::AcceptedPlan;
+use script_text::{HexFault, bytes_of, is_passed_over, split_line};
 use std::alloc::Global;
 
 /// What a script line asks.
@@ -10,6 +9,20 @@ use std::alloc::Global;
 pub enum Command {
     /// Configuration bytes for the switch of the user's domain.
     Config(Vec<u8>),
+    /// Bytes for a host.
+    Write { host: u8, bytes: Vec<u8> },
+    /// Code for the node that a host is joined to.
+    Boot { host: u8, code: Vec<u8> },
+    /// A word for the memory of that node.
+    Poke { host: u8, address: u32, word: u32 },
+    /// The word at an address of that node.
+    Peek { host: u8, address: u32 },
+    /// All bytes that have come to a host.
+    Collect { host: u8 },
+    /// Reset of a node.
+    Reset { node: u8 },
+    /// A look at a node.
+    Look { node: u8 },
 }
 
 /// A line of a user, who is named by his domain and his place among its users.
@@ -38,7 +51,7 @@ pub fn lines_of(alloc: Global, plan: &AcceptedPlan, script: &[u8]) -> Result<Vec
         }
         let (line, after) = split_line(rest);
         rest = after;
-        if line.is_empty() || line[0] == b'#' {
+        if is_passed_over(line) {
             continue;
         }
         match line_of(alloc, plan, line) {
@@ -60,7 +73,10 @@ fn line_of(alloc: Global, plan: &AcceptedPlan, line: &[u8]) -> Result<Line, Refu
         return Err(Refused::Line(LineFault::User));
     };
     let (domain, user) = user_named(plan, name).ok_or(Refused::Line(LineFault::User))?;
-    let command = command_of(alloc, words)?;
+    let Some((verb, words)) = words.split_first() else {
+        return Err(Refused::Line(LineFault::Verb));
+    };
+    let command = command_of(alloc, verb, words)?;
     Ok(Line {
         domain,
         user,
@@ -80,15 +96,60 @@ fn user_named(plan: &AcceptedPlan, name: &[u8]) -> Option<(u8, u8)> {
     None
 }
 
-/// The command of a verb and its words.
-fn command_of(alloc: Global, words: &[&[u8]]) -> Result<Command, Refused> {
-    match words {
-        [verb, words @ ..] if *verb == b"config".as_slice() => match words {
-            [digits] => Ok(Command::Config(hex_of(alloc, digits)?)),
-            _ => Err(Refused::Line(LineFault::Args)),
-        },
+/// The command of a verb and its words. The number of words and the decimal numbers are tested before any digits.
+fn command_of(alloc: Global, verb: &[u8], words: &[&[u8]]) -> Result<Command, Refused> {
+    let args = Refused::Line(LineFault::Args);
+    match (verb, words) {
+        (b"config", [digits]) => Ok(Command::Config(hex_of(alloc, digits)?)),
+        (b"write", [host, digits]) => Ok(Command::Write {
+            host: decimal_of(host)?,
+            bytes: hex_of(alloc, digits)?,
+        }),
+        (b"boot", [host, digits]) => Ok(Command::Boot {
+            host: decimal_of(host)?,
+            code: hex_of(alloc, digits)?,
+        }),
+        (b"poke", [host, address, word]) => Ok(Command::Poke {
+            host: decimal_of(host)?,
+            address: word_of(alloc, address)?,
+            word: word_of(alloc, word)?,
+        }),
+        (b"peek", [host, address]) => Ok(Command::Peek {
+            host: decimal_of(host)?,
+            address: word_of(alloc, address)?,
+        }),
+        (b"collect", [host]) => Ok(Command::Collect {
+            host: decimal_of(host)?,
+        }),
+        (b"reset", [node]) => Ok(Command::Reset {
+            node: decimal_of(node)?,
+        }),
+        (b"look", [node]) => Ok(Command::Look {
+            node: decimal_of(node)?,
+        }),
+        (b"config" | b"write" | b"boot" | b"poke" | b"peek" | b"collect" | b"reset" | b"look", _) =>
+            Err(args),
         _ => Err(Refused::Line(LineFault::Verb)),
     }
+}
+
+/// The number that decimal digits spell, at most 255.
+fn decimal_of(word: &[u8]) -> Result<u8, Refused> {
+    let args = Refused::Line(LineFault::Args);
+    if word.is_empty() {
+        return Err(args);
+    }
+    let mut number: u8 = 0;
+    for digit in word {
+        if !digit.is_ascii_digit() {
+            return Err(args);
+        }
+        number = number
+            .checked_mul(10)
+            .and_then(|tens| tens.checked_add(digit.wrapping_sub(b'0')))
+            .ok_or(args)?;
+    }
+    Ok(number)
 }
 
 /// The bytes that a word of hexadecimal digits spells.
@@ -100,4 +161,12 @@ fn hex_of(alloc: Global, digits: &[u8]) -> Result<Vec<u8>, Refused> {
         HexFault::NotHex => Refused::Line(LineFault::Hex),
         HexFault::NoMemory => Refused::Memory,
     })
+}
+
+/// The word of 32 bits that eight hexadecimal digits spell, the most significant first.
+fn word_of(alloc: Global, digits: &[u8]) -> Result<u32, Refused> {
+    match hex_of(alloc, digits)?.as_slice() {
+        [a, b, c, d] => Ok(bootstrap::word_of([*d, *c, *b, *a])),
+        _ => Err(Refused::Line(LineFault::Hex)),
+    }
 }

@@ -1,13 +1,16 @@
 use crate::command_line::settings;
 use crate::configuration::Settings;
-use crate::hexadecimal::{HexFault, bytes_of};
 use crate::program::{refuse_arguments, run};
+use script_text::{HexFault, bytes_of};
+use std::alloc::Global;
 use std::io;
 use std::io::{Read, Write};
+use std::sync::Wait;
 use std::test::Fail;
+use std::thread::Threads;
 
-/// Ann has ports 0 to 7, bob ports 8 to 15.
-const PLAN: &str = r#"version = 1
+/// Ann has ports 0 to 7.
+const ANN: &str = r#"version = 1
 [[domain]]
 name = "ann"
 first = 0
@@ -17,68 +20,15 @@ host = [7]
 [[domain.node]]
 memory = 4096
 links = [0, -1, -1, -1]
-[[domain]]
+"#;
+
+/// Bob has ports 8 to 15.
+const BOB: &str = r#"[[domain]]
 name = "bob"
 first = 8
 last = 15
 limit = 1000000
 host = [7]
-[[domain.node]]
-memory = 4096
-links = [0, -1, -1, -1]
-"#;
-
-/// The same as version 2.
-const PLAN_WITH_RANGES: &str = r#"version = 2
-[[domain]]
-name = "ann"
-range = [[0, 7]]
-limit = 1000000
-host = [7]
-[[domain.node]]
-memory = 4096
-links = [0, -1, -1, -1]
-[[domain]]
-name = "bob"
-range = [[8, 15]]
-limit = 1000000
-host = [7]
-[[domain.node]]
-memory = 4096
-links = [0, -1, -1, -1]
-"#;
-
-/// The same as version 3.
-const PLAN_WITH_USERS: &str = r#"version = 3
-[[domain]]
-user = [{ name = "ann", host = [7] }]
-range = [[0, 7]]
-limit = 1000000
-[[domain.node]]
-memory = 4096
-links = [0, -1, -1, -1]
-[[domain]]
-user = [{ name = "bob", host = [7] }]
-range = [[8, 15]]
-limit = 1000000
-[[domain.node]]
-memory = 4096
-links = [0, -1, -1, -1]
-"#;
-
-/// Ann and cas share a domain of ports 0 to 7; bob stands before them in the plan.
-const SHARED_PLAN: &str = r#"version = 3
-[[domain]]
-user = [{ name = "bob", host = [7] }]
-range = [[8, 15]]
-limit = 1000000
-[[domain.node]]
-memory = 4096
-links = [0, -1, -1, -1]
-[[domain]]
-user = [{ name = "ann", host = [7] }, { name = "cas", host = [6] }]
-range = [[0, 7]]
-limit = 1000000
 [[domain.node]]
 memory = 4096
 links = [0, -1, -1, -1]
@@ -163,9 +113,9 @@ fn source_of(text: &[u8], piece: usize, fails_at: u64) -> Pieces<'_> {
     }
 }
 
-fn sink_of(rt: &HostRuntime, piece: usize, fails_at: u64, takes_none_at: u64) -> Sink {
+fn sink_of(alloc: Global, piece: usize, fails_at: u64, takes_none_at: u64) -> Sink {
     Sink {
-        taken: Vec::new(rt.alloc()),
+        taken: Vec::new(alloc),
         piece,
         calls: 0,
         fails_at,
@@ -173,12 +123,26 @@ fn sink_of(rt: &HostRuntime, piece: usize, fails_at: u64, takes_none_at: u64) ->
     }
 }
 
-/// Whether the program, on this input, gives this status and these texts.
-fn gives(rt: &HostRuntime, text: &[u8], status: u8, wanted: &str, complaint: &str) -> bool {
-    let mut input = source_of(text, 7, NEVER);
-    let mut output = sink_of(rt, 1, NEVER, NEVER);
-    let mut errors = sink_of(rt, 3, NEVER, NEVER);
-    let got = run(rt.alloc(), &["farm"], &mut input, &mut output, &mut errors);
+/// Whether the program, on this input and by streams that take a byte at a time, gives this status and these texts.
+fn gives<R: Threads + Wait + Sync>(
+    rt: &R,
+    alloc: Global,
+    text: &[u8],
+    status: u8,
+    wanted: &str,
+    complaint: &str,
+) -> bool {
+    let mut input = source_of(text, 1, NEVER);
+    let mut output = sink_of(alloc, 1, NEVER, NEVER);
+    let mut errors = sink_of(alloc, 1, NEVER, NEVER);
+    let got = run(
+        rt,
+        alloc,
+        &["farm"],
+        &mut input,
+        &mut output,
+        &mut errors,
+    );
     got == status
         && output.taken.as_slice() == wanted.as_bytes()
         && errors.taken.as_slice() == complaint.as_bytes()
@@ -233,10 +197,7 @@ fn hexadecimal_words_spell_bytes(rt: HostRuntime) -> Result<(), Fail> {
 /// Refuses a body that answers want of memory whatever there is.
 #[test]
 fn always_out_of_memory(rt: HostRuntime) -> Result<(), Fail> {
-    let alloc = rt.alloc();
-    let text = format!(in alloc; "{PLAN}---\nann config 0100010302000201\n")?;
-    assert!(rt; gives(&rt, text.as_bytes(), 0, "ann config 81 80\n", ""));
-    assert_eq!(rt; bytes_of(alloc, "00")?.len(), 1);
+    assert_eq!(rt; bytes_of(rt.alloc(), "00")?.len(), 1);
     Ok(())
 }
 
@@ -246,106 +207,38 @@ fn unread_arguments_are_refused(rt: HostRuntime) {
         (io::ErrorKind::InvalidData, 2),
         (io::ErrorKind::OutOfMemory, 5),
     ] {
-        let mut errors = sink_of(&rt, 9, NEVER, NEVER);
+        let mut errors = sink_of(rt.alloc(), 9, NEVER, NEVER);
         let error = io::Error::from(kind);
         assert_eq!(rt; refuse_arguments(rt.alloc(), &error, &mut errors), status);
         assert!(rt; !errors.taken.is_empty());
     }
 }
 
+/// A text that ends anywhere is answered, or refused as its last part says.
 #[test]
-fn plans_are_refused_by_number(rt: HostRuntime) {
-    for (text, complaint) in [
-        ("", "plan: 2\n"),
-        ("version = 1\n", "plan: 2\n"),
-        ("[[domain", "plan: 1\n"),
-        (
-            "version = 1\ndomain = []\n---\nann config 00\n",
-            "plan: 3\n",
-        ),
-        ("version = 3\ndomain = []\n--- \n", "plan: 1\n"),
-    ] {
-        assert!(rt; gives(&rt, text.as_bytes(), 3, "", complaint), "{text:?}");
-    }
-}
-
-#[test]
-fn script_lines_are_answered_or_refused(rt: HostRuntime) -> Result<(), Fail> {
+fn cut_texts_are_refused_by_their_part(rt: HostRuntime) -> Result<(), Fail> {
     let alloc = rt.alloc();
-    for (script, status, wanted, complaint) in [
-        ("ann config 0100010302000201\n", 0, "ann config 81 80\n", ""),
-        (
-            "ann config 0100\r\n#\n\nann config fF",
-            0,
-            "ann config -\nann config badport\n",
-            "",
-        ),
-        (
-            "ann config 0208\nann config 070200\n",
-            0,
-            "ann config badport\nann config badcommand 00\n",
-            "",
-        ),
-        (
-            "bob config 02\nann config 0205\nbob config 05\n",
-            0,
-            "ann config 00\nbob config -\nbob config 00\n",
-            "",
-        ),
-        ("", 0, "", ""),
-        ("---\n", 4, "", "line 1: user\n"),
-        ("eve config 00\n", 4, "", "line 1: user\n"),
-        (" ann config 00\n", 4, "", "line 1: user\n"),
-        ("ann config 00\neve\n", 4, "", "line 2: user\n"),
-        ("ann fly 00\n", 4, "", "line 1: verb\n"),
-        ("ann  config 00\n", 4, "", "line 1: verb\n"),
-        ("#\n\nann\n", 4, "", "line 3: verb\n"),
-        ("ann config\n", 4, "", "line 1: args\n"),
-        ("ann config 00 00\n", 4, "", "line 1: args\n"),
-        ("ann config 00 \n", 4, "", "line 1: args\n"),
-        ("ann config 010\n", 4, "", "line 1: hex\n"),
-        ("ann config \n", 4, "", "line 1: hex\n"),
-        ("ann config 00\r", 4, "", "line 1: hex\n"),
+    for (plan, rest, status, wanted, complaint) in [
+        ("", "", 3, "", "plan: 2\n"),
+        ("", "version = 1\n", 3, "", "plan: 2\n"),
+        ("", "version = 1\n[[domain", 3, "", "plan: 1\n"),
+        ("", "version = 1\ndomain = []\n---\nann", 3, "", "plan: 3\n"),
+        (ANN, "", 0, "", ""),
+        (ANN, BOB, 0, "", ""),
+        (ANN, "--", 3, "", "plan: 1\n"),
+        (ANN, "---", 0, "", ""),
+        (ANN, "---\r", 3, "", "plan: 1\n"),
+        (ANN, "---\nan", 4, "", "line 1: user\n"),
+        (ANN, "---\nann", 4, "", "line 1: verb\n"),
+        (ANN, "---\nann config", 4, "", "line 1: args\n"),
+        (ANN, "---\nann config 010", 4, "", "line 1: hex\n"),
+        (ANN, "---\r\n#\n\nann poke 256 0 g\r\n", 4, "", "line 3: args\n"),
+        (ANN, "---\nann config 0205", 0, "ann config 00\n", ""),
     ] {
-        for plan in [PLAN, PLAN_WITH_RANGES, PLAN_WITH_USERS] {
-            let text = format!(in alloc; "{plan}---\n{script}")?;
-            assert!(rt;
-                gives(&rt, text.as_bytes(), status, wanted, complaint),
-                "{script:?}"
-            );
-        }
-    }
-    Ok(())
-}
-
-#[test]
-fn users_of_a_domain_share_its_switch_and_its_parser(rt: HostRuntime) -> Result<(), Fail> {
-    let alloc = rt.alloc();
-    let script =
-        "ann config 0001\ncas config 0303\nann config 0203\nbob config 0203\ncas config 0201\n";
-    let text = format!(in alloc; "{SHARED_PLAN}---\r\n{script}")?;
-    let wanted = "bob config 00\nann config -\nann config 81\ncas config -\ncas config 00\n";
-    assert!(rt; gives(&rt, text.as_bytes(), 0, wanted, ""));
-    Ok(())
-}
-
-/// An input that is cut anywhere is refused as its part says, or answered.
-#[test]
-fn cut_inputs_are_refused_by_their_part(rt: HostRuntime) -> Result<(), Fail> {
-    let alloc = rt.alloc();
-    for (end, status, complaint) in [
-        ("--", 3, "plan: 1\n"),
-        ("---", 0, ""),
-        ("---\r", 3, "plan: 1\n"),
-        ("---\nan", 4, "line 1: user\n"),
-        ("---\nann", 4, "line 1: verb\n"),
-        ("---\nann config", 4, "line 1: args\n"),
-        ("---\nann config 010", 4, "line 1: hex\n"),
-    ] {
-        let text = format!(in alloc; "{PLAN}{end}")?;
+        let text = format!(in alloc; "{plan}{rest}")?;
         assert!(rt;
-            gives(&rt, text.as_bytes(), status, "", complaint),
-            "{end:?}"
+            gives(&rt, alloc, text.as_bytes(), status, wanted, complaint),
+            "{text:?}"
         );
     }
     Ok(())
@@ -353,40 +246,34 @@ fn cut_inputs_are_refused_by_their_part(rt: HostRuntime) -> Result<(), Fail> {
 
 #[test]
 fn words_are_refused_or_helped(rt: HostRuntime) {
-    let mut input = source_of(b"", 7, 0);
-    let mut output = sink_of(&rt, 9, NEVER, NEVER);
-    let mut errors = sink_of(&rt, 9, NEVER, NEVER);
-    let refused = run(
-        rt.alloc(),
-        &["farm", "--workers", "9"],
-        &mut input,
-        &mut output,
-        &mut errors,
-    );
-    assert_eq!(rt; refused, 2);
-    assert!(rt; output.taken.is_empty() && !errors.taken.is_empty());
-    let mut errors = sink_of(&rt, 9, NEVER, NEVER);
-    let helped = run(
-        rt.alloc(),
-        &["farm", "--help"],
-        &mut input,
-        &mut output,
-        &mut errors,
-    );
-    assert_eq!(rt; helped, 0);
-    assert!(rt; !output.taken.is_empty() && errors.taken.is_empty());
+    for (word, status) in [("--workers=9", 2), ("--help", 0)] {
+        let mut input = source_of(b"", 7, 0);
+        let mut output = sink_of(rt.alloc(), 9, NEVER, NEVER);
+        let mut errors = sink_of(rt.alloc(), 9, NEVER, NEVER);
+        let got = run(
+            &rt,
+            rt.alloc(),
+            &["farm", word],
+            &mut input,
+            &mut output,
+            &mut errors,
+        );
+        assert_eq!(rt; got, status);
+        assert_eq!(rt; output.taken.is_empty(), status != 0);
+        assert_eq!(rt; errors.taken.is_empty(), status == 0);
+    }
 }
 
 #[test]
 fn failing_reads_are_told(rt: HostRuntime) -> Result<(), Fail> {
     let alloc = rt.alloc();
-    let text = format!(in alloc; "{PLAN}---\nann config 0100\n")?;
-    for at in 0..text.len() as u64 {
+    let text = format!(in alloc; "{ANN}---\nann config 0100\n")?;
+    for at in 0..=text.len() as u64 {
         let mut input = source_of(text.as_bytes(), 1, at);
-        let mut output = sink_of(&rt, 9, NEVER, NEVER);
-        let mut errors = sink_of(&rt, 9, NEVER, NEVER);
+        let mut output = sink_of(rt.alloc(), 9, NEVER, NEVER);
+        let mut errors = sink_of(rt.alloc(), 9, NEVER, NEVER);
         assert_eq!(rt;
-            run(alloc, &["farm"], &mut input, &mut output, &mut errors),
+            run(&rt, alloc, &["farm"], &mut input, &mut output, &mut errors),
             6
         );
         assert!(rt; output.taken.is_empty());
@@ -399,15 +286,15 @@ fn failing_reads_are_told(rt: HostRuntime) -> Result<(), Fail> {
 #[test]
 fn failing_writes_leave_a_beginning(rt: HostRuntime) -> Result<(), Fail> {
     let alloc = rt.alloc();
-    let text = format!(in alloc; "{PLAN}---\nann config 0100\nbob config 020000\n")?;
+    let text = format!(in alloc; "{ANN}{BOB}---\nann config 0100\nbob config 020000\n")?;
     let whole = b"ann config -\nbob config 00\n";
     for at in 0..whole.len() as u64 {
         for (fails_at, takes_none_at) in [(at, NEVER), (NEVER, at)] {
             let mut input = source_of(text.as_bytes(), 100, NEVER);
-            let mut output = sink_of(&rt, 1, fails_at, takes_none_at);
-            let mut errors = sink_of(&rt, 9, 0, NEVER);
+            let mut output = sink_of(rt.alloc(), 1, fails_at, takes_none_at);
+            let mut errors = sink_of(rt.alloc(), 9, 0, NEVER);
             assert_eq!(rt;
-                run(alloc, &["farm"], &mut input, &mut output, &mut errors),
+                run(&rt, alloc, &["farm"], &mut input, &mut output, &mut errors),
                 6
             );
             assert_eq!(rt; output.taken.len() as u64, at);
@@ -419,9 +306,10 @@ fn failing_writes_leave_a_beginning(rt: HostRuntime) -> Result<(), Fail> {
 
 #[test]
 fn endless_input_is_given_up(rt: HostRuntime) {
-    let mut output = sink_of(&rt, 9, NEVER, NEVER);
-    let mut errors = sink_of(&rt, 9, NEVER, NEVER);
+    let mut output = sink_of(rt.alloc(), 9, NEVER, NEVER);
+    let mut errors = sink_of(rt.alloc(), 9, NEVER, NEVER);
     let status = run(
+        &rt,
         rt.alloc(),
         &["farm"],
         &mut Endless,

@@ -42,33 +42,3 @@ pub fn joined(calls: &mut Vec<Call>, domain: u8, message: &[u8]) -> Result<(), A
     }
     Ok(())
 }
-
-/// One call of each list by turns, the first list's first, until both are used up.
-pub fn by_turns(alloc: Global, first: &[Call], second: &[Call]) -> Result<Vec<Call>, AllocError> {
-    let mut calls = Vec::new(alloc);
-    let most = first.len().max(second.len());
-    for index in 0..most {
-        if let Some(call) = first.get(index) {
-            calls.push(*call)?;
-        }
-        if let Some(call) = second.get(index) {
-            calls.push(*call)?;
-        }
-    }
-    Ok(calls)
-}
-
-/// All calls of the first list, and then all of the second.
-pub fn one_after_another(
-    alloc: Global,
-    first: &[Call],
-    second: &[Call],
-) -> Result<Vec<Call>, AllocError> {
-    let mut calls = Vec::new(alloc);
-    for list in [first, second] {
-        for call in list {
-            calls.push(*call)?;
-        }
-    }
-    Ok(calls)
-}

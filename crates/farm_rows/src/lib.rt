@@ -1,4 +1,5 @@
-//! Worked rows of a whole farm on one thread. Tests alone.
+//! What only typed calls of a whole farm show: runs of two plans compared, a farm's fits and its end, and refused memory.
+//! All other worked rows of a farm are texts. Tests alone.
 #![tactic(auto)]
 
 #[cfg(test)]
@@ -11,7 +12,3 @@ mod plans;
 mod refusals;
 #[cfg(test)]
 mod runs;
-#[cfg(test)]
-mod switches;
-#[cfg(test)]
-mod wild;

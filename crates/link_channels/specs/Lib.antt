@@ -1,3 +1,4 @@
+-- what must be believed
 pub mod Reply
 pub mod Links
 pub mod Kinds
@@ -6,4 +7,5 @@ pub mod Soft
 pub mod Hard
 pub mod Messages
 pub mod Service
+-- what only helps contracts
 pub mod Laws

@@ -1,5 +1,7 @@
+-- what must be believed
 pub mod Bytes
-pub mod Faults
-pub mod Laws
 pub mod Marks
 pub mod Words
+-- what only helps contracts
+pub mod Faults
+pub mod Laws

@@ -1,9 +1,8 @@
 //! What a host at a link does to a node.
 
-use bootstrap::{Node, boot_message, peek_message, poke_message, word_of};
+use bootstrap::{Node, peek_message, poke_message, word_of};
 use link_channels::LinkNumber;
 use os_link::Packet;
-use std::test::Fail;
 
 // Gives a link bytes, one a Step, and takes their acknowledges.
 pub fn send(node: &mut Node, link: LinkNumber, bytes: &[u8]) {
@@ -40,12 +39,4 @@ pub fn peek(node: &mut Node, address: u32) -> Option<u32> {
 // Stores a word at an address, by link 0.
 pub fn poke(node: &mut Node, address: u32, word: u32) {
     send(node, LinkNumber::Zero, &poke_message(address, word));
-}
-
-// Loads code by a link, and runs it until there is nothing to do.
-pub fn run(rt: &HostRuntime, node: &mut Node, link: LinkNumber, code: &[u8]) -> Result<(), Fail> {
-    let message = boot_message(rt.alloc(), code)?;
-    send(node, link, message.as_slice());
-    let _ = node.burst(1000);
-    Ok(())
 }

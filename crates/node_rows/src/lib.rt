@@ -1,17 +1,10 @@
-//! Worked rows of a node: booting, peek, poke, reset, what programs leave, and bursts.
+//! What only a typed call shows of a node: the bytes of messages, copies, and when nodes are the same. Its worked rows are
+//! texts of the lab.
 #![tactic(auto)]
 
 #[cfg(test)]
-mod bursts;
-#[cfg(test)]
 mod host;
-#[cfg(test)]
-mod loads;
 #[cfg(test)]
 mod messages;
 #[cfg(test)]
-mod peeks;
-#[cfg(test)]
-mod programs;
-#[cfg(test)]
-mod resets;
+mod nodes;

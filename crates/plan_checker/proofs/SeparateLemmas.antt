@@ -161,6 +161,9 @@ is_numbered d sep =
       count = ap length whole ∙ ap unsigned_abs (length_all d.ranges ranges);
     }
 
+pub all_parts : (plan : List DomainData) → IsSeparate plan → All (λ d. IsPart (part_of d)) plan
+all_parts plan sep k e less = is_part (get_or plan k e) (alone plan sep k e less)
+
 pub all_numbered : (plan : List DomainData) → IsSeparate plan → All IsNumbered plan
 all_numbered plan sep k e less = is_numbered (get_or plan k e) (alone plan sep k e less)
 
@@ -230,6 +233,9 @@ sizes_of d sep = All-head (λ (d : DomainData). All (λ n. IsMemorySize n.memory
 
 pub users_few : (d : DomainData) → IsSeparate (d ∷ []) → length d.users ≤ 4
 users_few d sep = (All-head (λ (d : DomainData). IsFrom 1 4 (length d.users)) d [] (sep UserCount)).1
+
+pub nodes_few : (d : DomainData) → IsSeparate (d ∷ []) → length d.nodes ≤ 8
+nodes_few d sep = (All-head (λ (d : DomainData). IsFrom 1 8 (length d.nodes)) d [] (sep NodeCount)).1
 
 pub ranges_few : (d : DomainData) → IsSeparate (d ∷ []) → length d.ranges ≤ 4
 ranges_few d sep = (All-head (λ (d : DomainData). IsFrom 1 4 (length d.ranges)) d [] (sep RangeCount)).1

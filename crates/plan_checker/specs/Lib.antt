@@ -1,7 +1,10 @@
+-- what must be believed
 pub mod Data
-pub mod Version
 pub mod Fault
-pub mod Document
-pub mod Fields
 pub mod Separate
 pub mod Part
+pub mod Laws
+-- what only helps contracts
+pub mod Version
+pub mod Document
+pub mod Fields

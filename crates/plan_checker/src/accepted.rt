@@ -71,6 +71,14 @@ impl AcceptedPlan {
         self.domains[usize::from(domain)].users.len() as u8
     }
 
+    /// How many nodes a domain has, 1 to 8.
+    pub fn nodes(&self, domain: u8) -> u8
+        requires { domain < length self.now }
+        ensures { IfSome (slice_get self.now domain) (λ d. result ≡ length d.nodes) }
+    {
+        self.domains[usize::from(domain)].nodes.len() as u8
+    }
+
     /// The name of a user of a domain, by his number in the domain.
     pub fn name(&self, domain: u8, user: u8) -> &str
         requires domain { domain < length self.now }

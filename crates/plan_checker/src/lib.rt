@@ -5,6 +5,7 @@ mod accepted;
 mod apart;
 mod fault;
 mod fields;
+pub mod laws;
 mod part;
 mod parts;
 mod plan;

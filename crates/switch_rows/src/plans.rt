@@ -4,43 +4,6 @@ use plan_checker::{PlanFault, check, read_plan};
 use std::alloc::Global;
 use virtual_switch::VirtualSwitch;
 
-/// Ann has ports 0 to 7, bob ports 8 to 15.
-pub const ANN_AND_BOB: &str = r#"
-version = 1
-[[domain]]
-name = "ann"
-first = 0
-last = 7
-limit = 1000000
-host = [7]
-[[domain.node]]
-memory = 4096
-links = [0, -1, -1, -1]
-[[domain]]
-name = "bob"
-first = 8
-last = 15
-limit = 1000000
-host = [7]
-[[domain.node]]
-memory = 4096
-links = [0, -1, -1, -1]
-"#;
-
-/// One domain has all ports.
-pub const FULL_RANGE: &str = r#"
-version = 1
-[[domain]]
-name = "ann"
-first = 0
-last = 31
-limit = 1000000
-host = [7]
-[[domain.node]]
-memory = 4096
-links = [0, -1, -1, -1]
-"#;
-
 /// One domain has ports 16 to 19, and then ports 0 to 3.
 pub const TWO_RANGES: &str = r#"
 version = 2

@@ -1,3 +1,4 @@
+-- what only helps contracts
 pub mod Domains
 pub mod Rule
 pub mod SeatStates

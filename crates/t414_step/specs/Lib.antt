@@ -1,7 +1,9 @@
+-- what must be believed
 pub mod Outcome
 pub mod Registers
 pub mod ChannelRows
 pub mod Rows
 pub mod Step
 pub mod Answers
+-- what only helps contracts
 pub mod Laws

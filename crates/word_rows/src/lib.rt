@@ -1,5 +1,5 @@
-//! Worked rows of the words and bytes of a node: arithmetic, memory, queue, instruction codes and
-//! link ends.
+//! What only a typed call shows of the words, memory, codes and link ends of a node. Their worked rows are texts of the
+//! lab.
 #![tactic(auto)]
 
 #[cfg(test)]
@@ -10,5 +10,3 @@ mod instructions;
 mod links;
 #[cfg(test)]
 mod memory;
-#[cfg(test)]
-mod queue;

@@ -12,11 +12,11 @@ use Rattle.domain_core.proofs.devices.Devices.clear.Goals as goal
 
 pub loop-node-preserved : goal.loop-node-preserved
 loop-node-preserved c =
-    changed_more (λ (n : Node). node.opened (length n.memory)) c.loop-node.node-index c.deref_mut-node-items.result.now c.loop-node.node-items c.node-item.result c.clear.new.self c.loop-node.invariant c.node-item.is (c.clear.ensures.state ∙ ap (λ (n : Node). node.opened (length n.memory)) (sym c.node-item.is))
+    changed_more (λ (n : Node). node.opened (length n.memory)) c.loop-node.node-index c.deref_mut-node-items.result.now c.loop-node.node-items c.node-item.result c.clear_node.new.home c.loop-node.invariant c.node-item.is (c.clear_node.ensures ∙ ap (λ (n : Node). node.opened (length n.memory)) (sym c.node-item.is))
 
 pub loop-host-preserved : goal.loop-host-preserved
 loop-host-preserved c =
-    changed_more (λ (h : HostState). host.opened) c.loop-host.host-index c.deref_mut-host-items.result.now c.loop-host.host-items c.host-item.result c.clear-in-loop-host.new.self c.loop-host.invariant c.host-item.is c.clear-in-loop-host.ensures
+    changed_more (λ (h : HostState). host.opened) c.loop-host.host-index c.deref_mut-host-items.result.now c.loop-host.host-items c.host-item.result c.clear.new.self c.loop-host.invariant c.host-item.is c.clear.ensures
 
 pub returns : goal.returns
 returns c =

@@ -1,4 +1,5 @@
 use Rattle.std.proofs.Common.{◌<◌, List, length, arith, refl, sym, subst}
+use Rattle.crossbar.proofs.Switching.{word_within}
 use Rattle.domain_core.specs.Domain.{DomainValue}
 use Rattle.farm_core.specs.Places.{IsSeparate}
 use Rattle.farm_core.specs.PlainFarm.{places_in}
@@ -22,6 +23,9 @@ word-requires c =
     let owner = owner_read c.self.inside.domains.items c.args.self.now c.in-Some.domain c.index_mut.result.now c.in-Some.number c.args.output c.self.view_is c.in-Some.ensures.owned c.index_mut.ensures.value in
     let separate = subst (λ (ds : List DomainValue). IsSeparate (places_in ds)) c.self.view_is c.self.invariant in
     within_count c.args.self.now c.in-Some.domain c.index_mut.result.now c.in-Some.number c.args.output separate owner.there owner.port
+
+pub returns-clause-proper : goal.returns-clause-proper
+returns-clause-proper c = (word_within _ _ _ _ c.word.ensures.row c.word.ensures.word).proper
 
 -- the domain that is read has the output
 owner : (c : goal.After-self-1) → IsOwner c.args.self.now c.in-Some.domain c.index_mut.result.now c.in-Some.number c.args.output

@@ -1,0 +1,11 @@
+//! The words of answers, as the programs print them.
+#![tactic(auto)]
+
+mod events;
+mod replies;
+
+pub use events::{write_event, write_user};
+pub use replies::{
+    write_config_reply, write_entry, write_fault, write_refusal, write_reply, write_seen,
+    write_stepped,
+};

@@ -1,0 +1,243 @@
+//! Users, workers and an operator at a service, so that their rates can be measured: `COUNT [WORK]`,
+//! where WORK is one of
+//!
+//! - `own-1`, `own-2`, `own-4`, `own-8`: COUNT rounds of five configuration bytes by each of so many
+//!   users, in threads and domains of their own;
+//! - `shared-1`, `shared-2`, `shared-4`: the same by users of one domain;
+//! - `steps-W-N`: COUNT turns of 256 Steps by each of W workers, 1, 2, 4 or 8, over N nodes that loop,
+//!   1 in one domain, or 8 or 28 in four;
+//! - `surveys`: COUNT surveys of all 32 outputs, beside a user who does COUNT rounds.
+//!
+//! Without WORK all run, and the turns that came home aren't told, since they hang on the schedule.
+#![tactic(auto)]
+
+ghost use Rattle.std.specs.Prelude.{◌≡◌, ◌≤◌, IfOk};
+ghost use Rattle.farm_service.specs.Services.{IsItsOperator};
+ghost use Rattle.token_queue.specs.Passes.{AreOf, AreItsPasses, HoldNone};
+
+mod plans;
+mod users;
+
+use crate::plans::{Size, plan_of};
+use crate::users::{Guest, boot, send_each};
+use domain_core::{Committed, Refusal};
+use farm_service::{Gate, Opened, Service, Token, UserPass, WorkerPass, work};
+use std::alloc::{AllocError, Global};
+use std::sync::Wait;
+use std::sync::atomic::{AtomicU64, Ordering};
+use std::thread::Threads;
+use std::{env, io, thread};
+use switch_table::OperatorSeat;
+
+/// A turn's Steps.
+const QUANTUM: u64 = 256;
+
+// Counts the turns whose node came home.
+#[derive(Drop)]
+struct Counter {
+    done: AtomicU64,
+}
+
+impl Gate for Counter {
+    fn begins<R: Wait>(&self, _rt: &R, _token: Token) {}
+
+    fn ended<R: Wait>(&self, _rt: &R, _token: Token, committed: &Result<Committed, Refusal>) {
+        if *committed == Ok(Committed::Done) {
+            self.done.fetch_add(1, Ordering::SeqCst);
+        }
+    }
+}
+
+// A service of this size.
+fn opened<R: Wait>(rt: &R, alloc: Global, size: Size, workers: u8) -> Result<Opened, AllocError>
+    requires { (1 ≤ workers) × (workers ≤ 8) }
+    ensures passes { IfOk result (λ o. AreItsPasses o.service.plan o.service.queue o.passes.items) }
+    ensures operator { IfOk result (λ o. IsItsOperator o.service o.operator) }
+{
+    let Ok(plan) = plan_of(alloc, size) else {
+        return Err(AllocError);
+    };
+    Service::open(rt, alloc, plan, workers).map_err(|_| AllocError)
+}
+
+// A session for each pass.
+fn guests_of(
+    alloc: Global,
+    service: &Service,
+    users: Vec<UserPass>,
+) -> Result<Vec<Guest<'_>>, AllocError> {
+    let mut guests = Vec::new(alloc);
+    for pass in users {
+        guests.push(Guest {
+            session: service.session(pass),
+            answered: 0,
+        })?;
+    }
+    Ok(guests)
+}
+
+// How many rounds of the guests were answered, all together.
+fn answered(guests: &[Guest<'_>]) -> u64 {
+    let mut all = 0_u64;
+    for guest in guests {
+        all = all.saturating_add(guest.answered);
+    }
+    all
+}
+
+// Users send configuration bytes at once; how many rounds were answered.
+fn commands<R: Threads + Wait + Sync>(
+    rt: &R,
+    alloc: Global,
+    size: Size,
+    count: u64,
+) -> Result<u64, AllocError> {
+    let Opened { service, users, .. } = opened(rt, alloc, size, 1)?;
+    let mut guests = guests_of(alloc, &service, users)?;
+    send_each(rt, guests.as_mut_slice(), count);
+    Ok(answered(guests.as_slice()))
+}
+
+// Each worker works in a thread of his own; how many turns' nodes came home.
+fn work_each<R: Threads + Wait + Sync>(
+    rt: &R,
+    service: &Service,
+    passes: &mut [WorkerPass],
+    turns: u64,
+) -> u64
+    requires of { AreOf service.now.queue passes.old }
+    requires none { HoldNone passes.old }
+{
+    let counter = Counter {
+        done: AtomicU64::new(0),
+    };
+    let gate = &counter;
+    thread::for_each_mut(
+        rt,
+        passes,
+        8,
+        &|_, pass| {
+            work(rt, service, pass, gate, QUANTUM, turns);
+        },
+    );
+    counter.done.load(Ordering::SeqCst)
+}
+
+// Workers step the nodes; how many turns' nodes came home.
+fn turns<R: Threads + Wait + Sync>(
+    rt: &R,
+    alloc: Global,
+    size: Size,
+    workers: u8,
+    count: u64,
+) -> Result<u64, AllocError>
+    requires { (1 ≤ workers) × (workers ≤ 8) }
+{
+    let Opened {
+        service,
+        users,
+        mut passes,
+        ..
+    } = opened(rt, alloc, size, workers)?;
+    for guest in &mut guests_of(alloc, &service, users)? {
+        if boot(rt, &mut guest.session, size).is_err() {
+            return Err(AllocError);
+        }
+    }
+    Ok(work_each(rt, &service, passes.as_mut_slice(), count))
+}
+
+// Surveys of all outputs, so many times; how many found output 0 as it was left by the user's rounds.
+fn survey_all(service: &Service, mut operator: OperatorSeat, count: u64) -> u64
+    requires { IsItsOperator service.now operator }
+{
+    let mut newest = 0;
+    for _round in 0..count {
+        for output in 0..32 {
+            newest = newest.max(service.survey(&mut operator, output).bits);
+        }
+    }
+    newest & 0xff
+}
+
+// Surveys beside a user; the newest word that was seen, without its change count.
+fn surveys<R: Threads + Wait + Sync>(rt: &R, alloc: Global, count: u64) -> Result<u64, AllocError> {
+    let size = Size {
+        domains: 1,
+        nodes: 1,
+        users: 1,
+    };
+    let Opened {
+        service,
+        users,
+        operator,
+        ..
+    } = opened(rt, alloc, size, 1)?;
+    let mut guests = guests_of(alloc, &service, users)?;
+    send_each(rt, guests.as_mut_slice(), 1);
+    let service = &service;
+    let (seen, ()) = thread::join(
+        rt,
+        move ||
+            requires { IsItsOperator service.now operator }
+        { survey_all(service, operator, count) },
+        move || send_each(rt, guests.as_mut_slice(), count),
+    );
+    Ok(seen)
+}
+
+// Want of memory, or a refusal, as an error of the program.
+fn failed(_: AllocError) -> io::Error {
+    io::Error::from(io::ErrorKind::OutOfMemory)
+}
+
+fn main(rt: HostRuntime) -> io::Result<()> {
+    let alloc = rt.alloc();
+    let words: Vec<String> = env::args(&rt)?.collect(alloc)?;
+    let count = words
+        .get(1)
+        .and_then(|word| word.parse::<u64>().ok())
+        .unwrap_or(100);
+    let wanted = words.get(2).map(|word| word.as_str());
+    for (name, domains, users) in [
+        ("own-1", 1, 1),
+        ("own-2", 2, 1),
+        ("own-4", 4, 1),
+        ("own-8", 8, 1),
+        ("shared-1", 1, 1),
+        ("shared-2", 1, 2),
+        ("shared-4", 1, 4),
+    ] {
+        if wanted.is_none_or(|word| word == name) {
+            let size = Size {
+                domains,
+                nodes: 1,
+                users,
+            };
+            let done = commands(&rt, alloc, size, count).map_err(failed)?;
+            println!(rt; "{name}: {done}")?;
+        }
+    }
+    for (nodes, domains, each) in [("1", 1, 1), ("8", 4, 2), ("28", 4, 7)] {
+        for (workers, number) in [("1", 1), ("2", 2), ("4", 4), ("8", 8)] {
+            let name = format!(in alloc; "steps-{workers}-{nodes}")?;
+            if wanted.is_none_or(|word| word == name.as_str()) {
+                let size = Size {
+                    domains,
+                    nodes: each,
+                    users: 1,
+                };
+                let done = turns(&rt, alloc, size, number, count).map_err(failed)?;
+                match wanted {
+                    Some(_) => println!(rt; "{name}: {done}")?,
+                    None => println!(rt; "{name}")?,
+                }
+            }
+        }
+    }
+    if wanted.is_none_or(|word| word == "surveys") {
+        let seen = surveys(&rt, alloc, count).map_err(failed)?;
+        println!(rt; "surveys: {seen:x}")?;
+    }
+    Ok(())
+}

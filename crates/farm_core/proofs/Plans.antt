@@ -1,0 +1,29 @@
+-- Plans that break no rule, and the places of their domains.
+use Rattle.std.proofs.Common.{◌≡◌, ℕ, Some, List, slice_get, option_map, ap, ◌∙◌}
+use Rattle.std.proofs.lemmas.Option.{slice_get-map}
+use Rattle.plan_checker.specs.Data.{DomainData}
+use Rattle.plan_checker.specs.Laws.{SeparatePlansAreNumbered, SeparatePlansShareNoPort}
+use Rattle.plan_checker.specs.Separate as checker
+use Rattle.farm_core.specs.Places.{place_of, places_of, IsSeparate}
+use Rattle.farm_core.specs.Laws.{EachDomainOfAPlanIsPrivate, EachOfAPlanIsToldPrivately, EqualDomainsOfPlansAreAnsweredAlike}
+use Rattle.farm_core.proofs.Runs.{each_domain_is_private, each_is_told_privately, equal_domains_are_answered_alike}
+use Rattle.farm_core.proofs.Separation.{numbered_domains_are_separate}
+
+separate_places : SeparatePlansAreNumbered → SeparatePlansShareNoPort → (plan : List DomainData) → checker.IsSeparate plan → IsSeparate (places_of plan)
+separate_places numbered apart plan is = numbered_domains_are_separate plan (numbered plan is) (apart plan is)
+
+place_at : (plan : List DomainData) (domain : ℕ) (d : DomainData) → slice_get plan domain ≡ Some d → slice_get (places_of plan) domain ≡ Some (place_of d)
+place_at plan domain d at = slice_get-map place_of plan domain ∙ ap (option_map place_of) at
+
+pub each_domain_of_a_plan : SeparatePlansAreNumbered → SeparatePlansShareNoPort → EachDomainOfAPlanIsPrivate
+each_domain_of_a_plan numbered apart plan calls domain d is at =
+    each_domain_is_private (places_of plan) calls domain (place_of d) (separate_places numbered apart plan is) (place_at plan domain d at)
+
+pub each_is_told : SeparatePlansAreNumbered → SeparatePlansShareNoPort → EachOfAPlanIsToldPrivately
+each_is_told numbered apart plan calls domain d is at =
+    each_is_told_privately (places_of plan) calls domain (place_of d) (separate_places numbered apart plan is) (place_at plan domain d at)
+
+pub equal_domains : SeparatePlansAreNumbered → SeparatePlansShareNoPort → EqualDomainsOfPlansAreAnsweredAlike
+equal_domains numbered apart plan other_plan calls other_calls domain other d e is other_is at other_at parts asked =
+    equal_domains_are_answered_alike (places_of plan) (places_of other_plan) calls other_calls domain other (place_of d) (place_of e) (separate_places numbered apart plan is)
+    (separate_places numbered apart other_plan other_is) (place_at plan domain d at) (place_at other_plan other e other_at) parts asked

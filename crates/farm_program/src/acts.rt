@@ -1,0 +1,167 @@
+//! What a user's session does for a command, and the result that its output line shows.
+use crate::quantum::Quantum;
+use crate::script::Command;
+use answer_text::{write_reply, write_seen};
+use bootstrap::{BootFault, boot_message, peek_message, poke_message, word_of};
+use domain_core::{Refusal, Reply};
+use farm_service::Session;
+use std::alloc::Global;
+use std::sync::Wait;
+use virtual_switch::ConfigReply;
+
+/// How many rounds a settling has at most.
+const ROUNDS: u64 = 10_000;
+
+/// Settles as long as the program does after each line. Whether that came to rest is nobody's fault.
+pub fn settle<R: Wait>(rt: &R, session: &Session<'_>, quantum: Quantum) -> Result<(), Refusal> {
+    let _ = session.settle(rt, quantum.steps(), ROUNDS)?;
+    Ok(())
+}
+
+/// Does what a command asks, and gives the result for its output line. A refusal takes the result's place; what was
+/// taken before it stands.
+pub fn result_of<R: Wait>(
+    rt: &R,
+    alloc: Global,
+    session: &mut Session<'_>,
+    quantum: Quantum,
+    command: &Command,
+) -> Result<String, Refusal> {
+    match command {
+        Command::Config(bytes) => configured(rt, alloc, session, bytes.as_slice()),
+        Command::Write { host, bytes } => {
+            let taken = written(rt, session, *host, bytes.as_slice())?;
+            Ok(format!(in alloc; "{taken}")?)
+        }
+        Command::Boot { host, code } => booted(rt, alloc, session, *host, code.as_slice()),
+        Command::Poke {
+            host,
+            address,
+            word,
+        } => {
+            let taken = written(rt, session, *host, &poke_message(*address, *word))?;
+            Ok(format!(in alloc; "{taken}")?)
+        }
+        Command::Peek { host, address } => peeked(rt, alloc, session, quantum, *host, *address),
+        Command::Collect { host } => collected(rt, alloc, session, *host),
+        Command::Reset { node } => match session.reset(rt, *node)? {
+            Reply::Reset => Ok(String::from_str(alloc, "ok")?),
+            reply => shown(alloc, reply),
+        },
+        Command::Look { node } => {
+            let reply = session.look(rt, *node)?;
+            shown(alloc, reply)
+        }
+    }
+}
+
+/// A reply in words.
+fn shown(alloc: Global, reply: Reply) -> Result<String, Refusal> {
+    let mut text = String::new(alloc);
+    match reply {
+        Reply::Look(seen) => write_seen(&mut text, seen)?,
+        reply => write_reply(&mut text, reply)?,
+    }
+    Ok(text)
+}
+
+/// The replies to configuration bytes other than Nothing, or a hyphen.
+fn configured<R: Wait>(
+    rt: &R,
+    alloc: Global,
+    session: &mut Session<'_>,
+    bytes: &[u8],
+) -> Result<String, Refusal> {
+    let mut text = String::new(alloc);
+    for byte in bytes {
+        let reply = session.configure(rt, *byte)?;
+        if reply != Reply::Config(ConfigReply::Nothing) {
+            if !text.is_empty() {
+                text.push_str(" ")?;
+            }
+            write_reply(&mut text, reply)?;
+        }
+    }
+    if text.is_empty() {
+        text.push_str("-")?;
+    }
+    Ok(text)
+}
+
+/// How many bytes a host takes, up to the first for which it has no room.
+fn written<R: Wait>(
+    rt: &R,
+    session: &mut Session<'_>,
+    host: u8,
+    bytes: &[u8],
+) -> Result<usize, Refusal> {
+    for (taken, byte) in bytes.iter().enumerate() {
+        if session.write(rt, host, *byte)? == Reply::Full {
+            return Ok(taken);
+        }
+    }
+    Ok(bytes.len())
+}
+
+/// How many bytes of a boot message a host takes; or why code is no boot message, before the host is looked at.
+fn booted<R: Wait>(
+    rt: &R,
+    alloc: Global,
+    session: &mut Session<'_>,
+    host: u8,
+    code: &[u8],
+) -> Result<String, Refusal> {
+    match boot_message(alloc, code) {
+        Ok(message) => {
+            let taken = written(rt, session, host, message.as_slice())?;
+            Ok(format!(in alloc; "{taken}")?)
+        }
+        Err(BootFault::NoMemory) => Err(Refusal::NoMemory),
+        Err(fault) => {
+            let number = fault.number();
+            Ok(format!(in alloc; "refused {number}")?)
+        }
+    }
+}
+
+/// The word that a node answers to a peek, or a hyphen where fewer than four bytes came.
+fn peeked<R: Wait>(
+    rt: &R,
+    alloc: Global,
+    session: &mut Session<'_>,
+    quantum: Quantum,
+    host: u8,
+    address: u32,
+) -> Result<String, Refusal> {
+    let _ = written(rt, session, host, &peek_message(address))?;
+    settle(rt, session, quantum)?;
+    let mut bytes = [0u8; 4];
+    for place in &mut bytes {
+        match session.read(rt, host)? {
+            Reply::Read(Some(byte)) => *place = byte,
+            _ => return Ok(String::from_str(alloc, "-")?),
+        }
+    }
+    let word = word_of(bytes);
+    Ok(format!(in alloc; "{word:08x}")?)
+}
+
+/// All bytes that have come to a host, or a hyphen where there are none.
+fn collected<R: Wait>(
+    rt: &R,
+    alloc: Global,
+    session: &mut Session<'_>,
+    host: u8,
+) -> Result<String, Refusal> {
+    let mut text = String::new(alloc);
+    for _ in 0..u64::MAX {
+        match session.read(rt, host)? {
+            Reply::Read(Some(byte)) => write!(text, "{byte:02x}")?,
+            _ => break,
+        }
+    }
+    if text.is_empty() {
+        text.push_str("-")?;
+    }
+    Ok(text)
+}

@@ -1,0 +1,32 @@
+-- What a domain of a plan answers.
+use Rattle.std.proofs.Common.{◌≡◌, ℕ, List, None, Ok, Err, refl, sym, subst, Option, slice_get, MatchOption}
+use Rattle.plan_checker.specs.Data.{DomainData}
+use Rattle.plan_checker.specs.Part.{PartData, part_of}
+use Rattle.domain_core.specs.declared.event.Refusal.TheVariants.{NoSuch, JournalFull, NoMemory}
+use Rattle.domain_core.specs.Private.{Answer, Call, next}
+use Rattle.domain_core.specs.Domain.{DomainValue, state_of, IsMeant, Fits, UnlessNoMemory}
+use Rattle.domain_core.specs.Journal.{expanded}
+use Rattle.domain_core.specs.Answers.{IsAnswer}
+use Rattle.domain_core.specs.Laws.{NextIsAnAnswer}
+use Rattle.farm_service.specs.Answers.{IsAnswerIn}
+
+unless : (r : Answer) {P Q : Type 0} → (P → Q) → UnlessNoMemory r P → UnlessNoMemory r Q
+unless (Ok reply) f p = f p
+unless (Err NoSuch) f p = f p
+unless (Err JournalFull) f p = f p
+unless (Err NoMemory) f p = tt
+
+-- the domain's journal has the calls before
+after_journal : NextIsAnAnswer → (d : DomainValue) (call : Call) (answer : Answer) → IsMeant d → answer ≡ (next d.machine.part (state_of d) call).1 → IsAnswer d.machine.part call answer
+after_journal law d call answer meant is = subst (IsAnswer d.machine.part call) (sym is) (law d.machine.part (expanded d.journal) (state_of d) call meant.history)
+
+pub asked : NextIsAnAnswer → (d : DomainValue) (plan : List DomainData) (number : ℕ) (call : Call) (answer : Answer) → Fits plan number d → IsMeant d
+    → UnlessNoMemory answer (answer ≡ (next d.machine.part (state_of d) call).1) → UnlessNoMemory answer (IsAnswerIn plan number call answer)
+asked law d plan number call answer fits meant told =
+    unless answer
+    (λ (is : answer ≡ (next d.machine.part (state_of d) call).1).
+    subst (λ (found : Option DomainData). MatchOption found (answer ≡ Err NoSuch) (λ (x : DomainData). IsAnswer (part_of x) call answer)) (sym fits.there)
+    (subst (λ (p : PartData). IsAnswer p call answer) (sym fits.part) (after_journal law d call answer meant is))) told
+
+pub asked_nobody : (plan : List DomainData) (number : ℕ) (call : Call) → slice_get plan number ≡ None → IsAnswerIn plan number call (Err NoSuch)
+asked_nobody plan number call none = rw none refl

@@ -1,0 +1,125 @@
+//! The end of a service's domains.
+ghost use Rattle.std.specs.Prelude.{◌≡◌, ◌<◌, ◌≤◌, [], length, IfOk, vec_capacity};
+ghost use Rattle.farm_core.specs.Places.{places_of};
+ghost use Rattle.farm_service.specs.Closed.{EachMergeRuns, AreDomainsOf};
+ghost use Rattle.farm_service.specs.Endings.{IsEndOf};
+
+use crate::NoMemory;
+use crate::closed::ClosedDomain;
+use crate::service::Lodging;
+use crate::waiting::wait;
+use crossbar::Word;
+use farm_core::laws::{
+    each_merge_is_a_run, each_word_is_of_its_output, numbered_domains_are_separate,
+};
+use plan_checker::AcceptedPlan;
+use std::alloc::Global;
+use std::sync::{Mutex, Wait};
+use token_queue::{PLACES, Token};
+
+// Room for the words of a domain.
+#[derive(Drop)]
+pub(crate) struct WordRoom {
+    words: Vec<Word>,
+    ghost empty: { words.items ≡ [] },
+    ghost wide: { 32 ≤ vec_capacity words },
+}
+
+/// All memory that a closing takes.
+#[derive(Drop)]
+pub(crate) struct Room {
+    pub(crate) domains: Vec<ClosedDomain>,
+    pub(crate) words: Vec<WordRoom>,
+    pub(crate) tokens: Vec<Token>,
+    ghost no_domain: { domains.items ≡ [] },
+    ghost domains_wide: { length words.items ≤ vec_capacity domains },
+    ghost no_token: { tokens.items ≡ [] },
+    ghost tokens_wide: { 128 ≤ vec_capacity tokens },
+}
+
+impl Room {
+    /// Room for so many domains.
+    pub(crate) fn of(alloc: Global, count: usize) -> Result<Room, NoMemory>
+        ensures { IfOk result (λ room. length room.words.items ≡ count) }
+    {
+        let domains = Vec::with_capacity(alloc, count)?;
+        let tokens = Vec::with_capacity(alloc, PLACES)?;
+        let mut words = Vec::with_capacity(alloc, count)?;
+        for _domain in 0..count {
+            words.push(WordRoom {
+                words: Vec::with_capacity(alloc, 32)?,
+            })?;
+        }
+        Ok(Room {
+            domains,
+            words,
+            tokens,
+        })
+    }
+}
+
+// The words of a domain.
+fn words_of(domain: &mut Lodging, room: WordRoom) -> Vec<Word>
+    ensures words { result.items ≡ domain.old.machine.switch.words }
+    ensures same { domain.new ≡ domain.old }
+{
+    domain.meant();
+    let WordRoom { mut words } = room;
+    for output in 0..domain.part().count() {
+        words.push_reserved(domain.word(output));
+    }
+    words
+}
+
+// What is left of a domain. Where it isn't the plan's of this number, waits for ever.
+fn end_of<R: Wait>(
+    rt: &R,
+    plan: &AcceptedPlan,
+    number: u8,
+    mut domain: Lodging,
+    room: WordRoom,
+) -> ClosedDomain
+    ensures { IsEndOf plan.now number domain result }
+{
+    if !domain.fits(plan, number) {
+        return wait(rt);
+    }
+    domain.meant();
+    let words = words_of(&mut domain, room);
+    ClosedDomain {
+        domain: number,
+        journal: domain.into_journal(),
+        words,
+    }
+}
+
+/// What is left of a plan's domains.
+pub(crate) fn ends_of<R: Wait>(
+    rt: &R,
+    plan: &AcceptedPlan,
+    locks: Vec<Mutex<Lodging>>,
+    mut closed: Vec<ClosedDomain>,
+    mut rooms: Vec<WordRoom>,
+) -> Vec<ClosedDomain>
+    requires locks { length locks.items ≡ length plan.now }
+    requires rooms { length rooms.items ≡ length plan.now }
+    requires room { length plan.now ≤ vec_capacity closed }
+    requires empty { closed.items ≡ [] }
+    ensures domains { AreDomainsOf plan.now result.items }
+    ensures runs { EachMergeRuns (places_of plan.now) result.items }
+{
+    plan.separate();
+    numbered_domains_are_separate();
+    each_merge_is_a_run();
+    each_word_is_of_its_output();
+    for lock in locks {
+        let number = closed.len() as u8;
+        match rooms.pop() {
+            Some(room) => {
+                closed.push_reserved(end_of(rt, plan, number, lock.into_inner(), room));
+            }
+            None => unreachable!(),
+        }
+    }
+    closed
+}

@@ -1,0 +1,26 @@
+//! The farm for several users in threads: a lock for each domain, over one switch table, and a queue
+//! of the right to step a node.
+#![tactic(auto)]
+
+mod closed;
+mod closing;
+mod crew;
+mod lists;
+mod opening;
+mod pass;
+mod service;
+mod session;
+mod told;
+mod waiting;
+mod worker;
+
+pub use closed::{Closed, ClosedDomain, NotClosed};
+pub use crew::work_all;
+pub use opening::Opened;
+pub use pass::UserPass;
+pub use service::Service;
+pub use session::{Session, Settled};
+pub use std::alloc::AllocError as NoMemory;
+pub use token_queue::{Token, WorkerPass};
+pub use told::Told;
+pub use worker::{Gate, NoGate, Worked, work};

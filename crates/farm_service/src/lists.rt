@@ -1,0 +1,74 @@
+//! Whether journals have of each user what his pass lists.
+ghost use Rattle.std.specs.Prelude.{◌≡◌, ◌≤◌, ◌++◌, [], ◌∷◌, length, take, true, IfSome};
+ghost use Rattle.domain_core.specs.Journal.{expanded};
+ghost use Rattle.farm_service.specs.Commands.{commands_of};
+ghost use Rattle.farm_service.specs.Closed.{IsListed, AreListed};
+
+use crate::closed::ClosedDomain;
+use crate::pass::UserPass;
+use crate::told::{Told, command_in};
+use domain_core::Entry;
+use domain_core::laws::journals_add_up;
+
+// Whether a listed command is this one, with this reply.
+fn is_same(told: &Told, command: &Told) -> bool
+    ensures { result ≡ true → told.now ≡ command.now }
+{
+    told.event == command.event && told.reply == command.reply
+}
+
+// How many of a list are a user's commands up to an entry, if what it has of them is the next.
+fn listed_after(entry: &Entry, user: u8, told: &[Told], listed: usize) -> Option<usize>
+    requires { listed ≤ length told.now }
+    ensures listed { IfSome result (λ n. take n told.now ≡ take listed told.now ++ commands_of user (expanded (entry.now ∷ []))) }
+    ensures within { IfSome result (λ n. n ≤ length told.now) }
+{
+    match command_in(user, entry) {
+        None => Some(listed),
+        Some(command) => {
+            if listed < told.len() && is_same(&told[listed], &command) {
+                Some(listed + 1)
+            } else {
+                None
+            }
+        }
+    }
+}
+
+// Whether a user's commands in a journal are those of a list.
+#[tactic(auto, using(crate::proofs::Listings::more_listed))]
+fn lists(journal: &[Entry], user: u8, told: &[Told]) -> bool
+    ensures { result ≡ true → commands_of user (expanded journal.now) ≡ told.now }
+{
+    journals_add_up();
+    let mut listed = 0;
+    for entry in journal {
+        match listed_after(entry, user, told, listed) {
+            Some(after) => listed = after,
+            None => return false,
+        }
+    }
+    listed == told.len()
+}
+
+// Whether a pass lists what its domain's journal has of its user.
+fn is_listed(closed: &[ClosedDomain], pass: &UserPass) -> bool
+    ensures { result ≡ true → IsListed closed.now pass.now }
+{
+    match closed.get(usize::from(pass.domain())) {
+        Some(domain) => lists(domain.journal.as_slice(), pass.user(), pass.told()),
+        None => true,
+    }
+}
+
+/// Whether each pass lists what its domain's journal has of its user.
+pub(crate) fn are_listed(closed: &[ClosedDomain], users: &[UserPass]) -> bool
+    ensures { result ≡ true → AreListed closed.now users.now }
+{
+    for pass in users {
+        if !is_listed(closed, pass) {
+            return false;
+        }
+    }
+    true
+}

@@ -1,0 +1,340 @@
+//! A lock for each domain of a plan, over one switch table.
+
+ghost use Rattle.std.specs.Prelude.{◌≡◌, ◌≢◌, ◌<◌, ◌≤◌, length, replicate, slice_index, slice_set, Ok, Err, IfOk, IfErr, IfSome};
+ghost use Rattle.crossbar.specs.Word.{IsAtLeastAsNew};
+ghost use Rattle.domain_core.specs.declared.domain.Committed.TheVariants.{Stale};
+ghost use Rattle.domain_core.specs.declared.event.Refusal.TheVariants.{NoSuch, JournalFull, NoMemory};
+ghost use Rattle.domain_core.specs.Domain.{Fits, UnlessNoMemory};
+ghost use Rattle.domain_core.specs.Ticket.{fresh_ticket};
+ghost use Rattle.farm_core.specs.Places.{places_of};
+ghost use Rattle.plan_checker.specs.Part.{part_of};
+ghost use Rattle.switch_table.specs.Domains.{domains_of};
+ghost use Rattle.switch_table.specs.Rule.{IsConfined, word_of};
+ghost use Rattle.switch_table.specs.Seats.{seen};
+ghost use Rattle.token_queue.specs.Passes.{AreItsPasses};
+ghost use Rattle.token_queue.specs.Tokens.{HasEachOnce};
+ghost use Rattle.farm_service.specs.Answers.{IsAnswerIn};
+ghost use Rattle.farm_service.specs.Closed.{AreDomainsOf, EachMergeRuns, AreListed};
+ghost use Rattle.farm_service.specs.Passes.{fresh_passes};
+ghost use Rattle.farm_service.specs.Services.{IsItsOperator};
+
+use crate::closed::{Closed, NotClosed};
+use crate::closing::{Room, ends_of};
+use crate::lists::are_listed;
+use crate::opening::{Opened, open_domains, open_users};
+use crate::pass::UserPass;
+use crate::waiting::wait;
+use crossbar::Word;
+use domain_core::laws::histories_grow;
+use domain_core::{By, Committed, Domain, Event, Moved, Refusal, Reply, Ticket};
+use plan_checker::AcceptedPlan;
+use std::alloc::Global;
+use std::marker::Model;
+use std::sync::atomic::{AtomicBool, Ordering};
+use std::sync::{Mutex, Wait};
+use switch_table::{DomainSeat, OperatorSeat, SwitchTable};
+use token_queue::{TokenQueue, WorkerPass};
+
+// A domain over its seat at the switch table.
+pub(crate) type Lodging = Domain<DomainSeat>;
+
+/// The domains of a plan, each under a lock of its own, and the tokens of their nodes. Contracts see
+/// the plan, which queue of tokens this is, and which switch table.
+///
+/// What a lock holds is known by its type alone. So a user's command asks under the lock whether the
+/// domain is the plan's, and `close` asks it of each; where it isn't, which no run comes to, the call
+/// waits for ever.
+#[derive(Drop)]
+pub struct Service {
+    plan: AcceptedPlan,
+    domains: Vec<Mutex<Lodging>>,
+    table: SwitchTable,
+    tokens: TokenQueue,
+    stopped: AtomicBool,
+}
+
+impl Model for Service {
+    ghost use Rattle.std.specs.Prelude.{◌≡◌, length};
+    ghost use Rattle.switch_table.specs.Seats.{table_of};
+    ghost use Rattle.farm_service.specs.Services.{ServiceValue};
+
+    ghost Value = { ServiceValue };
+
+    ghost view = { λ s. record { plan = s.plan; queue = s.tokens; table = table_of s.table } };
+
+    ghost invariant = { λ s. length s.domains.items ≡ length s.plan };
+}
+
+// Whether a Move is recorded: where a packet went.
+fn is_recorded(reply: Reply) -> bool {
+    matches!(reply, Reply::Moved(Moved::Passed | Moved::Lost))
+}
+
+// Whether a Step of a node would be recorded, the limit aside.
+fn has_step(domain: &Lodging, node: u8) -> bool {
+    usize::from(node) < domain.part().nodes().len() && !domain.node_is_quiet(node)
+}
+
+// Asks a domain that is the plan's of this number.
+fn ask(
+    domain: &mut Lodging,
+    plan: &AcceptedPlan,
+    number: u8,
+    by: By,
+    event: Event,
+) -> Result<Reply, Refusal>
+    requires { Fits plan.now number domain.old }
+    ensures { UnlessNoMemory result (IsAnswerIn plan.now number (record { by = by; event = event }) result) }
+{
+    domain.meant();
+    histories_grow();
+    domain.apply(by, event)
+}
+
+impl Service {
+    /// Opens a service on a plan for 1 to 8 workers: all outputs disconnected, nodes and hosts fresh,
+    /// all journals and lists empty, and the tokens in the queue in plan order.
+    ///
+    /// # Errors
+    ///
+    /// `NoMemory` where domains, passes, the table or the queue can't be allocated.
+    pub fn open<R: Wait>(
+        rt: &R,
+        alloc: Global,
+        plan: AcceptedPlan,
+        workers: u8,
+    ) -> Result<Opened, Refusal>
+        requires workers { (1 ≤ workers) × (workers ≤ 8) }
+        ensures plan { IfOk result (λ o. o.service.plan ≡ plan) }
+        ensures users { IfOk result (λ o. o.users.items ≡ fresh_passes plan) }
+        ensures workers { IfOk result (λ o. length o.passes.items ≡ workers) }
+        ensures passes { IfOk result (λ o. AreItsPasses plan o.service.queue o.passes.items) }
+        ensures operator { IfOk result (λ o. IsItsOperator o.service o.operator) }
+        ensures seen { IfOk result (λ o. seen o.operator ≡ replicate 32 0) }
+        ensures err { IfErr result (λ refusal. refusal ≡ NoMemory) }
+    {
+        let (table, seats, operator) = SwitchTable::open(alloc, &plan)?;
+        let domains = open_domains(alloc, &plan, seats)?;
+        let users = open_users(alloc, &plan)?;
+        let (tokens, passes) = TokenQueue::open(rt, alloc, &plan, workers)?;
+        Ok(Opened {
+            service: Service {
+                plan,
+                domains,
+                table,
+                tokens,
+                stopped: AtomicBool::new(false),
+            },
+            passes,
+            users,
+            operator,
+        })
+    }
+
+    /// Makes workers end at their next turn, for good. It waits for nobody.
+    pub fn stop(&self) {
+        self.stopped.store(true, Ordering::SeqCst);
+    }
+
+    // Whether workers are to end.
+    pub(crate) fn is_stopped(&self) -> bool {
+        self.stopped.load(Ordering::SeqCst)
+    }
+
+    /// The word of a physical output below 32, by one atomic load: at least as new as the one that the
+    /// operator saw there last, with an input of the output's domain where it is connected, and 0 where
+    /// the output is no domain's. It takes no lock and no memory, and waits for nobody.
+    pub fn survey(&self, operator: &mut OperatorSeat, output: u8) -> Word
+        requires operator { IsItsOperator self.now operator.old }
+        requires output { output < 32 }
+        ensures seen { seen operator.new ≡ slice_set (seen operator.old) output result.bits }
+        ensures newer { IsAtLeastAsNew result (word_of (slice_index (seen operator.old) output)) }
+        ensures confined { IsConfined (domains_of self.now.plan) output result.bits }
+        ensures operator { IsItsOperator self.now operator.new }
+    {
+        self.table.survey(operator, output)
+    }
+
+    // How many ports a domain has.
+    fn ports(&self, domain: u8) -> u8 {
+        if domain < self.plan.domains() {
+            self.plan.part(domain).count()
+        } else {
+            0
+        }
+    }
+
+    // How many nodes a domain has.
+    fn nodes(&self, domain: u8) -> u8 {
+        if domain < self.plan.domains() {
+            self.plan.nodes(domain)
+        } else {
+            0
+        }
+    }
+
+    // The tokens that no worker has taken.
+    pub(crate) fn tokens(&self) -> &TokenQueue
+        ensures { result.now ≡ self.now.queue }
+    {
+        &self.tokens
+    }
+
+    // Asks a domain under its lock. Where that one isn't the plan's, waits for ever.
+    pub(crate) fn ask<R: Wait>(
+        &self,
+        rt: &R,
+        domain: u8,
+        by: By,
+        event: Event,
+    ) -> Result<Reply, Refusal>
+        ensures { UnlessNoMemory result (IsAnswerIn self.now.plan domain (record { by = by; event = event }) result) }
+    {
+        if domain >= self.plan.domains() {
+            return Err(Refusal::NoSuch);
+        }
+        let mut lodging = self.domains[usize::from(domain)].lock(rt);
+        if lodging.fits(&self.plan, domain) {
+            ask(&mut lodging, &self.plan, domain, by, event)
+        } else {
+            wait(rt)
+        }
+    }
+
+    // Whether no Step and no Move of a domain would be recorded now.
+    pub(crate) fn is_quiet<R: Wait>(&self, rt: &R, domain: u8) -> Result<bool, Refusal> {
+        match self.domains.get(usize::from(domain)) {
+            Some(lock) => Ok(lock.lock(rt).quiet()),
+            None => Err(Refusal::NoSuch),
+        }
+    }
+
+    // Whether a Step of a node would be recorded now, the limit aside.
+    pub(crate) fn has_step<R: Wait>(&self, rt: &R, domain: u8, node: u8) -> Result<bool, Refusal> {
+        match self.domains.get(usize::from(domain)) {
+            Some(lock) => Ok(has_step(&lock.lock(rt), node)),
+            None => Err(Refusal::NoSuch),
+        }
+    }
+
+    /// A ticket of a node, which is copied under its domain's lock. The domain stays.
+    ///
+    /// # Errors
+    ///
+    /// `NoSuch` where there is no such domain or node, and else `NoMemory` where the node can't be
+    /// copied; see [`Domain::checkout`], which is lent the guard.
+    pub fn checkout<R: Wait>(&self, rt: &R, domain: u8, node: u8) -> Result<Ticket, Refusal>
+        ensures ticket { IfOk result (λ t. t ≡ fresh_ticket domain node t.start) }
+        ensures elsewhere { length self.now.plan ≤ domain → result ≡ Err NoSuch }
+        ensures full { result ≢ Err JournalFull }
+    {
+        match self.domains.get(usize::from(domain)) {
+            Some(lock) => lock.lock(rt).checkout(domain, node),
+            None => Err(Refusal::NoSuch),
+        }
+    }
+
+    /// Brings a ticket's node home under its domain's lock, where the home node is still the ticket's
+    /// start, and else answers `Stale`, as where there is no such domain. The ticket is spent in each
+    /// case.
+    ///
+    /// # Errors
+    ///
+    /// `JournalFull` where the ticket's Steps pass the domain's limit, and else `NoMemory` where the
+    /// journal can't grow; see [`Domain::commit`], which is lent the guard. Nothing has changed then.
+    pub fn commit<R: Wait>(&self, rt: &R, ticket: Ticket) -> Result<Committed, Refusal>
+        ensures elsewhere { length self.now.plan ≤ ticket.domain → result ≡ Ok Stale }
+        ensures no_such { result ≢ Err NoSuch }
+    {
+        match self.domains.get(usize::from(ticket.domain())) {
+            Some(lock) => lock.lock(rt).commit(ticket),
+            None => Ok(Committed::Stale),
+        }
+    }
+
+    // One Move under the domain's lock.
+    fn move_port<R: Wait>(&self, rt: &R, domain: u8, port: u8) -> Result<Reply, Refusal> {
+        match self.domains.get(usize::from(domain)) {
+            Some(lock) => lock.lock(rt).apply(By::Farm, Event::Move(port)),
+            None => Err(Refusal::NoSuch),
+        }
+    }
+
+    // Moves of all ports of a domain, in order; whether a packet went.
+    pub(crate) fn move_all<R: Wait>(&self, rt: &R, domain: u8) -> Result<bool, Refusal> {
+        let mut went = false;
+        for port in 0..self.ports(domain) {
+            went |= is_recorded(self.move_port(rt, domain, port)?);
+        }
+        Ok(went)
+    }
+
+    // A burst outside the lock of each node of a domain that has a Step to do, and then the Moves. A
+    // stale ticket is passed over.
+    pub(crate) fn round<R: Wait>(&self, rt: &R, domain: u8, quantum: u64) -> Result<(), Refusal> {
+        for node in 0..self.nodes(domain) {
+            if self.has_step(rt, domain, node)? {
+                let mut ticket = self.checkout(rt, domain, node)?;
+                ticket.burst(quantum);
+                self.commit(rt, ticket)?;
+            }
+        }
+        self.move_all(rt, domain)?;
+        Ok(())
+    }
+
+    /// Ends the service. Every merge of the journals is a run of the whole farm of the plan, which
+    /// answers the stored replies and ends as the words say; each user's commands in his domain's
+    /// journal, with their replies, are the list of the pass that was handed in for him, in its order;
+    /// and the tokens are the plan's nodes, each once.
+    ///
+    /// Where a journal has other commands of a user than his pass lists, which no run comes to, the
+    /// call waits for ever.
+    ///
+    /// # Errors
+    ///
+    /// Service and passes as they were handed in, where there is no memory for what is left of them.
+    pub fn close<R: Wait>(
+        self,
+        rt: &R,
+        alloc: Global,
+        passes: Vec<WorkerPass>,
+        users: Vec<UserPass>,
+    ) -> Result<Closed, NotClosed>
+        requires { AreItsPasses self.plan self.queue passes.items }
+        ensures domains { IfOk result (λ closed. AreDomainsOf self.plan closed.domains.items) }
+        ensures runs { IfOk result (λ closed. EachMergeRuns (places_of self.plan) closed.domains.items) }
+        ensures users { IfOk result (λ closed. AreListed closed.domains.items users.items) }
+        ensures tokens { IfOk result (λ closed. HasEachOnce self.plan closed.tokens.items) }
+        ensures err { IfErr result (λ e. (e.service ≡ self) × (e.passes.items ≡ passes.items) × (e.users.items ≡ users.items)) }
+    {
+        let Ok(room) = Room::of(alloc, self.domains.len()) else {
+            return Err(NotClosed {
+                service: self,
+                passes,
+                users,
+            });
+        };
+        let Service {
+            plan,
+            domains,
+            table: _,
+            tokens,
+            stopped: _,
+        } = self;
+        let Room {
+            domains: closed,
+            words,
+            tokens: mut left,
+        } = room;
+        let closed = ends_of(rt, &plan, domains, closed, words);
+        if !are_listed(closed.as_slice(), users.as_slice()) {
+            return wait(rt);
+        }
+        tokens.end(rt, &plan, passes, &mut left);
+        Ok(Closed {
+            domains: closed,
+            tokens: left,
+        })
+    }
+}

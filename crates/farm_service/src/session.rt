@@ -1,0 +1,161 @@
+//! A user's commands.
+
+ghost use Rattle.std.specs.Prelude.{◌≡◌, ◌≤◌};
+ghost use Rattle.domain_core.specs.declared.event.Event.TheVariants.{Config, Write, Read, Reset, Look};
+ghost use Rattle.farm_service.specs.Answers.{IsTold};
+ghost use Rattle.farm_service.specs.Passes.{Gains};
+
+use crate::pass::UserPass;
+use crate::service::Service;
+use crate::told::Told;
+use domain_core::{By, Event, Refusal, Reply};
+use std::marker::Model;
+use std::sync::Wait;
+
+/// How a settling ended.
+#[derive(Clone, Copy, Debug, PartialEq, Eq)]
+pub enum Settled {
+    /// No Step and no Move of the domain would have been recorded, the limit aside.
+    Quiet,
+    /// The rounds were over before.
+    Busy,
+}
+
+/// A user at a service, which he borrows. Contracts see the service's plan, and the user's pass.
+#[derive(Drop)]
+pub struct Session<'a> {
+    service: &'a Service,
+    pass: UserPass,
+}
+
+impl<'a> Model for Session<'a> {
+    ghost use Rattle.farm_service.specs.Passes.{SessionValue};
+
+    ghost Value = { SessionValue };
+
+    ghost view = { λ s. record { plan = s.service.now.plan; pass = s.pass } };
+}
+
+impl Service {
+    /// Begins a session of a user, whose pass is one that this service's opening gave. A pass of no
+    /// domain of the plan is answered `NoSuch` by each command.
+    pub fn session(&self, pass: UserPass) -> Session<'_>
+        ensures plan { result.plan ≡ self.now.plan }
+        ensures pass { result.pass ≡ pass }
+    {
+        Session {
+            service: self,
+            pass,
+        }
+    }
+}
+
+impl Session<'_> {
+    /// Ends the session, and gives the pass back.
+    pub fn end(self) -> UserPass
+        ensures { result ≡ self.entry.pass }
+    {
+        let Session { service: _, pass } = self;
+        pass
+    }
+
+    // Asks the user's domain, and lists what it answers.
+    fn ask<R: Wait>(&mut self, rt: &R, event: Event) -> Result<Reply, Refusal>
+        ensures answer { IsTold self.old event result }
+        ensures list { Gains self.old event result self.new }
+    {
+        let pass = &mut self.pass;
+        pass.told.reserve(1)?;
+        let reply = self
+            .service
+            .ask(rt, pass.domain, By::User(pass.user), event)?;
+        pass.told.push_reserved(Told { event, reply });
+        Ok(reply)
+    }
+
+    /// The next configuration byte comes to the domain's switch.
+    ///
+    /// # Errors
+    ///
+    /// Those of [`domain_core::Domain::apply`], and before them `NoMemory` where the pass's list can't
+    /// grow. Nothing has changed then, and nothing is listed.
+    pub fn configure<R: Wait>(&mut self, rt: &R, byte: u8) -> Result<Reply, Refusal>
+        ensures answer { IsTold self.old (Config byte) result }
+        ensures list { Gains self.old (Config byte) result self.new }
+    {
+        self.ask(rt, Event::Config(byte))
+    }
+
+    /// A byte is put in the sending queue of a host of the user's, by the host's number in the domain.
+    ///
+    /// # Errors
+    ///
+    /// As [`Session::configure`].
+    pub fn write<R: Wait>(&mut self, rt: &R, host: u8, byte: u8) -> Result<Reply, Refusal>
+        ensures answer { IsTold self.old (Write host byte) result }
+        ensures list { Gains self.old (Write host byte) result self.new }
+    {
+        self.ask(rt, Event::Write(host, byte))
+    }
+
+    /// The front byte of the receiving queue of a host of the user's is taken, by the host's number in
+    /// the domain.
+    ///
+    /// # Errors
+    ///
+    /// As [`Session::configure`].
+    pub fn read<R: Wait>(&mut self, rt: &R, host: u8) -> Result<Reply, Refusal>
+        ensures answer { IsTold self.old (Read host) result }
+        ensures list { Gains self.old (Read host) result self.new }
+    {
+        self.ask(rt, Event::Read(host))
+    }
+
+    /// A node of the domain is reset, by its number there.
+    ///
+    /// # Errors
+    ///
+    /// As [`Session::configure`].
+    pub fn reset<R: Wait>(&mut self, rt: &R, node: u8) -> Result<Reply, Refusal>
+        ensures answer { IsTold self.old (Reset node) result }
+        ensures list { Gains self.old (Reset node) result self.new }
+    {
+        self.ask(rt, Event::Reset(node))
+    }
+
+    /// A node of the domain is looked at, by its number there.
+    ///
+    /// # Errors
+    ///
+    /// As [`Session::configure`].
+    pub fn look<R: Wait>(&mut self, rt: &R, node: u8) -> Result<Reply, Refusal>
+        ensures answer { IsTold self.old (Look node) result }
+        ensures list { Gains self.old (Look node) result self.new }
+    {
+        self.ask(rt, Event::Look(node))
+    }
+
+    /// Rounds of the domain, up to so many, until it is quiet: in each round every node does up to
+    /// `quantum` Steps, 1 to 4,096, outside the lock, and then the packets of all ports move. The list
+    /// of the user's pass stays.
+    ///
+    /// # Errors
+    ///
+    /// The first refusal ends it. What was recorded before stands.
+    pub fn settle<R: Wait>(&self, rt: &R, quantum: u64, rounds: u64) -> Result<Settled, Refusal>
+        requires quantum { (1 ≤ quantum) × (quantum ≤ 4096) }
+    {
+        let domain = self.pass.domain;
+        for _round in 0..rounds {
+            if self.service.is_quiet(rt, domain)? {
+                return Ok(Settled::Quiet);
+            }
+            self.service.round(rt, domain, quantum)?;
+        }
+        if self.service.is_quiet(rt, domain)? {
+            Ok(Settled::Quiet)
+        } else {
+            Ok(Settled::Busy)
+        }
+    }
+}

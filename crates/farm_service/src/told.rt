@@ -1,0 +1,53 @@
+//! A command, with its reply.
+ghost use Rattle.std.specs.Prelude.{◌≡◌, ◌&&◌, [], ◌∷◌, option_to_list};
+ghost use Rattle.domain_core.specs.Journal.{expanded};
+ghost use Rattle.domain_core.specs.Commands.{is_command, is_user};
+ghost use Rattle.farm_service.specs.Commands.{commands_of};
+
+use domain_core::{By, Entry, Event, Reply};
+
+/// What a user asked, and the answer.
+#[derive(Clone, Copy, Debug, PartialEq, Eq)]
+pub struct Told {
+    /// What was asked.
+    pub event: Event,
+    /// What was answered.
+    pub reply: Reply,
+}
+
+// Whether a session can ask it.
+fn is_command(event: Event) -> bool
+    ensures { result ≡ is_command event }
+{
+    match event {
+        Event::Config(_) | Event::Write(_, _) | Event::Read(_) | Event::Reset(_) | Event::Look(_) =>
+            true,
+        Event::Step(_) | Event::Move(_) => false,
+    }
+}
+
+// Whether it is a command, and this user asked it.
+fn is_own(user: u8, by: By, event: Event) -> bool
+    ensures { result ≡ (is_user user by && is_command event) }
+{
+    match by {
+        By::User(other) => other == user && is_command(event),
+        By::Farm => false,
+    }
+}
+
+/// A user's command in an entry of his domain's journal.
+pub(crate) fn command_in(user: u8, entry: &Entry) -> Option<Told>
+    ensures { commands_of user (expanded (entry.now ∷ [])) ≡ option_to_list result }
+{
+    match *entry {
+        Entry::One { by, event, reply } => {
+            if is_own(user, by, event) {
+                Some(Told { event, reply })
+            } else {
+                None
+            }
+        }
+        Entry::Run { .. } => None,
+    }
+}

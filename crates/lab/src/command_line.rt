@@ -1,0 +1,104 @@
+//! What the words of the command line ask.
+
+use crate::failure::Failure;
+use clap::error::ErrorKind;
+use clap::{Arg, ArgAction, ArgMatches, Command, value_parser};
+use script_text::{HexFault, bytes_of};
+use std::alloc::{AllocError, Global};
+use std::convert::AsStr;
+
+/// How many Steps are traced unless the words say it.
+const USUAL_STEPS: u32 = 1000;
+
+/// What the words ask.
+#[derive(Drop)]
+pub enum Asked<'a> {
+    /// The text of `--help`.
+    Help(String),
+    /// To replay standard input on farms.
+    Replay,
+    /// To trace what standard input asks of a node.
+    Trace,
+    /// To boot a node with code, and to trace at most so many Steps.
+    Boot(Vec<u8>, u32),
+    /// To compare files of rows with what they expect.
+    Rows(Vec<&'a str>),
+}
+
+/// Reads the words of the command line, of which the first is the program's name.
+pub fn asked_of<'a, S: AsStr>(alloc: Global, words: &'a [S]) -> Result<Asked<'a>, Failure> {
+    let command = command(alloc)?;
+    match command.try_get_matches_from(words) {
+        Ok(matches) => chosen(alloc, &matches),
+        Err(error) => match error.kind() {
+            ErrorKind::OutOfMemory => Err(Failure::Memory),
+            ErrorKind::DisplayHelp => Ok(Asked::Help(format!(in alloc; "{error}")?)),
+            _ => Err(Failure::Words(error)),
+        },
+    }
+}
+
+fn command<'a>(alloc: Global) -> Result<Command<'a>, AllocError> {
+    let replay = Command::new(alloc, "replay").about(
+        "Answers single events on farms: reads a plan, a line ---, and events, one a line",
+    );
+    let code = Arg::new(alloc, "boot")
+        .long("boot")
+        .value_name("HEX")
+        .help("Boots a node with this code and traces it, in place of reading lines")
+        .action(ArgAction::Set);
+    let steps = Arg::new(alloc, "steps")
+        .long("steps")
+        .value_name("N")
+        .help("How many Steps of booted code are traced at most")
+        .default_value("1000")
+        .action(ArgAction::Set)
+        .value_parser(value_parser!(u32));
+    let trace = Command::new(alloc, "trace")
+        .about("Traces a node alone: reads lines that set it and let it do Steps")
+        .arg(code)?
+        .arg(steps)?;
+    let files = Arg::new(alloc, "file")
+        .value_name("FILE")
+        .help(
+            "Files of rows: plans if the name ends with .plans, for replay if it ends with .replay, and else for trace",
+        )
+        .required(true)
+        .num_args(1..)
+        .action(ArgAction::Append);
+    let rows = Command::new(alloc, "rows")
+        .about("Compares the answers of worked rows with those that their files expect")
+        .arg(files)?;
+    Command::new(alloc, "lab")
+        .about("A laboratory for the farm of T414 processors")
+        .subcommand_required(true)
+        .subcommand(replay)?
+        .subcommand(trace)?
+        .subcommand(rows)
+}
+
+fn chosen<'a>(alloc: Global, matches: &ArgMatches<'a>) -> Result<Asked<'a>, Failure> {
+    match matches.subcommand() {
+        Some(("trace", matches)) => traced(alloc, matches),
+        Some(("rows", matches)) => {
+            let mut files = Vec::new(alloc);
+            for file in matches.get_strs("file").unwrap_or(&[]) {
+                files.push(*file)?;
+            }
+            Ok(Asked::Rows(files))
+        }
+        _ => Ok(Asked::Replay),
+    }
+}
+
+fn traced<'a>(alloc: Global, matches: &ArgMatches<'a>) -> Result<Asked<'a>, Failure> {
+    let Some(digits) = matches.get_str("boot") else {
+        return Ok(Asked::Trace);
+    };
+    let steps = matches.get_one::<u32>("steps").unwrap_or(USUAL_STEPS);
+    match bytes_of(alloc, digits) {
+        Ok(code) if (2..=255).contains(&code.len()) => Ok(Asked::Boot(code, steps)),
+        Err(HexFault::NoMemory) => Err(Failure::Memory),
+        _ => Err(Failure::Code),
+    }
+}

@@ -1,0 +1,122 @@
+//! Why the lab ends without its output.
+
+use farm_replay::ReplayFault;
+use node_trace::{BootTraceFault, TraceFault};
+use script_text::{ReadFault, write_whole};
+use std::alloc::{AllocError, AllocFailed, Global};
+use std::io::{self, Write};
+use thiserror::Error;
+
+/// Why the lab ends without its output, with the text for standard error.
+#[derive(Debug, Drop, Error)]
+pub enum Failure {
+    /// `clap` refuses the words.
+    #[error("{0}")]
+    Words(clap::Error),
+    #[error("error: an argument isn't UTF-8\n")]
+    Arguments,
+    #[error("error: the code is not 2 to 255 bytes in hexadecimal digits\n")]
+    Code,
+    /// A plan is refused, with the number of its fault.
+    #[error("plan: {0}\n")]
+    Plan(u8),
+    /// A line asks nothing that there is.
+    #[error("line {0}\n")]
+    Line(u64),
+    #[error("memory\n")]
+    Memory,
+    #[error("io\n")]
+    Io,
+}
+
+impl Failure {
+    /// The arguments of the process couldn't be read.
+    pub fn of_arguments(error: &io::Error) -> Failure {
+        match error.kind() {
+            io::ErrorKind::OutOfMemory => Failure::Memory,
+            _ => Failure::Arguments,
+        }
+    }
+
+    /// A file or a stream couldn't be read.
+    pub fn of_input(error: &io::Error) -> Failure {
+        match error.kind() {
+            io::ErrorKind::OutOfMemory => Failure::Memory,
+            _ => Failure::Io,
+        }
+    }
+
+    // The status of the process.
+    fn status(&self) -> u8 {
+        match self {
+            Failure::Words(_) | Failure::Arguments | Failure::Code => 2,
+            Failure::Plan(_) => 3,
+            Failure::Line(_) => 4,
+            Failure::Memory => 5,
+            Failure::Io => 6,
+        }
+    }
+
+    /// Writes the text, and gives the status. Where the text can't be written the status stays.
+    pub fn tell<E: Write>(&self, alloc: Global, errors: &mut E) -> u8 {
+        match format!(in alloc; "{self}") {
+            Ok(text) => {
+                let _ = write_whole(errors, text.as_bytes());
+                self.status()
+            }
+            Err(_) => {
+                let _ = write_whole(errors, b"memory\n");
+                5
+            }
+        }
+    }
+}
+
+impl From<AllocError> for Failure {
+    fn from(_error: AllocError) -> Failure {
+        Failure::Memory
+    }
+}
+
+impl<T: Drop> From<AllocFailed<T>> for Failure {
+    fn from(_error: AllocFailed<T>) -> Failure {
+        Failure::Memory
+    }
+}
+
+impl From<ReadFault> for Failure {
+    fn from(fault: ReadFault) -> Failure {
+        match fault {
+            ReadFault::Failed => Failure::Io,
+            ReadFault::NoMemory => Failure::Memory,
+        }
+    }
+}
+
+impl From<ReplayFault> for Failure {
+    fn from(fault: ReplayFault) -> Failure {
+        match fault {
+            ReplayFault::Plan(number) => Failure::Plan(number),
+            ReplayFault::Line(number) => Failure::Line(number),
+            ReplayFault::NoMemory => Failure::Memory,
+        }
+    }
+}
+
+impl From<TraceFault> for Failure {
+    fn from(fault: TraceFault) -> Failure {
+        match fault {
+            TraceFault::Line(number) => Failure::Line(number),
+            TraceFault::NoMemory => Failure::Memory,
+        }
+    }
+}
+
+impl From<BootTraceFault> for Failure {
+    fn from(fault: BootTraceFault) -> Failure {
+        match fault {
+            BootTraceFault::Length => Failure::Code,
+            BootTraceFault::NoMemory => Failure::Memory,
+        }
+    }
+}

@@ -1,0 +1,42 @@
+//! The lab: replays events on a farm, traces a node, and compares worked rows with their answers.
+#![tactic(auto)]
+
+mod command_line;
+mod failure;
+mod plans;
+mod reports;
+mod rows;
+
+use crate::command_line::{Asked, asked_of};
+use crate::failure::Failure;
+use crate::reports::{Report, report_of};
+use crate::rows::report_rows;
+use script_text::{read_whole, write_whole};
+use std::env;
+use std::process::ExitCode;
+
+fn main(rt: HostRuntime) -> ExitCode {
+    ExitCode::from(match report(&rt) {
+        Ok(Report { text, status }) => match write_whole(&mut rt.stdout(), text.as_bytes()) {
+            Ok(()) => status,
+            Err(_) => Failure::Io.tell(rt.alloc(), &mut rt.stderr()),
+        },
+        Err(failure) => failure.tell(rt.alloc(), &mut rt.stderr()),
+    })
+}
+
+// What goes to standard output, and the status.
+fn report(rt: &HostRuntime) -> Result<Report, Failure> {
+    let alloc = rt.alloc();
+    let words: Vec<String> = env::args(rt)
+        .map_err(|error| Failure::of_arguments(&error))?
+        .collect(alloc)?;
+    match asked_of(alloc, words.as_slice())? {
+        Asked::Help(text) => Ok(Report { text, status: 0 }),
+        Asked::Rows(files) => report_rows(rt, files.as_slice()),
+        asked => {
+            let text = read_whole(alloc, &mut rt.reader())?;
+            report_of(alloc, &asked, text.as_slice())
+        }
+    }
+}

@@ -1,0 +1,34 @@
+//! What goes to standard output.
+
+use crate::command_line::Asked;
+use crate::failure::Failure;
+use farm_replay::replay;
+use node_trace::{trace, trace_boot};
+use script_text::Answered;
+use std::alloc::Global;
+
+/// A text for standard output, and the status of the process.
+#[derive(Drop)]
+pub struct Report {
+    pub text: String,
+    pub status: u8,
+}
+
+/// What lines are answered, each answer on lines of its own.
+pub fn report_of(alloc: Global, asked: &Asked, text: &[u8]) -> Result<Report, Failure> {
+    let text = match asked {
+        Asked::Boot(code, steps) => trace_boot(alloc, code.as_slice(), u64::from(*steps))?,
+        Asked::Trace => text_of(alloc, trace(alloc, text)?)?,
+        _ => text_of(alloc, replay(alloc, text)?)?,
+    };
+    Ok(Report { text, status: 0 })
+}
+
+fn text_of(alloc: Global, answers: Vec<Answered>) -> Result<String, Failure> {
+    let mut text = String::new(alloc);
+    for answered in answers {
+        text.push_str(answered.answer.as_str())?;
+        text.push_str("\n")?;
+    }
+    Ok(text)
+}

@@ -1,0 +1,76 @@
+// A node that is booted with code, and traced Step by Step.
+
+use crate::instruction::Instruction;
+use crate::packets::{send, write_packet};
+use crate::performing::write_step;
+use bootstrap::{BootFault, LinkNumber, Node, Packet, Stepped, boot_message};
+use std::alloc::{AllocError, AllocFailed, Global};
+use thiserror::Error;
+
+/// Why code isn't traced.
+#[derive(Clone, Copy, Debug, PartialEq, Eq, Error)]
+pub enum BootTraceFault {
+    /// The code can't be sent as a boot message, as it is shorter than 2 bytes or longer than 255.
+    #[error("code is 2 to 255 bytes long")]
+    Length,
+    /// There is no memory for the node or for the answers.
+    #[error("no memory")]
+    NoMemory,
+}
+
+impl From<AllocError> for BootTraceFault {
+    fn from(_error: AllocError) -> BootTraceFault {
+        BootTraceFault::NoMemory
+    }
+}
+
+/// Boots a node of 4,096 bytes with code by link 0, and gives a line for each Step that follows, up to so many, to the
+/// first that is idle, or to a fault: the address of the instruction, the instruction, and what changed.
+///
+/// Packets that leave a link have lines of their own. A host at each link takes them, and acknowledges each byte.
+pub fn trace_boot(alloc: Global, code: &[u8], steps: u64) -> Result<String, BootTraceFault> {
+    let message = boot_message(alloc, code).map_err(|fault| match fault {
+        BootFault::NoMemory => BootTraceFault::NoMemory,
+        BootFault::TooShort | BootFault::TooLong => BootTraceFault::Length,
+    })?;
+    let mut node = Node::open(alloc, 4096)?;
+    send(&mut node, LinkNumber::Zero, message.as_slice());
+    let mut text = String::new(alloc);
+    for _ in 0..steps {
+        if let Some(instruction) = Instruction::next(&node)? {
+            let address = instruction.address;
+            write!(text, "{address:08x} ")?;
+        }
+        let stepped = write_step(&mut node, &mut text)?;
+        text.push_str("\n")?;
+        take_packets(&mut node, &mut text)?;
+        if stepped != Stepped::Ran {
+            break;
+        }
+    }
+    Ok(text)
+}
+
+// Takes the packets that leave the links, and acknowledges each byte.
+fn take_packets(node: &mut Node, text: &mut String) -> Result<(), AllocError> {
+    for (link, number) in [
+        (LinkNumber::Zero, 0),
+        (LinkNumber::One, 1),
+        (LinkNumber::Two, 2),
+        (LinkNumber::Three, 3),
+    ] {
+        // An acknowledge and a byte may wait at once.
+        for _ in 0..2 {
+            let Some(packet) = node.take(link) else {
+                break;
+            };
+            write!(text, "link {number} ")?;
+            write_packet(text, Some(packet))?;
+            text.push_str("\n")?;
+            if let Packet::Byte(_) = packet {
+                node.deliver(link, Packet::Ack);
+            }
+        }
+    }
+    Ok(())
+}

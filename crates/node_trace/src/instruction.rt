@@ -1,0 +1,77 @@
+// The instruction byte that a Step does.
+
+use crate::mnemonics::{function_name, operation_name};
+use bootstrap::Node;
+use link_channels::Links;
+use node_memory::{Fault, Memory};
+use std::alloc::AllocError;
+use t414_decode::{Function, decode, operation};
+use t414_step::Cpu;
+
+/// An instruction byte: its address, and the operand register before it.
+#[derive(Clone, Copy)]
+pub struct Instruction {
+    pub address: u32,
+    pub byte: u8,
+    pub operand: u32,
+}
+
+impl Instruction {
+    /// The byte that the node's next Step does, after its links were served. `None` where a Step does none: the node
+    /// doesn't run, no process can go on, or a fault comes before the byte.
+    pub fn next(node: &Node) -> Result<Option<Instruction>, AllocError> {
+        let Some(mut registers) = node.registers() else {
+            return Ok(None);
+        };
+        let mut memory = node.memory().copy()?;
+        let mut links = node.links().copy();
+        Ok(found(&mut registers, &mut memory, &mut links).unwrap_or(None))
+    }
+
+    /// Writes the name and the operand; an operation by its name alone.
+    pub fn write(&self, text: &mut String) -> Result<(), AllocError> {
+        let (function, nibble) = decode(self.byte);
+        let operand = match function {
+            Function::Prefix | Function::NegativePrefix => u32::from(nibble),
+            _ => self.operand | u32::from(nibble),
+        };
+        write_instruction(text, function, operand)
+    }
+}
+
+// Serves the links, and finds the byte that is done then.
+fn found(
+    registers: &mut Cpu,
+    memory: &mut Memory,
+    links: &mut Links,
+) -> Result<Option<Instruction>, Fault> {
+    links.serve_all(memory, &mut registers.queue)?;
+    let (address, operand) = if registers.running {
+        (registers.instruction, registers.operand)
+    } else {
+        let Some(process) = registers.queue.take(memory)? else {
+            return Ok(None);
+        };
+        let workspace = process & 0xffff_fffc;
+        (memory.word(workspace.wrapping_sub(4))?, 0)
+    };
+    let byte = memory.byte(address)?;
+    Ok(Some(Instruction {
+        address,
+        byte,
+        operand,
+    }))
+}
+
+/// Writes a function and its operand, or an operation by its name alone.
+pub fn write_instruction(
+    text: &mut String,
+    function: Function,
+    operand: u32,
+) -> Result<(), AllocError> {
+    if let (Function::Operate, Some(found)) = (function, operation(operand)) {
+        return text.push_str(operation_name(found));
+    }
+    let name = function_name(function);
+    write!(text, "{name} {operand:x}")
+}

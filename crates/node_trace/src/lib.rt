@@ -1,0 +1,23 @@
+//! One node from a text: each line puts something into it or has it do Steps, and is answered by all that changed.
+//!
+//! A text stands alone: `node` opens a node that runs, `open` one that boots, and `try` does one instruction on a node of
+//! its own. Instructions have the handbook's names, words are hexadecimal, counts decimal.
+#![tactic(auto)]
+
+mod boot;
+mod changes;
+mod codes;
+mod commands;
+mod instruction;
+mod mnemonics;
+mod packets;
+mod performing;
+mod settings;
+mod snapshot;
+mod tracing;
+mod trial;
+mod words;
+
+pub use crate::boot::{BootTraceFault, trace_boot};
+pub use crate::mnemonics::{function_name, operation_name};
+pub use crate::tracing::{TraceFault, trace};

@@ -1,0 +1,10 @@
+use Rattle.std.proofs.Common.{subst, sym}
+use Rattle.token_queue.specs.Passes.{AreItsPasses}
+use Rattle.service_trial.proofs.Same.{written_back}
+use Rattle.service_trial.proofs.crew.work_one.Goals as goal
+
+pub returns : goal.returns
+returns g c =
+    subst (AreItsPasses c.args.service.now.plan c.args.service.now.queue)
+    (sym (written_back c.args.passes.now.len c.args.passes.now.items c.as_mut_slice.result.now c.work_first.new.passes c.as_mut_slice.ensures.value c.as_mut_slice.ensures.len c.work_first.ensures.each c.work_first.ensures.count))
+    c.requires

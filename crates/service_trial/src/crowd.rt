@@ -1,0 +1,171 @@
+//! Sixteen users in domains of their own and eight workers, all at once.
+
+ghost use Rattle.std.specs.Prelude.{◌≡◌};
+ghost use Rattle.token_queue.specs.Passes.{AreItsPasses};
+
+use crate::acts::{Act, act_all};
+use crate::crew::work_all;
+use crate::farm::{Farm, close, open};
+use crate::plans::{plan_of, sixteen_domains};
+use crate::replay::is_same_again;
+use crate::rows::SAYS_41;
+use farm_service::{Closed, NoGate, Service, Session, UserPass, WorkerPass};
+use std::alloc::{AllocError, Global};
+use std::sync::Wait;
+use std::thread;
+use std::thread::Threads;
+
+/// Each user joins his node to his host, and boots it with a program that sends 41.
+const BEGINNING: [Act; 2] = [Act::Config(&[1, 0, 1, 3]), Act::Write(0, &SAYS_41)];
+
+/// Then he settles, and reads what came.
+const END: [Act; 2] = [Act::Settle, Act::Read(0, 2)];
+
+/// How many turns each worker has.
+const TURNS: u64 = 400;
+
+// A user with his session, and what he was told.
+#[derive(Drop)]
+struct Guest<'a> {
+    session: Session<'a>,
+    said: String,
+    failed: bool,
+}
+
+// Begins a session for each pass.
+fn welcome(
+    alloc: Global,
+    service: &Service,
+    users: Vec<UserPass>,
+) -> Result<Vec<Guest<'_>>, AllocError> {
+    let mut guests = Vec::new(alloc);
+    for pass in users {
+        guests.push(Guest {
+            session: service.session(pass),
+            said: String::new(alloc),
+            failed: false,
+        })?;
+    }
+    Ok(guests)
+}
+
+// Each guest acts in a thread of his own. Gives the guests back.
+fn act_each<'a, R: Threads + Wait + Sync>(
+    rt: &R,
+    mut guests: Vec<Guest<'a>>,
+    acts: &[Act],
+) -> Vec<Guest<'a>> {
+    thread::for_each_mut(
+        rt,
+        guests.as_mut_slice(),
+        16,
+        &|_, guest| {
+            if act_all(rt, &mut guest.session, acts, &mut guest.said).is_err() {
+                guest.failed = true;
+            }
+        },
+    );
+    guests
+}
+
+// Each worker works in a thread of his own. Gives the passes back.
+fn worked<R: Threads + Wait + Sync>(
+    rt: &R,
+    service: &Service,
+    mut passes: Vec<WorkerPass>,
+) -> Vec<WorkerPass>
+    requires { AreItsPasses service.now.plan service.now.queue passes.items }
+    ensures { AreItsPasses service.now.plan service.now.queue result.items }
+{
+    work_all(rt, service, &mut passes, &NoGate, TURNS);
+    passes
+}
+
+// The guests begin while the workers work.
+fn meet<'a, R: Threads + Wait + Sync>(
+    rt: &R,
+    service: &Service,
+    passes: Vec<WorkerPass>,
+    guests: Vec<Guest<'a>>,
+) -> (Vec<WorkerPass>, Vec<Guest<'a>>)
+    requires { AreItsPasses service.now.plan service.now.queue passes.items }
+    ensures { AreItsPasses service.now.plan service.now.queue result.0.items }
+{
+    thread::join(
+        rt,
+        move ||
+            requires { AreItsPasses service.now.plan service.now.queue passes.items }
+            ensures { AreItsPasses service.entry.now.plan service.entry.now.queue result.items }
+        { worked(rt, service, passes) },
+        move || act_each(rt, guests, &BEGINNING),
+    )
+}
+
+// How many guests read 41 and nothing after it, with their passes.
+fn part(alloc: Global, guests: Vec<Guest<'_>>) -> Result<(u8, Vec<UserPass>), AllocError> {
+    let mut well = 0_u8;
+    let mut users = Vec::new(alloc);
+    for guest in guests {
+        let Guest {
+            session,
+            said,
+            failed,
+        } = guest;
+        if !failed && said.as_str() == " 41 none" {
+            well = well.saturating_add(1);
+        }
+        users.push(session.end())?;
+    }
+    Ok((well, users))
+}
+
+// Tells what a closed service left.
+fn tell_closed(alloc: Global, text: &str, closed: Closed) -> Result<String, AllocError> {
+    let Closed { domains, tokens } = closed;
+    let Ok(plan) = plan_of(alloc, text) else {
+        return Err(AllocError);
+    };
+    let alike = is_same_again(alloc, &plan, domains.as_slice())?;
+    let count = domains.len();
+    let left = tokens.len();
+    format!(in alloc; "{count} domains, {left} tokens, done again alike: {alike}")
+}
+
+// Users and workers meet, and the service is closed.
+fn met<R: Threads + Wait + Sync>(
+    rt: &R,
+    alloc: Global,
+    text: &str,
+    farm: Farm,
+    users: Vec<UserPass>,
+) -> Result<String, AllocError> {
+    let Farm {
+        service,
+        passes,
+        operator,
+    } = farm;
+    let guests = welcome(alloc, &service, users)?;
+    let (passes, guests) = meet(rt, &service, passes, guests);
+    let guests = act_each(rt, guests, &END);
+    let (well, users) = part(alloc, guests)?;
+    let farm = Farm {
+        service,
+        passes,
+        operator,
+    };
+    let Some(closed) = close(rt, alloc, farm, users) else {
+        return Err(AllocError);
+    };
+    let left = tell_closed(alloc, text, closed)?;
+    let left = left.as_str();
+    format!(in alloc; " {well} read 41; {left}")
+}
+
+/// What comes of sixteen users and eight workers at once.
+pub fn crowd<R: Threads + Wait + Sync>(rt: &R, alloc: Global) -> Result<String, AllocError> {
+    let text = sixteen_domains(alloc)?;
+    match open(rt, alloc, text.as_str(), 8) {
+        Some((farm, users)) => met(rt, alloc, text.as_str(), farm, users),
+        None => Err(AllocError),
+    }
+}

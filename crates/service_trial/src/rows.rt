@@ -1,0 +1,163 @@
+//! Rows that are done on one thread: what users do in turn, each in a session of his own.
+
+use crate::acts::Act::{self, Config, Fill, Look, Read, Reset, Settle, Write};
+use crate::plans::{ALL_PORTS, ANN_AND_BOB, ANN_OF_THREE_EVENTS, TWO_NODES};
+
+/// A row: its name, the plan, and which user, by his place in the plan, does what.
+#[derive(Clone, Copy)]
+pub struct Row {
+    pub name: &'static str,
+    pub plan: &'static str,
+    pub acts: &'static [(usize, Act)],
+}
+
+/// Ann, or who is first in the plan.
+const ANN: usize = 0;
+
+const BOB: usize = 1;
+
+/// Connects input 2 to output 5, makes it ready, and asks what drives it.
+pub const DRIVE_OUTPUT_5: [u8; 6] = [0, 2, 5, 3, 2, 5];
+
+/// Joins port 0, the node's, to port 7, the host's.
+pub const JOIN: [u8; 4] = [1, 0, 7, 3];
+
+/// Writes 12345678 at 80000048.
+pub const POKE: [u8; 9] = [0, 0x48, 0, 0, 0x80, 0x78, 0x56, 0x34, 0x12];
+
+/// Asks for the word at 80000048.
+pub const PEEK: [u8; 5] = [1, 0x48, 0, 0, 0x80];
+
+/// A program that sends 41 to its host, and stops.
+pub const SAYS_41: [u8; 9] = [0x08, 0xb5, 0x24, 0xf2, 0x24, 0x41, 0xfe, 0x21, 0xf5];
+
+/// The rows.
+pub const ROWS: [Row; 15] = [
+    Row {
+        name: "two-way connection is enquired",
+        plan: ANN_AND_BOB,
+        acts: &[(ANN, Config(&[1, 0, 1, 3, 2, 0, 2, 1]))],
+    },
+    Row {
+        name: "virtual input is answered",
+        plan: ANN_AND_BOB,
+        acts: &[(BOB, Config(&DRIVE_OUTPUT_5))],
+    },
+    Row {
+        name: "clear leaves the neighbour",
+        plan: ANN_AND_BOB,
+        acts: &[
+            (BOB, Config(&DRIVE_OUTPUT_5)),
+            (ANN, Config(&[4])),
+            (BOB, Config(&[2, 5])),
+            (ANN, Config(&[2, 0])),
+        ],
+    },
+    Row {
+        name: "port past the count",
+        plan: ANN_AND_BOB,
+        acts: &[
+            (ANN, Config(&[2, 8])),
+            (ANN, Config(&[0, 1, 0, 6, 0, 8, 2, 0])),
+        ],
+    },
+    Row {
+        name: "byte that begins no message",
+        plan: ANN_AND_BOB,
+        acts: &[(ANN, Config(&[7, 2, 0]))],
+    },
+    Row {
+        name: "rest of a message is the domain's own",
+        plan: ANN_AND_BOB,
+        acts: &[
+            (BOB, Config(&DRIVE_OUTPUT_5)),
+            (ANN, Config(&[2])),
+            (BOB, Config(&[2, 5])),
+            (ANN, Config(&[0])),
+        ],
+    },
+    Row {
+        name: "domain of all ports",
+        plan: ALL_PORTS,
+        acts: &[(ANN, Config(&[0, 0x1f, 0x1f, 3, 2, 0x1f]))],
+    },
+    Row {
+        name: "poked word is peeked",
+        plan: ANN_AND_BOB,
+        acts: &[
+            (ANN, Config(&JOIN)),
+            (ANN, Write(0, &POKE)),
+            (ANN, Write(0, &PEEK)),
+            (ANN, Settle),
+            (ANN, Read(0, 5)),
+        ],
+    },
+    Row {
+        name: "stopped process saved its place",
+        plan: ANN_AND_BOB,
+        acts: &[
+            (BOB, Config(&JOIN)),
+            (BOB, Write(0, &[2, 0x21, 0xf5])),
+            (BOB, Settle),
+            (BOB, Reset(0)),
+            (BOB, Write(0, &PEEK)),
+            (BOB, Settle),
+            (BOB, Read(0, 5)),
+        ],
+    },
+    Row {
+        name: "program sends a byte",
+        plan: ANN_AND_BOB,
+        acts: &[
+            (ANN, Config(&JOIN)),
+            (ANN, Write(0, &SAYS_41)),
+            (ANN, Settle),
+            (ANN, Read(0, 2)),
+            (ANN, Look(0)),
+            (BOB, Look(0)),
+            (BOB, Look(1)),
+        ],
+    },
+    Row {
+        name: "error flag halts",
+        plan: ANN_AND_BOB,
+        acts: &[
+            (ANN, Config(&JOIN)),
+            (ANN, Write(0, &[6, 0x25, 0xf8, 0x24, 0xf2, 0x60, 0x8f])),
+            (ANN, Settle),
+            (ANN, Look(0)),
+        ],
+    },
+    Row {
+        name: "unknown operation halts",
+        plan: ANN_AND_BOB,
+        acts: &[
+            (ANN, Config(&JOIN)),
+            (ANN, Write(0, &[2, 0x21, 0xf1])),
+            (ANN, Settle),
+            (ANN, Look(0)),
+        ],
+    },
+    Row {
+        name: "journal is full",
+        plan: ANN_OF_THREE_EVENTS,
+        acts: &[(ANN, Config(&[1, 0, 7, 3])), (BOB, Config(&DRIVE_OUTPUT_5))],
+    },
+    Row {
+        name: "host's queue is full",
+        plan: ANN_AND_BOB,
+        acts: &[(ANN, Fill(0, 4097))],
+    },
+    Row {
+        name: "byte of one host reaches two nodes",
+        plan: TWO_NODES,
+        acts: &[
+            (ANN, Config(&[0, 3, 0, 0, 3, 1, 3])),
+            (ANN, Write(0, &[5])),
+            (ANN, Settle),
+            (ANN, Look(0)),
+            (ANN, Look(1)),
+            (ANN, Look(2)),
+        ],
+    },
+];

@@ -1,0 +1,232 @@
+//! Rows of users, workers and the operator in threads of their own.
+
+use crate::acts::Act::{self, Config, Knock, Look, Read, Settle, Write};
+use crate::apart::{Visit, look_apart, visit_apart, visit_both};
+use crate::crew::{work_here, work_in};
+use crate::farm::{Farm, close, open};
+use crate::gates::HoldsFirst;
+use crate::plans::{ANN_AND_BOB, ANN_WITH_CAS, TWO_NODES};
+use crate::rows::{DRIVE_OUTPUT_5, JOIN, PEEK, POKE, SAYS_41};
+use farm_service::{Closed, NoGate, UserPass, Worked};
+use std::alloc::{AllocError, Global};
+use std::sync::Wait;
+use std::thread::Threads;
+
+/// Joins the node to host 0, pokes a word and peeks it back.
+const POKE_AND_PEEK: [Act; 5] = [
+    Config(&JOIN),
+    Write(0, &POKE),
+    Write(0, &PEEK),
+    Settle,
+    Read(0, 5),
+];
+
+/// Boots the node with a program that sends 41.
+const BOOT: [Act; 2] = [Config(&JOIN), Write(0, &SAYS_41)];
+
+/// Reads what the program sent, and looks at its node.
+const LOOK: [Act; 2] = [Read(0, 2), Look(0)];
+
+// Tells how many events bob's journal has, the word of his output 5, and how many tokens are left.
+fn tell_closed(alloc: Global, closed: Option<Closed>) -> Result<String, AllocError> {
+    let Some(Closed { domains, tokens }) = closed else {
+        return Err(AllocError);
+    };
+    let left = tokens.len();
+    match domains.get(1) {
+        Some(bob) if bob.words.len() > 5 => {
+            let entries = bob.journal.len();
+            let word = bob.words[5].bits;
+            format!(in alloc; " {entries} entries, word {word:x}, {left} tokens")
+        }
+        _ => format!(in alloc; " {left} tokens"),
+    }
+}
+
+// Bob drives his output 5 and then clears it, each in a thread; after each, and before both, the
+// operator surveys his physical output 13, and at the end an output of no domain.
+fn surveyed<R: Threads + Wait + Sync>(
+    rt: &R,
+    alloc: Global,
+    farm: Farm,
+    bob: UserPass,
+) -> Result<String, AllocError> {
+    let Farm {
+        service,
+        passes,
+        operator,
+    } = farm;
+    let (before, operator) = look_apart(rt, &service, operator, 13);
+    let driven = visit_apart(rt, alloc, &service, bob, &[Config(&DRIVE_OUTPUT_5)]);
+    let (after, operator) = look_apart(rt, &service, operator, 13);
+    let cleared = visit_apart(rt, alloc, &service, driven.pass, &[Config(&[4])]);
+    let (end, operator) = look_apart(rt, &service, operator, 13);
+    let (free, operator) = look_apart(rt, &service, operator, 20);
+    let (before, after, end, free) = (before.bits, after.bits, end.bits, free.bits);
+    let mut said = format!(in alloc; " {before:x} {after:x} {end:x}, free {free:x};")?;
+    let farm = Farm {
+        service,
+        passes,
+        operator,
+    };
+    let users = vec![in alloc; cleared.pass]?;
+    let closed = close(rt, alloc, farm, users);
+    said.push_str(tell_closed(alloc, closed)?.as_str())?;
+    Ok(said)
+}
+
+/// The survey in a thread of its own, after bob's thread ended.
+pub fn survey<R: Threads + Wait + Sync>(rt: &R, alloc: Global) -> Result<String, AllocError> {
+    let Some((farm, mut users)) = open(rt, alloc, ANN_AND_BOB, 2) else {
+        return Err(AllocError);
+    };
+    match users.pop() {
+        Some(bob) => surveyed(rt, alloc, farm, bob),
+        None => Err(AllocError),
+    }
+}
+
+// What a visitor was told, with a name before it.
+fn tell(
+    said: &mut String,
+    name: &str,
+    visit: Result<String, AllocError>,
+) -> Result<(), AllocError> {
+    let told = visit?;
+    let told = told.as_str();
+    write!(said, " {name}{told};")
+}
+
+/// Bob drives his output 5 in a thread of his own, and the service is closed.
+pub fn bobs_journal<R: Threads + Wait + Sync>(rt: &R, alloc: Global) -> Result<String, AllocError> {
+    let Some((farm, mut users)) = open(rt, alloc, ANN_AND_BOB, 1) else {
+        return Err(AllocError);
+    };
+    let Some(bob) = users.pop() else {
+        return Err(AllocError);
+    };
+    let Visit { pass, said } = visit_apart(
+        rt,
+        alloc,
+        &farm.service,
+        bob,
+        &[Config(&DRIVE_OUTPUT_5)],
+    );
+    let mut text = String::new(alloc);
+    tell(&mut text, "bob", said)?;
+    users.push(pass)?;
+    let closed = close(rt, alloc, farm, users);
+    text.push_str(tell_closed(alloc, closed)?.as_str())?;
+    Ok(text)
+}
+
+// Two users at once, each in a thread of his own, and the service is closed.
+fn both<R: Threads + Wait + Sync>(
+    rt: &R,
+    alloc: Global,
+    plan: &str,
+    first: &[Act],
+    second: &[Act],
+) -> Result<String, AllocError> {
+    let Some((farm, mut users)) = open(rt, alloc, plan, 1) else {
+        return Err(AllocError);
+    };
+    let (Some(other), Some(one)) = (users.pop(), users.pop()) else {
+        return Err(AllocError);
+    };
+    let (one, other) = visit_both(rt, alloc, &farm.service, (one, first), (other, second));
+    let mut text = String::new(alloc);
+    tell(&mut text, "first", one.said)?;
+    tell(&mut text, "second", other.said)?;
+    let users = vec![in alloc; one.pass, other.pass]?;
+    if close(rt, alloc, farm, users).is_none() {
+        text.push_str(" not closed")?;
+    }
+    Ok(text)
+}
+
+/// Two users at once, each in a domain of his own.
+pub fn two_domains<R: Threads + Wait + Sync>(rt: &R, alloc: Global) -> Result<String, AllocError> {
+    both(rt, alloc, ANN_AND_BOB, &POKE_AND_PEEK, &POKE_AND_PEEK)
+}
+
+/// Ann pokes and peeks through her host, while cas, of the same domain, writes to that host a hundred
+/// times.
+pub fn one_domain<R: Threads + Wait + Sync>(rt: &R, alloc: Global) -> Result<String, AllocError> {
+    both(rt, alloc, ANN_WITH_CAS, &POKE_AND_PEEK, &[Knock(0, 100)])
+}
+
+// A user acts, workers work, and he acts again.
+fn worked<R: Threads + Wait + Sync>(
+    rt: &R,
+    alloc: Global,
+    farm: Farm,
+    ann: UserPass,
+    bob: UserPass,
+) -> Result<String, AllocError> {
+    let begun = visit_apart(rt, alloc, &farm.service, ann, &BOOT);
+    let farm = work_in(rt, farm, &NoGate, 1000);
+    let ended = visit_apart(rt, alloc, &farm.service, begun.pass, &LOOK);
+    let mut text = String::new(alloc);
+    tell(&mut text, "ann", ended.said)?;
+    let users = vec![in alloc; ended.pass, bob]?;
+    if close(rt, alloc, farm, users).is_none() {
+        text.push_str(" not closed")?;
+    }
+    Ok(text)
+}
+
+/// One worker runs a program that sends a byte to its host, and stops.
+pub fn worker_runs<R: Threads + Wait + Sync>(rt: &R, alloc: Global) -> Result<String, AllocError> {
+    let Some((farm, mut users)) = open(rt, alloc, ANN_AND_BOB, 1) else {
+        return Err(AllocError);
+    };
+    match (users.pop(), users.pop()) {
+        (Some(bob), Some(ann)) => worked(rt, alloc, farm, ann, bob),
+        _ => Err(AllocError),
+    }
+}
+
+/// While a worker holds node 0's ticket, another checks node 1 out and commits it: no lock is held
+/// from a checkout to its commit.
+pub fn one_node_waits<R: Threads + Wait + Sync>(
+    rt: &R,
+    alloc: Global,
+) -> Result<String, AllocError> {
+    let Some((farm, users)) = open(rt, alloc, TWO_NODES, 2) else {
+        return Err(AllocError);
+    };
+    let gate = HoldsFirst::new();
+    let farm = work_in(rt, farm, &gate, 10);
+    let seen = gate.into_seen();
+    let (committed, failed) = (seen.committed, seen.failed);
+    let mut text = format!(in alloc; " committed {committed}, failed {failed};")?;
+    text.push_str(tell_closed(alloc, close(rt, alloc, farm, users))?.as_str())?;
+    Ok(text)
+}
+
+// Why a worker came back.
+fn name_of(worked: Worked) -> &'static str {
+    match worked {
+        Worked::Turns => "turns",
+        Worked::Stopped => "stopped",
+        Worked::NoMemory => "no memory",
+    }
+}
+
+/// A worker works until its turns are over, and a stopped one does nothing.
+pub fn stopped<R: Threads + Wait + Sync>(rt: &R, alloc: Global) -> Result<String, AllocError> {
+    let Some((farm, users)) = open(rt, alloc, TWO_NODES, 8) else {
+        return Err(AllocError);
+    };
+    let (farm, before) = work_here(rt, farm);
+    farm.service.stop();
+    let gate = HoldsFirst::new();
+    let farm = work_in(rt, farm, &gate, 10);
+    let begun = gate.into_seen().begun;
+    let (farm, after) = work_here(rt, farm);
+    let (before, after) = (name_of(before), name_of(after));
+    let mut text = format!(in alloc; " {before}, {after}, {begun} begun;")?;
+    text.push_str(tell_closed(alloc, close(rt, alloc, farm, users))?.as_str())?;
+    Ok(text)
+}

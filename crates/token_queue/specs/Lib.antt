@@ -1,0 +1,4 @@
+-- what only helps contracts
+pub mod Passes
+pub mod Rules
+pub mod Tokens

@@ -1,0 +1,270 @@
+//! The queue of a plan's tokens, and the passes of those who take from it.
+
+ghost use Rattle.std.specs.Prelude.{◌≡◌, ◌<◌, ◌≤◌, ◌+◌, ◌-◌, ℕ, [], ◌∷◌, ◌++◌, IfOk, IfSome, MatchOption, length, slice_get, vec_capacity};
+ghost use Rattle.atomic_table.specs.Seated.{TableId};
+ghost use Rattle.crossbeam_queue.specs.Passes.{IsSamePass, IsPassOf, ruled_capacity};
+ghost use Rattle.token_queue.specs.Passes.{AreOf, AreItsPasses, HoldNone, parts_of, outside_of};
+ghost use Rattle.token_queue.specs.Rules.{hand, hand_of, weight};
+ghost use Rattle.token_queue.specs.Tokens.{token, tokens_of, tokens_of_nodes, every_token, weigh, without, Holds, AreTheOthers, HasEachOnce};
+
+use crate::rule::{GivesBack, Line, LinePass, OnePart, PutsAside, Takes};
+use crate::token::Token;
+use plan_checker::AcceptedPlan;
+use std::alloc::{AllocError, Global};
+use std::marker::Model;
+use std::sync::Wait;
+
+/// The most tokens that a plan can have: 16 domains of 8 nodes.
+pub const PLACES: usize = 128;
+
+/// The tokens of a plan that no worker has taken, first in, first out. Contracts see which queue it
+/// is.
+#[derive(Drop)]
+pub struct TokenQueue {
+    line: Line,
+}
+
+impl Model for TokenQueue {
+    ghost use Rattle.std.specs.Prelude.{◌≡◌};
+    ghost use Rattle.atomic_table.specs.Seated.{TableId};
+    ghost use Rattle.crossbeam_queue.specs.Passes.{ruled_capacity};
+
+    ghost Value = { TableId };
+
+    ghost view = { λ q. q.line.table.shared.table_id };
+
+    ghost invariant = { λ q. ruled_capacity q.line ≡ 128 };
+}
+
+/// What a worker carries from turn to turn. Contracts see which queue it is of, its parts of the right
+/// to know the whole, the tokens that it holds, and those of no node of the plan, which the first pass
+/// keeps for ever.
+#[derive(Drop)]
+pub struct WorkerPass {
+    pass: LinePass,
+}
+
+impl Model for WorkerPass {
+    ghost use Rattle.std.specs.Prelude.{◌≡◌, ◌<◌, []};
+    ghost use Rattle.token_queue.specs.Rules.{hand_of};
+    ghost use Rattle.token_queue.specs.Passes.{PassValue};
+
+    ghost Value = { PassValue };
+
+    ghost view = { λ p. record { queue = p.pass.table_id; parts = (hand_of p.pass).parts; held = (hand_of p.pass).held; outside = (hand_of p.pass).outside } };
+
+    ghost invariant = { λ p. (p.pass.me.1 ≡ []) × (0 < (hand_of p.pass).parts) };
+}
+
+// Puts a token that the pass holds into the queue, which has a place for every token.
+fn put<R: Wait>(rt: &R, line: &Line, pass: &mut LinePass, token: Token)
+    requires queue { IsPassOf line.now pass.old × (ruled_capacity line.now ≡ 128) }
+    requires parts { 0 < (hand_of pass.old).parts }
+    requires held { Holds (hand_of pass.old).held token }
+    ensures queue { IsSamePass pass.old pass.new }
+    ensures held { hand_of pass.new ≡ hand (hand_of pass.old).parts (without token (hand_of pass.old).held) (hand_of pass.old).outside }
+{
+    if line.push_as::<GivesBack, R>(rt, pass, token).is_err() {
+        unreachable!()
+    }
+}
+
+// Puts the tokens of a domain's nodes, which the pass holds.
+#[tactic(auto, using(crate::proofs::Counts::still_held, crate::proofs::Counts::one_node_more))]
+fn put_nodes<R: Wait>(rt: &R, line: &Line, pass: &mut LinePass, domain: u8, nodes: u8)
+    requires queue { IsPassOf line.now pass.old × (ruled_capacity line.now ≡ 128) }
+    requires parts { 0 < (hand_of pass.old).parts }
+    requires held { (node : ℕ) → node < nodes → Holds (hand_of pass.old).held (token domain node) }
+    ensures queue { IsSamePass pass.old pass.new }
+    ensures parts { (hand_of pass.new).parts ≡ (hand_of pass.old).parts }
+    ensures outside { (hand_of pass.new).outside ≡ (hand_of pass.old).outside }
+    ensures held { (h : Token → ℕ) → weigh h (hand_of pass.new).held + weigh h (tokens_of_nodes domain nodes) ≡ weigh h (hand_of pass.old).held }
+{
+    for node in 0..nodes {
+        put(rt, line, pass, Token { domain, node });
+    }
+}
+
+// How many nodes a domain has, 1 to 8.
+fn nodes_of(plan: &AcceptedPlan, domain: u8) -> u8
+    requires { domain < length plan.now }
+    ensures nodes { IfSome (slice_get plan.now domain) (λ d. result ≡ length d.nodes) }
+    ensures few { result ≤ 8 }
+{
+    plan.part(domain).nodes().len() as u8
+}
+
+// Puts the tokens of a plan, in plan order.
+fn put_plan<R: Wait>(rt: &R, line: &Line, pass: &mut LinePass, plan: &AcceptedPlan)
+    requires queue { IsPassOf line.now pass.old × (ruled_capacity line.now ≡ 128) }
+    requires all { hand_of pass.old ≡ hand 9 every_token [] }
+    ensures queue { IsSamePass pass.old pass.new }
+    ensures parts { (hand_of pass.new).parts ≡ 9 }
+    ensures outside { (hand_of pass.new).outside ≡ [] }
+    ensures held { AreTheOthers (hand_of pass.new).held (tokens_of plan.now) }
+{
+    plan.separate();
+    for domain in 0..plan.domains() {
+        put_nodes(rt, line, pass, domain, nodes_of(plan, domain));
+    }
+}
+
+// Puts aside what a pass holds.
+fn put_aside(line: &Line, mut whole: LinePass) -> LinePass
+    requires queue { IsPassOf line.now whole }
+    requires parts { 1 < (hand_of whole).parts }
+    ensures queue { IsPassOf line.now result }
+    ensures hand { hand_of result ≡ hand (hand_of whole).parts [] ((hand_of whole).held ++ (hand_of whole).outside) }
+{
+    let mut pass = line.another::<PutsAside>(&mut whole);
+    line.absorb::<OnePart>(&mut pass, whole);
+    pass
+}
+
+// Cuts passes of one part each, which hold nothing.
+fn cut(
+    alloc: Global,
+    line: &Line,
+    keeper: &mut LinePass,
+    count: u8,
+) -> Result<Vec<WorkerPass>, AllocError>
+    requires queue { IsPassOf line.now keeper.old }
+    requires parts { count < (hand_of keeper.old).parts }
+    ensures queue { IsSamePass keeper.old keeper.new }
+    ensures keeper { IfOk result (λ passes. hand_of keeper.new ≡ hand ((hand_of keeper.old).parts - count) (hand_of keeper.old).held (hand_of keeper.old).outside) }
+    ensures count { IfOk result (λ passes. length passes.items ≡ count) }
+    ensures of { IfOk result (λ passes. AreOf keeper.old.table_id passes.items) }
+    ensures parts { IfOk result (λ passes. parts_of passes.items ≡ count) }
+    ensures held { IfOk result (λ passes. HoldNone passes.items) }
+    ensures outside { IfOk result (λ passes. outside_of passes.items ≡ []) }
+{
+    let mut passes = Vec::new(alloc);
+    for _worker in 0..count {
+        let pass = line.another::<OnePart>(keeper);
+        passes.push(WorkerPass { pass })?;
+    }
+    Ok(passes)
+}
+
+// Takes a pass back.
+fn absorb(line: &Line, keeper: &mut LinePass, pass: WorkerPass)
+    requires queue { IsPassOf line.now keeper.old }
+    requires parts { 0 < (hand_of keeper.old).parts }
+    requires of { pass.queue ≡ keeper.old.table_id }
+    ensures queue { IsSamePass keeper.old keeper.new }
+    ensures keeper { hand_of keeper.new ≡ hand ((hand_of keeper.old).parts + pass.parts) ((hand_of keeper.old).held ++ pass.held) ((hand_of keeper.old).outside ++ pass.outside) }
+{
+    let WorkerPass { pass } = pass;
+    line.absorb::<OnePart>(keeper, pass);
+}
+
+fn take_last(passes: &mut Vec<WorkerPass>) -> WorkerPass
+    requires { 0 < length passes.old.items }
+    ensures items { passes.old.items ≡ passes.new.items ++ result ∷ [] }
+    ensures count { length passes.new.items + 1 ≡ length passes.old.items }
+    ensures of { (queue : TableId) → AreOf queue passes.old.items → AreOf queue passes.new.items × (result.queue ≡ queue) }
+    ensures none { HoldNone passes.old.items → HoldNone passes.new.items × (result.held ≡ []) }
+{
+    match passes.pop() {
+        Some(pass) => pass,
+        None => unreachable!(),
+    }
+}
+
+// Takes the passes back into one.
+fn absorb_all(line: &Line, keeper: &mut LinePass, mut passes: Vec<WorkerPass>)
+    requires queue { IsPassOf line.now keeper.old }
+    requires parts { 0 < (hand_of keeper.old).parts }
+    requires of { AreOf keeper.old.table_id passes.items }
+    requires none { ((hand_of keeper.old).held ≡ []) × HoldNone passes.items }
+    ensures queue { IsSamePass keeper.old keeper.new }
+    ensures parts { (hand_of keeper.new).parts ≡ (hand_of keeper.old).parts + parts_of passes.items }
+    ensures held { (hand_of keeper.new).held ≡ [] }
+    ensures outside { (h : Token → ℕ) → weigh h (hand_of keeper.new).outside ≡ weigh h (hand_of keeper.old).outside + weigh h (outside_of passes.items) }
+{
+    for _taken in 0..passes.len() {
+        let pass = take_last(&mut passes);
+        absorb(line, keeper, pass);
+    }
+}
+
+// Takes all that is left.
+fn drain<R: Wait>(rt: &R, line: &Line, keeper: &mut LinePass, tokens: &mut Vec<Token>)
+    requires queue { IsPassOf line.now keeper.old }
+    requires parts { (hand_of keeper.old).parts ≡ 9 }
+    requires held { (hand_of keeper.old).held ≡ [] }
+    requires room { 128 ≤ vec_capacity tokens.old }
+    requires empty { tokens.old.items ≡ [] }
+    ensures { AreTheOthers (hand_of keeper.old).outside tokens.new.items }
+{
+    for _ in rt.forever() {
+        match line.pop_as::<Takes, R>(rt, keeper) {
+            Some(token) => tokens.push_reserved(token),
+            None => break,
+        }
+    }
+}
+
+impl TokenQueue {
+    /// Takes the token that has waited longest; `None` where all are out with workers. Then the pass
+    /// holds what it held.
+    pub fn take<R: Wait>(&self, rt: &R, pass: &mut WorkerPass) -> Option<Token>
+        requires { pass.old.queue ≡ self.now }
+        ensures { MatchOption result (pass.new ≡ pass.old) (λ token. pass.new ≡ record pass.old { held = token ∷ pass.old.held }) }
+    {
+        self.line.pop_as::<Takes, R>(rt, &mut pass.pass)
+    }
+
+    /// Puts a token that the pass holds back at the end of the queue, which always has room for it.
+    pub fn give_back<R: Wait>(&self, rt: &R, pass: &mut WorkerPass, token: Token)
+        requires queue { pass.old.queue ≡ self.now }
+        requires held { Holds pass.old.held token }
+        ensures { pass.new ≡ record pass.old { held = without token pass.old.held } }
+    {
+        put(rt, &self.line, &mut pass.pass, token)
+    }
+
+    /// A queue of a plan's tokens, in plan order, and a pass for each of 1 to 8 workers. No pass holds
+    /// a token.
+    ///
+    /// # Errors
+    ///
+    /// `AllocError` where the queue or the passes can't be allocated.
+    pub fn open<R: Wait>(
+        rt: &R,
+        alloc: Global,
+        plan: &AcceptedPlan,
+        workers: u8,
+    ) -> Result<(TokenQueue, Vec<WorkerPass>), AllocError>
+        requires { (1 ≤ workers) × (workers ≤ 8) }
+        ensures workers { IfOk result (λ o. length o.1.items ≡ workers) }
+        ensures passes { IfOk result (λ o. AreItsPasses plan.now o.0 o.1.items) }
+    {
+        let (line, mut whole) = Line::ruled(alloc, PLACES)?;
+        put_plan(rt, &line, &mut whole, plan);
+        let mut pass = put_aside(&line, whole);
+        let mut passes = cut(alloc, &line, &mut pass, workers - 1)?;
+        passes.push(WorkerPass { pass })?;
+        Ok((TokenQueue { line }, passes))
+    }
+
+    /// Ends the queue: with all its passes back, each node of the plan is told just once in `tokens`,
+    /// which is empty and has room for every token.
+    pub fn end<R: Wait>(
+        self,
+        rt: &R,
+        plan: &AcceptedPlan,
+        mut passes: Vec<WorkerPass>,
+        tokens: &mut Vec<Token>,
+    )
+        requires passes { AreItsPasses plan.now self passes.items }
+        requires room { 128 ≤ vec_capacity tokens.old }
+        requires empty { tokens.old.items ≡ [] }
+        ensures { HasEachOnce plan.now tokens.new.items }
+    {
+        let TokenQueue { line } = self;
+        let WorkerPass { mut pass } = take_last(&mut passes);
+        absorb_all(&line, &mut pass, passes);
+        drain(rt, &line, &mut pass, tokens);
+    }
+}

@@ -1,0 +1,10 @@
+//! The right to step a node.
+
+/// The right to step a node. Whoever holds it is the only worker that checks the node out.
+#[derive(Clone, Copy, Debug, PartialEq, Eq)]
+pub struct Token {
+    /// The number of the domain in the plan.
+    pub domain: u8,
+    /// The number of the node in its domain.
+    pub node: u8,
+}
