@@ -11,8 +11,6 @@ mod journal;
 pub mod laws;
 mod machine;
 mod table;
-#[cfg(test)]
-mod tests;
 mod ticket;
 
 pub use device::Device;

@@ -10,11 +10,8 @@ mod farm;
 mod program;
 mod quantum;
 mod script;
-#[cfg(test)]
-mod tests;
 mod visits;
 
 pub use command_line::settings;
 pub use configuration::Settings;
 pub use program::{refuse_arguments, run};
-pub use script_text::{HexFault, bytes_of};

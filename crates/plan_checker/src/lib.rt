@@ -14,8 +14,6 @@ mod read;
 mod row;
 mod rules;
 mod smallest;
-#[cfg(test)]
-mod tests;
 mod values;
 mod version;
 

@@ -1,6 +1,4 @@
-use crate::command_line::settings;
-use crate::configuration::Settings;
-use crate::program::{refuse_arguments, run};
+use farm_program::{Settings, refuse_arguments, run, settings};
 use script_text::{HexFault, bytes_of};
 use std::alloc::Global;
 use std::io;
@@ -135,14 +133,7 @@ fn gives<R: Threads + Wait + Sync>(
     let mut input = source_of(text, 1, NEVER);
     let mut output = sink_of(alloc, 1, NEVER, NEVER);
     let mut errors = sink_of(alloc, 1, NEVER, NEVER);
-    let got = run(
-        rt,
-        alloc,
-        &["farm"],
-        &mut input,
-        &mut output,
-        &mut errors,
-    );
+    let got = run(rt, alloc, &["farm"], &mut input, &mut output, &mut errors);
     got == status
         && output.taken.as_slice() == wanted.as_bytes()
         && errors.taken.as_slice() == complaint.as_bytes()
@@ -232,7 +223,13 @@ fn cut_texts_are_refused_by_their_part(rt: HostRuntime) -> Result<(), Fail> {
         (ANN, "---\nann", 4, "", "line 1: verb\n"),
         (ANN, "---\nann config", 4, "", "line 1: args\n"),
         (ANN, "---\nann config 010", 4, "", "line 1: hex\n"),
-        (ANN, "---\r\n#\n\nann poke 256 0 g\r\n", 4, "", "line 3: args\n"),
+        (
+            ANN,
+            "---\r\n#\n\nann poke 256 0 g\r\n",
+            4,
+            "",
+            "line 3: args\n",
+        ),
         (ANN, "---\nann config 0205", 0, "ann config 00\n", ""),
     ] {
         let text = format!(in alloc; "{plan}{rest}")?;

@@ -1,5 +1,5 @@
 //! Bytes between hosts, carried by hand from one link end to the other.
-use crate::host::{Host, QUEUE_BYTES};
+use domain_core::{Host, QUEUE_BYTES};
 use os_link::Packet;
 use std::test::Fail;
 

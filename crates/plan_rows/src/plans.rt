@@ -1,7 +1,7 @@
 //! What only a typed call shows of a plan; plans and their faults stand in the texts that `lab rows` compares.
 
-use crate::{HostPart, NodePart, PlanFault, check, read_plan};
 use crossbar::PortRange;
+use plan_checker::{HostPart, NodePart, PlanFault, check, read_plan};
 use std::alloc::Global;
 use std::test::Fail;
 
