@@ -12,7 +12,7 @@ use Rattle.t414_step.specs.declared.cpu.Cpu.{Cpu}
 abbrev pub code_start : ℕ
 code_start = 0x80000048
 
--- memory after a write, which is dropped where it lies outside
+-- memory after a write, which is dropped if it lies outside
 abbrev pub or_kept : Result (List ℕ) Fault → List ℕ → List ℕ
 or_kept (Ok n) m = n
 or_kept (Err fault) m = m

@@ -24,7 +24,7 @@ BusyStepIsRecorded = (n : Node) → is_quiet n ≡ false → is_recorded n ≡ t
 abbrev pub RecordedStepRan : Type 0
 RecordedStepRan = (n : Node) → is_recorded n ≡ true → is_recorded (node_step n).0 ≡ true → (node_step n).1 ≡ code.Ran
 
--- the last answer of later Steps, or of those before them where there are no later ones
+-- the last answer of later Steps, or of those before them if there are no later ones
 abbrev pub later_or : Option Stepped → Option Stepped → Option Stepped
 later_or None before = before
 later_or (Some answer) before = Some answer
@@ -33,12 +33,14 @@ later_or (Some answer) before = Some answer
 abbrev pub StepsAddUp : Type 0
 StepsAddUp = (x y z : Node) (j k : ℕ) → IsAfter x j y → IsAfter y k z → IsAfter x (j + k) z
 
+-- the last answer of j + k Steps is that of the k later ones, or else that of the j before
 abbrev pub LastAnswersAddUp : Type 0
 LastAnswersAddUp = (x y : Node) (j k : ℕ) → IsAfter x j y → last_answer (j + k) x ≡ later_or (last_answer k y) (last_answer j x)
 
--- no Step changes how many bytes memory has, and neither do several
+-- no Step changes how many bytes memory has
 abbrev pub StepKeepsTheSize : Type 0
 StepKeepsTheSize = (n : Node) → length (node_step n).0.memory ≡ length n.memory
 
+-- and neither do several
 abbrev pub StepsKeepTheSize : Type 0
 StepsKeepTheSize = (k : ℕ) (n : Node) → length (after_steps k n).memory ≡ length n.memory

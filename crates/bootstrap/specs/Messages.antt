@@ -15,6 +15,7 @@ booted (Err TooShort) code = length code < 2
 booted (Err TooLong) code = 255 < length code
 booted (Err NoMemory) code = (2 ≤ length code) × (length code ≤ 255)
 
+-- the number of a refusal of code
 abbrev pub number_of : BootFault → ℕ
 number_of TooShort = 1
 number_of TooLong = 2

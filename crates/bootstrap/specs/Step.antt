@@ -33,7 +33,7 @@ offered ls =
 abbrev pub task_of : ℕ → Task
 task_of byte = if byte == 0 then Poke 8 0 0 else (if byte == 1 then Peek 4 0 else Load byte code_start)
 
--- the word that a peek answers: 0 where it lies outside memory
+-- the word that a peek answers: 0 if it lies outside memory
 abbrev pub or_zero : Result ℕ Fault → ℕ
 or_zero (Ok word) = word
 or_zero (Err fault) = 0
@@ -80,6 +80,7 @@ answered link left word n =
     else (if left == 0 then (record n { links = acknowledge_heard link n.links; state = WantsControl }, Ran)
     else (answering link (left - 1) word (record n { links = acknowledge_heard link n.links }), Ran))
 
+-- a Step that takes a byte: Idle if there is none
 abbrev pub fed : Option ℕ → (ℕ → Node) → Node → Node × Stepped
 fed None next n = (n, Idle)
 fed (Some byte) next n = (next byte, Ran)
@@ -89,6 +90,7 @@ abbrev pub feed : LinkNumber → (ℕ → Node → Node) → Node → Node × St
 feed link next n =
     fed (at link n.links).end.input.buffer (λ byte. next byte (record n { links = byte_taken link n.links })) n
 
+-- a control byte is taken from this link and begins its task
 abbrev pub controlled : Option LinkNumber → Node → Node × Stepped
 controlled None n = (n, Idle)
 controlled (Some link) n = feed link (λ byte k. record k { state = Takes link (task_of byte) }) n
@@ -99,6 +101,7 @@ ran (processor.Ran s ls m) = (record { memory = m; links = ls; state = Runs s },
 ran (processor.Idle s ls m) = (record { memory = m; links = ls; state = Runs s }, Idle)
 ran (processor.Broke fault ls m) = (record { memory = m; links = ls; state = Halted fault }, code.Fault fault)
 
+-- a Step, by what the node is doing
 abbrev pub stepped : State → Node → Node × Stepped
 stepped WantsControl n = controlled (offered n.links) n
 stepped (Takes link task) n = feed link (λ byte k. given task byte link k) n
@@ -110,6 +113,7 @@ stepped (Halted fault) n = (n, code.Fault fault)
 unfoldable pub node_step : Node → Node × Stepped
 node_step n = stepped n.state n
 
+-- a fault has halted the node
 abbrev pub has_halted : State → Bool
 has_halted (Halted fault) = true
 has_halted WantsControl = false

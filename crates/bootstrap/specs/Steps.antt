@@ -43,5 +43,6 @@ state_after (Some code.Ran) s = Runs s
 state_after (Some code.Idle) s = Runs s
 state_after (Some (code.Fault fault)) s = Halted fault
 
+-- the node that a burst leaves, by its last answer and what the processor left
 abbrev pub left_by : Option Stepped → Cpu → FourLinks → List ℕ → Node
 left_by last s ls m = record { memory = m; links = ls; state = state_after last s }

@@ -17,10 +17,12 @@ abbrev pub InputIsIn : List ℕ → Option Connection → Type 0
 InputIsIn ports None = Unit {0}
 InputIsIn ports (Some connection) = Contains ports connection.input
 
+-- a word that an output of these ports may have: it is proper, and its input is one of them
 pub record IsWordOf (ports : List ℕ) (word : Word) : Type 0 where
   pub proper : IsProper word
   pub within : InputIsIn ports (connection_of word)
 
+-- the words of these ports, in their order
 pub record IsRow (ports : List ℕ) (words : List Word) : Type 0 where
   pub length_is : length words ≡ length ports
   pub few : length ports ≤ 32
@@ -28,13 +30,16 @@ pub record IsRow (ports : List ℕ) (words : List Word) : Type 0 where
   pub one_to_one : IsOneToOne ports
   pub each : All (IsWordOf ports) words
 
+-- the input of a connection
 abbrev pub input_of : Option Connection → Option ℕ
 input_of connection = option_map (λ c. c.input) connection
 
+-- the output is connected and ready
 abbrev pub is_ready : Option Connection → Bool
 is_ready None = false
 is_ready (Some connection) = connection.ready
 
+-- the connection that the word of an output says
 abbrev pub connection_at : List Word → ℕ → Option Connection
 connection_at words v = option_and_then connection_of (slice_get words v)
 
@@ -51,6 +56,7 @@ words_after [] output connection = []
 words_after (word ∷ words) zero connection = word_after word connection ∷ words
 words_after (word ∷ words) (suc output) connection = word ∷ words_after words output connection
 
+-- a connection made ready
 abbrev pub ready_of : Option Connection → Option Connection
 ready_of connection = option_map (λ c. record { input = c.input; ready = true }) connection
 

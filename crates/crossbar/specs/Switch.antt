@@ -5,6 +5,7 @@ use Rattle.std.specs.Ordering.{nat_cmp}
 use Rattle.std.specs.FinMap as map
 use Rattle.std.specs.FinSet as set
 
+-- the pairs and the ready outputs
 pub record Switch : Type 0 where
   -- each connected output with the input that drives it
   pub pairs : map.FinMap nat_cmp ℕ
@@ -26,7 +27,7 @@ disconnected s output = record { pairs = map.remove s.pairs output; ready = set.
 abbrev pub all_ready : Switch → Switch
 all_ready s = record { pairs = s.pairs; ready = set.from_list (map.keys s.pairs) }
 
--- a finite map with one key more, where it has a value
+-- a finite map with one key more, if it has a value
 abbrev pub with_key : {X : Type 0} → map.FinMap nat_cmp X → ℕ → Option X → map.FinMap nat_cmp X
 with_key m key None = m
 with_key m key (Some x) = map.insert m key x
@@ -36,6 +37,7 @@ abbrev pub map_below : {X : Type 0} → ℕ → (ℕ → Option X) → map.FinMa
 map_below zero f = map.empty
 map_below (suc n) f = with_key (map_below n f) n (f n)
 
+-- the finite set of the numbers below n for which a test holds
 abbrev pub set_below : ℕ → (ℕ → Bool) → set.FinSet nat_cmp
 set_below zero p = set.empty
 set_below (suc n) p = if p n then set.insert (set_below n p) n else set_below n p
@@ -45,5 +47,6 @@ abbrev pub names : Option ℕ → ℕ → Bool
 names None input = false
 names (Some driver) input = driver == input
 
+-- the input drives the output
 abbrev pub drives : Switch → ℕ → ℕ → Bool
 drives s input output = names (map.get s.pairs output) input

@@ -3,7 +3,7 @@ use Rattle.std.specs.Prelude.{◌≡◌, ◌≢◌, ℕ, ◌+◌, ◌-◌, ◌*�
 use Rattle.crossbar.specs.declared.word.Word.{Word}
 use Rattle.crossbar.specs.declared.word.Connection.{Connection}
 
--- the greatest change count, where it stays
+-- the greatest change count, at which it stays
 abbrev pub most_changes : ℕ
 most_changes = 2 ^ 56 - 1
 
@@ -25,13 +25,13 @@ changes_of word = word.bits / 256
 abbrev pub IsProper : Word → Type 0
 IsProper word = word.bits % 256 ≡ low_byte (connection_of word)
 
--- the word once this is set: it stays where bits 0 to 7 do, and else the count rises by one
+-- the word once this is set: it stays if bits 0 to 7 stay, and else the count rises by one
 abbrev pub word_after : Word → Option Connection → Word
 word_after word connection =
     if word.bits % 256 == low_byte connection then word
     else record { bits = 256 * min (changes_of word + 1) most_changes + low_byte connection }
 
--- a store is made only where bits 0 to 7 change
+-- a store is made only if bits 0 to 7 change
 abbrev pub SaysOther : Word → Word → Type 0
 SaysOther old new = new.bits % 256 ≢ old.bits % 256
 
@@ -40,7 +40,7 @@ abbrev pub IsAtLeastAsNew : Word → Word → Type 0
 IsAtLeastAsNew new old =
     (changes_of old < changes_of new) ⊎ (new ≡ old) ⊎ ((changes_of new ≡ most_changes) × (changes_of old ≡ most_changes))
 
--- where bits 0 to 7 change the count rises by one up to the greatest, and else the word stays
+-- if bits 0 to 7 change the count rises by one up to the greatest, and else the word stays
 abbrev pub CountsChange : Word → Word → Type 0
 CountsChange old new =
     MatchBool (old.bits % 256 == new.bits % 256) (new ≡ old) (changes_of new ≡ min (changes_of old + 1) most_changes)

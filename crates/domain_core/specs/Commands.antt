@@ -16,6 +16,7 @@ is_command (Look node) = true
 is_command (Step node) = false
 is_command (Move port) = false
 
+-- it is this user who asks
 abbrev pub is_user : ℕ → By → Bool
 is_user user (User other) = other == user
 is_user user Farm = false

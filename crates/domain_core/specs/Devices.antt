@@ -17,6 +17,7 @@ use Rattle.domain_core.specs.Hosts as host
 
 -- ---- which device is joined to a port: the first host or link of the part that names it
 
+-- the first device, or the other if there is none
 abbrev pub or_else : Option Device → Option Device → Option Device
 or_else None other = other
 or_else (Some device) other = Some device
@@ -26,6 +27,7 @@ abbrev pub host_at_port : ℕ → List HostPart → ℕ → Option Device
 host_at_port number [] port = None
 host_at_port number (h ∷ hosts) port = if h.port == port then Some (Host number) else host_at_port (number + 1) hosts port
 
+-- the device if its link is wired to the port, or else the other
 abbrev pub is_wired_to : Option ℕ → ℕ → Option Device → Option Device → Option Device
 is_wired_to None port device other = other
 is_wired_to (Some wired) port device other = if wired == port then device else other
@@ -44,24 +46,30 @@ abbrev pub link_at_port : ℕ → List NodePart → ℕ → Option Device
 link_at_port number [] port = None
 link_at_port number (n ∷ nodes) port = or_else (link_of_four number n.links port) (link_at_port (number + 1) nodes port)
 
+-- the device that is joined to a port, hosts before links
 abbrev pub device_at : PartData → ℕ → Option Device
 device_at part port = or_else (host_at_port 0 part.hosts port) (link_at_port 0 part.nodes port)
 
 -- ---- the nodes and hosts of a domain
 
+-- nodes and hosts, by their numbers
 pub record DeviceStates : Type 0 where
   pub nodes : List Node
   pub hosts : List HostState
 
+-- the node of a number that is there
 abbrev pub node_at : DeviceStates → ℕ → Node
 node_at d number = slice_index_or d.nodes number (node.opened 0)
 
+-- the host of a number that is there
 abbrev pub host_at : DeviceStates → ℕ → HostState
 host_at d number = slice_index_or d.hosts number host.opened
 
+-- one node is changed to this
 abbrev pub with_node : ℕ → Node → DeviceStates → DeviceStates
 with_node number n d = record d { nodes = slice_set d.nodes number n }
 
+-- one host is changed to this
 abbrev pub with_host : ℕ → HostState → DeviceStates → DeviceStates
 with_host number h d = record d { hosts = slice_set d.hosts number h }
 

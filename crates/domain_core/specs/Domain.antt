@@ -10,6 +10,7 @@ use Rattle.domain_core.specs.MachineValue.{MachineValue, machine_of}
 use Rattle.domain_core.specs.Private.{State, Answer, Call}
 use Rattle.domain_core.specs.Journal.{Answered, expanded, IsHistory}
 
+-- what contracts see of a domain
 pub record DomainValue : Type 0 where
   pub machine : MachineValue
   pub journal : List Entry

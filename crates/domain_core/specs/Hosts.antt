@@ -11,6 +11,7 @@ pub record HostState : Type 0 where
   pub received : List ℕ
   pub end : LinkEnd
 
+-- a host as it is opened: both queues are empty, and nothing has happened at the link end
 abbrev pub opened : HostState
 opened = record { sending = []; received = []; end = fresh }
 
@@ -18,10 +19,12 @@ opened = record { sending = []; received = []; end = fresh }
 abbrev pub is_full : List ℕ → Bool
 is_full queue = not (nat_lt (length queue) 4096)
 
+-- the front byte of a queue
 abbrev pub front : List ℕ → Option ℕ
 front [] = None
 front (byte ∷ queue) = Some byte
 
+-- a queue without its front byte
 abbrev pub behind : List ℕ → List ℕ
 behind [] = []
 behind (byte ∷ queue) = queue
@@ -31,18 +34,20 @@ abbrev pub front_posted : Option ℕ → LinkEnd → LinkEnd
 front_posted None e = e
 front_posted (Some byte) e = if e.output.awaits then e else posted byte e
 
+-- the front byte of the sending queue is posted, if none awaits its acknowledge
 abbrev pub sending_on : HostState → HostState
 sending_on h = record h { end = front_posted (front h.sending) h.end }
 
--- a byte is put in the sending queue, where there is room
+-- a byte is put in the sending queue, if there is room
 abbrev pub written : ℕ → HostState → HostState
 written byte h = if is_full h.sending then h else sending_on (record h { sending = h.sending ++ byte ∷ [] })
 
--- the byte in the buffer goes into the receiving queue and is acknowledged, where there is room
+-- the byte in the buffer goes into the receiving queue and is acknowledged, if there is room
 abbrev pub moved_in : Option ℕ → HostState → HostState
 moved_in None h = h
 moved_in (Some byte) h = if is_full h.received then h else record h { received = h.received ++ byte ∷ []; end = emptied h.end }
 
+-- the byte in the buffer is received, if there is one and room for it
 abbrev pub receiving : HostState → HostState
 receiving h = moved_in h.end.input.buffer h
 
@@ -54,7 +59,7 @@ read h = receiving (record h { received = behind h.received })
 abbrev pub heard : LinkEnd → LinkEnd
 heard e = record e { output = record e.output { acknowledged = false } }
 
--- a packet arrives: a byte is received, or held where there is no room; an awaited acknowledge removes the front byte
+-- a packet arrives: a byte is received, or held if there is no room; an awaited acknowledge removes the front byte
 -- and the next is posted
 abbrev pub delivered : Packet → HostState → HostState
 delivered (Byte byte) h = receiving (record h { end = arrived (Byte byte) h.end })

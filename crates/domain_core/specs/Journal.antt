@@ -31,9 +31,11 @@ expanded [] = []
 expanded (One by event reply ∷ entries) = record { call = record { by = by; event = event }; reply = reply } ∷ expanded entries
 expanded (Run by node count last ∷ entries) = steps by node count last ++ expanded entries
 
+-- the calls of a history
 abbrev pub calls_of : List Answered → List Call
 calls_of history = map (λ a. a.call) history
 
+-- the answers of a history: its replies
 abbrev pub replies_of : List Answered → List Answer
 replies_of history = map (λ a. Ok a.reply) history
 

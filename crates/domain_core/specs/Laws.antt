@@ -32,9 +32,10 @@ HistoriesGrow =
     (part : PartData) (history : List Answered) (s : State) (call : Call) (reply : Reply) → IsHistory part history s → (next part s call).1 ≡ Ok reply
     → IsHistory part (history ++ record { call = call; reply = reply } ∷ []) (next part s call).0
 
--- a user's commands of two histories stand one after the other, and Steps are nobody's
+-- a user's commands of two histories stand one after the other
 abbrev pub OwnCommandsAddUp : Type 0
 OwnCommandsAddUp = (user : ℕ) (history later : List Answered) → own_commands user (history ++ later) ≡ own_commands user history ++ own_commands user later
 
+-- Steps of a node are no command of any user
 abbrev pub StepsAreNobodys : Type 0
 StepsAreNobodys = (user : ℕ) (by : By) (node count : ℕ) (last : Stepped) → own_commands user (steps by node count last) ≡ []

@@ -16,12 +16,14 @@ use Rattle.domain_core.specs.Hosts.{is_full, written, front, read}
 use Rattle.domain_core.specs.Devices.{DeviceStates, opened, node_at, host_at, with_node, with_host}
 use Rattle.domain_core.specs.Moves.{moved}
 
+-- the switch, what has come of the next configuration message, and the devices
 pub record Machine : Type 0 where
   pub switch : Switch
-  -- the bytes that came of the next configuration message
+  -- the bytes of the next configuration message that have come
   pub rest : List ℕ
   pub devices : DeviceStates
 
+-- only nodes and hosts are changed
 abbrev pub with_devices : DeviceStates → Machine → Machine
 with_devices d m = record m { devices = d }
 
@@ -60,6 +62,6 @@ is_recorded part m (Look node) = true
 is_recorded part m (Step node) = step.is_recorded (node_at m.devices node)
 is_recorded part m (Move port) = has_moved (moved part m.switch m.devices port).1
 
--- as it is opened: all outputs disconnected, nothing come of a message, nodes and hosts fresh
+-- as it is opened: all outputs disconnected, no message begun, nodes and hosts fresh
 abbrev pub fresh : PartData → Machine
 fresh part = record { switch = cleared; rest = []; devices = opened part }

@@ -9,11 +9,13 @@ use Rattle.domain_core.specs.declared.event.Event.TheVariants.{Config, Write, Re
 use Rattle.domain_core.specs.Devices.{DeviceStates, device_at, memories}
 use Rattle.domain_core.specs.Machine.{Machine}
 
+-- what contracts see of a machine
 pub record MachineValue : Type 0 where
   pub part : PartData
   pub switch : Seen
   pub devices : DeviceStates
 
+-- the machine that the value stands for
 abbrev pub machine_of : MachineValue → Machine
 machine_of v = record { switch = private_of v.switch; rest = v.switch.rest; devices = v.devices }
 
@@ -42,6 +44,6 @@ IsIn part (Move port) = port < part.count
 abbrev pub marked_in : ℕ → List ℕ → List ℕ
 marked_in mask outputs = filter (λ q. bit_at mask q == 1) outputs
 
--- the bits of a mask are set just where a test holds
+-- the bits of a mask are set exactly if a test holds
 abbrev pub Marks : ℕ → (ℕ → Bool) → Type 0
 Marks mask test = (q : ℕ) → bit_at mask q ≡ (if test q then 1 else 0)

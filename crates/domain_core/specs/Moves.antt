@@ -15,6 +15,7 @@ use Rattle.domain_core.specs.Devices.{DeviceStates, device_at, waiting, taken, a
 abbrev pub driven : PartData → Switch → ℕ → List ℕ
 driven part s input = filter (drives s input) (range_with_len 0 part.count)
 
+-- all these outputs are ready
 abbrev pub are_ready : Switch → List ℕ → Bool
 are_ready s outputs = list_all (set.contains s.ready) outputs
 
@@ -35,10 +36,12 @@ moved_by Lost part device packet outputs d = taken device d
 moved_by Stayed part device packet outputs d = d
 moved_by Passed part device packet outputs d = copied part packet outputs (taken device d)
 
+-- a Move from a device, by the packet that waits there
 abbrev pub sent : PartData → Switch → DeviceStates → List ℕ → Device → Option Packet → DeviceStates × Moved
 sent part s d outputs device None = (d, Nothing)
 sent part s d outputs device (Some packet) = (moved_by (outcome s outputs) part device packet outputs d, outcome s outputs)
 
+-- a Move from a port, by the device that is joined to it
 abbrev pub moved_from : PartData → Switch → DeviceStates → List ℕ → Option Device → DeviceStates × Moved
 moved_from part s d outputs None = (d, Nothing)
 moved_from part s d outputs (Some device) = sent part s d outputs device (waiting d device)

@@ -81,6 +81,7 @@ pub record CanPeek (part : PartData) (r : Route) (address : ℕ) (s : State) : T
 
 -- ---- the events
 
+-- a list repeated so many times
 abbrev pub times : {A : Type 0} → ℕ → List A → List A
 times zero xs = []
 times (suc count) xs = xs ++ times count xs
@@ -99,12 +100,15 @@ peek_calls by r = map (λ event. record { by = by; event = event }) (times 5 (by
 
 -- ---- what comes of them
 
+-- the answer of a Move that passed its packet
 abbrev pub packet_passed : Answer
 packet_passed = Ok (reply.Moved Passed)
 
+-- the answer of a Step that ran
 abbrev pub node_ran : Answer
 node_ran = Ok (reply.Stepped Ran)
 
+-- the answers to the 27 events
 abbrev pub peek_answers : List Answer
 peek_answers =
     times 5 (packet_passed ∷ node_ran ∷ packet_passed ∷ []) ++ times 4 (packet_passed ∷ packet_passed ∷ node_ran ∷ [])
@@ -117,7 +121,7 @@ at_rest e = record fresh { input = record { buffer = None; overruns = e.input.ov
 abbrev pub told : List ℕ → HostState → HostState
 told bytes h = record { sending = []; received = h.received ++ bytes; end = at_rest h.end }
 
--- the bytes of the word at an address, least significant first; four zeros where it lies outside memory
+-- the bytes of the word at an address, least significant first; four zeros if it lies outside memory
 abbrev pub word_bytes : Node → ℕ → List ℕ
 word_bytes n address = bytes_of (or_zero (word_at n.memory address))
 

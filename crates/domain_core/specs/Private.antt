@@ -21,6 +21,7 @@ pub record State : Type 0 where
   pub machine : Machine
   pub recorded : ℕ
 
+-- a reply, or a refusal
 abbrev pub Answer : Type 0
 Answer = Result Reply Refusal
 
@@ -29,11 +30,12 @@ abbrev pub is_known : PartData → By → Bool
 is_known part (User user) = nat_lt user part.users
 is_known part Farm = true
 
+-- the host is there and is this user's
 abbrev pub is_owned_by : Option HostPart → ℕ → Bool
 is_owned_by None user = false
 is_owned_by (Some host) user = host.user == user
 
--- a host is used by the user alone whose it is
+-- only its owner may use a host
 abbrev pub owns : PartData → By → ℕ → Bool
 owns part (User user) host = is_owned_by (slice_get part.hosts host) user
 owns part Farm host = false
@@ -48,6 +50,7 @@ names_own part by (Look node) = nat_lt node (length part.nodes)
 names_own part by (Step node) = nat_lt node (length part.nodes)
 names_own part by (Move port) = nat_lt port part.count
 
+-- who asks is known, and what the event names is there for him
 abbrev pub is_there : PartData → Call → Bool
 is_there part call = is_known part call.by && names_own part call.by call.event
 
@@ -77,5 +80,6 @@ abbrev pub after : PartData → State → List Call → State
 after part s [] = s
 after part s (call ∷ calls) = after part (next part s call).0 calls
 
+-- the state in which such a farm begins: a fresh machine, nothing recorded
 abbrev pub opening : PartData → State
 opening part = record { machine = fresh part; recorded = 0 }

@@ -10,6 +10,7 @@ use Rattle.domain_core.specs.Devices.{with_node}
 use Rattle.domain_core.specs.Domain.{DomainValue}
 use Rattle.domain_core.specs.Journal.{Answered, expanded, steps}
 
+-- what contracts see of a ticket
 pub record TicketValue : Type 0 where
   -- the numbers of the home's domain and node
   pub domain : ℕ
@@ -18,7 +19,7 @@ pub record TicketValue : Type 0 where
   pub start : Node
   pub node : Node
   pub steps : ℕ
-  -- what the last Step answered, none where there was none
+  -- what the last Step answered, none if there was none
   pub last : Option Stepped
 
 -- the most Steps of one ticket
@@ -31,6 +32,7 @@ pub record IsTicket (t : TicketValue) : Type 0 where
   pub last : t.last ≡ last_answer t.steps t.start
   pub most : t.steps ≤ most_steps
 
+-- a ticket at its checkout, with no Step done
 abbrev pub fresh_ticket : ℕ → ℕ → Node → TicketValue
 fresh_ticket domain number node = record { domain = domain; number = number; start = node; node = node; steps = 0; last = None }
 

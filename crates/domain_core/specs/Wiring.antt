@@ -33,10 +33,11 @@ abbrev pub Names : PartData → Device → ℕ → Type 0
 Names part (Host number) port = IsHostAt part number port
 Names part (Link number link) port = IsLinkAt part number link port
 
+-- each node of the part says of four links whether they are wired
 abbrev pub HaveFourLinks : PartData → Type 0
 HaveFourLinks part = All (λ n. length n.links ≡ 4) part.nodes
 
--- in the part of an accepted domain, whose nodes have four links each, a device is joined to a port just where the part names the port for it
+-- in the part of an accepted domain, whose nodes have four links each, a device is joined to a port exactly if the part names the port for it
 abbrev pub DevicesAreWhereNamed : Type 0
 DevicesAreWhereNamed =
     (part : PartData) (port : ℕ) (device : Device) → IsPart part → HaveFourLinks part → (device_at part port ≡ Some device) ↔ Names part device port

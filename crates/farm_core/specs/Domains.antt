@@ -28,9 +28,11 @@ pub record Output : Type 0 where
   pub driver : Option ℕ
   pub ready : Bool
 
+-- what a switch has of an output
 abbrev pub output_of : Switch → ℕ → Output
 output_of s output = record { driver = fin.get s.pairs output; ready = set.contains s.ready output }
 
+-- an output that nothing drives, which isn't ready
 abbrev pub disconnected_output : Output
 disconnected_output = record { driver = None; ready = false }
 
@@ -54,6 +56,7 @@ pub record IsOneCall (plan : List Place) (farm : Farm) (states : List State) (do
   pub answer : lowered place (whole_next plan farm (domain, call)).1 ≡ (next place.part s call).1
   pub made : IsMadeOf plan (whole_next plan farm (domain, call)).0 (slice_set states domain (next place.part s call).0)
 
+-- each call of a domain is so, in every farm that is made of its domains' states
 abbrev pub EachCallIsPrivate : Type 0
 EachCallIsPrivate =
     (plan : List Place) (farm : Farm) (states : List State) (domain : ℕ) (call : Call) (place : Place) (s : State) → IsSeparate plan → IsMadeOf plan farm states

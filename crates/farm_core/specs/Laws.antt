@@ -21,6 +21,7 @@ pub record IsAlone (plan : List Place) (calls : List (ℕ × Call)) (domain : �
   pub state : projected place (whole_after plan (whole_opening plan) calls) domain ≡ after place.part (opening place.part) (own domain calls)
   pub inside : DrivesItself place.ports (whole_after plan (whole_opening plan) calls).switch
 
+-- in every run of separate places each domain is as if it were alone
 abbrev pub EachDomainIsPrivate : Type 0
 EachDomainIsPrivate =
     (plan : List Place) (calls : List (ℕ × Call)) (domain : ℕ) (place : Place) → IsSeparate plan → slice_get plan domain ≡ Some place → IsAlone plan calls domain place
@@ -32,10 +33,11 @@ EqualDomainsAreAnsweredAlike =
     → slice_get plan domain ≡ Some place → slice_get other_plan other ≡ Some there → place.part ≡ there.part → own domain calls ≡ own other other_calls
     → own_answers plan calls domain place ≡ own_answers other_plan other_calls other there
 
--- what all callers are told from a farm on, in order, and the same from the opening
+-- what all callers are told from a farm on, in order
 abbrev pub told_from : List Place → Farm → List (ℕ × Call) → List Answer
 told_from plan farm calls = map (λ t. lowered_for (slice_get plan t.0) t.1) (whole_answers plan farm calls)
 
+-- what all callers are told of a run from the opening, in order
 abbrev pub told_by : List Place → List (ℕ × Call) → List Answer
 told_by plan calls = told_from plan (whole_opening plan) calls
 
@@ -43,6 +45,7 @@ told_by plan calls = told_from plan (whole_opening plan) calls
 abbrev pub told_to : ℕ → List (ℕ × Call) → List Answer → List Answer
 told_to domain calls told = own domain (zip (map (λ c. c.0) calls) told)
 
+-- what the callers of a domain are told is what a farm with it alone answers to their calls
 abbrev pub EachIsToldPrivately : Type 0
 EachIsToldPrivately =
     (plan : List Place) (calls : List (ℕ × Call)) (domain : ℕ) (place : Place) → IsSeparate plan → slice_get plan domain ≡ Some place
@@ -53,6 +56,7 @@ pub record IsOneRun (plan : List Place) (farm : Farm) (calls later : List (ℕ �
   pub told : told_from plan farm (calls ++ later) ≡ told_from plan farm calls ++ told_from plan (whole_after plan farm calls) later
   pub left : whole_after plan farm (calls ++ later) ≡ whole_after plan (whole_after plan farm calls) later
 
+-- every run can be cut in two
 abbrev pub RunsAddUp : Type 0
 RunsAddUp = (plan : List Place) (farm : Farm) (calls later : List (ℕ × Call)) → IsOneRun plan farm calls later
 
@@ -62,17 +66,19 @@ NumberedDomainsAreSeparate = (plan : List DomainData) → All IsNumbered plan �
 
 -- ---- the same of plans, by nothing but the checker's rules
 
+-- under every plan without a fault each domain is as if it were alone
 abbrev pub EachDomainOfAPlanIsPrivate : Type 0
 EachDomainOfAPlanIsPrivate =
     (plan : List DomainData) (calls : List (ℕ × Call)) (domain : ℕ) (d : DomainData) → checker.IsSeparate plan → slice_get plan domain ≡ Some d
     → IsAlone (places_of plan) calls domain (place_of d)
 
+-- and its callers are told what a farm with it alone answers to their calls
 abbrev pub EachOfAPlanIsToldPrivately : Type 0
 EachOfAPlanIsToldPrivately =
     (plan : List DomainData) (calls : List (ℕ × Call)) (domain : ℕ) (d : DomainData) → checker.IsSeparate plan → slice_get plan domain ≡ Some d
     → told_to domain calls (told_by (places_of plan) calls) ≡ answers (part_of d) (opening (part_of d)) (own domain calls)
 
--- two plans agree on a domain
+-- two plans that agree on a domain answer it alike
 abbrev pub EqualDomainsOfPlansAreAnsweredAlike : Type 0
 EqualDomainsOfPlansAreAnsweredAlike =
     (plan other_plan : List DomainData) (calls other_calls : List (ℕ × Call)) (domain other : ℕ) (d e : DomainData) → checker.IsSeparate plan → checker.IsSeparate other_plan

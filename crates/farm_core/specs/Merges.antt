@@ -9,6 +9,7 @@ use Rattle.farm_core.specs.Projection.{own}
 use Rattle.farm_core.specs.Domains.{IsMadeOf}
 use Rattle.farm_core.specs.Laws.{told_by}
 
+-- the journal of a domain, empty if there is none
 abbrev pub journal_at : Option (List Answered) → List Answered
 journal_at None = []
 journal_at (Some journal) = journal
@@ -17,9 +18,11 @@ journal_at (Some journal) = journal
 abbrev pub IsMerge : List (List Answered) → List (ℕ × Answered) → Type 0
 IsMerge journals merge = (domain : ℕ) → own domain merge ≡ journal_at (slice_get journals domain)
 
+-- the calls of a merge, each with its domain
 abbrev pub calls_in : List (ℕ × Answered) → List (ℕ × Call)
 calls_in merge = map (λ x. (x.0, x.1.call)) merge
 
+-- the answers of a merge: its replies
 abbrev pub replies_in : List (ℕ × Answered) → List Answer
 replies_in merge = map (λ x. Ok x.1.reply) merge
 
@@ -35,6 +38,7 @@ pub record IsRun (plan : List Place) (merge : List (ℕ × Answered)) (states : 
   pub replies : told_by plan (calls_in merge) ≡ replies_in merge
   pub ends : IsMadeOf plan (whole_after plan (whole_opening plan) (calls_in merge)) states
 
+-- every merge of histories of separate places is a run of the whole farm
 abbrev pub EachMergeIsARun : Type 0
 EachMergeIsARun =
     (plan : List Place) (journals : List (List Answered)) (states : List State) (merge : List (ℕ × Answered)) → IsSeparate plan → AreHistories plan journals states
@@ -46,6 +50,7 @@ EachMergeIsARun =
 abbrev pub own_place : DomainValue → Place
 own_place d = record { part = d.machine.part; ports = d.machine.switch.ports }
 
+-- the history that a domain's journal stands for
 abbrev pub own_journal : DomainValue → List Answered
 own_journal d = expanded d.journal
 

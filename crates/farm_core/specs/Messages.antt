@@ -27,6 +27,7 @@ raised_message ports Clear = Clear
 raised_message ports (Disconnect output) = Disconnect (raised ports output)
 raised_message ports (DisconnectBoth first second) = DisconnectBoth (raised ports first) (raised ports second)
 
+-- the physical port is one of these
 abbrev pub is_among : List ℕ → ℕ → Bool
 is_among ports port = is_some (number_in ports port)
 
@@ -64,10 +65,11 @@ abbrev pub reply_in : Place → Switch → Item → ConfigReply
 reply_in place s (Command message) = if are_below place.part.count (ports_named message) then answer_to s (raised_message place.ports message) else BadPort
 reply_in place s (Stray byte) = BadCommand
 
+-- what a byte from the domain leaves, by the item that it ends
 abbrev pub configured_by_in : Place → Switch → List ℕ → Option Item → Configured
 configured_by_in place s bytes None = record { reply = Nothing; switch = s; rest = bytes }
 configured_by_in place s bytes (Some item) = record { reply = reply_in place s item; switch = after_item_in place s item; rest = [] }
 
--- a byte from the domain, of whose next message this rest has come
+-- a byte from the domain, after the rest of its last message
 abbrev pub configured_in : Place → Switch → List ℕ → ℕ → Configured
 configured_in place s rest byte = configured_by_in place s (rest ++ byte ∷ []) (item_of (rest ++ byte ∷ []))

@@ -21,6 +21,7 @@ changed_at domain change all = put_at domain (change (all domain)) all
 abbrev pub driven_in : List Place → Switch → ℕ → List ℕ
 driven_in plan s input = filter (drives s input) (all_ports plan)
 
+-- the packet that waits at a device of the farm is taken
 abbrev pub taken_in : Joined → AllDevices → AllDevices
 taken_in from all = changed_at from.domain (taken from.device) all
 
@@ -41,10 +42,12 @@ moved_by_in Lost plan from packet outputs all = taken_in from all
 moved_by_in Stayed plan from packet outputs all = all
 moved_by_in Passed plan from packet outputs all = copied_in plan packet outputs (taken_in from all)
 
+-- a Move from a device of the farm, by the packet that waits there
 abbrev pub sent_in : List Place → Switch → AllDevices → List ℕ → Joined → Option Packet → AllDevices × Moved
 sent_in plan s all outputs from None = (all, Nothing)
 sent_in plan s all outputs from (Some packet) = (moved_by_in (outcome s outputs) plan from packet outputs all, outcome s outputs)
 
+-- a Move from a physical port, by the device that is joined to it
 abbrev pub moved_from_in : List Place → Switch → AllDevices → List ℕ → Option Joined → AllDevices × Moved
 moved_from_in plan s all outputs None = (all, Nothing)
 moved_from_in plan s all outputs (Some from) = sent_in plan s all outputs from (waiting (all from.domain) from.device)

@@ -13,6 +13,7 @@ pub record Place : Type 0 where
   pub part : PartData
   pub ports : List ℕ
 
+-- the place of a domain of a plan
 abbrev pub place_of : DomainData → Place
 place_of domain = record { part = part_of domain; ports = physical_ports domain }
 
@@ -49,6 +50,7 @@ pub record Joined : Type 0 where
   pub domain : ℕ
   pub device : Device
 
+-- a device of this domain, if there is one
 abbrev pub joined_to : ℕ → Option Device → Option Joined
 joined_to domain device = option_map (λ d. record { domain = domain; device = d }) device
 
@@ -62,5 +64,6 @@ abbrev pub device_from : ℕ → List Place → ℕ → Option Joined
 device_from domain [] port = None
 device_from domain (place ∷ plan) port = device_or domain place (number_in place.ports port) (device_from (domain + 1) plan port)
 
+-- the device that is joined to a physical port
 abbrev pub device_in : List Place → ℕ → Option Joined
 device_in plan port = device_from 0 plan port

@@ -22,10 +22,11 @@ use Rattle.farm_core.specs.Projection.{lowered_for}
 use Rattle.farm_core.specs.Domains.{Output, IsMadeOf, output_of}
 use Rattle.farm_core.specs.Merges.{own_place}
 
--- the places of the domains, and their states
+-- the places of the domains
 abbrev pub places_in : List DomainValue → List Place
 places_in domains = map own_place domains
 
+-- the states of the domains
 abbrev pub states_in : List DomainValue → List State
 states_in domains = map state_of domains
 
@@ -43,7 +44,7 @@ OthersStay domain old new = (other : ℕ) → other ≢ domain → slice_get new
 
 -- ---- a call
 
--- the domain answers as a farm does that holds it alone, with the same refusal where that refuses, becomes what it would become alone, and its journal
+-- the domain answers as a farm does that holds it alone, with the same refusal if that refuses, becomes what it would become alone, and its journal
 -- gains what is recorded
 pub record IsCalled (call : Call) (told : Answer) (old new : DomainValue) : Type 0 where
   pub answer : UnlessNoMemory told (told ≡ (next old.machine.part (state_of old) call).1)
@@ -73,7 +74,7 @@ IsCallOfEachWhole domain call told old new = (farm : Farm) → IsMadeOfDomains f
 abbrev pub node_in : Option DomainValue → ℕ → Option Node
 node_in found number = option_and_then (λ d. slice_get d.machine.devices.nodes number) found
 
--- the node comes home where it is still the ticket's start and its Steps are within the limit; else nothing changes
+-- the copy comes home if the home is still the ticket's start and the Steps are within the limit; else nothing changes
 pub record IsCommitted (t : TicketValue) (told : Result Committed Refusal) (old new : DomainValue) : Type 0 where
   pub stale : (told ≡ Ok Stale) ↔ ¬ IsHome old t
   pub full : (told ≡ Err JournalFull) ↔ (IsHome old t × (old.machine.part.limit < length (expanded old.journal) + t.steps))
@@ -93,6 +94,7 @@ IsCommittedAt t told (Some old) (Some new) = IsCommitted t told old new
 abbrev pub word_in : Option DomainValue → ℕ → Option Word
 word_in found output = option_and_then (λ d. slice_get d.machine.switch.words output) found
 
+-- its journal
 abbrev pub journal_in : Option DomainValue → Option (List Entry)
 journal_in found = option_map (λ d. d.journal) found
 
@@ -128,6 +130,7 @@ pub record IsRestarted (old new : DomainValue) : Type 0 where
   pub journal : new.journal ≡ []
   pub counts : AllZip CountsChange old.machine.switch.words new.machine.switch.words
 
+-- the domain that is there is restarted
 abbrev pub IsRestartedAt : Option DomainValue → Option DomainValue → Type 0
 IsRestartedAt (Some old) (Some new) = IsRestarted old new
 IsRestartedAt _ _ = ⊥

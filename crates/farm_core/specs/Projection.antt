@@ -19,6 +19,7 @@ abbrev pub driver_at : List ℕ → Switch → Option ℕ → Option ℕ
 driver_at ports s None = None
 driver_at ports s (Some port) = option_and_then (number_in ports) (map.get s.pairs port)
 
+-- whether a port's output is ready
 abbrev pub ready_at : Switch → Option ℕ → Bool
 ready_at s None = false
 ready_at s (Some port) = set.contains s.ready port
@@ -49,6 +50,7 @@ lowered_config ports (Answer byte) = Answer (if byte == 0 then 0 else lowered_by
 lowered_config ports BadCommand = BadCommand
 lowered_config ports BadPort = BadPort
 
+-- a reply in virtual numbers: only an enquiry's answer has a port in it
 abbrev pub lowered_reply : List ℕ → Reply → Reply
 lowered_reply ports (reply.Config c) = reply.Config (lowered_config ports c)
 lowered_reply ports r = r

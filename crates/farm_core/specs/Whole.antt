@@ -13,9 +13,10 @@ use Rattle.farm_core.specs.Places.{Place, put_at}
 use Rattle.farm_core.specs.Messages.{raised, configured_in}
 use Rattle.farm_core.specs.Packets.{AllDevices, moved_in}
 
+-- the state of the whole farm
 pub record Farm : Type 0 where
   pub switch : Switch
-  -- the bytes that came of each domain's next configuration message
+  -- the bytes of each domain's next configuration message that have come
   pub rests : ℕ → List ℕ
   pub devices : AllDevices
   -- how many events of each domain were recorded
@@ -74,11 +75,11 @@ abbrev pub whole_after : List Place → Farm → List (ℕ × Call) → Farm
 whole_after plan farm [] = farm
 whole_after plan farm (call ∷ calls) = whole_after plan (whole_next plan farm call).0 calls
 
--- the nodes and hosts of a domain as they are opened; none where there is no such domain
+-- the nodes and hosts of a domain as they are opened; none if there is no such domain
 abbrev pub opened_at : Option Place → DeviceStates
 opened_at None = record { nodes = []; hosts = [] }
 opened_at (Some place) = opened place.part
 
--- all outputs disconnected, nothing come of any message, nodes and hosts fresh, nothing recorded
+-- all outputs disconnected, no message begun, nodes and hosts fresh, nothing recorded
 abbrev pub whole_opening : List Place → Farm
 whole_opening plan = record { switch = cleared; rests = λ d. []; devices = λ d. opened_at (slice_get plan d); recorded = λ d. 0 }

@@ -4,7 +4,7 @@ use Rattle.domain_core.specs.Journal.{Answered}
 use Rattle.domain_core.specs.Commands.{is_own}
 use Rattle.farm_service.specs.declared.told.Told.{Told}
 
--- an answered event, where it is a command of this user
+-- an answered event, if it is a command of this user
 abbrev pub command_in : ℕ → Answered → Option Told
 command_in user a = cond (is_own user a) (Some (record { event = a.call.event; reply = a.reply })) None
 

@@ -1,7 +1,8 @@
--- what only helps contracts
-pub mod Answers
-pub mod Closed
-pub mod Commands
-pub mod Endings
+-- what must be believed
 pub mod Passes
+pub mod Answers
 pub mod Services
+pub mod Commands
+pub mod Closed
+-- what only helps contracts
+pub mod Endings

@@ -40,13 +40,15 @@ fresh_passes plan = passes_from 0 plan
 
 -- ---- a command
 
+-- the call that a user's event is in his domain
 abbrev pub call_of : PassValue → Event → Call
 call_of pass event = record { by = User pass.user; event = event }
 
+-- the pass with one more answered event at the end of its list
 abbrev pub with_told : PassValue → Event → Reply → PassValue
 with_told pass event reply = record pass { told = pass.told ++ record { event = event; reply = reply } ∷ [] }
 
--- the list gains just an answered event with its reply, and nothing where it was refused
+-- the list gains just an answered event with its reply, and nothing if it was refused
 abbrev pub Gains : SessionValue → Event → Answer → SessionValue → Type 0
 Gains s event (Ok reply) t = t ≡ record s { pass = with_told s.pass event reply }
 Gains s event (Err refusal) t = t ≡ s

@@ -34,7 +34,7 @@ output p t l m =
     else store t.channel (descriptor_of p) l m (λ m. save p l m (λ m.
     read (byte_at m t.pointer) l m (λ byte. Gave Waits (sending byte t l) m)))
 
--- enbc, where the guard isn't 0: ready where a byte is there, else watched
+-- enbc, if the guard isn't 0: ready if a byte is there, else watched
 abbrev pub enable : Process → ℕ → Link → List ℕ → Reply (Unit {0}) Link
 enable p channel l m =
     if is_some l.end.input.buffer then store (state_of p.workspace) ready l m (λ m. Gave tt l m)
@@ -44,7 +44,7 @@ enable p channel l m =
 abbrev pub chosen_if_held : Process → ℕ → Link → List ℕ → Reply Bool Link
 chosen_if_held p offset l m = if is_some l.end.input.buffer then chosen p offset l m else Gave false l m
 
--- disc, where the guard isn't 0: the watch is cleared, and the channel is given up where it is the own
+-- disc, if the guard isn't 0: the watch is cleared, and the channel is given up if it is the own
 abbrev pub disable : Process → ℕ → ℕ → Link → List ℕ → Reply Bool Link
 disable p channel offset l m =
     let unwatched : Link = record l { watched = false } in

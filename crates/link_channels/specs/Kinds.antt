@@ -5,6 +5,7 @@ use Rattle.link_channels.specs.declared.channel.Channel.{Channel}
 use Rattle.link_channels.specs.declared.channel.Channel.TheVariants.{Soft, LinkOutput, LinkInput, Event}
 use Rattle.link_channels.specs.declared.number.LinkNumber.TheVariants.{Zero, One, Two, Three}
 
+-- the addresses of the nine channels
 abbrev pub channels : List (ℕ × Channel)
 channels =
     (0x80000000, LinkOutput Zero) ∷
@@ -18,7 +19,7 @@ channels =
     (0x80000020, Event) ∷
     []
 
--- what a list has at a word address, a soft channel where nothing
+-- what a list has at a word address, a soft channel if it has nothing there
 abbrev pub found : List (ℕ × Channel) → ℕ → Channel
 found [] word = Soft
 found (entry ∷ entries) word = if word == entry.0 then entry.1 else found entries word

@@ -15,11 +15,11 @@ abbrev pub MessageStopsAtTheEdge : Type 0
 MessageStopsAtTheEdge = (from to v : ℕ) (t : Transfer) (ls : FourLinks) (q : Queue) (m : List ℕ) → length m < t.count →
     exchange from to v t ls q m ≡ Halted OutsideMemory ls (copied t.count m from to).1
 
--- a service of the links does something, or meets a fault, exactly where one of them has work
+-- a service of the links does something, or meets a fault, exactly if one of them has work
 abbrev pub ServiceActsOnWork : Type 0
 ServiceActsOnWork = (ls : FourLinks) (q : Queue) (m : List ℕ) → acts (serve_all ls q m) ≡ any_has_work ls
 
--- where none has, it changes nothing
+-- if none has, it changes nothing
 abbrev pub ServiceLeavesTheRest : Type 0
 ServiceLeavesTheRest = (ls : FourLinks) (q : Queue) (m : List ℕ) → any_has_work ls ≡ false →
     serve_all ls q m ≡ Gave (false, q) ls m

@@ -8,12 +8,14 @@ use Rattle.link_channels.specs.Reply.{Reply, Gave, Halted}
 use Rattle.os_link.specs.End.{fresh, arrived, without_next, posted, emptied}
 use Rattle.os_link.specs.declared.latch.Packet.{Packet}
 
+-- the link of a number
 abbrev pub at : LinkNumber → FourLinks → Link
 at Zero ls = ls.zero
 at One ls = ls.one
 at Two ls = ls.two
 at Three ls = ls.three
 
+-- one link is changed to this
 abbrev pub with_link : LinkNumber → Link → FourLinks → FourLinks
 with_link Zero l ls = record ls { zero = l }
 with_link One l ls = record ls { one = l }
@@ -25,13 +27,14 @@ abbrev pub within : {A : Type 0} → LinkNumber → FourLinks → Reply A Link �
 within n ls (Gave x l m) = Gave x (with_link n l ls) m
 within n ls (Halted fault l m) = Halted fault (with_link n l ls) m
 
--- the words of a link's channels. T414 data sheet, memory map
+-- the word of a link's output channel. T414 data sheet, memory map
 abbrev pub output_channel : LinkNumber → ℕ
 output_channel Zero = 0x80000000
 output_channel One = 0x80000004
 output_channel Two = 0x80000008
 output_channel Three = 0x8000000C
 
+-- the word of a link's input channel
 abbrev pub input_channel : LinkNumber → ℕ
 input_channel Zero = 0x80000010
 input_channel One = 0x80000014
@@ -49,6 +52,7 @@ fresh_link = record {
   watched = false;
 }
 
+-- four fresh links
 abbrev pub fresh_links : FourLinks
 fresh_links = record { zero = fresh_link; one = fresh_link; two = fresh_link; three = fresh_link }
 
@@ -57,26 +61,31 @@ abbrev pub has_work : Link → Bool
 has_work l =
     l.end.output.acknowledged || (is_some l.end.input.buffer && (l.watched || not (l.input_count == 0)))
 
+-- one of the four has work
 abbrev pub any_has_work : FourLinks → Bool
 any_has_work ls = has_work ls.zero || has_work ls.one || has_work ls.two || has_work ls.three
 
--- a packet arrives at a link, or the one that leaves it next is taken
+-- a packet arrives at a link
 abbrev pub packet_arrived : LinkNumber → Packet → FourLinks → FourLinks
 packet_arrived n packet ls = let l = at n ls in with_link n (record l { end = arrived packet l.end }) ls
 
+-- the packet that leaves a link next is taken
 abbrev pub packet_taken : LinkNumber → FourLinks → FourLinks
 packet_taken n ls =
     let l = at n ls in with_link n (record l { end = record l.end { latch = without_next l.end.latch } }) ls
 
--- a byte is posted at a link, the one in its buffer is taken, or its acknowledge is told no more
+-- a byte is posted at a link
 abbrev pub byte_posted : LinkNumber → ℕ → FourLinks → FourLinks
 byte_posted n byte ls = let l = at n ls in with_link n (record l { end = posted byte l.end }) ls
 
+-- the byte in a link's buffer is taken, which posts an acknowledge
 abbrev pub byte_taken : LinkNumber → FourLinks → FourLinks
 byte_taken n ls = let l = at n ls in with_link n (record l { end = emptied l.end }) ls
 
+-- the flag that an acknowledge has come is cleared
 abbrev pub heard : Link → Link
 heard l = record l { end = record l.end { output = record l.end.output { acknowledged = false } } }
 
+-- the same of one of the four
 abbrev pub acknowledge_heard : LinkNumber → FourLinks → FourLinks
 acknowledge_heard n ls = with_link n (heard (at n ls)) ls

@@ -5,7 +5,7 @@ use Rattle.node_memory.specs.declared.fault.Fault.{Fault}
 use Rattle.process_queue.specs.Queue.{Change, Changed, Kept, after_put}
 use Rattle.process_queue.specs.declared.queue.Queue.{Queue}
 
--- L is one link, or the four of a node; an answer A has the queue in it where the operation may put a process
+-- L is one link, or the four of a node; an answer A has the queue in it if the operation may put a process
 pub data Reply (A L : Type 0) : Type 0 where
   Gave : A → L → List ℕ → Reply A L
   Halted : Fault → L → List ℕ → Reply A L
@@ -45,13 +45,15 @@ abbrev pub and_then : {A B L : Type 0} → Reply A L → (A → L → List ℕ �
 and_then (Gave x l m) next = next x l m
 and_then (Halted fault l m) next = Halted fault l m
 
--- the word at an address is read, a word is written there, a workspace is put in the queue
+-- the word at an address is read
 abbrev pub load : {A L : Type 0} → ℕ → L → List ℕ → (ℕ → Reply A L) → Reply A L
 load a l m next = read (word_at m a) l m next
 
+-- a word is written at an address
 abbrev pub store : {A L : Type 0} → ℕ → ℕ → L → List ℕ → (List ℕ → Reply A L) → Reply A L
 store a w l m next = written (with_word m a w) l m next
 
+-- a workspace is put in the queue
 abbrev pub put : {A L : Type 0} → ℕ → L → Queue → List ℕ → (Queue → List ℕ → Reply A L) → Reply A L
 put w l q m next = requeued (after_put q m w) l next
 

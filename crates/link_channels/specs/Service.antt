@@ -22,7 +22,7 @@ Service = Reply (Bool × Queue) Link
 abbrev pub acted : Reply (Unit {0} × Queue) Link → Service
 acted r = and_then r (λ done l m. Gave (true, done.1) l m)
 
--- complete: d is the channel's word, which becomes NotProcess; where d isn't NotProcess, schedule d
+-- complete: d is the channel's word, which becomes NotProcess; if d isn't NotProcess, schedule d
 abbrev pub complete : ℕ → Link → Queue → List ℕ → Reply (Unit {0} × Queue) Link
 complete channel l q m = load channel l m (λ d. store channel not_process l m (λ m. scheduled d l q m))
 
@@ -32,6 +32,7 @@ input_stored channel l q m =
     let k : Link = record l { end = emptied l.end; input_pointer = l.input_pointer ⊕ 1; input_count = l.input_count - 1 } in
     if k.input_count == 0 then acted (complete channel k q m) else Gave (true, q) k m
 
+-- the byte in the buffer, if there is one and a process waits for it, is stored at the pointer
 abbrev pub input_of : Option ℕ → ℕ → Link → Queue → List ℕ → Service
 input_of None channel l q m = Gave (false, q) l m
 input_of (Some byte) channel l q m =
@@ -61,6 +62,7 @@ woken state v l q m =
     else (if state == waiting then store (state_of v) ready l m (λ m. put v l q m (λ q m. Gave (true, q) l m))
     else Gave (true, q) l m)
 
+-- the alternative at a channel, if there is one, becomes ready
 abbrev pub wakes : Option ℕ → Link → Queue → List ℕ → Service
 wakes None l q m = Gave (true, q) l m
 wakes (Some v) l q m = load (state_of v) l m (λ state. woken state v l q m)

@@ -27,10 +27,11 @@ abbrev pub input_from : {L : Type 0} → Option ℕ → Process → Transfer →
 input_from None p t ls q m = wait_there p t ls q m
 input_from (Some v) p t ls q m = load (state_of v) ls m (λ source. exchange source t.pointer v t ls q m)
 
+-- in, at a soft channel
 unfoldable pub input : {L : Type 0} → Process → Transfer → L → Queue → List ℕ → Reply (Turn × Queue) L
 input p t ls q m = read (waiting_at m t.channel) ls m (λ other. input_from other p t ls q m)
 
--- out to a process that waits, by the word 12 below its workspace: an alternative becomes ready, and runs where
+-- out to a process that waits, by the word 12 below its workspace: an alternative becomes ready, and runs if
 -- it waited; any other value is the pointer of an input
 abbrev pub output_at : {L : Type 0} → ℕ → ℕ → Process → Transfer → L → Queue → List ℕ → Reply (Turn × Queue) L
 output_at s v p t ls q m =
@@ -38,14 +39,16 @@ output_at s v p t ls q m =
     else (if s == waiting then store (state_of v) ready ls m (λ m. put v ls q m (λ q m. wait_there p t ls q m))
     else exchange t.pointer s v t ls q m)
 
+-- out, by who waits at the channel
 abbrev pub output_to : {L : Type 0} → Option ℕ → Process → Transfer → L → Queue → List ℕ → Reply (Turn × Queue) L
 output_to None p t ls q m = wait_there p t ls q m
 output_to (Some v) p t ls q m = load (state_of v) ls m (λ s. output_at s v p t ls q m)
 
+-- out, at a soft channel
 unfoldable pub output : {L : Type 0} → Process → Transfer → L → Queue → List ℕ → Reply (Turn × Queue) L
 output p t ls q m = read (waiting_at m t.channel) ls m (λ other. output_to other p t ls q m)
 
--- enbc, where the guard isn't 0
+-- enbc, if the guard isn't 0
 unfoldable pub enable : {L : Type 0} → Process → ℕ → L → List ℕ → Reply (Unit {0}) L
 enable p channel ls m = load channel ls m (λ c.
     if c == not_process then store channel (descriptor_of p) ls m (λ m. Gave tt ls m)
@@ -57,7 +60,7 @@ abbrev pub chosen : {L : Type 0} → Process → ℕ → L → List ℕ → Repl
 chosen p offset ls m = load p.workspace ls m (λ selected.
     if selected == none_selected then store p.workspace offset ls m (λ m. Gave true ls m) else Gave false ls m)
 
--- disc, where the guard isn't 0
+-- disc, if the guard isn't 0
 unfoldable pub disable : {L : Type 0} → Process → ℕ → ℕ → L → List ℕ → Reply Bool L
 disable p channel offset ls m = load channel ls m (λ c.
     if c == not_process then Gave false ls m

@@ -11,6 +11,7 @@ pub record IsMemorySize (size : ℕ) : Type 0 where
   pub least : 2048 ≤ size
   pub most : size ≤ 65536
 
+-- the address of the first byte: MinInt
 abbrev pub first_address : ℕ
 first_address = 0x80000000
 
@@ -68,7 +69,7 @@ after_write (Ok n) m next = next n
 after_write (Err fault) m next = (Err fault, m)
 
 -- bytes copied upwards one by one, up to the first fault: what came of it, and memory then;
--- where the two blocks overlap, a byte that was written is read again (our choice)
+-- if the two blocks overlap, a byte that was written is read again (our choice)
 abbrev pub copied : ℕ → List ℕ → ℕ → ℕ → Result (Unit {0}) Fault × List ℕ
 copied zero m from to = (Ok tt, m)
 copied (suc count) m from to =

@@ -3,6 +3,7 @@ use Rattle.std.specs.Prelude.{ℕ}
 use Rattle.node_memory.specs.declared.fault.Fault.{Fault}
 use Rattle.node_memory.specs.declared.fault.Fault.TheVariants.{OutsideMemory, UnknownOperation, ErrorSet, HighPriority, WrongChannel}
 
+-- the number of a fault
 abbrev pub number_of : Fault → ℕ
 number_of OutsideMemory = 1
 number_of (UnknownOperation code) = 2

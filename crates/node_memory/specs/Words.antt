@@ -3,15 +3,17 @@
 use Rattle.std.specs.Prelude.{ℕ, ◌+◌, ◌-◌, ◌*◌, ◌/◌, ◌%◌, ◌^◌, Bool, ℤ, pos, negsuc, ◌+ℤ◌, ◌-ℤ◌, ◌*ℤ◌, nat_le, nat_lt, if◌then◌else◌}
 use Rattle.std.specs.Int.{w32, cast_signed}
 
--- sum, difference and product modulo 2 ^ 32
+-- the sum modulo 2 ^ 32
 infixl 6 ◌⊕◌
 abbrev pub ◌⊕◌ : ℕ → ℕ → ℕ
 a ⊕ b = (a + b) % 2 ^ 32
 
+-- the difference modulo 2 ^ 32
 infixl 6 ◌⊖◌
 abbrev pub ◌⊖◌ : ℕ → ℕ → ℕ
 a ⊖ b = (a + (2 ^ 32 - b)) % 2 ^ 32
 
+-- the product modulo 2 ^ 32
 infixl 7 ◌⊗◌
 abbrev pub ◌⊗◌ : ℕ → ℕ → ℕ
 a ⊗ b = (a * b) % 2 ^ 32
@@ -29,19 +31,22 @@ overflows (negsuc n) = nat_le (2 ^ 31) n
 abbrev pub signed : ℕ → ℤ
 signed w = cast_signed w32 w
 
--- add, sub, mul: a result kept in 32 bits, and whether the signed one didn't fit
+-- add: the wrapped sum, and whether the signed one didn't fit
 unfoldable pub sum_checked : ℕ → ℕ → ℕ × Bool
 sum_checked a b = (a ⊕ b, overflows (signed a +ℤ signed b))
 
+-- sub: the wrapped difference, and whether the signed one didn't fit
 unfoldable pub difference_checked : ℕ → ℕ → ℕ × Bool
 difference_checked a b = (a ⊖ b, overflows (signed a -ℤ signed b))
 
+-- mul: the wrapped product, and whether the signed one didn't fit
 unfoldable pub product_checked : ℕ → ℕ → ℕ × Bool
 product_checked a b = (a ⊗ b, overflows (signed a *ℤ signed b))
 
--- shl, shr, lshl, lshr: a number of so many bits shifted by some places, 0 where they are as many or more
+-- shl, lshl: a number of so many bits shifted left by some places, 0 if they are as many as the bits or more
 abbrev pub shifted_left : ℕ → ℕ → ℕ → ℕ
 shifted_left bits n places = if nat_lt places bits then (n * 2 ^ places) % 2 ^ bits else 0
 
+-- shr, lshr: shifted right by some places, 0 if they are as many as the bits or more
 abbrev pub shifted_right : ℕ → ℕ → ℕ → ℕ
 shifted_right bits n places = if nat_lt places bits then n / 2 ^ places else 0

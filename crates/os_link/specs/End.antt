@@ -35,11 +35,11 @@ abbrev pub arrived_at : Option ℕ → ℕ → LinkIn → LinkIn
 arrived_at None byte i = record i { buffer = Some byte }
 arrived_at (Some _) byte i = record i { overruns = min (i.overruns + 1) (2 ^ 32 - 1) }
 
--- a byte arrives: it fills an empty buffer, and is dropped and counted where the buffer is full
+-- a byte arrives: it fills an empty buffer, and is dropped and counted if the buffer is full
 abbrev pub with_arrived : ℕ → LinkIn → LinkIn
 with_arrived byte i = arrived_at i.buffer byte i
 
--- an acknowledge arrives: it counts where one is awaited
+-- an acknowledge arrives: it counts if one is awaited
 abbrev pub with_acknowledge : LinkOut → LinkOut
 with_acknowledge o = if o.awaits then record { awaits = false; acknowledged = true } else o
 
@@ -53,7 +53,7 @@ abbrev pub posted : ℕ → LinkEnd → LinkEnd
 posted byte e =
     record e { latch = record e.latch { byte = Some byte }; output = record { awaits = true; acknowledged = false } }
 
--- by what the buffer holds: nothing is acknowledged where it is empty
+-- by what the buffer holds: nothing is acknowledged if it is empty
 abbrev pub emptied_of : Option ℕ → LinkEnd → LinkEnd
 emptied_of None e = e
 emptied_of (Some _) e =

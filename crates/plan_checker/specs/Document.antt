@@ -28,24 +28,28 @@ node n =
 abbrev pub range : RangePlan → Data
 range r = list integer (r.first ∷ r.last ∷ [])
 
+-- a user is a table of his name and his hosts' ports
 abbrev pub user : UserData → Data
 user u =
     table (member (codes "host") (list integer u.hosts)
     (member (codes "name") (string u.name) no_members))
 
--- the fields of a domain's only range and only user
+-- the first port of the only range
 abbrev pub first_of : List RangePlan → ℤ
 first_of [] = pos 0
 first_of (r ∷ _) = r.first
 
+-- the last port of the only range
 abbrev pub last_of : List RangePlan → ℤ
 last_of [] = pos 0
 last_of (r ∷ _) = r.last
 
+-- the hosts of the only user
 abbrev pub hosts_of_first : List UserData → List ℤ
 hosts_of_first [] = []
 hosts_of_first (u ∷ _) = u.hosts
 
+-- the name of the only user
 abbrev pub name_of_first : List UserData → List ℕ
 name_of_first [] = []
 name_of_first (u ∷ _) = u.name
@@ -71,6 +75,7 @@ domain Three d =
     (member (codes "range") (list range d.ranges)
     (member (codes "user") (list user d.users) no_members))))
 
+-- the document of a plan in a version
 abbrev pub document : PlanVersion → List DomainData → Members
 document version plan =
     member (codes "domain") (list (domain version) plan)
@@ -86,6 +91,7 @@ HasForm One d = (length d.ranges ≡ 1) × (length d.users ≡ 1)
 HasForm Two d = length d.users ≡ 1
 HasForm Three d = Unit {0}
 
+-- the version can write the domain, and each node has four links
 abbrev pub IsWhole : PlanVersion → DomainData → Type 0
 IsWhole version d = HasForm version d × All HasFourLinks d.nodes
 

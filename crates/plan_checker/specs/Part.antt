@@ -20,6 +20,7 @@ pub record PartData : Type 0 where
   pub nodes : List NodePart
   pub hosts : List HostPart
 
+-- a part with these fields
 abbrev pub part_with : ℕ → ℕ → ℕ → List NodePart → List HostPart → PartData
 part_with count limit users nodes hosts = record { count = count; limit = limit; users = users; nodes = nodes; hosts = hosts }
 
@@ -47,10 +48,11 @@ pub record IsPart (p : PartData) : Type 0 where
   pub distinct : IsDistinct (ports_used p)
   pub owners : All (λ h. h.user < p.users) p.hosts
 
--- the virtual port of a link, where it is wired
+-- the virtual port of a link, if it is wired
 abbrev pub port_at : ℤ → Option ℕ
 port_at link = cond (is_wired link) (Some (unsigned_abs link)) None
 
+-- a node of a plan, as a part has it
 abbrev pub node_part : NodePlan → NodePart
 node_part n = record { memory = unsigned_abs n.memory; links = map port_at n.links }
 

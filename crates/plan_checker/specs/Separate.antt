@@ -8,10 +8,11 @@ use Rattle.plan_checker.specs.Fault.{number_of}
 use Rattle.plan_checker.specs.declared.fault.PlanFault.{PlanFault}
 use Rattle.plan_checker.specs.declared.fault.PlanFault.TheVariants.{DomainCount, Name, NameTwice, Range, SharedPort, NodeCount, Memory, Port, PortTwice, HostCount, UnwiredNode, Limit, RangeCount, UserCount}
 
--- least ≤ x ≤ greatest, of numbers and of integers
+-- least ≤ n ≤ greatest, of numbers
 abbrev pub IsFrom : ℕ → ℕ → ℕ → Type 0
 IsFrom least greatest n = (least ≤ n) × (n ≤ greatest)
 
+-- least ≤ x ≤ greatest, of integers
 abbrev pub Lies : ℤ → ℤ → ℤ → Type 0
 Lies least greatest x = (least ≤ℤ x) × (x ≤ℤ greatest)
 
@@ -23,6 +24,7 @@ IsDistinct xs = AllPairs (λ x y. x ≢ y) xs
 abbrev pub IsNameByte : ℕ → Type 0
 IsNameByte b = (IsFrom 97 122 b ⊎ IsFrom 48 57 b) ⊎ (b ≡ 45)
 
+-- 1 to 32 of these bytes
 abbrev pub IsName : List ℕ → Type 0
 IsName name = IsFrom 1 32 (length name) × All IsNameByte name
 
@@ -38,13 +40,15 @@ IsRange r = (pos 0 ≤ℤ r.first) × (r.first ≤ℤ r.last) × (r.last ≤ℤ 
 abbrev pub HasPort : RangePlan → ℤ → Type 0
 HasPort r port = Lies r.first r.last port
 
+-- no port lies in both ranges
 abbrev pub ShareNoPort : RangePlan → RangePlan → Type 0
 ShareNoPort r s = (port : ℤ) → HasPort r port → HasPort s port → ⊥
 
--- the number of ports of a range, and of a list of ranges
+-- the number of ports of a range
 abbrev pub length_of : RangePlan → ℤ
 length_of r = (r.last -ℤ r.first) +ℤ pos 1
 
+-- the number of ports of a list of ranges
 abbrev pub count_of : List RangePlan → ℤ
 count_of [] = pos 0
 count_of (r ∷ rs) = length_of r +ℤ count_of rs
@@ -53,6 +57,7 @@ count_of (r ∷ rs) = length_of r +ℤ count_of rs
 abbrev pub IsVirtualPort : List RangePlan → ℤ → Type 0
 IsVirtualPort ranges port = (pos 0 ≤ℤ port) × (port <ℤ count_of ranges)
 
+-- a multiple of 4 from 2,048 to 65,536
 abbrev pub IsMemorySize : ℤ → Type 0
 IsMemorySize bytes = Lies (pos 2048) (pos 65536) bytes × (int_rem bytes (pos 4) ≡ pos 0)
 
@@ -64,6 +69,7 @@ is_wired link = not (int_eq link (negsuc 0))
 abbrev pub wired_links : NodePlan → List ℤ
 wired_links n = filter is_wired n.links
 
+-- at least one link is wired
 abbrev pub HasWiredLink : NodePlan → Type 0
 HasWiredLink n = 1 ≤ length (wired_links n)
 
@@ -79,10 +85,11 @@ HasHosts d = All (λ u. 1 ≤ length u.hosts) d.users × (length (hosts_of d) �
 abbrev pub used_ports : DomainData → List ℤ
 used_ports d = hosts_of d ++ flat_map wired_links d.nodes
 
--- all users of a plan, and all ranges
+-- all users of a plan
 abbrev pub users_of : List DomainData → List UserData
 users_of plan = flat_map (λ d. d.users) plan
 
+-- all ranges of a plan
 abbrev pub ranges_of : List DomainData → List RangePlan
 ranges_of plan = flat_map (λ d. d.ranges) plan
 

@@ -16,6 +16,7 @@ pub data Change : Type 0 where
   Changed : Queue → List ℕ → Change
   Kept : Fault → Queue → List ℕ → Change
 
+-- an answer of the code, with the queue and memory that it left
 abbrev pub changed : Result (Unit {0}) Fault → Queue → List ℕ → Change
 changed (Ok _) queue m = Changed queue m
 changed (Err fault) queue m = Kept fault queue m
@@ -25,7 +26,7 @@ abbrev pub linked : Result (List ℕ) Fault → Queue → List ℕ → Queue →
 linked (Ok n) old m new = Changed new n
 linked (Err fault) old m new = Kept fault old m
 
--- where none waits the workspace is first and last; else the last links to it
+-- if none waits the workspace is first and last; else the last links to it
 unfoldable pub after_put : Queue → List ℕ → ℕ → Change
 after_put q m w =
     if q.front == not_process
@@ -37,6 +38,7 @@ pub data Taking : Type 0 where
   Took : Option ℕ → Queue → Taking
   Stayed : Fault → Queue → Taking
 
+-- an answer of the code, with the queue that it left
 abbrev pub taken : Result (Option ℕ) Fault → Queue → Taking
 taken (Ok w) queue = Took w queue
 taken (Err fault) queue = Stayed fault queue

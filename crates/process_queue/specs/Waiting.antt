@@ -37,6 +37,7 @@ abbrev pub first : List ℕ → Option ℕ
 first [] = None
 first (w ∷ ws) = Some w
 
+-- a list without its first
 abbrev pub others : List ℕ → List ℕ
 others [] = []
 others (w ∷ ws) = ws

@@ -3,6 +3,7 @@ use Rattle.std.specs.Prelude.{◌≡◌, ℕ, List, map, Some, slice_get, Contai
 use Rattle.plan_checker.specs.Data.{DomainData}
 use Rattle.plan_checker.specs.Part.{physical_ports}
 
+-- the physical ports of each domain of a plan
 abbrev pub domains_of : List DomainData → List (List ℕ)
 domains_of plan = map physical_ports plan
 

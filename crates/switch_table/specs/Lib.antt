@@ -1,4 +1,4 @@
--- what only helps contracts
+-- what must be believed
 pub mod Domains
 pub mod Rule
 pub mod SeatStates

@@ -27,6 +27,7 @@ IsConfined domains i w =
 abbrev pub Holds : View → ℕ → Type 0
 Holds v i = (k : ℕ) × (d : List ℕ) × (slice_get v.held k ≡ Some d) × Contains d i
 
+-- what a seat's view says is true of the words of the table
 pub record Knows (domains : List (List ℕ)) (words : List ℕ) (v : View) : Type 0 where
   pub plan : v.domains ≡ domains
   pub wide : length v.words ≡ 32
@@ -37,6 +38,7 @@ pub record Knows (domains : List (List ℕ)) (words : List ℕ) (v : View) : Typ
   -- each word is at least as new as any seat's view of it, the operator's above all
   pub fresh : (i : ℕ) → IsNewer (slice_index words i) (slice_index v.words i)
 
+-- the rule of the table, between any two steps
 pub record IsRuled {S : Type 0} (domains : List (List ℕ)) (s : State S View) : Type 0 where
   pub wide : length s.words ≡ 32
   pub separate : IsSeparate domains
@@ -49,6 +51,7 @@ pub record IsRuled {S : Type 0} (domains : List (List ℕ)) (s : State S View) :
 abbrev pub opening_view : List (List ℕ) → List (List ℕ) → View
 opening_view domains held = record { domains = domains; held = held; words = replicate 32 0 }
 
+-- the view with another word at an output
 abbrev pub with_word : View → ℕ → ℕ → View
 with_word v i w = record v { words = slice_set v.words i w }
 
@@ -56,6 +59,7 @@ with_word v i w = record v { words = slice_set v.words i w }
 abbrev pub bits_of : View → List ℕ → List ℕ
 bits_of v ports = map (slice_index v.words) ports
 
+-- the words that a view has of these ports
 abbrev pub words_of : View → List ℕ → List Word
 words_of v ports = map word_of (bits_of v ports)
 

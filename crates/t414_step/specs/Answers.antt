@@ -7,6 +7,7 @@ use Rattle.t414_step.specs.declared.stepping.Stepped.TheVariants as code
 use Rattle.t414_step.specs.Step as model
 use Rattle.t414_step.specs.Step.{Answer}
 
+-- the answer of the code, with what it left
 abbrev pub answered : Stepped → Cpu → FourLinks → List ℕ → Answer
 answered code.Ran s ls m = model.Ran s ls m
 answered code.Idle s ls m = model.Idle s ls m
@@ -18,6 +19,7 @@ is_idle code.Ran = false
 is_idle code.Idle = true
 is_idle (code.Fault fault) = false
 
+-- a step's answer that there was nothing to do
 abbrev pub tells_idle : Answer → Bool
 tells_idle (model.Ran s ls m) = false
 tells_idle (model.Idle s ls m) = true

@@ -11,7 +11,7 @@ use Rattle.t414_step.specs.Registers.{rests}
 use Rattle.t414_step.specs.Rows.{row}
 use Rattle.t414_step.specs.Step.{step}
 
--- a step answers Idle exactly where there is nothing to do
+-- a step answers Idle exactly if there is nothing to do
 abbrev pub IdleWhereItRests : Type 0
 IdleWhereItRests = (s : Cpu) (ls : FourLinks) (m : List ℕ) → tells_idle (step s ls m) ≡ rests s ls
 

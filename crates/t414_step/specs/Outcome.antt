@@ -29,36 +29,42 @@ abbrev pub finished : Result (Unit {0}) Fault → Cpu → FourLinks → List ℕ
 finished (Ok _) s ls m = Gave s ls m
 finished (Err fault) s ls m = Halted fault ls m
 
+-- the same of an instruction that leaves the links
 abbrev pub left : Result (Unit {0}) Fault → Cpu → List ℕ → Outcome
 left (Ok _) s m = Went s m
 left (Err fault) s m = Stopped fault m
 
+-- goes on with what was read
 abbrev pub read : Result ℕ Fault → List ℕ → (ℕ → Outcome) → Outcome
 read (Ok w) m next = next w
 read (Err fault) m next = Stopped fault m
 
+-- goes on with memory after a write
 abbrev pub written : Result (List ℕ) Fault → List ℕ → (List ℕ → Outcome) → Outcome
 written (Ok n) m next = next n
 written (Err fault) m next = Stopped fault m
 
--- reads a word or a byte, and goes on with it
+-- reads a word, and goes on with it
 abbrev pub load : List ℕ → ℕ → (ℕ → Outcome) → Outcome
 load m a next = read (word_at m a) m next
 
+-- reads a byte, and goes on with it
 abbrev pub load_byte : List ℕ → ℕ → (ℕ → Outcome) → Outcome
 load_byte m a next = read (byte_at m a) m next
 
--- writes a word or a byte, and goes on with memory after it
+-- writes a word, and goes on with memory after it
 abbrev pub store : List ℕ → ℕ → ℕ → (List ℕ → Outcome) → Outcome
 store m a w next = written (with_word m a w) m next
 
+-- writes a byte, and goes on with memory after it
 abbrev pub store_byte : List ℕ → ℕ → ℕ → (List ℕ → Outcome) → Outcome
 store_byte m a b next = written (with_byte m a b) m next
 
--- puts a workspace in the queue, and goes on with the registers and memory after it
+-- goes on with the registers and memory after a put
 abbrev pub requeued : Change → Cpu → (Cpu → List ℕ → Outcome) → Outcome
 requeued (Changed q n) s next = next (record s { queue = q }) n
 requeued (Kept fault q n) s next = Stopped fault n
 
+-- puts a workspace in the queue, and goes on with the registers and memory after it
 abbrev pub put : ℕ → Cpu → List ℕ → (Cpu → List ℕ → Outcome) → Outcome
 put w s m next = requeued (after_put s.queue m w) s next

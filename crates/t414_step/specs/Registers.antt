@@ -7,22 +7,27 @@ use Rattle.link_channels.specs.Links.{any_has_work}
 use Rattle.link_channels.specs.declared.link.FourLinks.{FourLinks}
 use Rattle.t414_step.specs.declared.cpu.Cpu.{Cpu}
 
--- 1 where a test holds, else 0
+-- 1 if a test holds, else 0
 abbrev pub bit : Bool → ℕ
 bit b = if b then 1 else 0
 
+-- push x: C = B, B = A, A = x
 abbrev pub push : ℕ → Cpu → Cpu
 push x s = record s { a = x; b = s.a; c = s.b }
 
+-- un x: A = x
 abbrev pub un : ℕ → Cpu → Cpu
 un x s = record s { a = x }
 
+-- bin x: A = x, B = C
 abbrev pub bin : ℕ → Cpu → Cpu
 bin x s = record s { a = x; b = s.c }
 
+-- drop: A = B, B = C
 abbrev pub drop : Cpu → Cpu
 drop s = record s { a = s.b; b = s.c }
 
+-- drop2: A = C
 abbrev pub drop2 : Cpu → Cpu
 drop2 s = record s { a = s.c }
 

@@ -1,6 +1,6 @@
 -- The instruction table: what each function and each operation does to the registers and to memory.
--- Transputer instruction set handbook. Where the handbook leaves a register or a case undefined the row is our
--- choice: norm, cword, testpranal, ldiv where C >= A, rem of MinInt by -1, and all registers that a row doesn't name.
+-- Transputer instruction set handbook. If the handbook leaves a register or a case undefined the row is our
+-- choice: norm, cword, testpranal, ldiv if C >= A, rem of MinInt by -1, and all registers that a row doesn't name.
 use Rattle.std.specs.Prelude.{ℕ, ◌+◌, ◌-◌, ◌*◌, ◌/◌, ◌%◌, ◌^◌, ◌==◌, Bool, true, false, ◌&&◌, ◌||◌, not, List, pos, ◌+ℤ◌, ◌-ℤ◌, int_lt, int_le, int_div, int_rem, neg_ℤ, Option, Some, None, nat_le, nat_lt, if◌then◌else◌, bit_and, bit_or, bit_xor}
 use Rattle.std.specs.Int.{w32, w64, cast_unsigned, leading_zeros}
 use Rattle.node_memory.specs.Marks.{not_process, enabling, waiting, ready, none_selected}
@@ -19,7 +19,7 @@ use Rattle.t414_step.specs.ChannelRows.{channel_row}
 use Rattle.t414_step.specs.Outcome.{Outcome, Went, Stopped, Asked, left, load, load_byte, store, store_byte, put}
 use Rattle.t414_step.specs.Registers.{bit, push, un, bin, drop, drop2, long, goto, at_workspace, leave, double, sign_of, carry}
 
--- Error is set where a test holds, which halts the node where HaltOnError is set
+-- Error is set if a test holds, which halts the node if HaltOnError is set
 abbrev pub error_if : Bool → Cpu → List ℕ → Outcome
 error_if false s m = Went s m
 error_if true s m = if s.halt_on_error then Stopped ErrorSet m else Went (record s { error = true }) m
@@ -32,7 +32,7 @@ save s m next = store m (s.workspace ⊖ 4) s.instruction next
 abbrev pub wait : Cpu → List ℕ → Outcome
 wait s m = save s m (λ m. Went (leave s) m)
 
--- where the byte count is 1,024: save, put W, leave. The chip uses time in its place
+-- if the byte count is 1,024: save, put W, leave. The chip uses time in its place
 abbrev pub slice : Cpu → List ℕ → Outcome
 slice s m =
     if s.bytes == 1024 then save s m (λ m. put s.workspace s m (λ s m. Went (leave s) m)) else Went s m

@@ -33,15 +33,18 @@ pub data Resumption : Type 0 where
   Nobody : Cpu → Resumption
   Lost : Fault → Resumption
 
+-- the process goes on at the word that was read, or that read was a fault
 abbrev pub placed : Result ℕ Fault → ℕ → Cpu → Resumption
 placed (Ok i) w s = Resumed (resumed w i s)
 placed (Err fault) w s = Lost fault
 
+-- a look at the queue, by what was taken
 abbrev pub found : Taking → Cpu → List ℕ → Resumption
 found (Took None q) s m = Nobody (record s { queue = q })
 found (Took (Some w) q) s m = placed (word_at m (aligned w ⊖ 4)) (aligned w) (record s { queue = q })
 found (Stayed fault q) s m = Lost fault
 
+-- a process is taken from the queue, and the word at W - 4 read
 abbrev pub resumption : Cpu → List ℕ → Resumption
 resumption s m = found (after_take s.queue m) s m
 
@@ -57,20 +60,23 @@ pub data Answer : Type 0 where
   Idle : Cpu → FourLinks → List ℕ → Answer
   Broke : Fault → FourLinks → List ℕ → Answer
 
+-- the answer of a step that did a byte
 abbrev pub byte_answer : Effect → Answer
 byte_answer (Gave s ls m) = Ran s ls m
 byte_answer (Halted fault ls m) = Broke fault ls m
 
+-- the step, by what came of the look at the queue
 abbrev pub going_on : Resumption → Bool → FourLinks → List ℕ → Answer
 going_on (Resumed s) acted ls m = byte_answer (upon ls (byte_done s m))
 going_on (Nobody s) acted ls m = if acted then Ran s ls m else Idle s ls m
 going_on (Lost fault) acted ls m = Broke fault ls m
 
--- where there is no current process one is taken, and where there is one then a byte is done
+-- if there is no current process one is taken, and if there is one then a byte is done
 abbrev pub processed : Bool → Cpu → FourLinks → List ℕ → Answer
 processed acted s ls m =
     if s.running then byte_answer (upon ls (byte_done s m)) else going_on (resumption s m) acted ls m
 
+-- the step, by what came of the service of the links
 abbrev pub after_service : Reply (Bool × Queue) FourLinks → Cpu → Answer
 after_service (Gave x ls m) s = processed x.0 (record s { queue = x.1 }) ls m
 after_service (Halted fault ls m) s = Broke fault ls m

@@ -1,4 +1,4 @@
--- what only helps contracts
-pub mod Passes
-pub mod Rules
+-- what must be believed
 pub mod Tokens
+pub mod Rules
+pub mod Passes
