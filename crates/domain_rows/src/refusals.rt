@@ -1,6 +1,6 @@
 //! Want of memory: a refused call changes nothing, and the next does what the first would have done.
 //!
-//! `bench/domain_refusals` runs these tests while the Nth allocation is refused, for each N.
+//! `bench/refusals` runs these tests while each allocation in turn is refused.
 use crate::plans::{ANN_AND_BOB, Plain, opened, plan_of};
 use crate::work::{ANN, run, word};
 use domain_core::{By, Committed, Entry, Event, Refusal, Reply, Ticket};
