@@ -1,17 +1,17 @@
 -- what must be believed
-pub mod Answers
-pub mod Commands
-pub mod Devices
-pub mod Domain
 pub mod Hosts
-pub mod Journal
-pub mod Laws
-pub mod Machine
-pub mod MachineValue
-pub mod Moves
-pub mod Peek
-pub mod Private
-pub mod Ticket
+pub mod Devices
 pub mod Wiring
+pub mod Moves
+pub mod Machine
+pub mod Private
+pub mod Journal
+pub mod MachineValue
+pub mod Domain
+pub mod Ticket
+pub mod Commands
+pub mod Answers
+pub mod Peek
+pub mod Laws
 -- what only helps contracts
 pub mod Numbers

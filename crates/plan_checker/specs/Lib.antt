@@ -6,5 +6,5 @@ pub mod Part
 pub mod Laws
 -- what only helps contracts
 pub mod Version
-pub mod Document
 pub mod Fields
+pub mod Document
