@@ -89,8 +89,8 @@ fn open_domains(alloc: Global, plan: &AcceptedPlan) -> Result<Vec<Domain<PlainOu
 }
 
 impl PlainFarm {
-    /// The farm of a plan as it is opened: all outputs disconnected, with words of 0, nothing come of any
-    /// message, nodes and hosts fresh, all journals empty.
+    /// The farm of a plan as it is opened: all outputs disconnected, with words of 0, no message begun, nodes
+    /// and hosts fresh, all journals empty.
     ///
     /// # Errors
     ///
