@@ -7,24 +7,11 @@ ghost use Rattle.std.specs.Prelude.{◌≡◌, ◌<◌, IfOk};
 ghost use Rattle.switch_table.specs.Seats.{surveyed_table, table_of};
 
 use crossbar::{Outputs, PlainOutputs, connect};
-use plan_checker::{AcceptedPlan, PlanFault, check, read_plan};
+use plan_checker::{AcceptedPlan, PlanFault};
+use sample_plans::{BOB_ALONE, plan_of};
 use std::alloc::Global;
 use std::{env, io, thread};
 use switch_table::{DomainSeat, OperatorSeat, SwitchTable};
-
-/// One domain has ports 8 to 15.
-const PLAN: &str = r#"
-version = 1
-[[domain]]
-name = "bob"
-first = 8
-last = 15
-limit = 1000000
-host = [7]
-[[domain.node]]
-memory = 4096
-links = [0, -1, -1, -1]
-"#;
 
 // The table of the plan, the seat of its domain, and the operator's.
 fn opened(
@@ -118,8 +105,7 @@ fn main(rt: HostRuntime) -> io::Result<()> {
         .and_then(|word| word.parse::<u32>().ok())
         .unwrap_or(1000);
     let work = words.get(2).map_or("all", |word| word.as_str());
-    let plan = read_plan(alloc, PLAN.as_bytes()).map_err(failed)?;
-    let plan = check(alloc, plan).map_err(failed)?;
+    let plan = plan_of(alloc, BOB_ALONE).map_err(failed)?;
     let (table, mut seat, operator) = match opened(alloc, &plan) {
         Ok(opened) => opened,
         Err(fault) => return Err(failed(fault)),

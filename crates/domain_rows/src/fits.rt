@@ -1,8 +1,9 @@
 //! Which domain of which plan a domain is.
-use crate::plans::{
-    ANN_AND_BOB, ANN_AND_CAS, LIMIT_3, OTHER_RANGES, TWO_NODES, domain_of, opened, plan_of,
-};
+use crate::opening::{domain_of, opened};
 use crate::work::join;
+use sample_plans::{
+    ANN_AND_BOB, ANN_OF_THREE_EVENTS, ANN_WITH_CAS, EXCHANGED_RANGES, TWO_NODES, plan_of,
+};
 use std::test::Fail;
 
 /// Ann's and bob's parts are equal: their ports alone tell them apart.
@@ -25,7 +26,12 @@ fn domain_fits_its_own_place_of_its_plan_alone(rt: HostRuntime) -> Result<(), Fa
 #[test]
 fn domain_fits_no_other_plan(rt: HostRuntime) -> Result<(), Fail> {
     let domain = domain_of(rt.alloc(), ANN_AND_BOB, 0)?;
-    for text in [LIMIT_3, OTHER_RANGES, ANN_AND_CAS, TWO_NODES] {
+    for text in [
+        ANN_OF_THREE_EVENTS,
+        EXCHANGED_RANGES,
+        ANN_WITH_CAS,
+        TWO_NODES,
+    ] {
         let plan = plan_of(rt.alloc(), text)?;
         assert!(rt; !domain.fits(&plan, 0));
     }

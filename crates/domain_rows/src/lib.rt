@@ -8,7 +8,7 @@ mod fits;
 #[cfg(test)]
 mod hosts;
 #[cfg(test)]
-mod plans;
+mod opening;
 #[cfg(test)]
 mod refusals;
 #[cfg(test)]

@@ -1,10 +1,11 @@
 //! Want of memory: a refused call changes nothing, and the next does what the first would have done.
 //!
 //! `bench/refusals` runs these tests while each allocation in turn is refused.
-use crate::plans::{ANN_AND_BOB, Plain, opened, plan_of};
+use crate::opening::{Plain, opened};
 use crate::work::{ANN, run, word};
 use domain_core::{By, Committed, Entry, Event, Refusal, Reply, Ticket};
 use plan_checker::{AcceptedPlan, PlanFault};
+use sample_plans::{ANN_AND_BOB, plan_of};
 use std::alloc::Global;
 use std::process::Abort;
 use std::test::Fail;

@@ -1,5 +1,5 @@
 //! What users and the farm do with a domain.
-use crate::plans::Plain;
+use crate::opening::Plain;
 use domain_core::{By, Entry, Event, Refusal};
 use t414_step::Stepped;
 

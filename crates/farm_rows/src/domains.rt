@@ -1,7 +1,7 @@
 //! A farm's domains one by one.
-use crate::plans::{ANN_ALONE, ANN_AND_BOB, ANN_OF_THREE_EVENTS, plan_of};
 use domain_core::{By, Event, Reply};
 use farm_core::PlainFarm;
+use sample_plans::{ANN_ALONE, ANN_AND_BOB, ANN_OF_THREE_EVENTS, plan_of};
 use std::test::Fail;
 use virtual_switch::ConfigReply;
 

@@ -7,8 +7,6 @@ mod calls;
 #[cfg(test)]
 mod domains;
 #[cfg(test)]
-mod plans;
-#[cfg(test)]
 mod refusals;
 #[cfg(test)]
 mod runs;

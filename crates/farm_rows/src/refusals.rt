@@ -1,9 +1,9 @@
 //! A refused allocation leaves nothing behind: the second call answers as if there had been no first.
 use crate::calls::{Call, config};
-use crate::plans::{ANN_AND_BOB, plan_of};
 use domain_core::{By, Event, Refusal, Reply};
 use farm_core::{PlainFarm, run};
 use plan_checker::{AcceptedPlan, PlanFault};
+use sample_plans::{ANN_AND_BOB, plan_of};
 use std::alloc::Global;
 use std::test::Fail;
 use virtual_switch::ConfigReply;

@@ -1,9 +1,9 @@
 //! Runs of plans.
 use crate::calls::{Call, joined};
-use crate::plans::{ANN_ALONE, ANN_AND_BOB, ANN_IN_TWO_RANGES, plan_of};
 use bootstrap::{Activity, Seen};
 use domain_core::{By, Event, Refusal, Reply};
 use farm_core::run;
+use sample_plans::{ANN_ALONE, ANN_AND_BOB, ANN_IN_TWO_RANGES, plan_of};
 use std::alloc::Global;
 use std::test::Fail;
 

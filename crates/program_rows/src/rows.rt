@@ -1,4 +1,5 @@
 use farm_program::{Settings, refuse_arguments, run, settings};
+use sample_plans::{ANN_ALONE, ANN_AND_BOB};
 use script_text::{HexFault, bytes_of};
 use std::alloc::Global;
 use std::io;
@@ -6,31 +7,6 @@ use std::io::{Read, Write};
 use std::sync::Wait;
 use std::test::Fail;
 use std::thread::Threads;
-
-/// Ann has ports 0 to 7.
-const ANN: &str = r#"version = 1
-[[domain]]
-name = "ann"
-first = 0
-last = 7
-limit = 1000000
-host = [7]
-[[domain.node]]
-memory = 4096
-links = [0, -1, -1, -1]
-"#;
-
-/// Bob has ports 8 to 15.
-const BOB: &str = r#"[[domain]]
-name = "bob"
-first = 8
-last = 15
-limit = 1000000
-host = [7]
-[[domain.node]]
-memory = 4096
-links = [0, -1, -1, -1]
-"#;
 
 /// Gives a text in pieces of at most `piece` bytes, and fails at one read.
 #[derive(Drop)]
@@ -214,23 +190,23 @@ fn cut_texts_are_refused_by_their_part(rt: HostRuntime) -> Result<(), Fail> {
         ("", "version = 1\n", 3, "", "plan: 2\n"),
         ("", "version = 1\n[[domain", 3, "", "plan: 1\n"),
         ("", "version = 1\ndomain = []\n---\nann", 3, "", "plan: 3\n"),
-        (ANN, "", 0, "", ""),
-        (ANN, BOB, 0, "", ""),
-        (ANN, "--", 3, "", "plan: 1\n"),
-        (ANN, "---", 0, "", ""),
-        (ANN, "---\r", 3, "", "plan: 1\n"),
-        (ANN, "---\nan", 4, "", "line 1: user\n"),
-        (ANN, "---\nann", 4, "", "line 1: verb\n"),
-        (ANN, "---\nann config", 4, "", "line 1: args\n"),
-        (ANN, "---\nann config 010", 4, "", "line 1: hex\n"),
+        (ANN_ALONE, "", 0, "", ""),
+        (ANN_AND_BOB, "", 0, "", ""),
+        (ANN_ALONE, "--", 3, "", "plan: 1\n"),
+        (ANN_ALONE, "---", 0, "", ""),
+        (ANN_ALONE, "---\r", 3, "", "plan: 1\n"),
+        (ANN_ALONE, "---\nan", 4, "", "line 1: user\n"),
+        (ANN_ALONE, "---\nann", 4, "", "line 1: verb\n"),
+        (ANN_ALONE, "---\nann config", 4, "", "line 1: args\n"),
+        (ANN_ALONE, "---\nann config 010", 4, "", "line 1: hex\n"),
         (
-            ANN,
+            ANN_ALONE,
             "---\r\n#\n\nann poke 256 0 g\r\n",
             4,
             "",
             "line 3: args\n",
         ),
-        (ANN, "---\nann config 0205", 0, "ann config 00\n", ""),
+        (ANN_ALONE, "---\nann config 0205", 0, "ann config 00\n", ""),
     ] {
         let text = format!(in alloc; "{plan}{rest}")?;
         assert!(rt;
@@ -264,7 +240,7 @@ fn words_are_refused_or_helped(rt: HostRuntime) {
 #[test]
 fn failing_reads_are_told(rt: HostRuntime) -> Result<(), Fail> {
     let alloc = rt.alloc();
-    let text = format!(in alloc; "{ANN}---\nann config 0100\n")?;
+    let text = format!(in alloc; "{ANN_ALONE}---\nann config 0100\n")?;
     for at in 0..=text.len() as u64 {
         let mut input = source_of(text.as_bytes(), 1, at);
         let mut output = sink_of(rt.alloc(), 9, NEVER, NEVER);
@@ -283,7 +259,7 @@ fn failing_reads_are_told(rt: HostRuntime) -> Result<(), Fail> {
 #[test]
 fn failing_writes_leave_a_beginning(rt: HostRuntime) -> Result<(), Fail> {
     let alloc = rt.alloc();
-    let text = format!(in alloc; "{ANN}{BOB}---\nann config 0100\nbob config 020000\n")?;
+    let text = format!(in alloc; "{ANN_AND_BOB}---\nann config 0100\nbob config 020000\n")?;
     let whole = b"ann config -\nbob config 00\n";
     for at in 0..whole.len() as u64 {
         for (fails_at, takes_none_at) in [(at, NEVER), (NEVER, at)] {

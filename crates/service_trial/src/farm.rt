@@ -4,8 +4,8 @@ ghost use Rattle.std.specs.Prelude.{◌≡◌, ◌≤◌};
 ghost use Rattle.farm_service.specs.Services.{IsItsOperator};
 ghost use Rattle.token_queue.specs.Passes.{AreItsPasses};
 
-use crate::plans::plan_of;
 use farm_service::{Closed, Opened, Service, UserPass, WorkerPass};
+use sample_plans::plan_of;
 use std::alloc::Global;
 use std::sync::Wait;
 use switch_table::OperatorSeat;

@@ -9,7 +9,7 @@ mod crew;
 mod crowd;
 mod farm;
 mod gates;
-mod plans;
+mod many;
 mod replay;
 mod rows;
 mod together;

@@ -2,6 +2,6 @@
 #![tactic(auto)]
 
 #[cfg(test)]
-mod plans;
-#[cfg(test)]
 mod rows;
+#[cfg(test)]
+mod switches;

@@ -3,54 +3,14 @@ ghost use Rattle.std.specs.Prelude.{◌≡◌, IfOk};
 ghost use Rattle.switch_table.specs.Seats.{surveyed_table, table_of};
 
 use crossbar::clear;
-use plan_checker::{AcceptedPlan, PlanFault, check, read_plan};
+use plan_checker::PlanFault;
+use sample_plans::{ANN_AND_BOB, plan_of};
 use std::alloc::Global;
 use switch_table::{DomainSeat, OperatorSeat, SwitchTable};
 use virtual_switch::VirtualSwitch;
 
-/// Ann has ports 0 to 7, bob ports 8 to 15.
-pub const ANN_AND_BOB: &str = r#"
-version = 1
-[[domain]]
-name = "ann"
-first = 0
-last = 7
-limit = 1000000
-host = [7]
-[[domain.node]]
-memory = 4096
-links = [0, -1, -1, -1]
-[[domain]]
-name = "bob"
-first = 8
-last = 15
-limit = 1000000
-host = [7]
-[[domain.node]]
-memory = 4096
-links = [0, -1, -1, -1]
-"#;
-
-/// One domain has ports 16 to 19, and then ports 0 to 3.
-pub const TWO_RANGES: &str = r#"
-version = 2
-[[domain]]
-name = "ann"
-range = [[16, 19], [0, 3]]
-limit = 1000000
-host = [7]
-[[domain.node]]
-memory = 4096
-links = [0, -1, -1, -1]
-"#;
-
 /// A domain's switch over its seat.
 pub type Switch = VirtualSwitch<DomainSeat>;
-
-/// The plan of the text.
-fn plan_of(alloc: Global, text: &str) -> Result<AcceptedPlan, PlanFault> {
-    check(alloc, read_plan(alloc, text.as_bytes())?)
-}
 
 /// The table of the plan, the switch of its last domain, and the operator's seat.
 pub fn last_switch(

@@ -2,10 +2,11 @@
 ghost use Rattle.std.specs.Prelude.{◌≡◌};
 ghost use Rattle.switch_table.specs.Seats.{surveyed_table, table_of};
 
-use crate::farm::{ANN_AND_BOB, Switch, TWO_RANGES, both_switches, fed, last_switch, word_of};
+use crate::farm::{Switch, both_switches, fed, last_switch, word_of};
 use crate::meeting::meet;
 use crate::surveys::{all_are, look, look_apart, watch};
 use plan_checker::PlanFault;
+use sample_plans::{ANN_AND_BOB, TWO_RANGES};
 use std::alloc::Global;
 use std::sync::atomic::AtomicU64;
 use std::test::Fail;

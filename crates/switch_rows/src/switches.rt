@@ -1,21 +1,9 @@
 //! Switches over the domains of a plan.
 use crossbar::PlainOutputs;
-use plan_checker::{PlanFault, check, read_plan};
+use plan_checker::PlanFault;
+use sample_plans::plan_of;
 use std::alloc::Global;
 use virtual_switch::VirtualSwitch;
-
-/// One domain has ports 16 to 19, and then ports 0 to 3.
-pub const TWO_RANGES: &str = r#"
-version = 2
-[[domain]]
-name = "ann"
-range = [[16, 19], [0, 3]]
-limit = 1000000
-host = [7]
-[[domain.node]]
-memory = 4096
-links = [0, -1, -1, -1]
-"#;
 
 pub type Switch = VirtualSwitch<PlainOutputs>;
 
@@ -57,7 +45,7 @@ pub fn physical_of(switch: &Switch, port: u8) -> Option<u8> {
 
 /// The switch of a domain of the plan, to which nothing was said.
 pub fn switch_of(alloc: Global, plan: &str, domain: u8) -> Result<Switch, PlanFault> {
-    let plan = check(alloc, read_plan(alloc, plan.as_bytes())?)?;
+    let plan = plan_of(alloc, plan)?;
     if domain < plan.domains() {
         let outputs = PlainOutputs::unused(plan.ranges(domain));
         Ok(VirtualSwitch::new(outputs))
@@ -68,7 +56,7 @@ pub fn switch_of(alloc: Global, plan: &str, domain: u8) -> Result<Switch, PlanFa
 
 /// The outputs of a domain of the plan, all disconnected.
 pub fn outputs_of(alloc: Global, plan: &str, domain: u8) -> Result<PlainOutputs, PlanFault> {
-    let plan = check(alloc, read_plan(alloc, plan.as_bytes())?)?;
+    let plan = plan_of(alloc, plan)?;
     if domain < plan.domains() {
         Ok(PlainOutputs::unused(plan.ranges(domain)))
     } else {
