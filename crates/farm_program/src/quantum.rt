@@ -1,5 +1,5 @@
 //! How many Steps a node does at a time.
-ghost use Rattle.std.specs.Prelude.{◌≤◌};
+ghost use Rattle.std.specs.Prelude.{◌≡◌, ◌≤◌};
 
 /// How many Steps a node does at a time, 1 to 4,096.
 #[derive(Clone, Copy, Debug, PartialEq, Eq)]
@@ -12,6 +12,7 @@ impl Quantum {
     /// So many Steps, 1 to 4,096.
     pub fn of(steps: u16) -> Quantum
         requires { (1 ≤ steps) × (steps ≤ 4096) }
+        ensures { result.steps ≡ steps }
     {
         Quantum {
             steps: u64::from(steps),
@@ -20,7 +21,8 @@ impl Quantum {
 
     /// The number of Steps.
     pub fn steps(self) -> u64
-        ensures { (1 ≤ result) × (result ≤ 4096) }
+        ensures answer { result ≡ self.steps }
+        ensures in_range { (1 ≤ result) × (result ≤ 4096) }
     {
         self.steps
     }

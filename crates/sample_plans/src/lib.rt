@@ -27,75 +27,6 @@ memory = 4096
 links = [0, -1, -1, -1]
 "#;
 
-/// Ann has ports 0 to 7, bob ports 8 to 15.
-pub const ANN_AND_BOB: &str = r#"
-version = 1
-[[domain]]
-name = "ann"
-first = 0
-last = 7
-limit = 1000000
-host = [7]
-[[domain.node]]
-memory = 4096
-links = [0, -1, -1, -1]
-[[domain]]
-name = "bob"
-first = 8
-last = 15
-limit = 1000000
-host = [7]
-[[domain.node]]
-memory = 4096
-links = [0, -1, -1, -1]
-"#;
-
-/// The same, but that three events of ann's are recorded at most.
-pub const ANN_OF_THREE_EVENTS: &str = r#"
-version = 1
-[[domain]]
-name = "ann"
-first = 0
-last = 7
-limit = 3
-host = [7]
-[[domain.node]]
-memory = 4096
-links = [0, -1, -1, -1]
-[[domain]]
-name = "bob"
-first = 8
-last = 15
-limit = 1000000
-host = [7]
-[[domain.node]]
-memory = 4096
-links = [0, -1, -1, -1]
-"#;
-
-/// Ann has ports 0 to 7, bob ports 8 to 15.
-pub const ANN_AND_BOB: &str = r#"
-version = 1
-[[domain]]
-name = "ann"
-first = 0
-last = 7
-limit = 1000000
-host = [7]
-[[domain.node]]
-memory = 4096
-links = [0, -1, -1, -1]
-[[domain]]
-name = "bob"
-first = 8
-last = 15
-limit = 1000000
-host = [7]
-[[domain.node]]
-memory = 4096
-links = [0, -1, -1, -1]
-"#;
-
 /// The same, but that three events of ann's are recorded at most.
 pub const ANN_OF_THREE_EVENTS: &str = r#"
 version = 1
@@ -147,69 +78,6 @@ memory = 4096
 links = [0, -1, -1, -1]
 "#;
 
-/// Ann has ports 0 to 7, bob ports 8 to 15.
-pub const ANN_AND_BOB: &str = r#"
-version = 1
-[[domain]]
-name = "ann"
-first = 0
-last = 7
-limit = 1000000
-host = [7]
-[[domain.node]]
-memory = 4096
-links = [0, -1, -1, -1]
-[[domain]]
-name = "bob"
-first = 8
-last = 15
-limit = 1000000
-host = [7]
-[[domain.node]]
-memory = 4096
-links = [0, -1, -1, -1]
-"#;
-
-/// The same, but that three events of ann's are recorded at most.
-pub const ANN_OF_THREE_EVENTS: &str = r#"
-version = 1
-[[domain]]
-name = "ann"
-first = 0
-last = 7
-limit = 3
-host = [7]
-[[domain.node]]
-memory = 4096
-links = [0, -1, -1, -1]
-[[domain]]
-name = "bob"
-first = 8
-last = 15
-limit = 1000000
-host = [7]
-[[domain.node]]
-memory = 4096
-links = [0, -1, -1, -1]
-"#;
-
-/// Ann and cas share a domain: host 0 is ann's, host 1 is cas's.
-pub const ANN_WITH_CAS: &str = r#"
-version = 3
-[[domain]]
-range = [[0, 7]]
-limit = 1000000
-[[domain.user]]
-name = "ann"
-host = [7]
-[[domain.user]]
-name = "cas"
-host = [6]
-[[domain.node]]
-memory = 4096
-links = [0, -1, -1, -1]
-"#;
-
 /// One domain of all ports.
 pub const ALL_PORTS: &str = r#"
 version = 1
@@ -217,56 +85,6 @@ version = 1
 name = "ann"
 first = 0
 last = 31
-limit = 1000000
-host = [7]
-[[domain.node]]
-memory = 4096
-links = [0, -1, -1, -1]
-"#;
-
-/// Ann has ports 0 to 7, bob ports 8 to 15.
-pub const ANN_AND_BOB: &str = r#"
-version = 1
-[[domain]]
-name = "ann"
-first = 0
-last = 7
-limit = 1000000
-host = [7]
-[[domain.node]]
-memory = 4096
-links = [0, -1, -1, -1]
-[[domain]]
-name = "bob"
-first = 8
-last = 15
-limit = 1000000
-host = [7]
-[[domain.node]]
-memory = 4096
-links = [0, -1, -1, -1]
-"#;
-
-/// As ann and bob have it, but ann's journal holds three events.
-pub const LIMIT_3: &str = r#"
-version = 1
-[[domain]]
-name = "ann"
-first = 0
-last = 7
-limit = 3
-host = [7]
-[[domain.node]]
-memory = 4096
-links = [0, -1, -1, -1]
-"#;
-
-/// As ann and bob have it, but ann's ports 0 to 3 are the crossbar's 4 to 7, and her ports 4 to 7 its 0 to 3.
-pub const OTHER_RANGES: &str = r#"
-version = 2
-[[domain]]
-name = "ann"
-range = [[4, 7], [0, 3]]
 limit = 1000000
 host = [7]
 [[domain.node]]
@@ -289,66 +107,6 @@ links = [0, -1, -1, -1]
 [[domain.node]]
 memory = 2048
 links = [1, -1, -1, -1]
-"#;
-
-/// Ann has ports 0 to 7, bob ports 8 to 15.
-pub const ANN_AND_BOB: &str = r#"
-version = 1
-[[domain]]
-name = "ann"
-first = 0
-last = 7
-limit = 1000000
-host = [7]
-[[domain.node]]
-memory = 4096
-links = [0, -1, -1, -1]
-[[domain]]
-name = "bob"
-first = 8
-last = 15
-limit = 1000000
-host = [7]
-[[domain.node]]
-memory = 4096
-links = [0, -1, -1, -1]
-"#;
-
-/// The same, but that three events of ann's are recorded at most.
-pub const ANN_OF_THREE_EVENTS: &str = r#"
-version = 1
-[[domain]]
-name = "ann"
-first = 0
-last = 7
-limit = 3
-host = [7]
-[[domain.node]]
-memory = 4096
-links = [0, -1, -1, -1]
-[[domain]]
-name = "bob"
-first = 8
-last = 15
-limit = 1000000
-host = [7]
-[[domain.node]]
-memory = 4096
-links = [0, -1, -1, -1]
-"#;
-
-/// Ann alone, at ports 24 to 31.
-pub const ANN_ALONE: &str = r#"
-version = 1
-[[domain]]
-name = "ann"
-first = 24
-last = 31
-limit = 1000000
-host = [7]
-[[domain.node]]
-memory = 4096
-links = [0, -1, -1, -1]
 "#;
 
 /// Ann alone, at ports 24 to 27 and then 4 to 7.
@@ -383,52 +141,6 @@ version = 2
 [[domain]]
 name = "ann"
 range = [[4, 7], [0, 3]]
-limit = 1000000
-host = [7]
-[[domain.node]]
-memory = 4096
-links = [0, -1, -1, -1]
-"#;
-
-/// Ann has ports 0 to 7, bob ports 8 to 15.
-pub const ANN_AND_BOB: &str = r#"
-version = 1
-[[domain]]
-name = "ann"
-first = 0
-last = 7
-limit = 1000000
-host = [7]
-[[domain.node]]
-memory = 4096
-links = [0, -1, -1, -1]
-[[domain]]
-name = "bob"
-first = 8
-last = 15
-limit = 1000000
-host = [7]
-[[domain.node]]
-memory = 4096
-links = [0, -1, -1, -1]
-"#;
-
-/// The same, but that three events of ann's are recorded at most.
-pub const ANN_OF_THREE_EVENTS: &str = r#"
-version = 1
-[[domain]]
-name = "ann"
-first = 0
-last = 7
-limit = 3
-host = [7]
-[[domain.node]]
-memory = 4096
-links = [0, -1, -1, -1]
-[[domain]]
-name = "bob"
-first = 8
-last = 15
 limit = 1000000
 host = [7]
 [[domain.node]]
