@@ -24,6 +24,6 @@ pub use crate::messages::{BootFault, boot_message, peek_message, poke_message, w
 pub use crate::node::Node;
 pub use crate::seen::{Activity, Seen};
 pub use link_channels::{LinkNumber, Links};
-pub use node_memory::{Fault, Memory, NoMemory};
+pub use node_memory::{Fault, Memory, NoMemory, is_memory_size};
 pub use os_link::Packet;
 pub use t414_step::{Cpu, Stepped};

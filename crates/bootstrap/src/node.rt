@@ -25,7 +25,7 @@ impl Node {
 
     /// A node whose memory of so many bytes is zero, and that waits for a control byte.
     ///
-    /// The size is a multiple of 4 from 2,048 to 65,536. `NoMemory` where the bytes can't be allocated.
+    /// The size is a multiple of 4 from 2,048 to 65,536, as `is_memory_size` tells. `NoMemory` where the bytes can't be allocated.
     pub fn open(alloc: Global, memory: usize) -> Result<Node, NoMemory>
         requires { IsMemorySize memory }
         ensures answer { IfOk result (λ node. node ≡ opened memory) }

@@ -1,5 +1,5 @@
 -- The four links of a node, by their numbers.
-use Rattle.std.specs.Prelude.{ℕ, ◌==◌, not, Bool, ◌&&◌, ◌||◌, is_some, false}
+use Rattle.std.specs.Prelude.{ℕ, ◌==◌, not, Bool, ◌&&◌, ◌||◌, is_some, false, List, [], ◌∷◌}
 use Rattle.link_channels.specs.declared.link.Link.{Link}
 use Rattle.link_channels.specs.declared.number.LinkNumber.{LinkNumber}
 use Rattle.link_channels.specs.declared.number.LinkNumber.TheVariants.{Zero, One, Two, Three}
@@ -7,6 +7,10 @@ use Rattle.link_channels.specs.declared.link.FourLinks.{FourLinks}
 use Rattle.link_channels.specs.Reply.{Reply, Gave, Halted}
 use Rattle.os_link.specs.End.{fresh, arrived, without_next, posted, emptied}
 use Rattle.os_link.specs.declared.latch.Packet.{Packet}
+
+-- each of them, in the order of the numbers
+abbrev pub every_link : List LinkNumber
+every_link = Zero ∷ One ∷ Two ∷ Three ∷ []
 
 -- the link of a number
 abbrev pub at : LinkNumber → FourLinks → Link

@@ -22,5 +22,4 @@ pub use crate::link::{FourLinks, Link};
 pub use crate::links::Links;
 pub use crate::number::LinkNumber;
 pub use crate::process::{Process, Transfer, Turn};
-pub use crate::resets::reset;
 pub use crate::waiting::{ENABLING, NONE_SELECTED, READY, WAITING};

@@ -30,7 +30,7 @@ impl Model for Links {
 }
 
 impl Links {
-    ghost use Rattle.std.specs.Prelude.{IsTrue, false};
+    ghost use Rattle.std.specs.Prelude.{IsTrue, OnErr, false};
     ghost use Rattle.link_channels.specs.Links.{at, with_link, fresh_links, any_has_work, packet_arrived, packet_taken, byte_posted, byte_taken, acknowledge_heard};
     ghost use Rattle.link_channels.specs.Reply.{served, has_acted};
     ghost use Rattle.link_channels.specs.Service.{serve, serve_all};
@@ -157,7 +157,8 @@ impl Links {
     /// Serves one of the links; whether that did anything: Transputer Reference Manual, links.
     ///
     /// `Fault::OutsideMemory` where a byte, a channel or a state lies outside, `HighPriority` where the process at
-    /// the channel is of high priority. What was done before a fault stays, in memory and in the links.
+    /// the channel is of high priority. What was done before a fault stays, in memory and in the links; the queue is
+    /// unchanged.
     pub fn serve(
         &mut self,
         memory: &mut Memory,
@@ -165,23 +166,33 @@ impl Links {
         number: LinkNumber,
     ) -> Result<bool, Fault>
         ensures answer { served result self.new queue.new memory.new ≡ serve number self.old queue.old memory.old }
+        ensures queue_unchanged { OnErr result (queue.new ≡ queue.old) }
     {
+        let before = *queue;
         let acted = self.links.serve(memory, queue, number);
         self.has_work = self.links.any_has_work();
+        if acted.is_err() {
+            *queue = before;
+        }
         acted
     }
 
     /// Serves links 0 to 3 in this order; whether that did anything. The faults are those of `serve`, and end it.
     pub fn serve_all(&mut self, memory: &mut Memory, queue: &mut Queue) -> Result<bool, Fault>
         ensures answer { served result self.new queue.new memory.new ≡ serve_all self.old queue.old memory.old }
+        ensures queue_unchanged { OnErr result (queue.new ≡ queue.old) }
         // It acts, or meets a fault, exactly where a link has work.
         ensures work { has_acted result ≡ any_has_work self.old }
     {
         if !self.has_work {
             return Ok(false);
         }
+        let before = *queue;
         let acted = self.links.serve_all(memory, queue);
         self.has_work = self.links.any_has_work();
+        if acted.is_err() {
+            *queue = before;
+        }
         acted
     }
 }

@@ -1,6 +1,6 @@
 // The channel instructions on any channel: a soft one, or one of a link.
 
-ghost use Rattle.std.specs.Prelude.{◌≡◌};
+ghost use Rattle.std.specs.Prelude.{◌≡◌, OnErr};
 
 use crate::channel::Channel;
 use crate::links::Links;
@@ -16,7 +16,7 @@ impl Process {
     ///
     /// `Fault::WrongChannel` comes before all else, for the event channel and a link's output channel;
     /// `HighPriority` where a process of high priority waits at a soft channel; `OutsideMemory` where a word or
-    /// a byte lies outside. What was written before a fault stays, in memory and in the links.
+    /// a byte lies outside. What was written before a fault stays, in memory and in the links; the queue is unchanged.
     pub fn input(
         &self,
         memory: &mut Memory,
@@ -25,6 +25,7 @@ impl Process {
         transfer: Transfer,
     ) -> Result<Turn, Fault>
         ensures answer { served result links.new queue.new memory.new ≡ input self.now transfer links.old queue.old memory.old }
+        ensures queue_unchanged { OnErr result (queue.new ≡ queue.old) }
     {
         match Channel::of(transfer.channel) {
             Channel::Soft => self.input_softly(memory, queue, transfer),
@@ -42,7 +43,7 @@ impl Process {
     ///
     /// `Fault::WrongChannel` comes before all else, for the event channel and a link's input channel;
     /// `HighPriority` where a process of high priority waits at a soft channel; `OutsideMemory` where a word or
-    /// a byte lies outside. What was written before a fault stays, in memory and in the links.
+    /// a byte lies outside. What was written before a fault stays, in memory and in the links; the queue is unchanged.
     pub fn output(
         &self,
         memory: &mut Memory,
@@ -51,6 +52,7 @@ impl Process {
         transfer: Transfer,
     ) -> Result<Turn, Fault>
         ensures answer { served result links.new queue.new memory.new ≡ output self.now transfer links.old queue.old memory.old }
+        ensures queue_unchanged { OnErr result (queue.new ≡ queue.old) }
     {
         match Channel::of(transfer.channel) {
             Channel::Soft => self.output_softly(memory, queue, transfer),

@@ -12,7 +12,19 @@ pub enum LinkNumber {
 }
 
 impl LinkNumber {
-    ghost use Rattle.link_channels.specs.Links.{input_channel, output_channel};
+    ghost use Rattle.link_channels.specs.Links.{every_link, input_channel, output_channel};
+
+    /// The four links of a node, from 0 to 3.
+    pub fn all() -> [LinkNumber; 4]
+        ensures answer { result ≡ every_link }
+    {
+        [
+            LinkNumber::Zero,
+            LinkNumber::One,
+            LinkNumber::Two,
+            LinkNumber::Three,
+        ]
+    }
 
     /// The address of the word of the link's output channel, 80000000 to 8000000C. T414 data sheet, memory map.
     pub fn output_channel(self) -> u32

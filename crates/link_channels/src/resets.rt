@@ -1,38 +1,41 @@
 // A channel's reset.
 
 ghost use Rattle.std.specs.Prelude.{◌≡◌};
-ghost use Rattle.link_channels.specs.Messages.{reset};
-ghost use Rattle.link_channels.specs.Reply.{gave};
 
 use crate::channel::Channel;
 use crate::links::Links;
 use crate::soft::reset_softly;
 use node_memory::{Fault, Memory};
 
-/// Frees a channel, and gives up what its link had under way; the word that the channel had: instruction set
-/// handbook, resetch.
-///
-/// `Fault::WrongChannel` for the event channel, which is our choice; `OutsideMemory` where the channel's word lies
-/// outside. Nothing changes at a fault.
-pub fn reset(memory: &mut Memory, links: &mut Links, channel: u32) -> Result<u32, Fault>
-    ensures answer { gave result links.new memory.new ≡ reset channel links.old memory.old }
-{
-    match Channel::of(channel) {
-        Channel::Soft => reset_softly(memory, channel),
-        Channel::LinkOutput(number) => {
-            let word = reset_softly(memory, channel)?;
-            let mut link = links.at(number);
-            link.reset_output();
-            links.set(number, link);
-            Ok(word)
+impl Links {
+    ghost use Rattle.link_channels.specs.Messages.{reset};
+    ghost use Rattle.link_channels.specs.Reply.{gave};
+
+    /// Frees a channel, and gives up what its link had under way; the word that the channel had: instruction set
+    /// handbook, resetch.
+    ///
+    /// `Fault::WrongChannel` for the event channel, which is our choice; `OutsideMemory` where the channel's word lies
+    /// outside. Nothing changes at a fault.
+    pub fn reset(&mut self, memory: &mut Memory, channel: u32) -> Result<u32, Fault>
+        ensures answer { gave result self.new memory.new ≡ reset channel self.old memory.old }
+    {
+        match Channel::of(channel) {
+            Channel::Soft => reset_softly(memory, channel),
+            Channel::LinkOutput(number) => {
+                let word = reset_softly(memory, channel)?;
+                let mut link = self.at(number);
+                link.reset_output();
+                self.set(number, link);
+                Ok(word)
+            }
+            Channel::LinkInput(number) => {
+                let word = reset_softly(memory, channel)?;
+                let mut link = self.at(number);
+                link.reset_input();
+                self.set(number, link);
+                Ok(word)
+            }
+            Channel::Event => Err(Fault::WrongChannel),
         }
-        Channel::LinkInput(number) => {
-            let word = reset_softly(memory, channel)?;
-            let mut link = links.at(number);
-            link.reset_input();
-            links.set(number, link);
-            Ok(word)
-        }
-        Channel::Event => Err(Fault::WrongChannel),
     }
 }

@@ -1,6 +1,6 @@
 // Soft channels: two processes of one node meet at a word of its memory. What they do leaves the links.
 
-ghost use Rattle.std.specs.Prelude.{◌≡◌};
+ghost use Rattle.std.specs.Prelude.{◌≡◌, OnErr};
 ghost use Rattle.link_channels.specs.Reply.{gave, served};
 ghost use Rattle.link_channels.specs.declared.link.FourLinks.{FourLinks};
 ghost use Rattle.link_channels.specs.declared.link.Link.{Link};
@@ -36,6 +36,7 @@ impl Process {
         transfer: Transfer,
     ) -> Result<Turn, Fault>
         ensures answer { (ls : FourLinks) → served result ls queue.new memory.new ≡ soft.input self.now transfer ls queue.old memory.old }
+        ensures queue_unchanged { OnErr result (queue.new ≡ queue.old) }
     {
         let Some(sender) = waiting_at(memory, transfer.channel)? else {
             return self.wait_there(memory, queue, transfer);
@@ -56,6 +57,7 @@ impl Process {
         transfer: Transfer,
     ) -> Result<Turn, Fault>
         ensures answer { (ls : FourLinks) → served result ls queue.new memory.new ≡ soft.output self.now transfer ls queue.old memory.old }
+        ensures queue_unchanged { OnErr result (queue.new ≡ queue.old) }
     {
         let Some(receiver) = waiting_at(memory, transfer.channel)? else {
             return self.wait_there(memory, queue, transfer);
@@ -68,8 +70,13 @@ impl Process {
             }
             WAITING => {
                 memory.set_word(state, READY)?;
+                let before = *queue;
                 queue.put(memory, receiver)?;
-                self.wait_there(memory, queue, transfer)
+                let turn = self.wait_there(memory, queue, transfer);
+                if turn.is_err() {
+                    *queue = before;
+                }
+                turn
             }
             target => {
                 memory.copy_up(transfer.pointer, target, transfer.count)?;

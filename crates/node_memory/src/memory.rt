@@ -1,6 +1,6 @@
 //! Bytes from the most negative address upwards, and words of four bytes among them.
 
-ghost use Rattle.std.specs.Prelude.{◌≡◌, IfOk, IsTrue, OnErr, length, replicate};
+ghost use Rattle.std.specs.Prelude.{◌≡◌, ◌↔◌, IfOk, IsTrue, OnErr, length, replicate};
 ghost use Rattle.node_memory.specs.Bytes.{IsMemorySize, byte_at, word_at, with_byte, with_word, stored, copied};
 
 use crate::fault::Fault;
@@ -11,6 +11,13 @@ use std::marker::Model;
 ///
 /// Source: IMS T414 data sheet, memory map.
 pub const MEMORY_START: u32 = 0x8000_0000;
+
+/// Whether memory may have so many bytes: a multiple of 4 from 2,048 to 65,536.
+pub fn is_memory_size(size: usize) -> bool
+    ensures answer { IsTrue result ↔ IsMemorySize size }
+{
+    2048 <= size && size <= 65536 && size % 4 == 0
+}
 
 /// A node's memory: its bytes from `MEMORY_START` upwards.
 #[derive(Debug, Drop)]
@@ -33,7 +40,7 @@ impl Memory {
     /// Memory of `size` bytes, all zero.
     ///
     /// `size` is a multiple of 4 from 2,048 to 65,536 (our choice; the chip's address space is
-    /// larger). `NoMemory` where the bytes can't be allocated.
+    /// larger); `is_memory_size` tells. `NoMemory` where the bytes can't be allocated.
     pub fn new(alloc: Global, size: usize) -> Result<Memory, NoMemory>
         requires { IsMemorySize size }
         ensures { IfOk result (λ memory. memory ≡ replicate size 0) }

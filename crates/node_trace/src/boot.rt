@@ -3,7 +3,7 @@
 use crate::instruction::Instruction;
 use crate::packets::{send, write_packet};
 use crate::performing::write_step;
-use bootstrap::{BootFault, LinkNumber, Node, Packet, Stepped, boot_message};
+use bootstrap::{BootFault, LinkNumber, Node, Packet, Stepped, boot_message, number_of};
 use std::alloc::{AllocError, AllocFailed, Global};
 use thiserror::Error;
 
@@ -53,12 +53,8 @@ pub fn trace_boot(alloc: Global, code: &[u8], steps: u64) -> Result<String, Boot
 
 // Takes the packets that leave the links, and acknowledges each byte.
 fn take_packets(node: &mut Node, text: &mut String) -> Result<(), AllocError> {
-    for (link, number) in [
-        (LinkNumber::Zero, 0),
-        (LinkNumber::One, 1),
-        (LinkNumber::Two, 2),
-        (LinkNumber::Three, 3),
-    ] {
+    for link in LinkNumber::all() {
+        let number = number_of(link);
         // An acknowledge and a byte may wait at once.
         for _ in 0..2 {
             let Some(packet) = node.take(link) else {

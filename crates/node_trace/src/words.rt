@@ -3,7 +3,7 @@
 ghost use Rattle.std.specs.Prelude.{◌≡◌};
 ghost use Rattle.node_memory.specs.Bytes.{IsMemorySize};
 
-use bootstrap::LinkNumber;
+use bootstrap::{LinkNumber, is_memory_size};
 
 /// Why a line can't be done: a word of it is wrong, or there is no memory for it.
 #[derive(Clone, Copy)]
@@ -148,7 +148,7 @@ impl<'a> Words<'a> {
             return Ok(4096);
         };
         self.skip();
-        if memory_size(size) == size {
+        if is_memory_size(size) {
             Ok(size)
         } else {
             Err(Refused::Word)
@@ -177,9 +177,5 @@ pub fn memory_size(wanted: usize) -> usize
     ensures size { IsMemorySize result }
     ensures kept { IsMemorySize wanted → result ≡ wanted }
 {
-    if wanted % 4 == 0 && 2048 <= wanted && wanted <= 65536 {
-        wanted
-    } else {
-        4096
-    }
+    if is_memory_size(wanted) { wanted } else { 4096 }
 }

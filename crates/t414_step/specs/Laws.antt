@@ -1,5 +1,5 @@
 -- What holds of every step, whatever memory and registers hold.
-use Rattle.std.specs.Prelude.{◌≡◌, ℕ, ◌<◌, List, length}
+use Rattle.std.specs.Prelude.{◌≡◌, ℕ, ◌<◌, ◌≤◌, List, length}
 use Rattle.node_memory.specs.declared.fault.Fault.TheVariants.{OutsideMemory}
 use Rattle.node_memory.specs.Bytes.{copied}
 use Rattle.link_channels.specs.declared.link.FourLinks.{FourLinks}
@@ -9,7 +9,7 @@ use Rattle.t414_step.specs.Answers.{tells_idle}
 use Rattle.t414_step.specs.Outcome.{Stopped}
 use Rattle.t414_step.specs.Registers.{rests}
 use Rattle.t414_step.specs.Rows.{row}
-use Rattle.t414_step.specs.Step.{step}
+use Rattle.t414_step.specs.Step.{step, byte_done}
 
 -- a step answers Idle exactly if there is nothing to do
 abbrev pub IdleWhereItRests : Type 0
@@ -19,3 +19,7 @@ IdleWhereItRests = (s : Cpu) (ls : FourLinks) (m : List ℕ) → tells_idle (ste
 abbrev pub MoveStopsAtTheEdge : Type 0
 MoveStopsAtTheEdge = (s : Cpu) (m : List ℕ) → length m < s.a →
     row MoveMessage s m ≡ Stopped OutsideMemory (copied s.a m s.c s.b).1
+
+-- a count of bytes above the most to which steps count does what the most does
+abbrev pub GreatCountIsTheMost : Type 0
+GreatCountIsTheMost = (s : Cpu) (m : List ℕ) → 1024 ≤ s.bytes → byte_done s m ≡ byte_done (record s { bytes = 1024 }) m

@@ -3,7 +3,7 @@
 ghost use Rattle.std.specs.Prelude.{◌≡◌};
 
 use crate::cpu::Cpu;
-use link_channels::{Links, Process, Transfer, Turn, reset};
+use link_channels::{Links, Process, Transfer, Turn};
 use node_memory::{Fault, Memory};
 
 #[tactic(auto, unfolding(crate::specs::ChannelRows::channel_row))]
@@ -121,7 +121,7 @@ impl Cpu {
     ) -> Result<(), Fault>
         ensures { finished result self.new links.new memory.new ≡ channel_row op.ResetChannel self.old links.old memory.old }
     {
-        self.a = reset(memory, links, self.a)?;
+        self.a = links.reset(memory, self.a)?;
         Ok(())
     }
 

@@ -5,7 +5,8 @@ ghost use Rattle.std.specs.Prelude.{◌≡◌};
 use process_queue::Queue;
 
 /// The registers of a processor, and whether there is a current process. All are words of 32 bits, and any
-/// value may stand in any of them.
+/// value may stand in any of them, also one that no booted node comes to: a workspace is used with the low bits that
+/// it has.
 ///
 /// Source: Transputer instruction set handbook, registers; the count of bytes, by which processes take turns, is our
 /// choice in place of time.
@@ -21,7 +22,8 @@ pub struct Cpu {
     /// O, the operand that prefixes have built.
     pub operand: u32,
     pub c: u32,
-    /// How many instruction bytes the process has done since it was taken from the queue, at most 1,024.
+    /// How many instruction bytes the process has done since it was taken from the queue. Steps count to 1,024; a
+    /// greater count does what 1,024 does.
     pub bytes: u32,
     /// Front and Back of the queue of low priority; that of high priority is always empty.
     pub queue: Queue,

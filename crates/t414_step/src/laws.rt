@@ -1,6 +1,6 @@
 //! Laws of the processor.
 
-ghost use Rattle.t414_step.specs.Laws.{IdleWhereItRests, MoveStopsAtTheEdge};
+ghost use Rattle.t414_step.specs.Laws.{IdleWhereItRests, MoveStopsAtTheEdge, GreatCountIsTheMost};
 
 /// A step answers `Idle` exactly where there is no current process, none in the queue, and no link that has work.
 pub fn idle_where_it_rests()
@@ -10,4 +10,9 @@ pub fn idle_where_it_rests()
 /// A move of more bytes than memory has is a fault, so one instruction moves no more of them than that.
 pub fn move_stops_at_the_edge()
     ensures law { MoveStopsAtTheEdge }
+{}
+
+/// A count of bytes above 1,024, to which no step counts, does what 1,024 does.
+pub fn great_count_is_the_most()
+    ensures law { GreatCountIsTheMost }
 {}

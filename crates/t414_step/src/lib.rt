@@ -17,5 +17,5 @@ mod stepping;
 mod storage;
 
 pub use crate::cpu::Cpu;
-pub use crate::laws::{idle_where_it_rests, move_stops_at_the_edge};
+pub use crate::laws::{great_count_is_the_most, idle_where_it_rests, move_stops_at_the_edge};
 pub use crate::stepping::{Stepped, step};

@@ -1,4 +1,4 @@
-use Rattle.std.proofs.Common.{◌≡◌, refl}
+use Rattle.std.proofs.Common.{refl}
 use Rattle.node_memory.proofs.Edge.{copied-edge}
 use Rattle.link_channels.proofs.laws.messages_stop_at_the_edge.Goals as goal
 
