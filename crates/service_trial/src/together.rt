@@ -2,12 +2,11 @@
 
 use crate::acts::Act::{self, Config, Knock, Look, Read, Settle, Write};
 use crate::apart::{Visit, look_apart, visit_apart, visit_both};
-use crate::crew::{work_here, work_in};
+use crate::crew::{work_held, work_here, work_in};
 use crate::farm::{Farm, close, open};
-use crate::gates::HoldsFirst;
 use crate::plans::{ANN_AND_BOB, ANN_WITH_CAS, TWO_NODES};
 use crate::rows::{DRIVE_OUTPUT_5, JOIN, PEEK, POKE, SAYS_41};
-use farm_service::{Closed, NoGate, UserPass, Worked};
+use farm_service::{Closed, NoMemory, UserPass, Worked};
 use std::alloc::{AllocError, Global};
 use std::sync::Wait;
 use std::thread::Threads;
@@ -156,6 +155,14 @@ pub fn one_domain<R: Threads + Wait + Sync>(rt: &R, alloc: Global) -> Result<Str
     both(rt, alloc, ANN_WITH_CAS, &POKE_AND_PEEK, &[Knock(0, 100)])
 }
 
+// Tells where a worker wanted memory.
+fn tell_work(said: &mut String, work: Result<(), NoMemory>) -> Result<(), AllocError> {
+    match work {
+        Ok(()) => Ok(()),
+        Err(AllocError) => said.push_str(" workers want memory;"),
+    }
+}
+
 // A user acts, workers work, and he acts again.
 fn worked<R: Threads + Wait + Sync>(
     rt: &R,
@@ -165,10 +172,11 @@ fn worked<R: Threads + Wait + Sync>(
     bob: UserPass,
 ) -> Result<String, AllocError> {
     let begun = visit_apart(rt, alloc, &farm.service, ann, &BOOT);
-    let farm = work_in(rt, farm, &NoGate, 1000);
+    let (farm, work) = work_in(rt, farm, 1000);
     let ended = visit_apart(rt, alloc, &farm.service, begun.pass, &LOOK);
     let mut text = String::new(alloc);
     tell(&mut text, "ann", ended.said)?;
+    tell_work(&mut text, work)?;
     let users = vec![in alloc; ended.pass, bob]?;
     if close(rt, alloc, farm, users).is_none() {
         text.push_str(" not closed")?;
@@ -188,7 +196,7 @@ pub fn worker_runs<R: Threads + Wait + Sync>(rt: &R, alloc: Global) -> Result<St
 }
 
 /// While a worker holds node 0's ticket, another checks node 1 out and commits it: no lock is held
-/// from a checkout to its commit.
+/// from a checkout to its commit. Where no thread could be started for the other, the first does it.
 pub fn one_node_waits<R: Threads + Wait + Sync>(
     rt: &R,
     alloc: Global,
@@ -196,11 +204,10 @@ pub fn one_node_waits<R: Threads + Wait + Sync>(
     let Some((farm, users)) = open(rt, alloc, TWO_NODES, 2) else {
         return Err(AllocError);
     };
-    let gate = HoldsFirst::new();
-    let farm = work_in(rt, farm, &gate, 10);
-    let seen = gate.into_seen();
+    let (farm, seen, work) = work_held(rt, farm);
     let (committed, failed) = (seen.committed, seen.failed);
     let mut text = format!(in alloc; " committed {committed}, failed {failed};")?;
+    tell_work(&mut text, work)?;
     text.push_str(tell_closed(alloc, close(rt, alloc, farm, users))?.as_str())?;
     Ok(text)
 }
@@ -221,12 +228,12 @@ pub fn stopped<R: Threads + Wait + Sync>(rt: &R, alloc: Global) -> Result<String
     };
     let (farm, before) = work_here(rt, farm);
     farm.service.stop();
-    let gate = HoldsFirst::new();
-    let farm = work_in(rt, farm, &gate, 10);
-    let begun = gate.into_seen().begun;
+    let (farm, seen, work) = work_held(rt, farm);
+    let begun = seen.begun;
     let (farm, after) = work_here(rt, farm);
     let (before, after) = (name_of(before), name_of(after));
     let mut text = format!(in alloc; " {before}, {after}, {begun} begun;")?;
+    tell_work(&mut text, work)?;
     text.push_str(tell_closed(alloc, close(rt, alloc, farm, users))?.as_str())?;
     Ok(text)
 }
