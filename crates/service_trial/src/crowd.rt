@@ -104,9 +104,10 @@ fn meet<'a, R: Threads + Wait + Sync>(
     )
 }
 
-// How many guests read 41 and nothing after it, with their passes.
-fn part(alloc: Global, guests: Vec<Guest<'_>>) -> Result<(u8, Vec<UserPass>), AllocError> {
+// How many guests read 41 and nothing after it, whether one of them wanted memory, and their passes.
+fn part(alloc: Global, guests: Vec<Guest<'_>>) -> Result<(u8, bool, Vec<UserPass>), AllocError> {
     let mut well = 0_u8;
+    let mut wanted = false;
     let mut users = Vec::new(alloc);
     for guest in guests {
         let Guest {
@@ -114,12 +115,13 @@ fn part(alloc: Global, guests: Vec<Guest<'_>>) -> Result<(u8, Vec<UserPass>), Al
             said,
             failed,
         } = guest;
-        if !failed && said.as_str() == " 41 none" {
+        wanted |= failed;
+        if said.as_str() == " 41 none" {
             well = well.saturating_add(1);
         }
         users.push(session.end())?;
     }
-    Ok((well, users))
+    Ok((well, wanted, users))
 }
 
 // Tells what a closed service left.
@@ -151,7 +153,7 @@ fn met<R: Threads + Wait + Sync>(
     let (shift, guests) = meet(rt, &service, passes, guests);
     let Shift { passes, ended } = shift;
     let guests = act_each(rt, guests, &END);
-    let (well, users) = part(alloc, guests)?;
+    let (well, wanted, users) = part(alloc, guests)?;
     let farm = Farm {
         service,
         passes,
@@ -162,12 +164,12 @@ fn met<R: Threads + Wait + Sync>(
     };
     let left = tell_closed(alloc, text, closed)?;
     let left = left.as_str();
-    let work = if ended.is_ok() {
-        ""
+    let want = if wanted || ended.is_err() {
+        "; no memory"
     } else {
-        "; workers want memory"
+        ""
     };
-    format!(in alloc; " {well} read 41; {left}{work}")
+    format!(in alloc; " {well} read 41; {left}{want}")
 }
 
 /// What comes of sixteen users and eight workers at once.
