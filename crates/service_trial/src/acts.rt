@@ -1,7 +1,7 @@
-//! What users do in a session, and what they tell of its answers.
+//! What users do in a session, and what they tell of its answers. Who is told of want of memory asks once more.
 
 use bootstrap::{Activity, Seen};
-use domain_core::{Refusal, Reply};
+use domain_core::{Event, Refusal, Reply};
 use farm_service::{Session, Settled};
 use std::alloc::AllocError;
 use std::sync::Wait;
@@ -25,7 +25,7 @@ pub enum Act {
     /// Writes a byte to a host so many times.
     Fill(u8, u16),
     /// Reads a host so many times.
-    Read(u8, u8),
+    Read(u8, u16),
     /// Resets a node.
     Reset(u8),
     /// Looks at a node.
@@ -72,6 +72,26 @@ fn tell(said: &mut String, told: Result<Reply, Refusal>) -> Result<(), AllocErro
     }
 }
 
+// Asks once.
+fn ask_once<R: Wait>(rt: &R, session: &mut Session<'_>, event: Event) -> Result<Reply, Refusal> {
+    match event {
+        Event::Config(byte) => session.configure(rt, byte),
+        Event::Write(host, byte) => session.write(rt, host, byte),
+        Event::Read(host) => session.read(rt, host),
+        Event::Reset(node) => session.reset(rt, node),
+        Event::Look(node) => session.look(rt, node),
+        Event::Step(_) | Event::Move(_) => Err(Refusal::NoSuch),
+    }
+}
+
+// Asks, and asks again where memory was wanting: what was refused has changed nothing.
+fn ask<R: Wait>(rt: &R, session: &mut Session<'_>, event: Event) -> Result<Reply, Refusal> {
+    match ask_once(rt, session, event) {
+        Err(Refusal::NoMemory) => ask_once(rt, session, event),
+        told => told,
+    }
+}
+
 fn config<R: Wait>(
     rt: &R,
     session: &mut Session<'_>,
@@ -79,7 +99,7 @@ fn config<R: Wait>(
     said: &mut String,
 ) -> Result<(), AllocError> {
     for byte in bytes {
-        tell(said, session.configure(rt, *byte))?;
+        tell(said, ask(rt, session, Event::Config(*byte)))?;
     }
     Ok(())
 }
@@ -92,7 +112,7 @@ fn write<R: Wait>(
     said: &mut String,
 ) -> Result<(), AllocError> {
     for byte in bytes {
-        tell(said, session.write(rt, host, *byte))?;
+        tell(said, ask(rt, session, Event::Write(host, *byte)))?;
     }
     Ok(())
 }
@@ -106,41 +126,34 @@ fn knock<R: Wait>(
 ) -> Result<(), AllocError> {
     let mut refused = 0_u16;
     for _ in 0..count {
-        if session.write(rt, host, 1) == Err(Refusal::NoSuch) {
+        if ask(rt, session, Event::Write(host, 1)) == Err(Refusal::NoSuch) {
             refused = refused.saturating_add(1);
         }
     }
     write!(said, " {refused} refused")
 }
 
-fn fill<R: Wait>(
+// Asks the same so many times.
+fn repeat<R: Wait>(
     rt: &R,
     session: &mut Session<'_>,
-    host: u8,
+    event: Event,
     count: u16,
     said: &mut String,
 ) -> Result<(), AllocError> {
     for _ in 0..count {
-        tell(said, session.write(rt, host, 0))?;
+        tell(said, ask(rt, session, event))?;
     }
     Ok(())
 }
 
-fn read<R: Wait>(
-    rt: &R,
-    session: &mut Session<'_>,
-    host: u8,
-    count: u8,
-    said: &mut String,
-) -> Result<(), AllocError> {
-    for _ in 0..count {
-        tell(said, session.read(rt, host))?;
-    }
-    Ok(())
-}
-
+// Settles, and settles again where memory was wanting.
 fn settle<R: Wait>(rt: &R, session: &mut Session<'_>, said: &mut String) -> Result<(), AllocError> {
-    match session.settle(rt, QUANTUM, ROUNDS) {
+    let settled = match session.settle(rt, QUANTUM, ROUNDS) {
+        Err(Refusal::NoMemory) => session.settle(rt, QUANTUM, ROUNDS),
+        told => told,
+    };
+    match settled {
         Ok(Settled::Quiet) => Ok(()),
         Ok(Settled::Busy) => said.push_str(" busy"),
         Err(refusal) => write!(said, " {refusal}"),
@@ -158,10 +171,10 @@ pub fn perform<R: Wait>(
         Act::Config(bytes) => config(rt, session, bytes, said),
         Act::Write(host, bytes) => write(rt, session, host, bytes, said),
         Act::Knock(host, count) => knock(rt, session, host, count, said),
-        Act::Fill(host, count) => fill(rt, session, host, count, said),
-        Act::Read(host, count) => read(rt, session, host, count, said),
-        Act::Reset(node) => tell(said, session.reset(rt, node)),
-        Act::Look(node) => tell(said, session.look(rt, node)),
+        Act::Fill(host, count) => repeat(rt, session, Event::Write(host, 0), count, said),
+        Act::Read(host, count) => repeat(rt, session, Event::Read(host), count, said),
+        Act::Reset(node) => tell(said, ask(rt, session, Event::Reset(node))),
+        Act::Look(node) => tell(said, ask(rt, session, Event::Look(node))),
         Act::Settle => settle(rt, session, said),
     }
 }

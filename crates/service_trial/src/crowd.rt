@@ -3,13 +3,12 @@
 ghost use Rattle.std.specs.Prelude.{◌≡◌};
 ghost use Rattle.token_queue.specs.Passes.{AreItsPasses};
 
-use crate::acts::{Act, act_all};
-use crate::crew::work_all;
+use crate::acts::{Act, QUANTUM, act_all};
 use crate::farm::{Farm, close, open};
 use crate::many::sixteen_domains;
 use crate::replay::is_same_again;
 use crate::rows::SAYS_41;
-use farm_service::{Closed, NoGate, Service, Session, UserPass, WorkerPass};
+use farm_service::{Closed, NoGate, NoMemory, Service, Session, UserPass, WorkerPass, work_all};
 use sample_plans::plan_of;
 use std::alloc::{AllocError, Global};
 use std::sync::Wait;
@@ -69,42 +68,47 @@ fn act_each<'a, R: Threads + Wait + Sync>(
     guests
 }
 
-// Each worker works in a thread of his own. Gives the passes back.
-fn worked<R: Threads + Wait + Sync>(
-    rt: &R,
-    service: &Service,
-    mut passes: Vec<WorkerPass>,
-) -> Vec<WorkerPass>
-    requires { AreItsPasses service.now.plan service.now.queue passes.items }
-    ensures { AreItsPasses service.now.plan service.now.queue result.items }
-{
-    work_all(rt, service, &mut passes, &NoGate, TURNS);
-    passes
+// What the workers came to, with their passes.
+#[derive(Drop)]
+struct Shift {
+    passes: Vec<WorkerPass>,
+    ended: Result<(), NoMemory>,
 }
 
-// The guests begin while the workers work.
+// Each worker works in a thread of his own.
+fn worked<R: Threads + Wait + Sync>(rt: &R, service: &Service, mut passes: Vec<WorkerPass>) -> Shift
+    requires { AreItsPasses service.now.plan service.now.queue passes.items }
+    ensures { AreItsPasses service.now.plan service.now.queue result.passes.items }
+{
+    let ended = work_all(rt, service, &mut passes, &NoGate, QUANTUM, TURNS);
+    Shift { passes, ended }
+}
+
+// The guests begin while the workers work. Neither waits for the other, so that all is told alike where no thread can be
+// started and the workers come last.
 fn meet<'a, R: Threads + Wait + Sync>(
     rt: &R,
     service: &Service,
     passes: Vec<WorkerPass>,
     guests: Vec<Guest<'a>>,
-) -> (Vec<WorkerPass>, Vec<Guest<'a>>)
+) -> (Shift, Vec<Guest<'a>>)
     requires { AreItsPasses service.now.plan service.now.queue passes.items }
-    ensures { AreItsPasses service.now.plan service.now.queue result.0.items }
+    ensures { AreItsPasses service.now.plan service.now.queue result.0.passes.items }
 {
     thread::join(
         rt,
         move ||
             requires { AreItsPasses service.now.plan service.now.queue passes.items }
-            ensures { AreItsPasses service.entry.now.plan service.entry.now.queue result.items }
+            ensures { AreItsPasses service.entry.now.plan service.entry.now.queue result.passes.items }
         { worked(rt, service, passes) },
         move || act_each(rt, guests, &BEGINNING),
     )
 }
 
-// How many guests read 41 and nothing after it, with their passes.
-fn part(alloc: Global, guests: Vec<Guest<'_>>) -> Result<(u8, Vec<UserPass>), AllocError> {
+// How many guests read 41 and nothing after it, whether one of them wanted memory, and their passes.
+fn part(alloc: Global, guests: Vec<Guest<'_>>) -> Result<(u8, bool, Vec<UserPass>), AllocError> {
     let mut well = 0_u8;
+    let mut wanted = false;
     let mut users = Vec::new(alloc);
     for guest in guests {
         let Guest {
@@ -112,12 +116,13 @@ fn part(alloc: Global, guests: Vec<Guest<'_>>) -> Result<(u8, Vec<UserPass>), Al
             said,
             failed,
         } = guest;
-        if !failed && said.as_str() == " 41 none" {
+        wanted |= failed;
+        if said.as_str() == " 41 none" {
             well = well.saturating_add(1);
         }
         users.push(session.end())?;
     }
-    Ok((well, users))
+    Ok((well, wanted, users))
 }
 
 // Tells what a closed service left.
@@ -146,9 +151,10 @@ fn met<R: Threads + Wait + Sync>(
         operator,
     } = farm;
     let guests = welcome(alloc, &service, users)?;
-    let (passes, guests) = meet(rt, &service, passes, guests);
+    let (shift, guests) = meet(rt, &service, passes, guests);
+    let Shift { passes, ended } = shift;
     let guests = act_each(rt, guests, &END);
-    let (well, users) = part(alloc, guests)?;
+    let (well, wanted, users) = part(alloc, guests)?;
     let farm = Farm {
         service,
         passes,
@@ -159,7 +165,12 @@ fn met<R: Threads + Wait + Sync>(
     };
     let left = tell_closed(alloc, text, closed)?;
     let left = left.as_str();
-    format!(in alloc; " {well} read 41; {left}")
+    let want = if wanted || ended.is_err() {
+        "; no memory"
+    } else {
+        ""
+    };
+    format!(in alloc; " {well} read 41; {left}{want}")
 }
 
 /// What comes of sixteen users and eight workers at once.

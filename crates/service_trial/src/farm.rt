@@ -4,7 +4,7 @@ ghost use Rattle.std.specs.Prelude.{◌≡◌, ◌≤◌};
 ghost use Rattle.farm_service.specs.Services.{IsItsOperator};
 ghost use Rattle.token_queue.specs.Passes.{AreItsPasses};
 
-use farm_service::{Closed, Opened, Service, UserPass, WorkerPass};
+use farm_service::{Closed, NotClosed, Opened, Service, UserPass, WorkerPass};
 use sample_plans::plan_of;
 use std::alloc::Global;
 use std::sync::Wait;
@@ -20,9 +20,8 @@ pub struct Farm {
     ghost its_operator: { IsItsOperator service operator },
 }
 
-/// The service of a plan's text, and its users' passes in plan order; `None` where the plan
-/// is refused or memory is wanting.
-pub fn open<R: Wait>(
+// Opens once.
+fn open_once<R: Wait>(
     rt: &R,
     alloc: Global,
     text: &str,
@@ -50,12 +49,37 @@ pub fn open<R: Wait>(
     Some((farm, users))
 }
 
-/// What is left of a farm, `None` where memory is wanting.
+/// The service of a plan's text, and its users' passes in plan order; `None` where the plan
+/// is refused, or memory is wanting twice.
+pub fn open<R: Wait>(
+    rt: &R,
+    alloc: Global,
+    text: &str,
+    workers: u8,
+) -> Option<(Farm, Vec<UserPass>)>
+    requires { (1 ≤ workers) × (workers ≤ 8) }
+{
+    match open_once(rt, alloc, text, workers) {
+        None => open_once(rt, alloc, text, workers),
+        opened => opened,
+    }
+}
+
+/// What is left of a farm, `None` where memory is wanting twice.
 pub fn close<R: Wait>(rt: &R, alloc: Global, farm: Farm, users: Vec<UserPass>) -> Option<Closed> {
     let Farm {
         service,
         passes,
         operator: _,
     } = farm;
-    service.close(rt, alloc, passes, users).ok()
+    match service.close(rt, alloc, passes, users) {
+        Ok(closed) => Some(closed),
+        Err(
+            NotClosed {
+                service,
+                passes,
+                users,
+            },
+        ) => service.close(rt, alloc, passes, users).ok(),
+    }
 }

@@ -62,6 +62,11 @@ fn main(rt: HostRuntime) -> io::Result<()> {
     )?;
     show(
         &rt,
+        "full journal ends a turn alone",
+        together::full_journal(&rt, alloc),
+    )?;
+    show(
+        &rt,
         "one node waits for the other",
         together::one_node_waits(&rt, alloc),
     )?;

@@ -1,11 +1,19 @@
 //! What a closed service left, done again by the farm on one thread.
 
-use domain_core::{Entry, Event, NoMemory, Reply};
+use domain_core::{By, Entry, Event, NoMemory, Refusal, Reply};
 use farm_core::PlainFarm;
 use farm_service::ClosedDomain;
 use plan_checker::AcceptedPlan;
 use std::alloc::Global;
 use t414_step::Stepped;
+
+// Asks, and asks again where memory was wanting.
+fn ask(farm: &mut PlainFarm, domain: u8, by: By, event: Event) -> Result<Reply, Refusal> {
+    match farm.apply(domain, by, event) {
+        Err(Refusal::NoMemory) => farm.apply(domain, by, event),
+        told => told,
+    }
+}
 
 // Whether a node's Steps answer as a run of them did.
 fn steps_again(farm: &mut PlainFarm, domain: u8, entry: &Entry) -> bool {
@@ -21,7 +29,7 @@ fn steps_again(farm: &mut PlainFarm, domain: u8, entry: &Entry) -> bool {
     let mut same = true;
     for done in 1..=count {
         let wanted = if done == count { last } else { Stepped::Ran };
-        same = same && farm.apply(domain, by, Event::Step(node)) == Ok(Reply::Stepped(wanted));
+        same = same && ask(farm, domain, by, Event::Step(node)) == Ok(Reply::Stepped(wanted));
     }
     same
 }
@@ -29,7 +37,7 @@ fn steps_again(farm: &mut PlainFarm, domain: u8, entry: &Entry) -> bool {
 // Whether an entry is answered again as it was.
 fn answers_again(farm: &mut PlainFarm, domain: u8, entry: &Entry) -> bool {
     match *entry {
-        Entry::One { by, event, reply } => farm.apply(domain, by, event) == Ok(reply),
+        Entry::One { by, event, reply } => ask(farm, domain, by, event) == Ok(reply),
         Entry::Run { .. } => steps_again(farm, domain, entry),
     }
 }

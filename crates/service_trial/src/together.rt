@@ -1,13 +1,12 @@
 //! Rows of users, workers and the operator in threads of their own.
 
-use crate::acts::Act::{self, Config, Knock, Look, Read, Settle, Write};
+use crate::acts::Act::{self, Config, Fill, Knock, Look, Read, Settle, Write};
 use crate::apart::{Visit, look_apart, visit_apart, visit_both};
-use crate::crew::{work_here, work_in};
+use crate::crew::{work_held, work_here, work_in};
 use crate::farm::{Farm, close, open};
-use crate::gates::HoldsFirst;
 use crate::rows::{DRIVE_OUTPUT_5, JOIN, PEEK, POKE, SAYS_41};
-use farm_service::{Closed, NoGate, UserPass, Worked};
-use sample_plans::{ANN_AND_BOB, ANN_WITH_CAS, TWO_NODES};
+use farm_service::{Closed, NoMemory, Token, UserPass, Worked};
+use sample_plans::{ANN_AND_BOB, ANN_OF_THREE_EVENTS, ANN_WITH_CAS, TWO_NODES};
 use std::alloc::{AllocError, Global};
 use std::sync::Wait;
 use std::thread::Threads;
@@ -27,19 +26,32 @@ const BOOT: [Act; 2] = [Config(&JOIN), Write(0, &SAYS_41)];
 /// Reads what the program sent, and looks at its node.
 const LOOK: [Act; 2] = [Read(0, 2), Look(0)];
 
-// Tells how many events bob's journal has, the word of his output 5, and how many tokens are left.
+// Tells the tokens, in the order in which they left the queue.
+fn tell_tokens(said: &mut String, tokens: &[Token]) -> Result<(), AllocError> {
+    for token in tokens {
+        let (domain, node) = (token.domain, token.node);
+        write!(said, " {domain}.{node}")?;
+    }
+    Ok(())
+}
+
+// Tells how many events bob's journal has, the word of his output 5, and which tokens are left; without bob, how many.
 fn tell_closed(alloc: Global, closed: Option<Closed>) -> Result<String, AllocError> {
     let Some(Closed { domains, tokens }) = closed else {
         return Err(AllocError);
     };
-    let left = tokens.len();
     match domains.get(1) {
         Some(bob) if bob.words.len() > 5 => {
             let entries = bob.journal.len();
             let word = bob.words[5].bits;
-            format!(in alloc; " {entries} entries, word {word:x}, {left} tokens")
+            let mut said = format!(in alloc; " {entries} entries, word {word:x}, tokens")?;
+            tell_tokens(&mut said, tokens.as_slice())?;
+            Ok(said)
         }
-        _ => format!(in alloc; " {left} tokens"),
+        _ => {
+            let left = tokens.len();
+            format!(in alloc; " {left} tokens")
+        }
     }
 }
 
@@ -156,20 +168,38 @@ pub fn one_domain<R: Threads + Wait + Sync>(rt: &R, alloc: Global) -> Result<Str
     both(rt, alloc, ANN_WITH_CAS, &POKE_AND_PEEK, &[Knock(0, 100)])
 }
 
-// A user acts, workers work, and he acts again.
+// Tells where a worker wanted memory.
+fn tell_work(said: &mut String, work: Result<(), NoMemory>) -> Result<(), AllocError> {
+    match work {
+        Ok(()) => Ok(()),
+        Err(AllocError) => said.push_str(" no memory;"),
+    }
+}
+
+// Ann and bob act, one worker works, and both read and look.
 fn worked<R: Threads + Wait + Sync>(
     rt: &R,
     alloc: Global,
-    farm: Farm,
-    ann: UserPass,
-    bob: UserPass,
+    plan: &str,
+    ann: &[Act],
+    bob: &[Act],
 ) -> Result<String, AllocError> {
-    let begun = visit_apart(rt, alloc, &farm.service, ann, &BOOT);
-    let farm = work_in(rt, farm, &NoGate, 1000);
-    let ended = visit_apart(rt, alloc, &farm.service, begun.pass, &LOOK);
+    let Some((farm, mut users)) = open(rt, alloc, plan, 1) else {
+        return Err(AllocError);
+    };
+    let (Some(second), Some(first)) = (users.pop(), users.pop()) else {
+        return Err(AllocError);
+    };
+    let first = visit_apart(rt, alloc, &farm.service, first, ann);
+    let second = visit_apart(rt, alloc, &farm.service, second, bob);
+    let (farm, work) = work_in(rt, farm, 1000);
+    let first = visit_apart(rt, alloc, &farm.service, first.pass, &LOOK);
+    let second = visit_apart(rt, alloc, &farm.service, second.pass, &LOOK);
     let mut text = String::new(alloc);
-    tell(&mut text, "ann", ended.said)?;
-    let users = vec![in alloc; ended.pass, bob]?;
+    tell(&mut text, "ann", first.said)?;
+    tell(&mut text, "bob", second.said)?;
+    tell_work(&mut text, work)?;
+    let users = vec![in alloc; first.pass, second.pass]?;
     if close(rt, alloc, farm, users).is_none() {
         text.push_str(" not closed")?;
     }
@@ -178,17 +208,16 @@ fn worked<R: Threads + Wait + Sync>(
 
 /// One worker runs a program that sends a byte to its host, and stops.
 pub fn worker_runs<R: Threads + Wait + Sync>(rt: &R, alloc: Global) -> Result<String, AllocError> {
-    let Some((farm, mut users)) = open(rt, alloc, ANN_AND_BOB, 1) else {
-        return Err(AllocError);
-    };
-    match (users.pop(), users.pop()) {
-        (Some(bob), Some(ann)) => worked(rt, alloc, farm, ann, bob),
-        _ => Err(AllocError),
-    }
+    worked(rt, alloc, ANN_AND_BOB, &BOOT, &[])
+}
+
+/// The worker runs bob's program, though each of his turns in ann's domain finds her journal full.
+pub fn full_journal<R: Threads + Wait + Sync>(rt: &R, alloc: Global) -> Result<String, AllocError> {
+    worked(rt, alloc, ANN_OF_THREE_EVENTS, &[Fill(0, 3)], &BOOT)
 }
 
 /// While a worker holds node 0's ticket, another checks node 1 out and commits it: no lock is held
-/// from a checkout to its commit.
+/// from a checkout to its commit. Where no thread could be started for the other, the first does it.
 pub fn one_node_waits<R: Threads + Wait + Sync>(
     rt: &R,
     alloc: Global,
@@ -196,11 +225,10 @@ pub fn one_node_waits<R: Threads + Wait + Sync>(
     let Some((farm, users)) = open(rt, alloc, TWO_NODES, 2) else {
         return Err(AllocError);
     };
-    let gate = HoldsFirst::new();
-    let farm = work_in(rt, farm, &gate, 10);
-    let seen = gate.into_seen();
+    let (farm, seen, work) = work_held(rt, farm);
     let (committed, failed) = (seen.committed, seen.failed);
     let mut text = format!(in alloc; " committed {committed}, failed {failed};")?;
+    tell_work(&mut text, work)?;
     text.push_str(tell_closed(alloc, close(rt, alloc, farm, users))?.as_str())?;
     Ok(text)
 }
@@ -221,12 +249,12 @@ pub fn stopped<R: Threads + Wait + Sync>(rt: &R, alloc: Global) -> Result<String
     };
     let (farm, before) = work_here(rt, farm);
     farm.service.stop();
-    let gate = HoldsFirst::new();
-    let farm = work_in(rt, farm, &gate, 10);
-    let begun = gate.into_seen().begun;
+    let (farm, seen, work) = work_held(rt, farm);
+    let begun = seen.begun;
     let (farm, after) = work_here(rt, farm);
     let (before, after) = (name_of(before), name_of(after));
     let mut text = format!(in alloc; " {before}, {after}, {begun} begun;")?;
+    tell_work(&mut text, work)?;
     text.push_str(tell_closed(alloc, close(rt, alloc, farm, users))?.as_str())?;
     Ok(text)
 }

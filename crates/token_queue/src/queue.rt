@@ -1,6 +1,6 @@
 //! The queue of a plan's tokens, and the passes of those who take from it.
 
-ghost use Rattle.std.specs.Prelude.{◌≡◌, ◌<◌, ◌≤◌, ◌+◌, ◌-◌, ℕ, [], ◌∷◌, ◌++◌, IfOk, IfSome, MatchOption, length, slice_get, vec_capacity};
+ghost use Rattle.std.specs.Prelude.{◌≡◌, ◌<◌, ◌≤◌, ◌+◌, ◌-◌, ℕ, [], ◌∷◌, ◌++◌, None, IfOk, IfSome, MatchOption, length, slice_get, vec_capacity};
 ghost use Rattle.atomic_table.specs.Seated.{TableId};
 ghost use Rattle.crossbeam_queue.specs.Passes.{IsSamePass, IsPassOf, ruled_capacity};
 ghost use Rattle.token_queue.specs.Passes.{AreOf, AreItsPasses, HoldNone, parts_of, outside_of};
@@ -207,10 +207,11 @@ fn drain<R: Wait>(rt: &R, line: &Line, keeper: &mut LinePass, tokens: &mut Vec<T
 
 impl TokenQueue {
     /// Takes the token that has waited longest; `None` where all are out with workers. Then the pass
-    /// holds what it held.
+    /// holds what it held; a pass that has all parts is told so only where it knows each token itself.
     pub fn take<R: Wait>(&self, rt: &R, pass: &mut WorkerPass) -> Option<Token>
         requires { pass.old.queue ≡ self.now }
-        ensures { MatchOption result (pass.new ≡ pass.old) (λ token. pass.new ≡ record pass.old { held = token ∷ pass.old.held }) }
+        ensures token { MatchOption result (pass.new ≡ pass.old) (λ token. pass.new ≡ record pass.old { held = token ∷ pass.old.held }) }
+        ensures alone { result ≡ None → pass.old.parts ≡ 9 → AreTheOthers pass.old.held pass.old.outside }
     {
         self.line.pop_as::<Takes, R>(rt, &mut pass.pass)
     }
