@@ -4,7 +4,7 @@ use Rattle.std.proofs.Math.Nat.{add-zero, add-suc}
 use Rattle.std.proofs.lemmas.Bool.{cases_lt}
 use Rattle.t414_step.specs.declared.stepping.Stepped.{Stepped}
 use Rattle.bootstrap.specs.Laws.{later_or}
-use Rattle.bootstrap.specs.Step.{node_step, is_recorded}
+use Rattle.bootstrap.specs.Step.{node_step, is_step_recorded}
 use Rattle.bootstrap.specs.Steps.{after_steps, last_answer, IsAfter}
 use Rattle.bootstrap.specs.declared.node.Node.{Node}
 
@@ -27,10 +27,10 @@ last_answer-suc k n = refl
 pub no-steps : (x : Node) → IsAfter x 0 x
 no-steps x = record { node = after_steps-zero x; recorded = λ i lt. absurd (omega arith) }
 
-pub one-more : (x y z : Node) (k : ℕ) → IsAfter x k y → is_recorded y ≡ true → (node_step y).0 ≡ z → IsAfter x (k + 1) z
+pub one-more : (x y z : Node) (k : ℕ) → IsAfter x k y → is_step_recorded y ≡ true → (node_step y).0 ≡ z → IsAfter x (k + 1) z
 one-more x y z k after r e = record {
   node = ap (λ (i : ℕ). after_steps i x) (add-one k) ∙ after_steps-suc k x ∙ ap (λ (n : Node). (node_step n).0) after.node ∙ e;
-  recorded = below_more (λ (i : ℕ). is_recorded (after_steps i x) ≡ true) k after.recorded (ap is_recorded after.node ∙ r);
+  recorded = below_more (λ (i : ℕ). is_step_recorded (after_steps i x) ≡ true) k after.recorded (ap is_step_recorded after.node ∙ r);
 }
 
 pub last-more : (x y : Node) (k : ℕ) (answer : Stepped) → IsAfter x k y → (node_step y).1 ≡ answer → last_answer (k + 1) x ≡ Some answer
@@ -45,11 +45,11 @@ after_steps-add j (suc k) x =
 later-steps : (x y : Node) (j k : ℕ) → IsAfter x j y → after_steps (j + k) x ≡ after_steps k y
 later-steps x y j k after = after_steps-add j k x ∙ ap (after_steps k) after.node
 
-recorded-add : (x y z : Node) (j k i : ℕ) → IsAfter x j y → IsAfter y k z → i < j + k → (i < j) ⊎ (j ≤ i) → is_recorded (after_steps i x) ≡ true
+recorded-add : (x y z : Node) (j k i : ℕ) → IsAfter x j y → IsAfter y k z → i < j + k → (i < j) ⊎ (j ≤ i) → is_step_recorded (after_steps i x) ≡ true
 recorded-add x y z j k i first second lt (inl before) = first.recorded i before
 recorded-add x y z j k i first second lt (inr past) =
     let is : i ≡ j + (i - j) = omega arith in
-    ap (λ (t : ℕ). is_recorded (after_steps t x)) is ∙ ap is_recorded (later-steps x y j (i - j) first) ∙ second.recorded (i - j) (omega arith)
+    ap (λ (t : ℕ). is_step_recorded (after_steps t x)) is ∙ ap is_step_recorded (later-steps x y j (i - j) first) ∙ second.recorded (i - j) (omega arith)
 
 pub after-add : (x y z : Node) (j k : ℕ) → IsAfter x j y → IsAfter y k z → IsAfter x (j + k) z
 after-add x y z j k first second = record {

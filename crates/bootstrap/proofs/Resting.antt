@@ -11,11 +11,11 @@ use Rattle.t414_step.specs.declared.cpu.Cpu.{Cpu}
 use Rattle.t414_step.specs.declared.stepping.Stepped.{Stepped}
 use Rattle.t414_step.specs.declared.stepping.Stepped.TheVariants as code
 use Rattle.t414_step.specs.Answers.{is_idle, tells_idle}
-use Rattle.t414_step.specs.Registers.{rests}
-use Rattle.t414_step.specs.Step as processor
-use Rattle.t414_step.specs.Step.{step, Answer}
+use Rattle.t414_step.specs.Registers.{has_nothing_to_do}
+use Rattle.t414_step.specs.Step.{Broke, Idle, Ran}
+use Rattle.t414_step.specs.Step.{step, StepAnswer}
 use Rattle.t414_step.proofs.Idle.{tells_idle-step}
-use Rattle.bootstrap.specs.Step.{node_step, stepped, ran, fed, controlled, offered, answered, has_halted, is_recorded, is_quiet}
+use Rattle.bootstrap.specs.Step.{node_step, step_by_state, ran, fed, controlled, offered, answer_continued, has_halted, is_step_recorded, is_quiet}
 use Rattle.bootstrap.specs.declared.node.Node.{Node}
 use Rattle.bootstrap.specs.declared.state.State.{State}
 use Rattle.bootstrap.specs.declared.state.State.TheVariants.{WantsControl, Takes, Answers, Runs, Halted}
@@ -36,23 +36,23 @@ not-true : (a : Bool) → not a ≡ true → a ≡ false
 not-true true e = cc
 not-true false e = refl
 
-is_idle-ran : (a : Answer) → is_idle (ran a).1 ≡ tells_idle a
-is_idle-ran (processor.Ran s ls m) = refl
-is_idle-ran (processor.Idle s ls m) = refl
-is_idle-ran (processor.Broke fault ls m) = refl
+is_idle-ran : (a : StepAnswer) → is_idle (ran a).1 ≡ tells_idle a
+is_idle-ran (Ran s ls m) = refl
+is_idle-ran (Idle s ls m) = refl
+is_idle-ran (Broke fault ls m) = refl
 
 -- a node that runs is quiet exactly where nothing waits for it
-pub quiet-runs : (n : Node) (s : Cpu) → n.state ≡ Runs s → is_quiet n ≡ rests s n.links
+pub quiet-runs : (n : Node) (s : Cpu) → n.state ≡ Runs s → is_quiet n ≡ has_nothing_to_do s n.links
 unfolding node_step
 quiet-runs n s e =
     rw e (not-not (is_idle (ran (step s n.links n.memory)).1) ∙ (is_idle-ran (step s n.links n.memory) ∙ tells_idle-step s n.links n.memory))
 
 -- a processor with nothing to do stays as it is
-idle-step : (s : Cpu) (ls : FourLinks) (m : List ℕ) → s.running ≡ false → (s.queue.front == not_process) ≡ true → any_has_work ls ≡ false → step s ls m ≡ processor.Idle s ls m
+idle-step : (s : Cpu) (ls : FourLinks) (m : List ℕ) → s.running ≡ false → (s.queue.front == not_process) ≡ true → any_has_work ls ≡ false → step s ls m ≡ Idle s ls m
 unfolding step after_take
 idle-step s ls m r f w = rw (quiet-links ls s.queue m w, r, f) refl
 
-pub resting-step : (s : Cpu) (ls : FourLinks) (m : List ℕ) → rests s ls ≡ true → step s ls m ≡ processor.Idle s ls m
+pub resting-step : (s : Cpu) (ls : FourLinks) (m : List ℕ) → has_nothing_to_do s ls ≡ true → step s ls m ≡ Idle s ls m
 resting-step s ls m e =
     let none : (not s.running && (s.queue.front == not_process)) ≡ true = and-left (not s.running && (s.queue.front == not_process)) (not (any_has_work ls)) e in
     idle-step s ls m
@@ -85,9 +85,9 @@ unfolding node_step
 unchanged WantsControl ls m q =
     controlled-idle (offered ls) (node-of m ls WantsControl) (sym (not-not (is_idle (controlled (offered ls) (node-of m ls WantsControl)).1)) ∙ q)
 unchanged (Takes link task) ls m q =
-    fed-idle (at link ls).end.input.buffer _ (node-of m ls (Takes link task)) (sym (not-not (is_idle (stepped (Takes link task) (node-of m ls (Takes link task))).1)) ∙ q)
+    fed-idle (at link ls).end.input.buffer _ (node-of m ls (Takes link task)) (sym (not-not (is_idle (step_by_state (Takes link task) (node-of m ls (Takes link task))).1)) ∙ q)
 unchanged (Answers link left word) ls m q =
-    if-idle (not (at link ls).end.output.acknowledged) (node-of m ls (Answers link left word)) _ (if-busy (left == 0) _ _ refl refl) (sym (not-not (is_idle (answered link left word (node-of m ls (Answers link left word))).1)) ∙ q)
+    if-idle (not (at link ls).end.output.acknowledged) (node-of m ls (Answers link left word)) _ (if-busy (left == 0) _ _ refl refl) (sym (not-not (is_idle (answer_continued link left word (node-of m ls (Answers link left word))).1)) ∙ q)
 unchanged (Runs s) ls m q =
     rw (resting-step s ls m (sym (quiet-runs (node-of m ls (Runs s)) s refl) ∙ q)) refl
 unchanged (Halted fault) ls m q = refl
@@ -96,10 +96,10 @@ unchanged (Halted fault) ls m q = refl
 pub quiet-step : (n : Node) → is_quiet n ≡ true → (node_step n).0 ≡ n
 quiet-step n q = unchanged n.state n.links n.memory q
 
-ran-faults : (a : Answer) (fault : Fault) → (ran a).1 ≡ code.Fault fault → (ran a).0.state ≡ Halted fault
-ran-faults (processor.Ran s ls m) fault e = cc
-ran-faults (processor.Idle s ls m) fault e = cc
-ran-faults (processor.Broke other ls m) fault e = cc
+ran-faults : (a : StepAnswer) (fault : Fault) → (ran a).1 ≡ code.Fault fault → (ran a).0.state ≡ Halted fault
+ran-faults (Ran s ls m) fault e = cc
+ran-faults (Idle s ls m) fault e = cc
+ran-faults (Broke other ls m) fault e = cc
 
 fed-faults : (byte : Option ℕ) (next : ℕ → Node) (n : Node) (fault : Fault) → (fed byte next n).1 ≡ code.Fault fault → (fed byte next n).0.state ≡ Halted fault
 fed-faults None next n fault e = cc
@@ -113,7 +113,7 @@ if-faults : (b : Bool) (x y : Node × Stepped) (fault : Fault) → (x.1 ≡ code
 if-faults true x y fault f g e = f e
 if-faults false x y fault f g e = g e
 
-halts : (st : State) (n : Node) (fault : Fault) → n.state ≡ st → (stepped st n).1 ≡ code.Fault fault → (stepped st n).0.state ≡ Halted fault
+halts : (st : State) (n : Node) (fault : Fault) → n.state ≡ st → (step_by_state st n).1 ≡ code.Fault fault → (step_by_state st n).0.state ≡ Halted fault
 halts WantsControl n fault s e = controlled-faults (offered n.links) n fault e
 halts (Takes link task) n fault s e = fed-faults (at link n.links).end.input.buffer _ n fault e
 halts (Answers link left word) n fault s e =
@@ -126,7 +126,7 @@ pub fault-halts : (n : Node) (fault : Fault) → (node_step n).1 ≡ code.Fault 
 unfolding node_step
 fault-halts n fault e = halts n.state n fault refl e
 
-ran-by : (n : Node) (answer : Stepped) → (node_step n).1 ≡ answer → is_recorded n ≡ true → is_recorded (node_step n).0 ≡ true → answer ≡ code.Ran
+ran-by : (n : Node) (answer : Stepped) → (node_step n).1 ≡ answer → is_step_recorded n ≡ true → is_step_recorded (node_step n).0 ≡ true → answer ≡ code.Ran
 ran-by n code.Ran e r s = refl
 ran-by n code.Idle e r s =
     let busy : not (is_idle (node_step n).1) ≡ true = and-right (not (has_halted n.state)) (not (is_idle (node_step n).1)) r in
@@ -140,5 +140,5 @@ ran-by n (code.Fault fault) e r s =
     cc
 
 -- a recorded Step that leaves a node whose next Step is recorded too answered Ran
-pub recorded-ran : (n : Node) → is_recorded n ≡ true → is_recorded (node_step n).0 ≡ true → (node_step n).1 ≡ code.Ran
+pub recorded-ran : (n : Node) → is_step_recorded n ≡ true → is_step_recorded (node_step n).0 ≡ true → (node_step n).1 ≡ code.Ran
 recorded-ran n r s = ran-by n (node_step n).1 refl r s

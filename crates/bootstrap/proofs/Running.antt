@@ -6,11 +6,11 @@ use Rattle.t414_step.specs.declared.cpu.Cpu.{Cpu}
 use Rattle.t414_step.specs.declared.stepping.Stepped.{Stepped}
 use Rattle.t414_step.specs.declared.stepping.Stepped.TheVariants as code
 use Rattle.t414_step.specs.Answers.{is_idle}
-use Rattle.t414_step.specs.Registers.{rests}
-use Rattle.t414_step.specs.Step as processor
+use Rattle.t414_step.specs.Registers.{has_nothing_to_do}
+use Rattle.t414_step.specs.Step.{Broke, Idle, Ran}
 use Rattle.t414_step.specs.Step.{step}
 use Rattle.bootstrap.specs.Laws.{later_or}
-use Rattle.bootstrap.specs.Step.{node_step, ran, has_halted, is_recorded, is_quiet}
+use Rattle.bootstrap.specs.Step.{node_step, ran, has_halted, is_step_recorded, is_quiet}
 use Rattle.bootstrap.specs.Steps.{last_answer, IsAfter, IsBurst, running, left_by}
 use Rattle.bootstrap.specs.declared.burst.Burst.{Burst}
 use Rattle.bootstrap.specs.declared.node.Node.{Node}
@@ -20,23 +20,23 @@ use Rattle.bootstrap.proofs.Counting.{one-more, last-more, after-add, last-add, 
 use Rattle.bootstrap.proofs.Resting.{not-not, resting-step, quiet-runs}
 
 -- the processor's Step as the node's
-pub ran-step : (s t : Cpu) (ls ks : FourLinks) (m n : List ℕ) → processor.Ran t ks n ≡ step s ls m → node_step (running s ls m) ≡ (running t ks n, code.Ran)
+pub ran-step : (s t : Cpu) (ls ks : FourLinks) (m n : List ℕ) → Ran t ks n ≡ step s ls m → node_step (running s ls m) ≡ (running t ks n, code.Ran)
 unfolding node_step
 ran-step s t ls ks m n e = sym (ap ran e)
 
-pub broke-step : (fault : Fault) (s : Cpu) (ls ks : FourLinks) (m n : List ℕ) → processor.Broke fault ks n ≡ step s ls m
+pub broke-step : (fault : Fault) (s : Cpu) (ls ks : FourLinks) (m n : List ℕ) → Broke fault ks n ≡ step s ls m
     → node_step (running s ls m) ≡ (left_by (Some (code.Fault fault)) s ks n, code.Fault fault)
 unfolding node_step
 broke-step fault s ls ks m n e = sym (ap ran e)
 
-same-idle : (s t : Cpu) (ls ks : FourLinks) (m n : List ℕ) → processor.Idle t ks n ≡ processor.Idle s ls m → running s ls m ≡ running t ks n
+same-idle : (s t : Cpu) (ls ks : FourLinks) (m n : List ℕ) → Idle t ks n ≡ Idle s ls m → running s ls m ≡ running t ks n
 same-idle s t ls ks m n e = cc
 
-pub idle-stays : (s t : Cpu) (ls ks : FourLinks) (m n : List ℕ) → processor.Idle t ks n ≡ step s ls m → true ≡ rests s ls → running s ls m ≡ running t ks n
+pub idle-stays : (s t : Cpu) (ls ks : FourLinks) (m n : List ℕ) → Idle t ks n ≡ step s ls m → true ≡ has_nothing_to_do s ls → running s ls m ≡ running t ks n
 idle-stays s t ls ks m n e r = same-idle s t ls ks m n (e ∙ resting-step s ls m (sym r))
 
 -- a Step that answers so is recorded
-recorded-by : (n : Node) (answer : Stepped) → has_halted n.state ≡ false → (node_step n).1 ≡ answer → is_idle answer ≡ false → is_recorded n ≡ true
+recorded-by : (n : Node) (answer : Stepped) → has_halted n.state ≡ false → (node_step n).1 ≡ answer → is_idle answer ≡ false → is_step_recorded n ≡ true
 recorded-by n answer h e i = rw (h, e, i) refl
 
 pub runs-more : (x y : Node) (k : ℕ) (s : Cpu) (ls : FourLinks) (m : List ℕ) (answer : Stepped) → IsAfter x k (running s ls m) → node_step (running s ls m) ≡ (y, answer) → is_idle answer ≡ false
@@ -48,7 +48,7 @@ runs-more x y k s ls m answer after e busy =
     )
 
 -- a processor with nothing to do makes its node quiet
-pub quiet-running : (s : Cpu) (ls : FourLinks) (m : List ℕ) → true ≡ rests s ls → is_quiet (running s ls m) ≡ true
+pub quiet-running : (s : Cpu) (ls : FourLinks) (m : List ℕ) → true ≡ has_nothing_to_do s ls → is_quiet (running s ls m) ≡ true
 quiet-running s ls m r = quiet-runs (running s ls m) s refl ∙ sym r
 
 later-some : (k : ℕ) (y : Node) (before : Option Stepped) → 0 < k → later_or (last_answer k y) before ≡ last_answer k y
@@ -82,7 +82,7 @@ burst-after-some n j x y z more le after burst some =
 pub steps-more : (x y z : Node) (k : ℕ) (quiet : Bool) (answer : Stepped) → IsAfter x k y → quiet ≡ is_quiet y → quiet ≡ false → (z, answer) ≡ node_step y
     → IsAfter x (k + 1) z × (Some answer ≡ last_answer (k + 1) x)
 steps-more x y z k quiet answer after is busy e =
-    let recorded : is_recorded y ≡ true = sym (not-not (is_recorded y)) ∙ ap not (sym is ∙ busy) in (
+    let recorded : is_step_recorded y ≡ true = sym (not-not (is_step_recorded y)) ∙ ap not (sym is ∙ busy) in (
       one-more x y z k after recorded (sym (ap (λ (p : Node × Stepped). p.0) e)),
       sym (last-more x y k answer after (sym (ap (λ (p : Node × Stepped). p.1) e))),
     )

@@ -21,14 +21,14 @@ use Rattle.link_channels.specs.declared.process.Transfer.{Transfer}
 use Rattle.link_channels.specs.declared.process.Turn.{Turn}
 use Rattle.link_channels.specs.Links.{at, within, input_channel, output_channel, heard, byte_taken}
 use Rattle.link_channels.specs.Kinds.{kind_of}
-use Rattle.link_channels.specs.Waiting.{waiting_at, descriptor_of, state_of, scheduled}
-use Rattle.link_channels.specs.Service.{acted, complete, input_stored, input_of, input_byte, output_byte, woken, wakes, arrival, serve_link, serve, serve_all}
+use Rattle.link_channels.specs.Waiting.{waiting_at, descriptor_of, state_address, scheduled}
+use Rattle.link_channels.specs.Service.{marked_acted, complete, input_stored, input_of_buffer, input_byte, output_byte, woken, wakes, arrival, serve_link, serve, serve_all}
 use Rattle.link_channels.specs.Soft as soft
-use Rattle.link_channels.specs.Hard as hard
-use Rattle.link_channels.specs.Messages as messages
+use Rattle.link_channels.specs.Hard.{chosen_if_held}
+use Rattle.link_channels.specs.Messages.{disable_at, enable_at, input_at, output_at, reset_at}
 use Rattle.link_channels.specs.Messages.{with_queue}
-use Rattle.link_channels.specs.Reply as reply
-use Rattle.link_channels.specs.Reply.{Reply, Gave, Halted, and_then}
+use Rattle.link_channels.specs.Reply.{copied_then, put_then, read_then, requeued_then, store_then, written_then}
+use Rattle.link_channels.specs.Reply.{Reply, Gave, Halted, reply_and_then}
 use Rattle.t414_decode.specs.declared.instruction.PlainOperation.{PlainOperation}
 use Rattle.t414_decode.specs.declared.instruction.PlainOperation.TheVariants as op
 use Rattle.t414_decode.specs.declared.instruction.ChannelOperation.{ChannelOperation}
@@ -41,13 +41,13 @@ use Rattle.t414_decode.specs.Codes.{operation_of}
 use Rattle.t414_step.specs.declared.cpu.Cpu.{Cpu}
 use Rattle.t414_step.specs.declared.stepping.Stepped.{Stepped}
 use Rattle.t414_step.specs.ChannelRows.{process_of, transfer, after_message, send, channel_row}
-use Rattle.t414_step.specs.Step as processor
-use Rattle.t414_step.specs.Step.{Answer, Resumption, Resumed, Nobody, Lost, fetched, byte_done, byte_answer, going_on, after_service, resumption, step}
+use Rattle.t414_step.specs.Step.{Broke, Idle, Ran}
+use Rattle.t414_step.specs.Step.{StepAnswer, Resumption, Resumed, Nobody, Lost, fetched, byte_done, byte_answer, going_on, after_service, resumption, step}
 use Rattle.t414_step.specs.Outcome.{Effect, Outcome, Went, Stopped, upon, left, read, written, requeued, put}
 use Rattle.t414_step.specs.Rows.{operate, direct, row, error_if, wait, slice, schedule, divides_past}
 use Rattle.t414_step.specs.Registers.{un, bin, drop, goto, at_workspace, leave, carry, sign_of}
 use Rattle.bootstrap.specs.Boot.{or_kept, freed, shifted_in}
-use Rattle.bootstrap.specs.Step.{node_step, stepped, ran, fed, controlled, offered, given, loaded_to}
+use Rattle.bootstrap.specs.Step.{node_step, step_by_state, ran, fed, controlled, offered, given, loaded_to}
 use Rattle.bootstrap.specs.Steps.{after_steps}
 use Rattle.bootstrap.specs.declared.node.Node.{Node}
 use Rattle.bootstrap.specs.declared.state.State.{State}
@@ -219,31 +219,31 @@ r-if : {A L : Type 0} (b : Bool) (x y : Reply A L) (k : ℕ) → Sized k x → S
 r-if true x y k e f = e
 r-if false x y k e f = f
 
-r-read : {A B L : Type 0} (r : Result B Fault) (l : L) (m : List ℕ) (next : B → Reply A L) (k : ℕ) → length m ≡ k → ((x : B) → Sized k (next x)) → Sized k (reply.read r l m next)
+r-read : {A B L : Type 0} (r : Result B Fault) (l : L) (m : List ℕ) (next : B → Reply A L) (k : ℕ) → length m ≡ k → ((x : B) → Sized k (next x)) → Sized k (read_then r l m next)
 r-read (Ok x) l m next k e f = f x
 r-read (Err fault) l m next k e f = record { size = e }
 
 r-written : {A L : Type 0} (r : Result (List ℕ) Fault) (l : L) (m : List ℕ) (next : List ℕ → Reply A L) (k : ℕ) → ((n : List ℕ) → r ≡ Ok n → length n ≡ length m) → length m ≡ k
-    → ((n : List ℕ) → length n ≡ k → Sized k (next n)) → Sized k (reply.written r l m next)
+    → ((n : List ℕ) → length n ≡ k → Sized k (next n)) → Sized k (written_then r l m next)
 r-written (Ok n) l m next k h e f = f n (h n refl ∙ e)
 r-written (Err fault) l m next k h e f = record { size = e }
 
-r-store : {A L : Type 0} (a w : ℕ) (l : L) (m : List ℕ) (next : List ℕ → Reply A L) (k : ℕ) → length m ≡ k → ((n : List ℕ) → length n ≡ k → Sized k (next n)) → Sized k (reply.store a w l m next)
+r-store : {A L : Type 0} (a w : ℕ) (l : L) (m : List ℕ) (next : List ℕ → Reply A L) (k : ℕ) → length m ≡ k → ((n : List ℕ) → length n ≡ k → Sized k (next n)) → Sized k (store_then a w l m next)
 r-store a w l m next k e f = r-written (with_word m a w) l m next k (λ n h. length-with_word m n a w h) e f
 
-r-requeued : {A L : Type 0} (c : Change) (l : L) (next : Queue → List ℕ → Reply A L) (k : ℕ) → length (changed-memory c) ≡ k → ((q : Queue) (n : List ℕ) → length n ≡ k → Sized k (next q n)) → Sized k (reply.requeued c l next)
+r-requeued : {A L : Type 0} (c : Change) (l : L) (next : Queue → List ℕ → Reply A L) (k : ℕ) → length (changed-memory c) ≡ k → ((q : Queue) (n : List ℕ) → length n ≡ k → Sized k (next q n)) → Sized k (requeued_then c l next)
 unfolding changed-memory
 r-requeued (Changed q n) l next k e f = f q n e
 r-requeued (Kept fault q n) l next k e f = record { size = e }
 
-r-put : {A L : Type 0} (w : ℕ) (l : L) (q : Queue) (m : List ℕ) (next : Queue → List ℕ → Reply A L) (k : ℕ) → length m ≡ k → ((q : Queue) (n : List ℕ) → length n ≡ k → Sized k (next q n)) → Sized k (reply.put w l q m next)
+r-put : {A L : Type 0} (w : ℕ) (l : L) (q : Queue) (m : List ℕ) (next : Queue → List ℕ → Reply A L) (k : ℕ) → length m ≡ k → ((q : Queue) (n : List ℕ) → length n ≡ k → Sized k (next q n)) → Sized k (put_then w l q m next)
 r-put w l q m next k e f = r-requeued (after_put q m w) l next k (size-put q m w ∙ e) f
 
-r-moved : {A L : Type 0} (r : Result (Unit {0}) Fault) (l : L) (m : List ℕ) (next : List ℕ → Reply A L) (k : ℕ) → length m ≡ k → Sized k (next m) → Sized k (reply.moved r l m next)
+r-moved : {A L : Type 0} (r : Result (Unit {0}) Fault) (l : L) (m : List ℕ) (next : List ℕ → Reply A L) (k : ℕ) → length m ≡ k → Sized k (next m) → Sized k (copied_then r l m next)
 r-moved (Ok u) l m next k e f = f
 r-moved (Err fault) l m next k e f = record { size = e }
 
-r-then : {A B L : Type 0} (r : Reply A L) (next : A → L → List ℕ → Reply B L) (k : ℕ) → Sized k r → ((x : A) (l : L) (m : List ℕ) → length m ≡ k → Sized k (next x l m)) → Sized k (and_then r next)
+r-then : {A B L : Type 0} (r : Reply A L) (next : A → L → List ℕ → Reply B L) (k : ℕ) → Sized k r → ((x : A) (l : L) (m : List ℕ) → length m ≡ k → Sized k (next x l m)) → Sized k (reply_and_then r next)
 r-then (Gave x l m) next k h f = f x l m h.size
 r-then (Halted fault l m) next k h f = record { size = h.size }
 
@@ -261,7 +261,7 @@ halted fault l m k e = record { size = e }
 size-scheduled : {L : Type 0} (d : ℕ) (l : L) (q : Queue) (m : List ℕ) (k : ℕ) → length m ≡ k → Sized k (scheduled d l q m)
 size-scheduled d l q m k e = r-if _ _ _ k (gave _ l m k e) (r-if _ _ _ k (halted _ l m k e) (r-put (aligned d) l q m _ k e (λ q n f. gave _ l n k f)))
 
-size-acted : (r : Reply (Unit {0} × Queue) Link) (k : ℕ) → Sized k r → Sized k (acted r)
+size-acted : (r : Reply (Unit {0} × Queue) Link) (k : ℕ) → Sized k r → Sized k (marked_acted r)
 size-acted r k h = r-then r _ k h (λ x l m f. gave _ l m k f)
 
 size-complete : (channel : ℕ) (l : Link) (q : Queue) (m : List ℕ) (k : ℕ) → length m ≡ k → Sized k (complete channel l q m)
@@ -270,7 +270,7 @@ size-complete channel l q m k e = r-read (word_at m channel) l m _ k e (λ d. r-
 size-input_stored : (channel : ℕ) (l : Link) (q : Queue) (m : List ℕ) (k : ℕ) → length m ≡ k → Sized k (input_stored channel l q m)
 size-input_stored channel l q m k e = r-if _ _ _ k (size-acted _ k (size-complete channel _ q m k e)) (gave _ _ m k e)
 
-size-input_of : (byte : Option ℕ) (channel : ℕ) (l : Link) (q : Queue) (m : List ℕ) (k : ℕ) → length m ≡ k → Sized k (input_of byte channel l q m)
+size-input_of : (byte : Option ℕ) (channel : ℕ) (l : Link) (q : Queue) (m : List ℕ) (k : ℕ) → length m ≡ k → Sized k (input_of_buffer byte channel l q m)
 size-input_of None channel l q m k e = gave _ l m k e
 size-input_of (Some byte) channel l q m k e =
     r-if _ _ _ k (gave _ l m k e)
@@ -282,12 +282,12 @@ size-output_byte channel l q m k e =
 
 size-woken : (state v : ℕ) (l : Link) (q : Queue) (m : List ℕ) (k : ℕ) → length m ≡ k → Sized k (woken state v l q m)
 size-woken state v l q m k e =
-    r-if (state == enabling) _ _ k (r-store (state_of v) ready l m (λ m. Gave (true, q) l m) k e (λ n f. gave (true, q) l n k f))
-    (r-if (state == waiting) _ _ k (r-store (state_of v) ready l m (λ m. reply.put v l q m (λ q m. Gave (true, q) l m)) k e (λ n f. r-put v l q n (λ q m. Gave (true, q) l m) k f (λ q n f. gave (true, q) l n k f))) (gave (true, q) l m k e))
+    r-if (state == enabling) _ _ k (r-store (state_address v) ready l m (λ m. Gave (true, q) l m) k e (λ n f. gave (true, q) l n k f))
+    (r-if (state == waiting) _ _ k (r-store (state_address v) ready l m (λ m. put_then v l q m (λ q m. Gave (true, q) l m)) k e (λ n f. r-put v l q n (λ q m. Gave (true, q) l m) k f (λ q n f. gave (true, q) l n k f))) (gave (true, q) l m k e))
 
 size-wakes : (other : Option ℕ) (l : Link) (q : Queue) (m : List ℕ) (k : ℕ) → length m ≡ k → Sized k (wakes other l q m)
 size-wakes None l q m k e = gave _ l m k e
-size-wakes (Some v) l q m k e = r-read (word_at m (state_of v)) l m _ k e (λ state. size-woken state v l q m k e)
+size-wakes (Some v) l q m k e = r-read (word_at m (state_address v)) l m _ k e (λ state. size-woken state v l q m k e)
 
 size-arrival : (channel : ℕ) (l : Link) (q : Queue) (m : List ℕ) (k : ℕ) → length m ≡ k → Sized k (arrival channel l q m)
 size-arrival channel l q m k e = r-if _ _ _ k (gave _ l m k e) (r-read (waiting_at m channel) _ m _ k e (λ other. size-wakes other _ q m k e))
@@ -313,7 +313,7 @@ size-serve_all ls q m k e =
 -- messages on channels
 size-wait_there : {L : Type 0} (p : Process) (t : Transfer) (l : L) (q : Queue) (m : List ℕ) (k : ℕ) → length m ≡ k → Sized k (soft.wait_there p t l q m)
 size-wait_there p t l q m k e =
-    r-store t.channel (descriptor_of p) l m _ k e (λ m e. r-store (state_of p.workspace) t.pointer l m _ k e (λ m e. r-store _ _ l m _ k e (λ m e. gave _ l m k e)))
+    r-store t.channel (descriptor_of p) l m _ k e (λ m e. r-store (state_address p.workspace) t.pointer l m _ k e (λ m e. r-store _ _ l m _ k e (λ m e. gave _ l m k e)))
 
 size-exchange : {L : Type 0} (from to v : ℕ) (t : Transfer) (l : L) (q : Queue) (m : List ℕ) (k : ℕ) → length m ≡ k → Sized k (soft.exchange from to v t l q m)
 size-exchange from to v t l q m k e =
@@ -322,79 +322,79 @@ size-exchange from to v t l q m k e =
 
 size-input_from : {L : Type 0} (other : Option ℕ) (p : Process) (t : Transfer) (l : L) (q : Queue) (m : List ℕ) (k : ℕ) → length m ≡ k → Sized k (soft.input_from other p t l q m)
 size-input_from None p t l q m k e = size-wait_there p t l q m k e
-size-input_from (Some v) p t l q m k e = r-read (word_at m (state_of v)) l m _ k e (λ source. size-exchange source t.pointer v t l q m k e)
+size-input_from (Some v) p t l q m k e = r-read (word_at m (state_address v)) l m _ k e (λ source. size-exchange source t.pointer v t l q m k e)
 
 size-output_to : {L : Type 0} (other : Option ℕ) (p : Process) (t : Transfer) (l : L) (q : Queue) (m : List ℕ) (k : ℕ) → length m ≡ k → Sized k (soft.output_to other p t l q m)
 size-output_to None p t l q m k e = size-wait_there p t l q m k e
-size-output_to (Some v) p t l q m k e = r-read (word_at m (state_of v)) l m _ k e (λ s.
-    r-if _ _ _ k (r-store (state_of v) ready l m _ k e (λ m e. size-wait_there p t l q m k e))
-    (r-if _ _ _ k (r-store (state_of v) ready l m _ k e (λ m e. r-put v l q m _ k e (λ q m e. size-wait_there p t l q m k e)))
+size-output_to (Some v) p t l q m k e = r-read (word_at m (state_address v)) l m _ k e (λ s.
+    r-if _ _ _ k (r-store (state_address v) ready l m _ k e (λ m e. size-wait_there p t l q m k e))
+    (r-if _ _ _ k (r-store (state_address v) ready l m _ k e (λ m e. r-put v l q m _ k e (λ q m e. size-wait_there p t l q m k e)))
     (size-exchange t.pointer s v t l q m k e)))
 
-size-soft_input : (p : Process) (t : Transfer) (ls : FourLinks) (q : Queue) (m : List ℕ) (k : ℕ) → length m ≡ k → Sized k (soft.input p t ls q m)
-unfolding soft.input
+size-soft_input : (p : Process) (t : Transfer) (ls : FourLinks) (q : Queue) (m : List ℕ) (k : ℕ) → length m ≡ k → Sized k (soft.soft_input p t ls q m)
+unfolding soft.soft_input
 size-soft_input p t ls q m k e = r-read (waiting_at m t.channel) ls m _ k e (λ other. size-input_from other p t ls q m k e)
 
-size-soft_output : (p : Process) (t : Transfer) (ls : FourLinks) (q : Queue) (m : List ℕ) (k : ℕ) → length m ≡ k → Sized k (soft.output p t ls q m)
-unfolding soft.output
+size-soft_output : (p : Process) (t : Transfer) (ls : FourLinks) (q : Queue) (m : List ℕ) (k : ℕ) → length m ≡ k → Sized k (soft.soft_output p t ls q m)
+unfolding soft.soft_output
 size-soft_output p t ls q m k e = r-read (waiting_at m t.channel) ls m _ k e (λ other. size-output_to other p t ls q m k e)
 
-size-soft_enable : (p : Process) (channel : ℕ) (ls : FourLinks) (m : List ℕ) (k : ℕ) → length m ≡ k → Sized k (soft.enable p channel ls m)
-unfolding soft.enable
+size-soft_enable : (p : Process) (channel : ℕ) (ls : FourLinks) (m : List ℕ) (k : ℕ) → length m ≡ k → Sized k (soft.soft_enable p channel ls m)
+unfolding soft.soft_enable
 size-soft_enable p channel ls m k e = r-read (word_at m channel) ls m _ k e (λ c.
     r-if _ _ _ k (r-store _ _ ls m _ k e (λ m e. gave _ ls m k e)) (r-if _ _ _ k (gave _ ls m k e) (r-store _ _ ls m _ k e (λ m e. gave _ ls m k e))))
 
 size-chosen : {L : Type 0} (p : Process) (offset : ℕ) (l : L) (m : List ℕ) (k : ℕ) → length m ≡ k → Sized k (soft.chosen p offset l m)
 size-chosen p offset l m k e = r-read (word_at m p.workspace) l m _ k e (λ selected. r-if _ _ _ k (r-store _ _ l m _ k e (λ m e. gave _ l m k e)) (gave _ l m k e))
 
-size-soft_disable : (p : Process) (channel offset : ℕ) (ls : FourLinks) (m : List ℕ) (k : ℕ) → length m ≡ k → Sized k (soft.disable p channel offset ls m)
-unfolding soft.disable
+size-soft_disable : (p : Process) (channel offset : ℕ) (ls : FourLinks) (m : List ℕ) (k : ℕ) → length m ≡ k → Sized k (soft.soft_disable p channel offset ls m)
+unfolding soft.soft_disable
 size-soft_disable p channel offset ls m k e = r-read (word_at m channel) ls m _ k e (λ c.
     r-if _ _ _ k (gave _ ls m k e) (r-if _ _ _ k (r-store _ _ ls m _ k e (λ m e. gave _ ls m k e)) (size-chosen p offset ls m k e)))
 
-size-soft_reset : (channel : ℕ) (ls : FourLinks) (m : List ℕ) (k : ℕ) → length m ≡ k → Sized k (soft.reset channel ls m)
-unfolding soft.reset
+size-soft_reset : (channel : ℕ) (ls : FourLinks) (m : List ℕ) (k : ℕ) → length m ≡ k → Sized k (soft.soft_reset channel ls m)
+unfolding soft.soft_reset
 size-soft_reset channel ls m k e = r-read (word_at m channel) ls m _ k e (λ c. r-store _ _ ls m _ k e (λ m e. gave _ ls m k e))
 
 size-with_queue : (q : Queue) (r : Reply Turn FourLinks) (k : ℕ) → Sized k r → Sized k (with_queue q r)
 size-with_queue q (Gave turn ls m) k h = record { size = h.size }
 size-with_queue q (Halted fault ls m) k h = record { size = h.size }
 
-size-input_at : (c : Channel) (p : Process) (t : Transfer) (ls : FourLinks) (q : Queue) (m : List ℕ) (k : ℕ) → length m ≡ k → Sized k (messages.input_at c p t ls q m)
+size-input_at : (c : Channel) (p : Process) (t : Transfer) (ls : FourLinks) (q : Queue) (m : List ℕ) (k : ℕ) → length m ≡ k → Sized k (input_at c p t ls q m)
 size-input_at channel.Soft p t ls q m k e = size-soft_input p t ls q m k e
 size-input_at (channel.LinkInput n) p t ls q m k e = size-with_queue q _ k (r-within n ls _ k
     (r-if _ _ _ k (gave _ (at n ls) m k e) (r-store _ _ (at n ls) m _ k e (λ m e. r-store _ _ _ m _ k e (λ m e. gave _ _ m k e)))))
 size-input_at (channel.LinkOutput n) p t ls q m k e = halted _ ls m k e
 size-input_at channel.Event p t ls q m k e = halted _ ls m k e
 
-size-output_at : (c : Channel) (p : Process) (t : Transfer) (ls : FourLinks) (q : Queue) (m : List ℕ) (k : ℕ) → length m ≡ k → Sized k (messages.output_at c p t ls q m)
+size-output_at : (c : Channel) (p : Process) (t : Transfer) (ls : FourLinks) (q : Queue) (m : List ℕ) (k : ℕ) → length m ≡ k → Sized k (output_at c p t ls q m)
 size-output_at channel.Soft p t ls q m k e = size-soft_output p t ls q m k e
 size-output_at (channel.LinkInput n) p t ls q m k e = halted _ ls m k e
 size-output_at (channel.LinkOutput n) p t ls q m k e = size-with_queue q _ k (r-within n ls _ k
     (r-if _ _ _ k (gave _ (at n ls) m k e) (r-store _ _ (at n ls) m _ k e (λ m e. r-store _ _ _ m _ k e (λ m e. r-read (byte_at m t.pointer) _ m _ k e (λ byte. gave _ _ m k e))))))
 size-output_at channel.Event p t ls q m k e = halted _ ls m k e
 
-size-enable_at : (c : Channel) (p : Process) (channel : ℕ) (ls : FourLinks) (m : List ℕ) (k : ℕ) → length m ≡ k → Sized k (messages.enable_at c p channel ls m)
+size-enable_at : (c : Channel) (p : Process) (channel : ℕ) (ls : FourLinks) (m : List ℕ) (k : ℕ) → length m ≡ k → Sized k (enable_at c p channel ls m)
 size-enable_at channel.Soft p a ls m k e = size-soft_enable p a ls m k e
 size-enable_at (channel.LinkInput n) p a ls m k e = r-within n ls _ k (r-if _ _ _ k (r-store _ _ (at n ls) m _ k e (λ m e. gave _ _ m k e)) (r-store _ _ (at n ls) m _ k e (λ m e. gave _ _ m k e)))
 size-enable_at (channel.LinkOutput n) p a ls m k e = halted _ ls m k e
 size-enable_at channel.Event p a ls m k e = halted _ ls m k e
 
-size-if_held : (p : Process) (offset : ℕ) (l : Link) (m : List ℕ) (k : ℕ) → length m ≡ k → Sized k (hard.chosen_if_held p offset l m)
+size-if_held : (p : Process) (offset : ℕ) (l : Link) (m : List ℕ) (k : ℕ) → length m ≡ k → Sized k (chosen_if_held p offset l m)
 size-if_held p offset l m k e = r-if _ _ _ k (size-chosen p offset l m k e) (gave _ l m k e)
 
-size-disable_at : (c : Channel) (p : Process) (channel offset : ℕ) (ls : FourLinks) (m : List ℕ) (k : ℕ) → length m ≡ k → Sized k (messages.disable_at c p channel offset ls m)
+size-disable_at : (c : Channel) (p : Process) (channel offset : ℕ) (ls : FourLinks) (m : List ℕ) (k : ℕ) → length m ≡ k → Sized k (disable_at c p channel offset ls m)
 size-disable_at channel.Soft p a offset ls m k e = size-soft_disable p a offset ls m k e
 size-disable_at (channel.LinkInput n) p a offset ls m k e = r-within n ls _ k (r-read (word_at m a) _ m _ k e (λ c.
     let l : Link = record (at n ls) { watched = false } in
-    r-if (c == descriptor_of p) _ _ k (r-store a not_process l m (λ m. hard.chosen_if_held p offset l m) k e (λ m e. size-if_held p offset l m k e)) (size-if_held p offset l m k e)))
+    r-if (c == descriptor_of p) _ _ k (r-store a not_process l m (λ m. chosen_if_held p offset l m) k e (λ m e. size-if_held p offset l m k e)) (size-if_held p offset l m k e)))
 size-disable_at (channel.LinkOutput n) p a offset ls m k e = halted _ ls m k e
 size-disable_at channel.Event p a offset ls m k e = halted _ ls m k e
 
-size-reset_at : (c : Channel) (channel : ℕ) (ls : FourLinks) (m : List ℕ) (k : ℕ) → length m ≡ k → Sized k (messages.reset_at c channel ls m)
+size-reset_at : (c : Channel) (channel : ℕ) (ls : FourLinks) (m : List ℕ) (k : ℕ) → length m ≡ k → Sized k (reset_at c channel ls m)
 size-reset_at channel.Soft a ls m k e = size-soft_reset a ls m k e
-size-reset_at (channel.LinkInput n) a ls m k e = r-then (soft.reset a ls m) _ k (size-soft_reset a ls m k e) (λ c ls m e. gave _ _ m k e)
-size-reset_at (channel.LinkOutput n) a ls m k e = r-then (soft.reset a ls m) _ k (size-soft_reset a ls m k e) (λ c ls m e. gave _ _ m k e)
+size-reset_at (channel.LinkInput n) a ls m k e = r-then (soft.soft_reset a ls m) _ k (size-soft_reset a ls m k e) (λ c ls m e. gave _ _ m k e)
+size-reset_at (channel.LinkOutput n) a ls m k e = r-then (soft.soft_reset a ls m) _ k (size-soft_reset a ls m k e) (λ c ls m e. gave _ _ m k e)
 size-reset_at channel.Event a ls m k e = halted _ ls m k e
 
 size-message : (r : Reply (Turn × Queue) FourLinks) (s : Cpu) (k : ℕ) → Sized k r → Sized k (after_message r s)
@@ -442,10 +442,10 @@ size-direct StoreNonLocal o s m ls k e = o-store m _ _ _ ls k e (λ m e. went _ 
 size-direct Operate o s m ls k e = size-operate (operation_of o) k o s m ls e
 
 -- one instruction byte, and a Step of the processor
-answer-memory : Answer → List ℕ
-answer-memory (processor.Ran s ls m) = m
-answer-memory (processor.Idle s ls m) = m
-answer-memory (processor.Broke fault ls m) = m
+answer-memory : StepAnswer → List ℕ
+answer-memory (Ran s ls m) = m
+answer-memory (Idle s ls m) = m
+answer-memory (Broke fault ls m) = m
 
 size-byte_answer : (e : Effect) (k : ℕ) → Sized k e → length (answer-memory (byte_answer e)) ≡ k
 unfolding answer-memory
@@ -456,15 +456,15 @@ size-byte : (s : Cpu) (ls : FourLinks) (m : List ℕ) (k : ℕ) → length m ≡
 unfolding byte_done
 size-byte s ls m k e = size-byte_answer _ k (o-read (byte_at m s.instruction) m _ ls k e (λ byte. size-direct _ _ (fetched s) m ls k e)).sized
 
-answer-if : (b : Bool) (x y : Answer) (k : ℕ) → length (answer-memory x) ≡ k → length (answer-memory y) ≡ k → length (answer-memory (if b then x else y)) ≡ k
+answer-if : (b : Bool) (x y : StepAnswer) (k : ℕ) → length (answer-memory x) ≡ k → length (answer-memory y) ≡ k → length (answer-memory (if b then x else y)) ≡ k
 answer-if true x y k e f = e
 answer-if false x y k e f = f
 
-size-going_on : (r : Resumption) (acted : Bool) (ls : FourLinks) (m : List ℕ) (k : ℕ) → length m ≡ k → length (answer-memory (going_on r acted ls m)) ≡ k
+size-going_on : (r : Resumption) (marked_acted : Bool) (ls : FourLinks) (m : List ℕ) (k : ℕ) → length m ≡ k → length (answer-memory (going_on r marked_acted ls m)) ≡ k
 unfolding answer-memory
-size-going_on (Resumed s) acted ls m k e = size-byte s ls m k e
-size-going_on (Nobody s) acted ls m k e = answer-if acted _ _ k e e
-size-going_on (Lost fault) acted ls m k e = e
+size-going_on (Resumed s) marked_acted ls m k e = size-byte s ls m k e
+size-going_on (Nobody s) marked_acted ls m k e = answer-if marked_acted _ _ k e e
+size-going_on (Lost fault) marked_acted ls m k e = e
 
 size-after_service : (r : Reply (Bool × Queue) FourLinks) (s : Cpu) (k : ℕ) → Sized k r → length (answer-memory (after_service r s)) ≡ k
 unfolding answer-memory
@@ -513,13 +513,13 @@ pair-if : (b : Bool) (x y : Node × Stepped) (k : ℕ) → length x.0.memory ≡
 pair-if true x y k e f = e
 pair-if false x y k e f = f
 
-size-ran : (a : Answer) → length (ran a).0.memory ≡ length (answer-memory a)
+size-ran : (a : StepAnswer) → length (ran a).0.memory ≡ length (answer-memory a)
 unfolding answer-memory
-size-ran (processor.Ran s ls m) = refl
-size-ran (processor.Idle s ls m) = refl
-size-ran (processor.Broke fault ls m) = refl
+size-ran (Ran s ls m) = refl
+size-ran (Idle s ls m) = refl
+size-ran (Broke fault ls m) = refl
 
-size-stepped : (st : State) (n : Node) → length (stepped st n).0.memory ≡ length n.memory
+size-stepped : (st : State) (n : Node) → length (step_by_state st n).0.memory ≡ length n.memory
 size-stepped WantsControl n = size-controlled (offered n.links) n
 size-stepped (Takes link task) n = size-fed (at link n.links).end.input.buffer _ n (length n.memory) refl (λ byte. size-given task byte link (record n { links = byte_taken link n.links }))
 size-stepped (Answers link left word) n =

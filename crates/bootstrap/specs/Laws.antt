@@ -3,7 +3,7 @@ use Rattle.std.specs.Prelude.{◌≡◌, ℕ, ◌+◌, length, true, false, Opti
 use Rattle.node_memory.specs.declared.fault.Fault.{Fault}
 use Rattle.t414_step.specs.declared.stepping.Stepped.{Stepped}
 use Rattle.t414_step.specs.declared.stepping.Stepped.TheVariants as code
-use Rattle.bootstrap.specs.Step.{node_step, is_recorded, is_quiet}
+use Rattle.bootstrap.specs.Step.{node_step, is_step_recorded, is_quiet}
 use Rattle.bootstrap.specs.Steps.{after_steps, IsAfter, last_answer}
 use Rattle.bootstrap.specs.declared.node.Node.{Node}
 use Rattle.bootstrap.specs.declared.state.State.TheVariants.{Halted}
@@ -18,11 +18,11 @@ FaultHalts = (n : Node) (fault : Fault) → (node_step n).1 ≡ code.Fault fault
 
 -- a Step that isn't quiet is recorded
 abbrev pub BusyStepIsRecorded : Type 0
-BusyStepIsRecorded = (n : Node) → is_quiet n ≡ false → is_recorded n ≡ true
+BusyStepIsRecorded = (n : Node) → is_quiet n ≡ false → is_step_recorded n ≡ true
 
 -- a recorded Step that leaves a node whose next Step is recorded too answered Ran
 abbrev pub RecordedStepRan : Type 0
-RecordedStepRan = (n : Node) → is_recorded n ≡ true → is_recorded (node_step n).0 ≡ true → (node_step n).1 ≡ code.Ran
+RecordedStepRan = (n : Node) → is_step_recorded n ≡ true → is_step_recorded (node_step n).0 ≡ true → (node_step n).1 ≡ code.Ran
 
 -- the last answer of later Steps, or of those before them if there are no later ones
 abbrev pub later_or : Option Stepped → Option Stepped → Option Stepped

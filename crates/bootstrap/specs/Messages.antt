@@ -5,8 +5,8 @@ use Rattle.bootstrap.specs.declared.messages.BootFault.{BootFault}
 use Rattle.bootstrap.specs.declared.messages.BootFault.TheVariants.{TooShort, TooLong, NoMemory}
 
 -- the bytes of a word, least significant first
-abbrev pub bytes_of : ℕ → List ℕ
-bytes_of w = w % 2 ^ 8 ∷ w / 2 ^ 8 % 2 ^ 8 ∷ w / 2 ^ 16 % 2 ^ 8 ∷ w / 2 ^ 24 % 2 ^ 8 ∷ []
+abbrev pub bytes_of_word : ℕ → List ℕ
+bytes_of_word w = w % 2 ^ 8 ∷ w / 2 ^ 8 % 2 ^ 8 ∷ w / 2 ^ 16 % 2 ^ 8 ∷ w / 2 ^ 24 % 2 ^ 8 ∷ []
 
 -- a message is the length and the code, and a refusal has its cause
 abbrev pub booted : Result (Vec ℕ Global) BootFault → List ℕ → Type 0
@@ -16,7 +16,7 @@ booted (Err TooLong) code = 255 < length code
 booted (Err NoMemory) code = (2 ≤ length code) × (length code ≤ 255)
 
 -- the number of a refusal of code
-abbrev pub number_of : BootFault → ℕ
-number_of TooShort = 1
-number_of TooLong = 2
-number_of NoMemory = 3
+abbrev pub boot_fault_number : BootFault → ℕ
+boot_fault_number TooShort = 1
+boot_fault_number TooLong = 2
+boot_fault_number NoMemory = 3

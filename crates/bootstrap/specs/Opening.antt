@@ -5,8 +5,8 @@ use Rattle.bootstrap.specs.declared.node.Node.{Node}
 use Rattle.bootstrap.specs.declared.state.State.TheVariants.{WantsControl}
 
 -- memory is zero, nothing has happened at the links, and a control byte is wanted
-abbrev pub opened : ℕ → Node
-opened size = record { memory = replicate size 0; links = fresh_links; state = WantsControl }
+abbrev pub opened_node : ℕ → Node
+opened_node size = record { memory = replicate size 0; links = fresh_links; state = WantsControl }
 
 -- reset keeps memory, clears all link ends, gives up the registers and wants a control byte
 abbrev pub restarted : Node → Node

@@ -74,8 +74,8 @@ given (Peek left address) byte link n = peeked left address byte link n
 given (Load left address) byte link n = loaded left address byte link n
 
 -- an answer goes on once its last byte was acknowledged
-abbrev pub answered : LinkNumber → ℕ → ℕ → Node → Node × Stepped
-answered link left word n =
+abbrev pub answer_continued : LinkNumber → ℕ → ℕ → Node → Node × Stepped
+answer_continued link left word n =
     if not (at link n.links).end.output.acknowledged then (n, Idle)
     else (if left == 0 then (record n { links = acknowledge_heard link n.links; state = WantsControl }, Ran)
     else (answering link (left - 1) word (record n { links = acknowledge_heard link n.links }), Ran))
@@ -96,22 +96,22 @@ controlled None n = (n, Idle)
 controlled (Some link) n = feed link (λ byte k. record k { state = Takes link (task_of byte) }) n
 
 -- the processor's answer, kept in the node; after a fault the registers are given up
-abbrev pub ran : processor.Answer → Node × Stepped
+abbrev pub ran : processor.StepAnswer → Node × Stepped
 ran (processor.Ran s ls m) = (record { memory = m; links = ls; state = Runs s }, Ran)
 ran (processor.Idle s ls m) = (record { memory = m; links = ls; state = Runs s }, Idle)
 ran (processor.Broke fault ls m) = (record { memory = m; links = ls; state = Halted fault }, code.Fault fault)
 
 -- a Step, by what the node is doing
-abbrev pub stepped : State → Node → Node × Stepped
-stepped WantsControl n = controlled (offered n.links) n
-stepped (Takes link task) n = feed link (λ byte k. given task byte link k) n
-stepped (Answers link left word) n = answered link left word n
-stepped (Runs s) n = ran (processor.step s n.links n.memory)
-stepped (Halted fault) n = (n, code.Fault fault)
+abbrev pub step_by_state : State → Node → Node × Stepped
+step_by_state WantsControl n = controlled (offered n.links) n
+step_by_state (Takes link task) n = feed link (λ byte k. given task byte link k) n
+step_by_state (Answers link left word) n = answer_continued link left word n
+step_by_state (Runs s) n = ran (processor.step s n.links n.memory)
+step_by_state (Halted fault) n = (n, code.Fault fault)
 
 -- the node after a Step, and the answer
 unfoldable pub node_step : Node → Node × Stepped
-node_step n = stepped n.state n
+node_step n = step_by_state n.state n
 
 -- a fault has halted the node
 abbrev pub has_halted : State → Bool
@@ -122,9 +122,9 @@ has_halted (Answers link left word) = false
 has_halted (Runs s) = false
 
 -- a Step that is recorded: one that doesn't answer Idle, of a node that hadn't halted before
-abbrev pub is_recorded : Node → Bool
-is_recorded n = not (has_halted n.state) && not (is_idle (node_step n).1)
+abbrev pub is_step_recorded : Node → Bool
+is_step_recorded n = not (has_halted n.state) && not (is_idle (node_step n).1)
 
 -- a Step that would not be recorded
 abbrev pub is_quiet : Node → Bool
-is_quiet n = not (is_recorded n)
+is_quiet n = not (is_step_recorded n)

@@ -4,7 +4,7 @@ use Rattle.link_channels.specs.declared.link.FourLinks.{FourLinks}
 use Rattle.t414_step.specs.declared.cpu.Cpu.{Cpu}
 use Rattle.t414_step.specs.declared.stepping.Stepped.{Stepped}
 use Rattle.t414_step.specs.declared.stepping.Stepped.TheVariants as code
-use Rattle.bootstrap.specs.Step.{node_step, is_recorded, is_quiet}
+use Rattle.bootstrap.specs.Step.{node_step, is_step_recorded, is_quiet}
 use Rattle.bootstrap.specs.declared.burst.Burst.{Burst}
 use Rattle.bootstrap.specs.declared.node.Node.{Node}
 use Rattle.bootstrap.specs.declared.state.State.{State}
@@ -23,7 +23,7 @@ last_answer (suc k) n = Some (node_step (after_steps k n)).1
 -- k steps: so many Steps lead from x to y, and each of them would be recorded
 pub record IsAfter (x : Node) (k : ℕ) (y : Node) : Type 0 where
   pub node : after_steps k x ≡ y
-  pub recorded : (i : ℕ) → i < k → is_recorded (after_steps i x) ≡ true
+  pub recorded : (i : ℕ) → i < k → is_step_recorded (after_steps i x) ≡ true
 
 -- a burst of up to n Steps from x leaves y: it ends at the nth, or before the first that would not be recorded
 pub record IsBurst (n : ℕ) (x : Node) (burst : Burst) (y : Node) : Type 0 where

@@ -99,7 +99,7 @@ impl Task {
 }
 
 impl Node {
-    ghost use Rattle.bootstrap.specs.Step.{answering, poked, peeked, loaded, given, answered, offered};
+    ghost use Rattle.bootstrap.specs.Step.{answering, poked, peeked, loaded, given, answer_continued, offered};
 
     // Posts the lowest byte of a word, of which so many bytes are left after it.
     fn post_next(&mut self, link: LinkNumber, left: u8, word: u32)
@@ -189,7 +189,7 @@ impl Node {
 
     // Posts the next byte of an answer once the last one was acknowledged.
     pub(crate) fn answer(&mut self, link: LinkNumber, left: u8, word: u32) -> Stepped
-        ensures answer { (self.new, result) ≡ answered link left word self.old }
+        ensures answer { (self.new, result) ≡ answer_continued link left word self.old }
     {
         if !self.links.take_acknowledged(link) {
             return Stepped::Idle;

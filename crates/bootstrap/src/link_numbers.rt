@@ -1,14 +1,14 @@
 //! Links by their numbers.
 
 ghost use Rattle.std.specs.Prelude.{◌≡◌, ◌<◌};
-ghost use Rattle.bootstrap.specs.LinkNumbers.{number_of};
+ghost use Rattle.bootstrap.specs.LinkNumbers.{link_number};
 
 use link_channels::LinkNumber;
 
 /// The link of a number below 4.
 pub fn link_of(number: u8) -> LinkNumber
     requires { number < 4 }
-    ensures answer { number_of result ≡ number }
+    ensures answer { link_number result ≡ number }
 {
     match number {
         0 => LinkNumber::Zero,
@@ -20,7 +20,7 @@ pub fn link_of(number: u8) -> LinkNumber
 
 /// The number of a link, 0 to 3.
 pub fn number_of(link: LinkNumber) -> u8
-    ensures answer { result ≡ number_of link }
+    ensures answer { result ≡ link_number link }
 {
     match link {
         LinkNumber::Zero => 0,

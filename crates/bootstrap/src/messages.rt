@@ -2,7 +2,7 @@
 
 ghost use Rattle.std.specs.Prelude.{◌≡◌, ◌∷◌, ◌++◌};
 ghost use Rattle.node_memory.specs.Bytes.{word_from};
-ghost use Rattle.bootstrap.specs.Messages.{bytes_of, booted, number_of};
+ghost use Rattle.bootstrap.specs.Messages.{bytes_of_word, booted, boot_fault_number};
 
 use std::alloc::Global;
 use thiserror::Error;
@@ -24,7 +24,7 @@ pub enum BootFault {
 impl BootFault {
     /// The number of the fault, from 1 to 3 in the order of the variants.
     pub fn number(self) -> u8
-        ensures answer { result ≡ number_of self }
+        ensures answer { result ≡ boot_fault_number self }
     {
         match self {
             BootFault::TooShort => 1,
@@ -36,7 +36,7 @@ impl BootFault {
 
 // The bytes of a word, least significant first.
 fn bytes_of(word: u32) -> [u8; 4]
-    ensures answer { result ≡ bytes_of word }
+    ensures answer { result ≡ bytes_of_word word }
 {
     [
         (word % 0x100) as u8,
@@ -50,7 +50,7 @@ fn bytes_of(word: u32) -> [u8; 4]
 ///
 /// Source: Transputer Reference Manual, peek.
 pub fn peek_message(address: u32) -> [u8; 5]
-    ensures answer { result ≡ 1 ∷ bytes_of address }
+    ensures answer { result ≡ 1 ∷ bytes_of_word address }
 {
     let [a, b, c, d] = bytes_of(address);
     [1, a, b, c, d]
@@ -60,7 +60,7 @@ pub fn peek_message(address: u32) -> [u8; 5]
 ///
 /// Source: Transputer Reference Manual, poke.
 pub fn poke_message(address: u32, word: u32) -> [u8; 9]
-    ensures answer { result ≡ 0 ∷ bytes_of address ++ bytes_of word }
+    ensures answer { result ≡ 0 ∷ bytes_of_word address ++ bytes_of_word word }
 {
     let [a, b, c, d] = bytes_of(address);
     let [e, f, g, h] = bytes_of(word);

@@ -21,14 +21,14 @@ impl Node {
     ghost use Rattle.node_memory.specs.Bytes.{IsMemorySize};
     ghost use Rattle.os_link.specs.End.{next_of};
     ghost use Rattle.link_channels.specs.Links.{at, packet_arrived, packet_taken};
-    ghost use Rattle.bootstrap.specs.Opening.{opened, restarted};
+    ghost use Rattle.bootstrap.specs.Opening.{opened_node, restarted};
 
     /// A node whose memory of so many bytes is zero, and that waits for a control byte.
     ///
     /// The size is a multiple of 4 from 2,048 to 65,536, as `is_memory_size` tells. `NoMemory` where the bytes can't be allocated.
     pub fn open(alloc: Global, memory: usize) -> Result<Node, NoMemory>
         requires { IsMemorySize memory }
-        ensures answer { IfOk result (λ node. node ≡ opened memory) }
+        ensures answer { IfOk result (λ node. node ≡ opened_node memory) }
     {
         Ok(Node {
             memory: Memory::new(alloc, memory)?,
@@ -49,7 +49,7 @@ impl Node {
 
     /// Makes memory zero, and resets: the node is as it was opened.
     pub fn clear(&mut self)
-        ensures state { self.new ≡ opened (length self.old.memory) }
+        ensures state { self.new ≡ opened_node (length self.old.memory) }
     {
         self.memory.clear();
         self.reset();

@@ -9,11 +9,11 @@ use Rattle.std.proofs.lemmas.Map.Steps.{length-le_from_distinct_below}
 use Rattle.std.specs.List.{IsDistinct, AllByRecursion, list_any, range_with_len}
 use Rattle.std.specs.Option.{option_map}
 use Rattle.crossbar.specs.declared.range.PortRange.{PortRange}
-use Rattle.crossbar.specs.Ranges.{IsOneToOne, IsNumbering, IsRange, AreRanges, ports_at, ports_in}
+use Rattle.crossbar.specs.Ranges.{IsOneToOne, IsNumbering, IsPortRange, AreRanges, ports_at, ports_in}
 use Rattle.std.proofs.lemmas.List.{take-append-drop, take_more, take_all, append-nil}
 use Rattle.std.proofs.lemmas.List.Elements.{All-append}
 use Rattle.std.proofs.lemmas.List.FromFn.{length-range_with_len, get_or-range_with_len}
-use Rattle.crossbar.specs.Numbers.{IsTable}
+use Rattle.crossbar.specs.Numbers.{IsNumberTable}
 use Rattle.crossbar.specs.Row.{number_in}
 
 tail_one_to_one : (port : ℕ) (ports : List ℕ) → IsOneToOne (port ∷ ports) → IsOneToOne ports
@@ -176,7 +176,7 @@ nothing_yet (suc n) (suc port) h = nothing_yet n port (omega arith)
 pub no_numbering : IsNumbering []
 no_numbering = record { below = λ k d l. absurd (omega arith); one_to_one = λ v w port a b. absurd (none-some port a) }
 
-pub empty_table : (ports : List ℕ) → length ports ≡ 32 → IsTable ports (replicate 32 None) 0
+pub empty_table : (ports : List ℕ) → length ports ≡ 32 → IsNumberTable ports (replicate 32 None) 0
 empty_table ports room = record {
   ports_room = room;
   numbers_room = refl;
@@ -189,7 +189,7 @@ length-first : (ports : List ℕ) (count : ℕ) → length ports ≡ 32 → coun
 length-first ports count room h = length-take count ports ∙ omega arith
 
 -- there is room for one more
-pub room_for : (ports : List ℕ) (numbers : List (Option ℕ)) (count port : ℕ) → IsTable ports numbers count → IsNumbering (take count ports ++ port ∷ []) → count < 32
+pub room_for : (ports : List ℕ) (numbers : List (Option ℕ)) (count port : ℕ) → IsNumberTable ports numbers count → IsNumbering (take count ports ++ port ∷ []) → count < 32
 room_for ports numbers count port t h =
     omega (arith, few _ h, length-append (take count ports) (port ∷ []), length-first ports count t.ports_room t.few)
 
@@ -197,11 +197,11 @@ pub port_below : (ports : List ℕ) (port : ℕ) → IsNumbering (ports ++ port 
 port_below ports port h =
     subst (λ (p : ℕ). p < 32) (get_or-append_seam ports port [] port) (h.below (length ports) port (omega (arith, length-append ports (port ∷ []))))
 
-pub pushed : (ports : List ℕ) (numbers : List (Option ℕ)) (count port : ℕ) → IsTable ports numbers count → IsNumbering (take count ports ++ port ∷ []) → take (count + 1) (slice_set ports count port) ≡ take count ports ++ port ∷ []
+pub pushed : (ports : List ℕ) (numbers : List (Option ℕ)) (count port : ℕ) → IsNumberTable ports numbers count → IsNumbering (take count ports ++ port ∷ []) → take (count + 1) (slice_set ports count port) ≡ take count ports ++ port ∷ []
 pushed ports numbers count port t h = take_more_set ports count port (omega (arith, room_for ports numbers count port t h, t.ports_room))
 
-pub table_pushed : (ports : List ℕ) (numbers : List (Option ℕ)) (count port : ℕ) → IsTable ports numbers count → IsNumbering (take count ports ++ port ∷ [])
-    → IsTable (slice_set ports count port) (slice_set numbers port (Some count)) (count + 1)
+pub table_pushed : (ports : List ℕ) (numbers : List (Option ℕ)) (count port : ℕ) → IsNumberTable ports numbers count → IsNumbering (take count ports ++ port ∷ [])
+    → IsNumberTable (slice_set ports count port) (slice_set numbers port (Some count)) (count + 1)
 table_pushed ports numbers count port t h = record {
   ports_room = length-set ports count port ∙ t.ports_room;
   numbers_room = length-set numbers port (Some count) ∙ t.numbers_room;
@@ -227,17 +227,17 @@ table_pushed ports numbers count port t h = record {
 pub as_seen : (ports seen more : List ℕ) → ports ≡ seen → IsNumbering (seen ++ more) → IsNumbering (ports ++ more)
 as_seen ports seen more is h = subst (λ (ps : List ℕ). IsNumbering (ps ++ more)) (sym is) h
 
-pub no_number_past : (ports : List ℕ) (numbers : List (Option ℕ)) (count port : ℕ) (seen : List ℕ) → take count ports ≡ seen → IsTable ports numbers count → 32 ≤ port → None ≡ number_in seen port
+pub no_number_past : (ports : List ℕ) (numbers : List (Option ℕ)) (count port : ℕ) (seen : List ℕ) → take count ports ≡ seen → IsNumberTable ports numbers count → 32 ≤ port → None ≡ number_in seen port
 no_number_past ports numbers count port seen is t past =
     sym (ap (λ ps. number_in ps port) (sym is) ∙ number_in-past (take count ports) 32 port t.numbering.below past)
 
 -- a push at the places that the code computed
-pub table_pushed_at : (ports : List ℕ) (numbers : List (Option ℕ)) (count port at number : ℕ) (seen : List ℕ) → take count ports ≡ seen → at ≡ count → number ≡ port → IsTable ports numbers count → IsNumbering (seen ++ port ∷ [])
-    → IsTable (slice_set ports at port) (slice_set numbers number (Some count)) (count + 1) × (take (count + 1) (slice_set ports at port) ≡ seen ++ port ∷ [])
+pub table_pushed_at : (ports : List ℕ) (numbers : List (Option ℕ)) (count port at number : ℕ) (seen : List ℕ) → take count ports ≡ seen → at ≡ count → number ≡ port → IsNumberTable ports numbers count → IsNumbering (seen ++ port ∷ [])
+    → IsNumberTable (slice_set ports at port) (slice_set numbers number (Some count)) (count + 1) × (take (count + 1) (slice_set ports at port) ≡ seen ++ port ∷ [])
 table_pushed_at ports numbers count port at number seen is at_is number_is t h =
     let here = as_seen (take count ports) seen (port ∷ []) is h in (
-      subst (λ (a : ℕ). IsTable (slice_set ports a port) (slice_set numbers number (Some count)) (count + 1)) (sym at_is)
-          (subst (λ (n : ℕ). IsTable (slice_set ports count port) (slice_set numbers n (Some count)) (count + 1)) (sym number_is) (table_pushed ports numbers count port t here)),
+      subst (λ (a : ℕ). IsNumberTable (slice_set ports a port) (slice_set numbers number (Some count)) (count + 1)) (sym at_is)
+          (subst (λ (n : ℕ). IsNumberTable (slice_set ports count port) (slice_set numbers n (Some count)) (count + 1)) (sym number_is) (table_pushed ports numbers count port t here)),
       ap (λ (a : ℕ). take (count + 1) (slice_set ports a port)) at_is ∙ pushed ports numbers count port t here ∙ ap (λ (ps : List ℕ). ps ++ port ∷ []) is,
     )
 
@@ -295,7 +295,7 @@ ports_in-append : (ranges more : List (Option PortRange)) → ports_in (ranges +
 ports_in-append [] more = refl
 ports_in-append (place ∷ ranges) more = ap (λ ps. ports_at place ++ ps) (ports_in-append ranges more) ∙ sym (append_assoc (ports_at place) (ports_in ranges) (ports_in more))
 
-below_of : (place : Option PortRange) → IsRange place → All (λ p. p < 32) (ports_at place)
+below_of : (place : Option PortRange) → IsPortRange place → All (λ p. p < 32) (ports_at place)
 below_of None h k d l = absurd (omega arith)
 below_of (Some range) h k d l =
     let inside : k < range.last + 1 - range.first = omega (arith, length-range_with_len range.first (range.last + 1 - range.first)) in
@@ -303,7 +303,7 @@ below_of (Some range) h k d l =
     let (from, to) = h in
     omega (arith, from, to)
 
-ranges_below : (ranges : List (Option PortRange)) → All IsRange ranges → All (λ p. p < 32) (ports_in ranges)
+ranges_below : (ranges : List (Option PortRange)) → All IsPortRange ranges → All (λ p. p < 32) (ports_in ranges)
 ranges_below [] h = λ k d l. absurd (omega arith)
 ranges_below (place ∷ ranges) h =
     All-append (λ p. p < 32) (ports_at place) (ports_in ranges) (below_of place (h 0 None (omega arith))) (ranges_below ranges (λ k d l. h (suc k) d (omega arith)))

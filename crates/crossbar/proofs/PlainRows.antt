@@ -12,15 +12,15 @@ use Rattle.crossbar.specs.declared.word.Word.{Word}
 use Rattle.crossbar.specs.declared.range.PortRange.{PortRange}
 use Rattle.crossbar.specs.Switch.{cleared}
 use Rattle.crossbar.specs.Ranges.{IsNumbering, AreRanges, ports_in}
-use Rattle.crossbar.specs.Row.{IsRow, IsWordOf, switch_of, connection_at, input_of, is_ready}
-use Rattle.crossbar.specs.Plain.{Row, IsPlain, IsPlainRow, words_at, row_of}
+use Rattle.crossbar.specs.Row.{AreWordsOf, IsWordOf, switch_of, connection_at, input_of, is_ready}
+use Rattle.crossbar.specs.Plain.{Row, IsPlain, IsPlainRow, words_at, outputs_of}
 use Rattle.crossbar.proofs.Below.{same_switch}
 use Rattle.crossbar.proofs.Switching.{get-switch_of, contains-switch_of}
 use Rattle.crossbar.proofs.Numberings.{few, numbering_in}
 
 -- ---- a write
 
-pub set_row : (ports : List ℕ) (words : List Word) (number : ℕ) (word : Word) → IsRow ports words → IsWordOf ports word → IsRow ports (slice_set words number word)
+pub set_row : (ports : List ℕ) (words : List Word) (number : ℕ) (word : Word) → AreWordsOf ports words → IsWordOf ports word → AreWordsOf ports (slice_set words number word)
 set_row ports words number word row proper = record {
   length_is = length-set words number word ∙ row.length_is;
   few = row.few;
@@ -36,7 +36,7 @@ front_set ports words number at word is inside =
 pub plain_set : (ports : List ℕ) (words : List Word) (number at : ℕ) (word : Word) → IsPlainRow ports words → at ≡ number → number < length ports → IsWordOf ports word → IsPlainRow ports (slice_set words at word)
 plain_set ports words number at word row is inside proper = record {
   room = length-set words at word ∙ row.room;
-  row = subst (IsRow ports) (sym (front_set ports words number at word is inside)) (set_row ports (take (length ports) words) number word row.row proper);
+  row = subst (AreWordsOf ports) (sym (front_set ports words number at word is inside)) (set_row ports (take (length ports) words) number word row.row proper);
 }
 
 -- ---- the words of the ports, one by one
@@ -79,7 +79,7 @@ length-words_at words (port ∷ ports) below =
     ap (λ o. length (cons_option o (words_at words ports))) there
     ∙ ap suc (length-words_at words ports (λ k d l. below (suc k) d (omega arith)))
 
-plain_row : (words : List Word) (ranges : List (Option PortRange)) → length words ≡ 32 → IsPlain words ranges → IsRow (ports_in ranges) (words_at words (ports_in ranges))
+plain_row : (words : List Word) (ranges : List (Option PortRange)) → length words ≡ 32 → IsPlain words ranges → AreWordsOf (ports_in ranges) (words_at words (ports_in ranges))
 plain_row words ranges room h =
     let numbering = numbering_in ranges h.ranges_are in
     record {
@@ -99,12 +99,12 @@ pub gathers_all : (words own : List Word) (ranges : List (Option PortRange)) (po
 gathers_all words own ranges ports n g all is room h = record {
   room = g.room;
   row =
-      subst (IsRow ports) (sym (gathered words own ports n g all))
-      (subst (λ (ps : List ℕ). IsRow ps (words_at words ps)) (sym is) (plain_row words ranges room h));
+      subst (AreWordsOf ports) (sym (gathered words own ports n g all))
+      (subst (λ (ps : List ℕ). AreWordsOf ps (words_at words ps)) (sym is) (plain_row words ranges room h));
 }
 
 pub gathers_row : (words own : List Word) (ranges : List (Option PortRange)) (ports : List ℕ) (n : ℕ) → Gathers words ports own n → n ≡ length ports → ports ≡ ports_in ranges
-    → (let row : Row = record { ports = ports; words = take (length ports) own } in row ≡ row_of words ranges)
+    → (let row : Row = record { ports = ports; words = take (length ports) own } in row ≡ outputs_of words ranges)
 gathers_row words own ranges ports n g all is =
     ap (λ (ws : List Word). let row : Row = record { ports = ports; words = ws } in row) (gathered words own ports n g all)
     ∙ ap (λ (ps : List ℕ). let row : Row = record { ports = ps; words = words_at words ps } in row) is

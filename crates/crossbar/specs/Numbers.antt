@@ -4,7 +4,7 @@ use Rattle.crossbar.specs.Ranges.{IsNumbering}
 use Rattle.crossbar.specs.Row.{number_in}
 
 -- the first count ports are a numbering, and the numbers are its inverse
-pub record IsTable (ports : List ℕ) (numbers : List (Option ℕ)) (count : ℕ) : Type 0 where
+pub record IsNumberTable (ports : List ℕ) (numbers : List (Option ℕ)) (count : ℕ) : Type 0 where
   pub ports_room : length ports ≡ 32
   pub numbers_room : length numbers ≡ 32
   pub few : count ≤ 32

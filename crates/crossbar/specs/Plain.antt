@@ -5,7 +5,7 @@ use Rattle.crossbar.specs.declared.word.Word.{Word}
 use Rattle.crossbar.specs.declared.range.PortRange.{PortRange}
 use Rattle.std.specs.Prelude.{Option}
 use Rattle.crossbar.specs.Ranges.{ports_in, AreRanges}
-use Rattle.crossbar.specs.Row.{IsRow, IsWordOf}
+use Rattle.crossbar.specs.Row.{AreWordsOf, IsWordOf}
 
 -- the physical ports and the words of some outputs
 pub record Row : Type 0 where
@@ -17,8 +17,8 @@ abbrev pub words_at : List Word → List ℕ → List Word
 words_at words ports = filter_map (slice_get words) ports
 
 -- the ports of the ranges with their words
-abbrev pub row_of : List Word → List (Option PortRange) → Row
-row_of words ranges = record { ports = ports_in ranges; words = words_at words (ports_in ranges) }
+abbrev pub outputs_of : List Word → List (Option PortRange) → Row
+outputs_of words ranges = record { ports = ports_in ranges; words = words_at words (ports_in ranges) }
 
 -- each word of the ranges' ports is proper and names an input among them
 pub record IsPlain (words : List Word) (ranges : List (Option PortRange)) : Type 0 where
@@ -28,4 +28,4 @@ pub record IsPlain (words : List Word) (ranges : List (Option PortRange)) : Type
 -- the first words stand for the ports
 pub record IsPlainRow (ports : List ℕ) (words : List Word) : Type 0 where
   pub room : length words ≡ 32
-  pub row : IsRow ports (take (length ports) words)
+  pub row : AreWordsOf ports (take (length ports) words)

@@ -18,9 +18,9 @@ ports_in [] = []
 ports_in (place ∷ ranges) = ports_at place ++ ports_in ranges
 
 -- a range of the crossbar's ports, which isn't empty
-abbrev pub IsRange : Option PortRange → Type 0
-IsRange None = Unit {0}
-IsRange (Some range) = (range.first ≤ range.last) × (range.last ≤ 31)
+abbrev pub IsPortRange : Option PortRange → Type 0
+IsPortRange None = Unit {0}
+IsPortRange (Some range) = (range.first ≤ range.last) × (range.last ≤ 31)
 
 -- no port has two numbers
 abbrev pub IsOneToOne : List ℕ → Type 0
@@ -33,5 +33,5 @@ pub record IsNumbering (ports : List ℕ) : Type 0 where
 
 -- ranges of the crossbar's ports of which no two share a port
 pub record AreRanges (ranges : List (Option PortRange)) : Type 0 where
-  pub each : All IsRange ranges
+  pub each : All IsPortRange ranges
   pub one_to_one : IsOneToOne (ports_in ranges)

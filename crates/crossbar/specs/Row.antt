@@ -23,7 +23,7 @@ pub record IsWordOf (ports : List ℕ) (word : Word) : Type 0 where
   pub within : InputIsIn ports (connection_of word)
 
 -- the words of these ports, in their order
-pub record IsRow (ports : List ℕ) (words : List Word) : Type 0 where
+pub record AreWordsOf (ports : List ℕ) (words : List Word) : Type 0 where
   pub length_is : length words ≡ length ports
   pub few : length ports ≤ 32
   pub below : All (λ port. port < 32) ports

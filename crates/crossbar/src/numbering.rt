@@ -1,6 +1,6 @@
 //! Which physical port each virtual port of a domain is.
 ghost use Rattle.std.specs.Prelude.{◌≡◌, ◌<◌, ◌++◌, ◌∷◌, [], None, length, slice_get};
-ghost use Rattle.crossbar.specs.Ranges.{ports_in, ports_at, ports_of, AreRanges, IsRange, IsNumbering};
+ghost use Rattle.crossbar.specs.Ranges.{ports_in, ports_at, ports_of, AreRanges, IsPortRange, IsNumbering};
 ghost use Rattle.crossbar.specs.Row.{number_in};
 
 use crate::range::{MOST_RANGES, PORTS, PortRange};
@@ -17,13 +17,13 @@ pub struct Numbering {
 
 impl Model for Numbering {
     ghost use Rattle.std.specs.Prelude.{ℕ, List, take};
-    ghost use Rattle.crossbar.specs.Numbers.{IsTable};
+    ghost use Rattle.crossbar.specs.Numbers.{IsNumberTable};
 
     ghost Value = { List ℕ };
 
     ghost view = { λ n. take n.count n.ports };
 
-    ghost invariant = { λ n. IsTable n.ports n.numbers n.count };
+    ghost invariant = { λ n. IsNumberTable n.ports n.numbers n.count };
 }
 
 impl Numbering {
@@ -52,7 +52,7 @@ impl Numbering {
 
     /// The ports of one more place.
     fn append(&mut self, place: Option<PortRange>)
-        requires range { IsRange place }
+        requires range { IsPortRange place }
         requires apart { IsNumbering (self.old ++ ports_at place) }
         ensures { self.new ≡ self.old ++ ports_at place }
     {
@@ -63,7 +63,7 @@ impl Numbering {
 
     /// The ports of one more range.
     fn append_range(&mut self, range: PortRange)
-        requires range { IsRange (Some range) }
+        requires range { IsPortRange (Some range) }
         requires apart { IsNumbering (self.old ++ ports_of range) }
         ensures { self.new ≡ self.old ++ ports_of range }
     {

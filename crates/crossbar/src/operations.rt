@@ -2,7 +2,7 @@ ghost use Rattle.std.specs.Prelude.{◌≡◌, ◌<◌, ℕ, ◌&&◌, ◌==◌,
 ghost use Rattle.std.specs.Int.{bit_at};
 ghost use Rattle.std.specs.List.{AllZip};
 ghost use Rattle.std.specs.FinMap as pairs;
-ghost use Rattle.crossbar.specs.Row.{IsRow, InputIsIn, switch_of, words_after, each_after, ready_of, input_of};
+ghost use Rattle.crossbar.specs.Row.{AreWordsOf, InputIsIn, switch_of, words_after, each_after, ready_of, input_of};
 ghost use Rattle.crossbar.specs.Switch.{connected, disconnected, all_ready, cleared, drives, names};
 ghost use Rattle.crossbar.specs.Word.{CountsChange, connection_of};
 
@@ -15,7 +15,7 @@ fn set<O: Outputs>(outputs: &mut O, output: u8, connection: Option<Connection>)
     requires input { InputIsIn (O.ports outputs.old) connection }
     ensures words { O.words outputs.new ≡ words_after (O.words outputs.old) output connection }
     ensures ports { O.ports outputs.new ≡ O.ports outputs.old }
-    ensures row { IsRow (O.ports outputs.new) (O.words outputs.new) }
+    ensures row { AreWordsOf (O.ports outputs.new) (O.words outputs.new) }
 {
     let old = outputs.read(output);
     let new = old.after(connection);
@@ -33,7 +33,7 @@ pub fn connect<O: Outputs>(outputs: &mut O, input: u8, output: u8)
     ensures switch { switch_of (O.words outputs.new) ≡ connected (switch_of (O.words outputs.old)) input output }
     ensures counts { AllZip CountsChange (O.words outputs.old) (O.words outputs.new) }
     ensures ports { O.ports outputs.new ≡ O.ports outputs.old }
-    ensures row { IsRow (O.ports outputs.new) (O.words outputs.new) }
+    ensures row { AreWordsOf (O.ports outputs.new) (O.words outputs.new) }
 {
     set(
         outputs,
@@ -52,7 +52,7 @@ pub fn disconnect<O: Outputs>(outputs: &mut O, output: u8)
     ensures switch { switch_of (O.words outputs.new) ≡ disconnected (switch_of (O.words outputs.old)) output }
     ensures counts { AllZip CountsChange (O.words outputs.old) (O.words outputs.new) }
     ensures ports { O.ports outputs.new ≡ O.ports outputs.old }
-    ensures row { IsRow (O.ports outputs.new) (O.words outputs.new) }
+    ensures row { AreWordsOf (O.ports outputs.new) (O.words outputs.new) }
 {
     set(outputs, output, None);
 }
@@ -64,7 +64,7 @@ pub fn enquire<O: Outputs>(outputs: &mut O, output: u8) -> Option<u8>
     ensures input { result ≡ pairs.get (switch_of (O.words outputs.old)).pairs output }
     ensures words { O.words outputs.new ≡ O.words outputs.old }
     ensures ports { O.ports outputs.new ≡ O.ports outputs.old }
-    ensures row { IsRow (O.ports outputs.new) (O.words outputs.new) }
+    ensures row { AreWordsOf (O.ports outputs.new) (O.words outputs.new) }
 {
     driver(outputs.read(output))
 }
@@ -83,7 +83,7 @@ pub fn make_ready<O: Outputs>(outputs: &mut O)
     ensures switch { switch_of (O.words outputs.new) ≡ all_ready (switch_of (O.words outputs.old)) }
     ensures counts { AllZip CountsChange (O.words outputs.old) (O.words outputs.new) }
     ensures ports { O.ports outputs.new ≡ O.ports outputs.old }
-    ensures row { IsRow (O.ports outputs.new) (O.words outputs.new) }
+    ensures row { AreWordsOf (O.ports outputs.new) (O.words outputs.new) }
 {
     for output in 0..outputs.count() {
         let connection = readied(outputs.read(output));
@@ -108,7 +108,7 @@ pub fn clear<O: Outputs>(outputs: &mut O)
     ensures switch { switch_of (O.words outputs.new) ≡ cleared }
     ensures counts { AllZip CountsChange (O.words outputs.old) (O.words outputs.new) }
     ensures ports { O.ports outputs.new ≡ O.ports outputs.old }
-    ensures row { IsRow (O.ports outputs.new) (O.words outputs.new) }
+    ensures row { AreWordsOf (O.ports outputs.new) (O.words outputs.new) }
 {
     for output in 0..outputs.count() {
         set(outputs, output, None);
@@ -120,7 +120,7 @@ pub fn driven_by<O: Outputs>(outputs: &mut O, input: u8) -> u32
     ensures bits { (q : ℕ) → bit_at result q ≡ (if drives (switch_of (O.words outputs.old)) input q then 1 else 0) }
     ensures words { O.words outputs.new ≡ O.words outputs.old }
     ensures ports { O.ports outputs.new ≡ O.ports outputs.old }
-    ensures row { IsRow (O.ports outputs.new) (O.words outputs.new) }
+    ensures row { AreWordsOf (O.ports outputs.new) (O.words outputs.new) }
 {
     let mut driven = 0;
     for output in 0..outputs.count() {

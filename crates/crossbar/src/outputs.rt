@@ -1,6 +1,6 @@
 ghost use Rattle.std.specs.Prelude.{◌≡◌, ◌<◌, ℕ, List, length, slice_get, slice_set, Option};
 ghost use Rattle.crossbar.specs.declared.word.Word.{Word as SwitchWord};
-ghost use Rattle.crossbar.specs.Row.{IsRow, IsWordOf, number_in};
+ghost use Rattle.crossbar.specs.Row.{AreWordsOf, IsWordOf, number_in};
 ghost use Rattle.crossbar.specs.Word.{IsAtLeastAsNew, SaysOther};
 
 use crate::word::Word;
@@ -20,7 +20,7 @@ pub trait Outputs {
     /// How many outputs there are, 0 to 32. Virtual numbers lie below it.
     fn count(&self) -> u8
         ensures count { result ≡ length (ports self.now) }
-        ensures row { IsRow (ports self.now) (words self.now) };
+        ensures row { AreWordsOf (ports self.now) (words self.now) };
 
     /// The physical port, below 32, of a virtual one.
     fn physical(&self, number: u8) -> u8
@@ -37,7 +37,7 @@ pub trait Outputs {
         ensures value { slice_get (words self.old) number ≡ Some result }
         ensures words { words self.new ≡ words self.old }
         ensures ports { ports self.new ≡ ports self.old }
-        ensures row { IsRow (ports self.new) (words self.new) };
+        ensures row { AreWordsOf (ports self.new) (words self.new) };
 
     /// Stores the word of an output: one that says something else than the word there, and is at
     /// least as new.
@@ -48,5 +48,5 @@ pub trait Outputs {
         requires other { (old : SwitchWord) → slice_get (words self.old) number ≡ Some old → SaysOther old word }
         ensures words { words self.new ≡ slice_set (words self.old) number word }
         ensures ports { ports self.new ≡ ports self.old }
-        ensures row { IsRow (ports self.new) (words self.new) };
+        ensures row { AreWordsOf (ports self.new) (words self.new) };
 }

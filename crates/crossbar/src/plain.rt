@@ -1,6 +1,6 @@
 //! Outputs over words that nobody shares.
 ghost use Rattle.std.specs.Prelude.{◌≡◌, replicate};
-ghost use Rattle.crossbar.specs.Plain.{row_of, IsPlain};
+ghost use Rattle.crossbar.specs.Plain.{outputs_of, IsPlain};
 ghost use Rattle.crossbar.specs.Ranges.{AreRanges};
 ghost use Rattle.crossbar.specs.Row.{switch_of};
 ghost use Rattle.crossbar.specs.Switch.{cleared};
@@ -37,7 +37,7 @@ impl PlainOutputs {
         ranges: [Option<PortRange>; MOST_RANGES],
     ) -> PlainOutputs
         requires { IsPlain words ranges }
-        ensures { result ≡ row_of words ranges }
+        ensures { result ≡ outputs_of words ranges }
     {
         let numbering = Numbering::of(ranges);
         let mut own = words;
@@ -53,7 +53,7 @@ impl PlainOutputs {
     /// The outputs of the ranges, all of them disconnected and never changed.
     pub fn unused(ranges: [Option<PortRange>; MOST_RANGES]) -> PlainOutputs
         requires { AreRanges ranges }
-        ensures row { result ≡ row_of (replicate 32 (record { bits = 0 })) ranges }
+        ensures row { result ≡ outputs_of (replicate 32 (record { bits = 0 })) ranges }
         ensures switch { switch_of result.words ≡ cleared }
     {
         PlainOutputs::of([Word::UNUSED; PORTS as usize], ranges)

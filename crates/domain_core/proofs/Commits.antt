@@ -8,8 +8,8 @@ use Rattle.t414_step.specs.declared.stepping.Stepped.{Stepped}
 use Rattle.t414_step.specs.declared.stepping.Stepped.TheVariants.{Ran}
 use Rattle.bootstrap.specs.declared.node.Node.{Node}
 use Rattle.bootstrap.specs.Laws.{RecordedStepRan}
-use Rattle.bootstrap.specs.Opening as node
-use Rattle.bootstrap.specs.Step.{node_step, is_recorded}
+use Rattle.bootstrap.specs.Opening.{opened_node}
+use Rattle.bootstrap.specs.Step.{node_step, is_step_recorded}
 use Rattle.bootstrap.specs.Steps.{after_steps, last_answer}
 use Rattle.domain_core.specs.declared.event.By.TheVariants.{Farm}
 use Rattle.domain_core.specs.declared.event.Event.TheVariants.{Step}
@@ -17,10 +17,10 @@ use Rattle.domain_core.specs.declared.event.Reply.TheVariants as reply
 use Rattle.domain_core.specs.declared.journal.Entry.{Entry}
 use Rattle.domain_core.specs.Devices.{node_at, with_node}
 use Rattle.domain_core.specs.Domain.{DomainValue, state_of, IsMeant}
-use Rattle.domain_core.specs.Journal.{Answered, stepped, steps, expanded, IsHistory}
+use Rattle.domain_core.specs.Journal.{AnsweredCall, answered_step, steps, expanded, IsHistory}
 use Rattle.domain_core.specs.Machine.{with_devices, acted}
 use Rattle.domain_core.specs.MachineValue.{MachineValue, machine_of}
-use Rattle.domain_core.specs.Private.{State, Answer, Call, is_there, answered, next}
+use Rattle.domain_core.specs.PrivateFarm.{State, Answer, Call, is_there, answered, next}
 use Rattle.domain_core.specs.Ticket.{TicketValue, IsTicket, steps_told}
 use Rattle.domain_core.proofs.Histories.{longer}
 use Rattle.domain_core.proofs.Meant.{next_told, same_history}
@@ -44,14 +44,14 @@ one_answer_more k n = refl
 
 -- each of so many Steps would be recorded
 abbrev AreRecorded : ℕ → Node → Type 0
-AreRecorded k start = (j : ℕ) → j < k → is_recorded (after_steps j start) ≡ true
+AreRecorded k start = (j : ℕ) → j < k → is_step_recorded (after_steps j start) ≡ true
 
 -- those that others follow answered Ran
-all_ran : RecordedStepRan → (i k : ℕ) (start : Node) → AreRecorded (suc k) start → steps_told i k (last_answer k start) ≡ replicate k (stepped Farm i Ran)
+all_ran : RecordedStepRan → (i k : ℕ) (start : Node) → AreRecorded (suc k) start → steps_told i k (last_answer k start) ≡ replicate k (answered_step Farm i Ran)
 all_ran law i zero start recorded = ap (steps_told i zero) (no_answer start)
 all_ran law i (suc k) start recorded =
     let ran : (node_step (after_steps k start)).1 ≡ Ran =
-    law (after_steps k start) (recorded k (omega arith)) (ap is_recorded (sym (one_step_more k start)) ∙ recorded (suc k) (omega arith)) in
+    law (after_steps k start) (recorded k (omega arith)) (ap is_step_recorded (sym (one_step_more k start)) ∙ recorded (suc k) (omega arith)) in
     ap (steps_told i (suc k)) (one_answer_more k start) ∙ ap (steps Farm i (suc k)) ran ∙ steps-ran Farm i (suc k)
 
 set_set : {A : Type 0} (xs : List A) (i : ℕ) (x y : A) → set (set xs i x) i y ≡ set xs i y
@@ -73,23 +73,23 @@ stepped_on s i start k = with_nodes s (set s.machine.devices.nodes i (after_step
 
 -- what a Step of this node leaves and answers
 abbrev told_at : State → ℕ → Node → State × Answer
-told_at on i n = (with_nodes on (set on.machine.devices.nodes i (node_step n).0) (if is_recorded n then on.recorded + 1 else on.recorded), Ok (reply.Stepped (node_step n).1))
+told_at on i n = (with_nodes on (set on.machine.devices.nodes i (node_step n).0) (if is_step_recorded n then on.recorded + 1 else on.recorded), Ok (reply.Stepped (node_step n).1))
 
 abbrev step_of : ℕ → Call
 step_of i = record { by = Farm; event = Step i }
 
-one_step : (part : PartData) (s : State) (i k : ℕ) (start : Node) → is_there part (step_of i) ≡ true → i < length s.machine.devices.nodes → s.recorded + k ≢ part.limit → is_recorded (after_steps k start) ≡ true
+one_step : (part : PartData) (s : State) (i k : ℕ) (start : Node) → is_there part (step_of i) ≡ true → i < length s.machine.devices.nodes → s.recorded + k ≢ part.limit → is_step_recorded (after_steps k start) ≡ true
     → next part (stepped_on s i start k) (step_of i) ≡ (stepped_on s i start (suc k), Ok (reply.Stepped (node_step (after_steps k start)).1))
 one_step part s i k start there lt room recorded =
     let n : Node = after_steps k start in
     let on : State = stepped_on s i start k in
     let one : next part on (step_of i) ≡ (answered part on (Step i), Ok (acted part on.machine (Step i)).1) = next_told part on (step_of i) there room in
-    let here : node_at on.machine.devices i ≡ n = get_or-set_same s.machine.devices.nodes i n (node.opened 0) lt in
-    let counted : (if is_recorded n then on.recorded + 1 else on.recorded) ≡ s.recorded + suc k = ap (λ (b : Bool). if b then on.recorded + 1 else on.recorded) recorded ∙ omega arith in
+    let here : node_at on.machine.devices i ≡ n = get_or-set_same s.machine.devices.nodes i n (opened_node 0) lt in
+    let counted : (if is_step_recorded n then on.recorded + 1 else on.recorded) ≡ s.recorded + suc k = ap (λ (b : Bool). if b then on.recorded + 1 else on.recorded) recorded ∙ omega arith in
     let nodes : set (set s.machine.devices.nodes i n) i (node_step n).0 ≡ set s.machine.devices.nodes i (after_steps (suc k) start) =
     set_set s.machine.devices.nodes i n (node_step n).0 ∙ ap (set s.machine.devices.nodes i) (sym (one_step_more k start)) in
     one ∙ ap (told_at on i) here
-    ∙ ap (λ (xs : List Node). let p : State × Answer = (with_nodes s xs (if is_recorded n then on.recorded + 1 else on.recorded), Ok (reply.Stepped (node_step n).1)) in p) nodes
+    ∙ ap (λ (xs : List Node). let p : State × Answer = (with_nodes s xs (if is_step_recorded n then on.recorded + 1 else on.recorded), Ok (reply.Stepped (node_step n).1)) in p) nodes
     ∙ ap (λ (c : ℕ). let p : State × Answer = (with_nodes s (set s.machine.devices.nodes i (after_steps (suc k) start)) c, Ok (reply.Stepped (node_step n).1)) in p) counted
 
 fewer : (k : ℕ) (start : Node) → AreRecorded (suc k) start → AreRecorded k start
@@ -98,7 +98,7 @@ fewer k start recorded j lt = recorded j (omega arith)
 below_limit : (recorded k limit : ℕ) → recorded + suc k ≤ limit → recorded + k ≢ limit
 below_limit recorded k limit room e = absurd (omega (arith, e, room))
 
-pub history_steps : RecordedStepRan → (part : PartData) (h : List Answered) (s : State) (i k : ℕ) (start : Node) → is_there part (step_of i) ≡ true → slice_get s.machine.devices.nodes i ≡ Some start → IsHistory part h s → s.recorded + k ≤ part.limit → AreRecorded k start
+pub history_steps : RecordedStepRan → (part : PartData) (h : List AnsweredCall) (s : State) (i k : ℕ) (start : Node) → is_there part (step_of i) ≡ true → slice_get s.machine.devices.nodes i ≡ Some start → IsHistory part h s → s.recorded + k ≤ part.limit → AreRecorded k start
     → IsHistory part (h ++ steps_told i k (last_answer k start)) (stepped_on s i start k)
 history_steps law part h s i zero start there at history room recorded =
     let nodes : set s.machine.devices.nodes i (after_steps zero start) ≡ s.machine.devices.nodes = ap (set s.machine.devices.nodes i) (no_steps start) ∙ set_same s.machine.devices.nodes i start at in
@@ -109,13 +109,13 @@ history_steps law part h s i zero start there at history room recorded =
     same_history refl told state history
 history_steps law part h s i (suc k) start there at history room recorded =
     let n : Node = after_steps k start in
-    let one : Answered = stepped Farm i (node_step n).1 in
+    let one : AnsweredCall = answered_step Farm i (node_step n).1 in
     let before = history_steps law part h s i k start there at history (omega arith) (fewer k start recorded) in
     let step = one_step part s i k start there (slice_get_within s.machine.devices.nodes i start at) (below_limit s.recorded k part.limit room) (recorded k (omega arith)) in
     let next_history = longer part (h ++ steps_told i k (last_answer k start)) (stepped_on s i start k) (step_of i) (reply.Stepped (node_step n).1) before (ap (λ (p : State × Answer). p.1) step) in
     let more : (h ++ steps_told i k (last_answer k start)) ++ one ∷ [] ≡ h ++ steps_told i (suc k) (last_answer (suc k) start) =
     append_assoc h (steps_told i k (last_answer k start)) (one ∷ [])
-    ∙ ap (λ (xs : List Answered). h ++ (xs ++ one ∷ [])) (all_ran law i k start recorded)
+    ∙ ap (λ (xs : List AnsweredCall). h ++ (xs ++ one ∷ [])) (all_ran law i k start recorded)
     ∙ ap (λ (o : Option Stepped). h ++ steps_told i (suc k) o) (sym (one_answer_more k start)) in
     same_history refl more (ap (λ (p : State × Answer). p.0) step) next_history
 
@@ -126,7 +126,7 @@ length_of_steps i (suc k) start =
     ∙ length_of_run i k (node_step (after_steps k start)).1
   where
     length_of_run : (i k : ℕ) (last : Stepped) → length (steps Farm i (suc k) last) ≡ suc k
-    length_of_run i k last = omega (arith, length-append (replicate k (stepped Farm i Ran)) (stepped Farm i last ∷ []), length-replicate k (stepped Farm i Ran))
+    length_of_run i k last = omega (arith, length-append (replicate k (answered_step Farm i Ran)) (answered_step Farm i last ∷ []), length-replicate k (answered_step Farm i Ran))
 
 pub length_told : (t : TicketValue) → IsTicket t → length (steps_told t.number t.steps t.last) ≡ t.steps
 length_told t ticket = ap (λ (o : Option Stepped). length (steps_told t.number t.steps o)) ticket.last ∙ length_of_steps t.number t.steps t.start

@@ -9,7 +9,7 @@ use Rattle.link_channels.specs.declared.number.LinkNumber.{LinkNumber}
 use Rattle.link_channels.specs.declared.number.LinkNumber.TheVariants.{Zero, One, Two, Three}
 use Rattle.domain_core.specs.declared.device.Device.{Device}
 use Rattle.domain_core.specs.declared.device.Device.TheVariants.{Host, Link}
-use Rattle.domain_core.specs.Devices.{DeviceStates, Holds, or_else, is_wired_to, host_at_port, link_at_port, link_of_four, device_at}
+use Rattle.domain_core.specs.Devices.{DeviceStates, HasDevice, or_else, is_wired_to, host_at_port, link_at_port, link_of_four, device_at}
 
 get_set_below : {A : Type 0} (xs : List A) (i j : ℕ) (x d : A) → j < i → get_or (set xs i x) j d ≡ get_or xs j d
 get_set_below [] i j x d lt = refl
@@ -84,15 +84,15 @@ link_below number port [] device is = absurd cc
 link_below number port (n ∷ nodes) device is =
     either_link (link_of_four number n.links port) (link_at_port (number + 1) nodes port) number (length nodes) device (four_below number port n.links device) (link_below (number + 1) port nodes device) is
 
-host_held : (d : DeviceStates) (device : Device) → IsHostBelow (length d.hosts) device → Holds d device
+host_held : (d : DeviceStates) (device : Device) → IsHostBelow (length d.hosts) device → HasDevice d device
 host_held d (Host number) below = below
 host_held d (Link number link) below = absurd below
 
-link_held : (d : DeviceStates) (device : Device) → IsLinkBelow (length d.nodes) device → Holds d device
+link_held : (d : DeviceStates) (device : Device) → IsLinkBelow (length d.nodes) device → HasDevice d device
 link_held d (Host number) below = absurd below
 link_held d (Link number link) below = below
 
-held_by : (d : DeviceStates) (first rest : Option Device) (device : Device) → (first ≡ Some device → Holds d device) → (rest ≡ Some device → Holds d device) → or_else first rest ≡ Some device → Holds d device
+held_by : (d : DeviceStates) (first rest : Option Device) (device : Device) → (first ≡ Some device → HasDevice d device) → (rest ≡ Some device → HasDevice d device) → or_else first rest ≡ Some device → HasDevice d device
 held_by d None rest device one two is = two is
 held_by d (Some x) rest device one two is = one is
 
@@ -100,7 +100,7 @@ zero_and : (n m : ℕ) → m ≡ n → 0 + n ≡ m
 zero_and n m same = omega (arith, same)
 
 -- a device that is joined to a port is one of those of the part
-pub joined_holds : (part : PartData) (d : DeviceStates) (port : ℕ) (device : Device) → length d.nodes ≡ length part.nodes → length d.hosts ≡ length part.hosts → device_at part port ≡ Some device → Holds d device
+pub joined_holds : (part : PartData) (d : DeviceStates) (port : ℕ) (device : Device) → length d.nodes ≡ length part.nodes → length d.hosts ≡ length part.hosts → device_at part port ≡ Some device → HasDevice d device
 joined_holds part d port device nodes hosts is =
     held_by d (host_at_port 0 part.hosts port) (link_at_port 0 part.nodes port) device
     (λ found. host_held d device (subst (λ (n : ℕ). IsHostBelow n device) (zero_and (length part.hosts) (length d.hosts) hosts) (host_below 0 port part.hosts device found)))

@@ -5,18 +5,18 @@ use Rattle.std.proofs.lemmas.List.{set-get_or, length-append}
 use Rattle.plan_checker.specs.Part.{PartData}
 use Rattle.bootstrap.specs.declared.node.Node.{Node}
 use Rattle.bootstrap.specs.Laws.{QuietStepChangesNothing}
-use Rattle.bootstrap.specs.Opening as node
-use Rattle.bootstrap.specs.Step as step
+use Rattle.bootstrap.specs.Opening.{opened_node}
+use Rattle.bootstrap.specs.Step.{is_step_recorded, node_step}
 use Rattle.domain_core.specs.declared.event.Event.{Event}
 use Rattle.domain_core.specs.declared.event.Event.TheVariants.{Config, Write, Read, Reset, Look, Step, Move}
 use Rattle.domain_core.specs.declared.event.Reply.{Reply}
 use Rattle.domain_core.specs.declared.journal.Entry.{Entry}
 use Rattle.domain_core.specs.Devices.{DeviceStates, node_at, with_node}
 use Rattle.domain_core.specs.Domain.{DomainValue, state_of, IsMeant}
-use Rattle.domain_core.specs.Journal.{Answered, expanded, IsHistory}
+use Rattle.domain_core.specs.Journal.{AnsweredCall, expanded, IsHistory}
 use Rattle.domain_core.specs.Machine.{Machine, with_devices, acted, is_recorded}
 use Rattle.domain_core.specs.MachineValue.{MachineValue, machine_of}
-use Rattle.domain_core.specs.Private.{State, Answer, Call, is_there, answered, next}
+use Rattle.domain_core.specs.PrivateFarm.{State, Answer, Call, is_there, answered, next}
 use Rattle.domain_core.proofs.Histories.{longer}
 use Rattle.domain_core.proofs.Outcomes.{still}
 
@@ -25,10 +25,10 @@ use Rattle.domain_core.proofs.Outcomes.{still}
 quiet_of : (recorded : Bool) → recorded ≡ false → not recorded ≡ true
 quiet_of recorded is = rw is refl
 
-idle_step : QuietStepChangesNothing → (d : DeviceStates) (number : ℕ) → step.is_recorded (node_at d number) ≡ false → with_node number (step.node_step (node_at d number)).0 d ≡ d
+idle_step : QuietStepChangesNothing → (d : DeviceStates) (number : ℕ) → is_step_recorded (node_at d number) ≡ false → with_node number (node_step (node_at d number)).0 d ≡ d
 idle_step law d number quiet =
-    let same : (step.node_step (node_at d number)).0 ≡ node_at d number = law (node_at d number) (quiet_of (step.is_recorded (node_at d number)) quiet) in
-    ap (λ (n : Node). with_node number n d) same ∙ ap (λ (nodes : List Node). let e : DeviceStates = record { nodes = nodes; hosts = d.hosts } in e) (set-get_or d.nodes number (node.opened 0))
+    let same : (node_step (node_at d number)).0 ≡ node_at d number = law (node_at d number) (quiet_of (is_step_recorded (node_at d number)) quiet) in
+    ap (λ (n : Node). with_node number n d) same ∙ ap (λ (nodes : List Node). let e : DeviceStates = record { nodes = nodes; hosts = d.hosts } in e) (set-get_or d.nodes number (opened_node 0))
 
 unrecorded : QuietStepChangesNothing → (part : PartData) (m : Machine) (event : Event) → is_recorded part m event ≡ false → (acted part m event).0 ≡ m
 unrecorded law part m (Config byte) other = absurd cc
@@ -47,9 +47,9 @@ differ m n other = grind (arith, nat_tests)
 pub next_told : (part : PartData) (s : State) (call : Call) → is_there part call ≡ true → s.recorded ≢ part.limit → next part s call ≡ (answered part s call.event, Ok (acted part s.machine call.event).1)
 next_told part s call there below = rw (there, differ s.recorded part.limit below) refl
 
-pub same_history : {P Q : PartData} {h k : List Answered} {s t : State} → P ≡ Q → h ≡ k → s ≡ t → IsHistory P h s → IsHistory Q k t
+pub same_history : {P Q : PartData} {h k : List AnsweredCall} {s t : State} → P ≡ Q → h ≡ k → s ≡ t → IsHistory P h s → IsHistory Q k t
 same_history {P} {Q} {h} {k} {s} {t} parts histories states of =
-    subst (λ (x : State). IsHistory Q k x) states (subst (λ (x : List Answered). IsHistory Q x s) histories (subst (λ (x : PartData). IsHistory x h s) parts of))
+    subst (λ (x : State). IsHistory Q k x) states (subst (λ (x : List AnsweredCall). IsHistory Q x s) histories (subst (λ (x : PartData). IsHistory x h s) parts of))
 
 counted : (recorded : Bool) (n m : ℕ) → recorded ≡ true → m ≡ n + 1 → (if recorded then n + 1 else n) ≡ m
 counted recorded n m is more = rw (is, more) refl
@@ -66,7 +66,7 @@ pub meant_recorded : (d : DomainValue) (call : Call) (m : MachineValue) (reply :
 meant_recorded d call m reply entries meant there below machine replies part recorded gains =
     let s : State = state_of d in
     let P : PartData = d.machine.part in
-    let one : Answered = record { call = call; reply = reply } in
+    let one : AnsweredCall = record { call = call; reply = reply } in
     let told : next P s call ≡ (answered P s call.event, Ok (acted P s.machine call.event).1) = next_told P s call there below in
     let said : (next P s call).1 ≡ Ok reply = ap (λ (p : State × Answer). p.1) told ∙ ap (λ (r : Reply). let a : Answer = Ok r in a) (sym replies) in
     let long : length (expanded entries) ≡ s.recorded + 1 = ap length gains ∙ length-append (expanded d.journal) (one ∷ []) in

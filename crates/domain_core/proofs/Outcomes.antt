@@ -12,8 +12,8 @@ use Rattle.plan_checker.specs.Part.{PartData}
 use Rattle.domain_core.specs.declared.device.Device.{Device}
 use Rattle.domain_core.specs.declared.event.Moved.{Moved}
 use Rattle.domain_core.specs.declared.event.Moved.TheVariants.{Nothing, Lost, Stayed, Passed}
-use Rattle.domain_core.specs.Devices.{DeviceStates, Holds, device_at, waiting, taken, arrived}
-use Rattle.domain_core.specs.Moves.{driven, are_ready, copied, outcome, moved_by, sent, moved_from, moved}
+use Rattle.domain_core.specs.Devices.{DeviceStates, HasDevice, device_at, packet_waiting, taken_from_device, arrived_at_device}
+use Rattle.domain_core.specs.Moves.{driven, are_ready, copies_arrived, outcome, moved_by, sent, moved_from, moved}
 use Rattle.domain_core.specs.Machine.{has_moved}
 use Rattle.domain_core.specs.MachineValue.{MachineValue, IsOfPart, AreJoined, Marks, marked_in}
 use Rattle.domain_core.proofs.Joined.{joined_holds}
@@ -114,9 +114,9 @@ must_stay s before mask q xs marked other ready is =
 
 -- ---- copies
 
-pub copied_append : (part : PartData) (packet : Packet) (xs ys : List ℕ) (d : DeviceStates) → copied part packet (xs ++ ys) d ≡ copied part packet ys (copied part packet xs d)
+pub copied_append : (part : PartData) (packet : Packet) (xs ys : List ℕ) (d : DeviceStates) → copies_arrived part packet (xs ++ ys) d ≡ copies_arrived part packet ys (copies_arrived part packet xs d)
 copied_append part packet [] ys d = refl
-copied_append part packet (x ∷ xs) ys d = copied_append part packet xs ys (arrived packet (device_at part x) d)
+copied_append part packet (x ∷ xs) ys d = copied_append part packet xs ys (arrived_at_device packet (device_at part x) d)
 
 -- ---- the device of a port
 
@@ -126,29 +126,29 @@ of_part_nodes v of = sym (length-map v.devices.nodes (λ n. length n.memory)) �
 pub joined_is : (part : PartData) (table : List (Option Device)) (port : ℕ) (device : Option Device) → AreJoined part table → port < part.count → get_or table port None ≡ device → device_at part port ≡ device
 joined_is part table port device joined there at = sym (joined port there) ∙ at
 
-pub held_at : (part : PartData) (d : DeviceStates) (table : List (Option Device)) (port : ℕ) (device : Device) → AreJoined part table → length d.nodes ≡ length part.nodes → length d.hosts ≡ length part.hosts → port < part.count → get_or table port None ≡ Some device → Holds d device
+pub held_at : (part : PartData) (d : DeviceStates) (table : List (Option Device)) (port : ℕ) (device : Device) → AreJoined part table → length d.nodes ≡ length part.nodes → length d.hosts ≡ length part.hosts → port < part.count → get_or table port None ≡ Some device → HasDevice d device
 held_at part d table port device joined nodes hosts there at = joined_holds part d port device nodes hosts (joined_is part table port (Some device) joined there at)
 
-pub holds_at : (v : MachineValue) (table : List (Option Device)) (port : ℕ) (device : Device) → IsOfPart v → AreJoined v.part table → port < v.part.count → get_or table port None ≡ Some device → Holds v.devices device
+pub holds_at : (v : MachineValue) (table : List (Option Device)) (port : ℕ) (device : Device) → IsOfPart v → AreJoined v.part table → port < v.part.count → get_or table port None ≡ Some device → HasDevice v.devices device
 holds_at v table port device of joined there at = held_at v.part v.devices table port device joined (of_part_nodes v of) of.hosts there at
 
 -- a marked output gets its copy
-pub copied_one : (part : PartData) (packet : Packet) (mask q : ℕ) (device : Option Device) (d : DeviceStates) → (bit_at mask q == 1) ≡ true → device_at part q ≡ device → arrived packet device d ≡ copied part packet (marked_in mask (q ∷ [])) d
-copied_one part packet mask q device d marked is = ap (λ (x : Option Device). arrived packet x d) (sym is) ∙ ap (λ (xs : List ℕ). copied part packet xs d) (sym (one_marked mask q marked))
+pub copied_one : (part : PartData) (packet : Packet) (mask q : ℕ) (device : Option Device) (d : DeviceStates) → (bit_at mask q == 1) ≡ true → device_at part q ≡ device → arrived_at_device packet device d ≡ copies_arrived part packet (marked_in mask (q ∷ [])) d
+copied_one part packet mask q device d marked is = ap (λ (x : Option Device). arrived_at_device packet x d) (sym is) ∙ ap (λ (xs : List ℕ). copies_arrived part packet xs d) (sym (one_marked mask q marked))
 
-pub copied_more : (part : PartData) (packet : Packet) (mask i : ℕ) (d e f : DeviceStates) → e ≡ copied part packet (marked_in mask (range_with_len 0 i)) d → f ≡ copied part packet (marked_in mask (i ∷ [])) e → f ≡ copied part packet (marked_in mask (range_with_len 0 (i + 1))) d
+pub copied_more : (part : PartData) (packet : Packet) (mask i : ℕ) (d e f : DeviceStates) → e ≡ copies_arrived part packet (marked_in mask (range_with_len 0 i)) d → f ≡ copies_arrived part packet (marked_in mask (i ∷ [])) e → f ≡ copies_arrived part packet (marked_in mask (range_with_len 0 (i + 1))) d
 copied_more part packet mask i d e f before is =
-    is ∙ ap (copied part packet (marked_in mask (i ∷ []))) before ∙ sym (copied_append part packet (marked_in mask (range_with_len 0 i)) (marked_in mask (i ∷ [])) d) ∙ ap (λ (xs : List ℕ). copied part packet xs d) (sym (marked_more mask i))
+    is ∙ ap (copies_arrived part packet (marked_in mask (i ∷ []))) before ∙ sym (copied_append part packet (marked_in mask (range_with_len 0 i)) (marked_in mask (i ∷ [])) d) ∙ ap (λ (xs : List ℕ). copies_arrived part packet xs d) (sym (marked_more mask i))
 
 -- ---- the whole Move
 
 pub no_device : (part : PartData) (s : Switch) (d : DeviceStates) (port : ℕ) → device_at part port ≡ None → (moved part s d port).1 ≡ Nothing
 no_device part s d port none = rw none refl
 
-pub nothing_waits : (part : PartData) (s : Switch) (d : DeviceStates) (port : ℕ) (device : Device) → device_at part port ≡ Some device → waiting d device ≡ None → (moved part s d port).1 ≡ Nothing
+pub nothing_waits : (part : PartData) (s : Switch) (d : DeviceStates) (port : ℕ) (device : Device) → device_at part port ≡ Some device → packet_waiting d device ≡ None → (moved part s d port).1 ≡ Nothing
 nothing_waits part s d port device joined none = rw (joined, none) refl
 
-pub packet_waits : (part : PartData) (s : Switch) (d : DeviceStates) (port : ℕ) (device : Device) (packet : Packet) → device_at part port ≡ Some device → waiting d device ≡ Some packet → (moved part s d port).1 ≡ outcome s (driven part s port)
+pub packet_waits : (part : PartData) (s : Switch) (d : DeviceStates) (port : ℕ) (device : Device) (packet : Packet) → device_at part port ≡ Some device → packet_waiting d device ≡ Some packet → (moved part s d port).1 ≡ outcome s (driven part s port)
 packet_waits part s d port device packet joined some = rw (joined, some) refl
 
 still_by : (m : Moved) (part : PartData) (device : Device) (packet : Packet) (outputs : List ℕ) (d : DeviceStates) → has_moved m ≡ false → moved_by m part device packet outputs d ≡ d
@@ -163,13 +163,13 @@ still_sent part s d outputs device (Some packet) no_move = still_by (outcome s o
 
 still_from : (part : PartData) (s : Switch) (d : DeviceStates) (outputs : List ℕ) (device : Option Device) → has_moved (moved_from part s d outputs device).1 ≡ false → (moved_from part s d outputs device).0 ≡ d
 still_from part s d outputs None no_move = refl
-still_from part s d outputs (Some device) no_move = still_sent part s d outputs device (waiting d device) no_move
+still_from part s d outputs (Some device) no_move = still_sent part s d outputs device (packet_waiting d device) no_move
 
 -- a Move that answers Nothing or Stayed changes nothing
 pub still : (part : PartData) (s : Switch) (d : DeviceStates) (port : ℕ) → has_moved (moved part s d port).1 ≡ false → (moved part s d port).0 ≡ d
 still part s d port no_move = still_from part s d (driven part s port) (device_at part port) no_move
 
-gone_by : (s : Switch) (xs : List ℕ) (m : Moved) (part : PartData) (device : Device) (packet : Packet) (d : DeviceStates) → m ≡ outcome s xs → has_moved m ≡ true → copied part packet xs (taken device d) ≡ moved_by m part device packet xs d
+gone_by : (s : Switch) (xs : List ℕ) (m : Moved) (part : PartData) (device : Device) (packet : Packet) (d : DeviceStates) → m ≡ outcome s xs → has_moved m ≡ true → copies_arrived part packet xs (taken_from_device device d) ≡ moved_by m part device packet xs d
 gone_by s xs Nothing part device packet d is moves = absurd cc
 gone_by s xs Stayed part device packet d is moves = absurd cc
 gone_by s [] Lost part device packet d is moves = refl
@@ -181,17 +181,17 @@ gone_by s (x ∷ xs) Lost part device packet d is moves = absurd (never_lost (ar
 gone_by s xs Passed part device packet d is moves = refl
 
 -- one that is Lost or Passed takes the packet, and gives each driven output its copy
-pub gone : (part : PartData) (s : Switch) (d : DeviceStates) (port : ℕ) (device : Device) (packet : Packet) → device_at part port ≡ Some device → waiting d device ≡ Some packet → has_moved (moved part s d port).1 ≡ true
-    → copied part packet (driven part s port) (taken device d) ≡ (moved part s d port).0
+pub gone : (part : PartData) (s : Switch) (d : DeviceStates) (port : ℕ) (device : Device) (packet : Packet) → device_at part port ≡ Some device → packet_waiting d device ≡ Some packet → has_moved (moved part s d port).1 ≡ true
+    → copies_arrived part packet (driven part s port) (taken_from_device device d) ≡ (moved part s d port).0
 gone part s d port device packet joined some moves =
     gone_by s (driven part s port) (outcome s (driven part s port)) part device packet d refl (ap has_moved (sym (packet_waits part s d port device packet joined some)) ∙ moves) ∙ sym (whole part s d port device packet joined some)
   where
-    whole : (part : PartData) (s : Switch) (d : DeviceStates) (port : ℕ) (device : Device) (packet : Packet) → device_at part port ≡ Some device → waiting d device ≡ Some packet → (moved part s d port).0 ≡ moved_by (outcome s (driven part s port)) part device packet (driven part s port) d
+    whole : (part : PartData) (s : Switch) (d : DeviceStates) (port : ℕ) (device : Device) (packet : Packet) → device_at part port ≡ Some device → packet_waiting d device ≡ Some packet → (moved part s d port).0 ≡ moved_by (outcome s (driven part s port)) part device packet (driven part s port) d
     whole part s d port device packet joined some = rw (joined, some) refl
 
 -- nothing but a packet moves
 pub no_move_at : (part : PartData) (s : Switch) (d : DeviceStates) (port : ℕ) → device_at part port ≡ None → has_moved (moved part s d port).1 ≡ true → ⊥
 no_move_at part s d port none moves = let e : has_moved (moved part s d port).1 ≡ false = ap has_moved (no_device part s d port none) in absurd cc
 
-pub no_move_of : (part : PartData) (s : Switch) (d : DeviceStates) (port : ℕ) (device : Device) → device_at part port ≡ Some device → waiting d device ≡ None → has_moved (moved part s d port).1 ≡ true → ⊥
+pub no_move_of : (part : PartData) (s : Switch) (d : DeviceStates) (port : ℕ) (device : Device) → device_at part port ≡ Some device → packet_waiting d device ≡ None → has_moved (moved part s d port).1 ≡ true → ⊥
 no_move_of part s d port device joined none moves = let e : has_moved (moved part s d port).1 ≡ false = ap has_moved (nothing_waits part s d port device joined none) in absurd cc

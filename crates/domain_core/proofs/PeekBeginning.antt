@@ -2,43 +2,43 @@
 use Rattle.std.proofs.Common.{◌≡◌, ℕ, ◌+◌, Bool, false, List, ◌∷◌, Option, Some, None, ◌∙◌, ap, sym, arith}
 use Rattle.std.specs.Prelude.{slice_set}
 use Rattle.std.proofs.lemmas.List.{set-get_or}
-use Rattle.os_link.specs.End.{fresh}
+use Rattle.os_link.specs.End.{fresh_end}
 use Rattle.os_link.specs.declared.end.LinkEnd.{LinkEnd}
 use Rattle.os_link.specs.declared.latch.Latch.{Latch}
 use Rattle.link_channels.specs.Links.{at}
 use Rattle.link_channels.specs.declared.number.LinkNumber.{LinkNumber}
-use Rattle.bootstrap.specs.Messages.{bytes_of}
-use Rattle.bootstrap.specs.Opening as node
+use Rattle.bootstrap.specs.Messages.{bytes_of_word}
+use Rattle.bootstrap.specs.Opening.{opened_node}
 use Rattle.bootstrap.specs.declared.node.Node.{Node}
 use Rattle.bootstrap.specs.declared.state.State as doing
 use Rattle.bootstrap.specs.declared.state.State.TheVariants.{WantsControl}
 use Rattle.domain_core.specs.Hosts.{HostState}
-use Rattle.domain_core.specs.Hosts as host
+use Rattle.domain_core.specs.Hosts.{opened_host}
 use Rattle.domain_core.specs.Devices.{DeviceStates, node_at, host_at}
 use Rattle.domain_core.specs.Machine.{with_devices}
-use Rattle.domain_core.specs.Peek.{Asks, Listens, quieted, after_peek, told, word_bytes}
-use Rattle.domain_core.specs.Private.{State}
+use Rattle.domain_core.specs.Peek.{Asks, Listens, quieted, after_peek, host_after_peek, word_bytes}
+use Rattle.domain_core.specs.PrivateFarm.{State}
 use Rattle.domain_core.proofs.PeekNodes.{end_of, listening, resting, with_end, own-end, quieted-end}
 use Rattle.domain_core.proofs.PeekPlaces.{Peeking, standing}
 use Rattle.domain_core.proofs.PeekRounds.{host_of, host_posting, reached}
 
 -- a host that asks
 abbrev pub asking : ℕ → HostState → HostState
-asking address h = host_posting 1 (bytes_of address) h.received h.end.input.overruns h.end.output.acknowledged
+asking address h = host_posting 1 (bytes_of_word address) h.received h.end.input.overruns h.end.output.acknowledged
 
 pub asks-is : (address : ℕ) (h : HostState) → Asks address h → h ≡ asking address h
 asks-is address h a =
-    let sending : List ℕ = 1 ∷ bytes_of address in
+    let sending : List ℕ = 1 ∷ bytes_of_word address in
     let latch : Latch = record { byte = Some 1; acknowledge = false } in
     ap (λ (x : List ℕ). record h { sending = x }) a.sending
     ∙ ap (λ (x : Latch). record h { sending = sending; end = record h.end { latch = x } }) a.latch
     ∙ ap (λ (x : Option ℕ). record h { sending = sending; end = record h.end { latch = latch; input = record h.end.input { buffer = x } } }) a.buffer
     ∙ ap (λ (x : Bool). host_of sending h.received (end_of (Some 1) false None h.end.input.overruns x h.end.output.acknowledged)) a.awaits
 
-end-rests : (e : LinkEnd) → e.latch ≡ fresh.latch → e.input.buffer ≡ None → e.output.awaits ≡ false → e ≡ listening e.input.overruns e.output.acknowledged
+end-rests : (e : LinkEnd) → e.latch ≡ fresh_end.latch → e.input.buffer ≡ None → e.output.awaits ≡ false → e ≡ listening e.input.overruns e.output.acknowledged
 end-rests e latch buffer output =
     ap (λ (x : Latch). record e { latch = x }) latch
-    ∙ ap (λ (x : Option ℕ). record e { latch = fresh.latch; input = record e.input { buffer = x } }) buffer
+    ∙ ap (λ (x : Option ℕ). record e { latch = fresh_end.latch; input = record e.input { buffer = x } }) buffer
     ∙ ap (λ (x : Bool). end_of None false None e.input.overruns x e.output.acknowledged) output
 
 -- how many bytes a link of a node has lost
@@ -78,9 +78,9 @@ start-stands p =
     let none : p.start.recorded ≡ p.start.recorded + 0 = omega arith in
     let state : DeviceStates → ℕ → State = λ devices recorded. record { machine = with_devices devices p.start.machine; recorded = recorded } in
     ap (λ (x : ℕ). state d x) none
-    ∙ ap (λ (x : List Node). state (record d { nodes = x }) (p.start.recorded + 0)) (sym (set-get_or d.nodes p.route.node (node.opened 0)))
+    ∙ ap (λ (x : List Node). state (record d { nodes = x }) (p.start.recorded + 0)) (sym (set-get_or d.nodes p.route.node (opened_node 0)))
     ∙ ap (λ (x : List HostState). state (record { nodes = slice_set d.nodes p.route.node (first_node p); hosts = x }) (p.start.recorded + 0))
-    (sym (set-get_or d.hosts p.route.host host.opened))
+    (sym (set-get_or d.hosts p.route.host opened_host))
 
 -- where a peek starts
 pub begins : (p : Peeking) → p.start ≡ reached p 0 (asking p.address (first_host p)) (listening (first_lost p) (first_heard p)) WantsControl (first_node p)
@@ -91,7 +91,7 @@ begins p =
 
 -- the host that was told the word
 abbrev pub told_word : Peeking → HostState
-told_word p = told (word_bytes (first_node p) p.address) (first_host p)
+told_word p = host_after_peek (word_bytes (first_node p) p.address) (first_host p)
 
 -- where it ends: the node is as it was, but that its link knows of no acknowledge
 pub ends : (p : Peeking) → reached p 27 (told_word p) (resting (first_lost p)) WantsControl (first_node p)

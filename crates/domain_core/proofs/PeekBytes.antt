@@ -2,7 +2,7 @@
 use Rattle.std.proofs.Common.{◌≡◌, ℕ, ◌+◌, ◌*◌, ◌/◌, ◌%◌, ◌^◌, ◌<◌, [], ◌∷◌, refl, ◌∙◌, arith}
 use Rattle.std.proofs.Math.Nat.{div-div-eq-div-mul}
 use Rattle.bootstrap.specs.Boot.{shifted_in}
-use Rattle.bootstrap.specs.Messages.{bytes_of}
+use Rattle.bootstrap.specs.Messages.{bytes_of_word}
 
 -- four bytes, shifted in one after another
 abbrev pub four_in : ℕ → ℕ → ℕ → ℕ → ℕ
@@ -19,7 +19,7 @@ pub bytes-come-to : (w : ℕ) → w < 2 ^ 32 → four_in (w % 2 ^ 8) (w / 2 ^ 8 
 bytes-come-to w lt = four_in-sum (w % 2 ^ 8) (w / 2 ^ 8 % 2 ^ 8) (w / 2 ^ 16 % 2 ^ 8) (w / 2 ^ 24 % 2 ^ 8) ∙ bytes-sum w lt
 
 -- the lowest byte of what is left, four times
-pub bytes-in-turn : (w : ℕ) → w % 2 ^ 8 ∷ w / 2 ^ 8 % 2 ^ 8 ∷ w / 2 ^ 8 / 2 ^ 8 % 2 ^ 8 ∷ w / 2 ^ 8 / 2 ^ 8 / 2 ^ 8 % 2 ^ 8 ∷ [] ≡ bytes_of w
+pub bytes-in-turn : (w : ℕ) → w % 2 ^ 8 ∷ w / 2 ^ 8 % 2 ^ 8 ∷ w / 2 ^ 8 / 2 ^ 8 % 2 ^ 8 ∷ w / 2 ^ 8 / 2 ^ 8 / 2 ^ 8 % 2 ^ 8 ∷ [] ≡ bytes_of_word w
 bytes-in-turn w =
     let twice : w / 2 ^ 8 / 2 ^ 8 ≡ w / 2 ^ 16 = div-div-eq-div-mul w (2 ^ 8) (2 ^ 8) in
     let thrice : w / 2 ^ 16 / 2 ^ 8 ≡ w / 2 ^ 24 = div-div-eq-div-mul w (2 ^ 16) (2 ^ 8) in

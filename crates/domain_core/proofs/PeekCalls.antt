@@ -4,7 +4,7 @@ use Rattle.std.proofs.Common.{◌≡◌, ◌+◌, ◌==◌, true, false, List, [
 use Rattle.plan_checker.specs.Part.{PartData}
 use Rattle.domain_core.specs.declared.event.Reply.{Reply}
 use Rattle.domain_core.specs.Machine.{Machine, acted, is_recorded}
-use Rattle.domain_core.specs.Private.{State, Answer, Call, is_there, next, answers, after}
+use Rattle.domain_core.specs.PrivateFarm.{State, Answer, Call, is_there, next, answers, after}
 
 pub record Leads (part : PartData) (s : State) (calls : List Call) (given : List Answer) (t : State) : Type 0 where
   pub state : after part s calls ≡ t

@@ -11,7 +11,7 @@ use Rattle.crossbar.specs.Switch.{Switch}
 use Rattle.plan_checker.specs.Part.{PartData}
 use Rattle.t414_step.specs.declared.stepping.Stepped.TheVariants.{Ran}
 use Rattle.bootstrap.specs.Step.{node_step, has_halted}
-use Rattle.bootstrap.specs.Opening as node
+use Rattle.bootstrap.specs.Opening.{opened_node}
 use Rattle.bootstrap.specs.declared.node.Node.{Node}
 use Rattle.domain_core.specs.declared.device.Device.{Device}
 use Rattle.domain_core.specs.declared.device.Device.TheVariants.{Host, Link}
@@ -22,11 +22,11 @@ use Rattle.domain_core.specs.declared.event.Reply.{Reply}
 use Rattle.domain_core.specs.declared.event.Reply.TheVariants as reply
 use Rattle.domain_core.specs.declared.event.Moved.TheVariants.{Passed}
 use Rattle.domain_core.specs.Hosts.{HostState, delivered, packet_left}
-use Rattle.domain_core.specs.Hosts as host
-use Rattle.domain_core.specs.Devices.{DeviceStates, device_at, node_at, host_at, with_node, with_host, waiting, taken, arrived}
+use Rattle.domain_core.specs.Hosts.{opened_host}
+use Rattle.domain_core.specs.Devices.{DeviceStates, device_at, node_at, host_at, with_node, with_host, packet_waiting, taken_from_device, arrived_at_device}
 use Rattle.domain_core.specs.Machine.{Machine, with_devices, acted, is_recorded}
 use Rattle.domain_core.specs.Moves.{driven, moved}
-use Rattle.domain_core.specs.Private.{State, Call, is_known, is_there, next}
+use Rattle.domain_core.specs.PrivateFarm.{State, Call, is_known, is_there, next}
 use Rattle.domain_core.specs.Peek.{Route, CanPeek, packet_passed, node_ran}
 use Rattle.domain_core.proofs.PeekBounds.{driven-below, node-below}
 use Rattle.domain_core.proofs.PeekCalls.{next-recorded}
@@ -38,10 +38,10 @@ abbrev pub placed : Route → DeviceStates → HostState → Node → DeviceStat
 placed r d h n = with_host r.host h (with_node r.node n d)
 
 node-placed : (r : Route) (d : DeviceStates) (h : HostState) (n : Node) → r.node < length d.nodes → node_at (placed r d h n) r.node ≡ n
-node-placed r d h n lt = get_or-set_same d.nodes r.node n (node.opened 0) lt
+node-placed r d h n lt = get_or-set_same d.nodes r.node n (opened_node 0) lt
 
 host-placed : (r : Route) (d : DeviceStates) (h : HostState) (n : Node) → r.host < length d.hosts → host_at (placed r d h n) r.host ≡ h
-host-placed r d h n lt = get_or-set_same d.hosts r.host h host.opened lt
+host-placed r d h n lt = get_or-set_same d.hosts r.host h opened_host lt
 
 node-replaced : (r : Route) (d : DeviceStates) (h : HostState) (n m : Node) → with_node r.node m (placed r d h n) ≡ placed r d h m
 node-replaced r d h n m = rw (set-set d.nodes r.node n m) refl
@@ -49,12 +49,12 @@ node-replaced r d h n m = rw (set-set d.nodes r.node n m) refl
 host-replaced : (r : Route) (d : DeviceStates) (h g : HostState) (n : Node) → with_host r.host g (placed r d h n) ≡ placed r d g n
 host-replaced r d h g n = rw (set-set d.hosts r.host h g) refl
 
-host-taken : (r : Route) (d : DeviceStates) (h : HostState) (n : Node) → r.host < length d.hosts → taken (Host r.host) (placed r d h n) ≡ placed r d (packet_left h) n
+host-taken : (r : Route) (d : DeviceStates) (h : HostState) (n : Node) → r.host < length d.hosts → taken_from_device (Host r.host) (placed r d h n) ≡ placed r d (packet_left h) n
 host-taken r d h n lt =
     ap (λ (g : HostState). with_host r.host (packet_left g) (placed r d h n)) (host-placed r d h n lt) ∙ host-replaced r d h (packet_left h) n
 
 host-arrived : (r : Route) (d : DeviceStates) (h : HostState) (n : Node) (packet : Packet) → r.host < length d.hosts
-    → arrived packet (Some (Host r.host)) (placed r d h n) ≡ placed r d (delivered packet h) n
+    → arrived_at_device packet (Some (Host r.host)) (placed r d h n) ≡ placed r d (delivered packet h) n
 host-arrived r d h n packet lt =
     ap (λ (g : HostState). with_host r.host (delivered packet g) (placed r d h n)) (host-placed r d h n lt) ∙ host-replaced r d h (delivered packet h) n
 
@@ -65,12 +65,12 @@ packet_sent link n = record n { links = packet_taken link n.links }
 abbrev pub packet_got : LinkNumber → Packet → Node → Node
 packet_got link packet n = record n { links = packet_arrived link packet n.links }
 
-node-taken : (r : Route) (d : DeviceStates) (h : HostState) (n : Node) → r.node < length d.nodes → taken (Link r.node r.link) (placed r d h n) ≡ placed r d h (packet_sent r.link n)
+node-taken : (r : Route) (d : DeviceStates) (h : HostState) (n : Node) → r.node < length d.nodes → taken_from_device (Link r.node r.link) (placed r d h n) ≡ placed r d h (packet_sent r.link n)
 node-taken r d h n lt =
     ap (λ (m : Node). with_node r.node (packet_sent r.link m) (placed r d h n)) (node-placed r d h n lt) ∙ node-replaced r d h n (packet_sent r.link n)
 
 node-arrived : (r : Route) (d : DeviceStates) (h : HostState) (n : Node) (packet : Packet) → r.node < length d.nodes
-    → arrived packet (Some (Link r.node r.link)) (placed r d h n) ≡ placed r d h (packet_got r.link packet n)
+    → arrived_at_device packet (Some (Link r.node r.link)) (placed r d h n) ≡ placed r d h (packet_got r.link packet n)
 node-arrived r d h n packet lt =
     ap (λ (m : Node). with_node r.node (packet_got r.link packet m) (placed r d h n)) (node-placed r d h n lt) ∙ node-replaced r d h n (packet_got r.link packet n)
 
@@ -86,7 +86,7 @@ step-recorded part m number n after e f h = rw (e, f, h) refl
 
 -- a packet goes from one device to the other that its port drives alone
 moved-across : (part : PartData) (s : Switch) (d : DeviceStates) (port output : ℕ) (from to : Device) (packet : Packet) → device_at part port ≡ Some from → device_at part output ≡ Some to
-    → driven part s port ≡ output ∷ [] → set.contains s.ready output ≡ true → waiting d from ≡ Some packet → moved part s d port ≡ (arrived packet (Some to) (taken from d), Passed)
+    → driven part s port ≡ output ∷ [] → set.contains s.ready output ≡ true → packet_waiting d from ≡ Some packet → moved part s d port ≡ (arrived_at_device packet (Some to) (taken_from_device from d), Passed)
 moved-across part s d port output from to packet e f drives ready waits = rw (e, drives, waits, ready, f) refl
 
 -- ---- states on the way of a peek
@@ -150,7 +150,7 @@ host-moves p count h n packet lt waits =
     port-moves p count p.route.host_port h (packet_left h) n (packet_got p.route.link packet n) lt (driven-below p.part p.start.machine.switch p.route.link_port p.route.host_port p.can.switch.back)
     (moved-across p.part p.start.machine.switch (placed p.route d h n) p.route.host_port p.route.link_port (Host p.route.host) link packet p.can.route.host_device p.can.route.link_device
     p.can.switch.there p.can.switch.link_ready (ap (λ (g : HostState). next_of g.end.latch) (host-placed p.route d h n p.can.host) ∙ waits)
-    ∙ ap (λ (x : DeviceStates). (arrived packet (Some link) x, Passed)) (host-taken p.route d h n p.can.host)
+    ∙ ap (λ (x : DeviceStates). (arrived_at_device packet (Some link) x, Passed)) (host-taken p.route d h n p.can.host)
     ∙ ap (λ (x : DeviceStates). (x, Passed)) (node-arrived p.route d (packet_left h) n packet p.can.node))
 
 -- the packet that waits at the link goes to the host
@@ -162,5 +162,5 @@ link-moves p count h n packet lt waits =
     port-moves p count p.route.link_port h (delivered packet h) n (packet_sent p.route.link n) lt (driven-below p.part p.start.machine.switch p.route.host_port p.route.link_port p.can.switch.there)
     (moved-across p.part p.start.machine.switch (placed p.route d h n) p.route.link_port p.route.host_port link (Host p.route.host) packet p.can.route.link_device p.can.route.host_device
     p.can.switch.back p.can.switch.host_ready (ap (λ (m : Node). next_of (at p.route.link m.links).end.latch) (node-placed p.route d h n p.can.node) ∙ waits)
-    ∙ ap (λ (x : DeviceStates). (arrived packet (Some (Host p.route.host)) x, Passed)) (node-taken p.route d h n p.can.node)
+    ∙ ap (λ (x : DeviceStates). (arrived_at_device packet (Some (Host p.route.host)) x, Passed)) (node-taken p.route d h n p.can.node)
     ∙ ap (λ (x : DeviceStates). (x, Passed)) (host-arrived p.route d h (packet_sent p.route.link n) packet p.can.host))

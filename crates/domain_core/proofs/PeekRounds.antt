@@ -10,7 +10,7 @@ use Rattle.bootstrap.specs.declared.node.Node.{Node}
 use Rattle.bootstrap.specs.declared.state.State as doing
 use Rattle.domain_core.specs.declared.event.Event.TheVariants.{Step, Move}
 use Rattle.domain_core.specs.Hosts.{HostState, delivered, packet_left, sending_on, is_full}
-use Rattle.domain_core.specs.Private.{State, Answer, Call, next}
+use Rattle.domain_core.specs.PrivateFarm.{State, Answer, Call, next}
 use Rattle.domain_core.specs.Peek.{packet_passed, node_ran}
 use Rattle.domain_core.proofs.PeekCalls.{Leads, leads-none, leads-first}
 use Rattle.domain_core.proofs.PeekNodes.{end_of, listening, resting, posting, holding, acknowledged, with_end, end-there, got-end, sent-end}

@@ -11,8 +11,8 @@ use Rattle.bootstrap.specs.declared.state.State as doing
 use Rattle.bootstrap.specs.declared.state.State.TheVariants.{WantsControl, Takes, Answers}
 use Rattle.bootstrap.specs.declared.state.Task.TheVariants.{Peek}
 use Rattle.domain_core.specs.Hosts.{HostState, is_full}
-use Rattle.domain_core.specs.Private.{State}
-use Rattle.domain_core.specs.Peek.{PeekAnswersTheWord, after_peek, peek_answers, peek_calls, times, word_bytes}
+use Rattle.domain_core.specs.PrivateFarm.{State}
+use Rattle.domain_core.specs.Peek.{PeekAnswersTheWord, after_peek, peek_answers, peek_calls, repeated, word_bytes}
 use Rattle.domain_core.proofs.PeekBeginning.{asking, begins, ends, first_host, first_heard, first_lost, first_node}
 use Rattle.domain_core.proofs.PeekBytes.{four_in, bytes-come-to, bytes-in-turn}
 use Rattle.domain_core.proofs.PeekCalls.{Leads, leads-none, leads-on, leads-between}
@@ -33,7 +33,7 @@ asked_for p =
     (Answers p.route.link 3 (word_of p / 2 ^ 8)) (first_node p)
 
 message-goes : (p : Peeking)
-    → Leads p.part (reached p 0 (asking p.address (first_host p)) (listening (first_lost p) (first_heard p)) WantsControl (first_node p)) (times 5 (calls_there p)) (times 5 answers_there) (asked_for p)
+    → Leads p.part (reached p 0 (asking p.address (first_host p)) (listening (first_lost p) (first_heard p)) WantsControl (first_node p)) (repeated 5 (calls_there p)) (repeated 5 answers_there) (asked_for p)
 message-goes p =
     let first : ℕ = p.address % 2 ^ 8 in
     let second : ℕ = p.address / 2 ^ 8 % 2 ^ 8 in
@@ -90,7 +90,7 @@ byte-comes p count byte bytes e before after room goes few steps =
 
 -- the bytes of the word one by one
 bytes-come : (p : Peeking) (word : ℕ)
-    → Leads p.part (reached p 15 (with_bytes p []) (posting (word % 2 ^ 8) (first_lost p)) (Answers p.route.link 3 (word / 2 ^ 8)) (first_node p)) (times 4 (calls_back p)) (times 4 answers_back)
+    → Leads p.part (reached p 15 (with_bytes p []) (posting (word % 2 ^ 8) (first_lost p)) (Answers p.route.link 3 (word / 2 ^ 8)) (first_node p)) (repeated 4 (calls_back p)) (repeated 4 answers_back)
     (reached p 27 (with_bytes p (word % 2 ^ 8 ∷ word / 2 ^ 8 % 2 ^ 8 ∷ word / 2 ^ 8 / 2 ^ 8 % 2 ^ 8 ∷ word / 2 ^ 8 / 2 ^ 8 / 2 ^ 8 % 2 ^ 8 ∷ [])) (resting (first_lost p)) WantsControl (first_node p))
 bytes-come p word =
     let second : ℕ = word / 2 ^ 8 in
@@ -114,7 +114,7 @@ bytes-come p word =
     (leads-none p.part _))))
 
 word-comes : (p : Peeking)
-    → Leads p.part (asked_for p) (times 4 (calls_back p)) (times 4 answers_back)
+    → Leads p.part (asked_for p) (repeated 4 (calls_back p)) (repeated 4 answers_back)
     (reached p 27 (with_bytes p (word_bytes (first_node p) p.address)) (resting (first_lost p)) WantsControl (first_node p))
 word-comes p =
     let h : HostState = first_host p in

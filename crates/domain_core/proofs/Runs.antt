@@ -8,19 +8,19 @@ use Rattle.domain_core.specs.declared.event.Event.{Event}
 use Rattle.domain_core.specs.declared.event.Reply.{Reply}
 use Rattle.domain_core.specs.declared.journal.Entry.{Entry}
 use Rattle.domain_core.specs.declared.journal.Entry.TheVariants.{One, Run}
-use Rattle.domain_core.specs.Journal.{Answered, stepped, steps, expanded}
+use Rattle.domain_core.specs.Journal.{AnsweredCall, answered_step, steps, expanded}
 
 pub expanded-append : (xs ys : List Entry) → expanded (xs ++ ys) ≡ expanded xs ++ expanded ys
 expanded-append [] ys = refl
-expanded-append (One by event reply ∷ xs) ys = ap (λ (rest : List Answered). record { call = record { by = by; event = event }; reply = reply } ∷ rest) (expanded-append xs ys)
-expanded-append (Run by node count last ∷ xs) ys = ap (λ (rest : List Answered). steps by node count last ++ rest) (expanded-append xs ys) ∙ sym (append_assoc (steps by node count last) (expanded xs) (expanded ys))
+expanded-append (One by event reply ∷ xs) ys = ap (λ (rest : List AnsweredCall). record { call = record { by = by; event = event }; reply = reply } ∷ rest) (expanded-append xs ys)
+expanded-append (Run by node count last ∷ xs) ys = ap (λ (rest : List AnsweredCall). steps by node count last ++ rest) (expanded-append xs ys) ∙ sym (append_assoc (steps by node count last) (expanded xs) (expanded ys))
 
 -- Ran once more
-ran_once_more : (by : By) (node count : ℕ) → replicate count (stepped by node Ran) ++ stepped by node Ran ∷ [] ≡ stepped by node Ran ∷ replicate count (stepped by node Ran)
+ran_once_more : (by : By) (node count : ℕ) → replicate count (answered_step by node Ran) ++ answered_step by node Ran ∷ [] ≡ answered_step by node Ran ∷ replicate count (answered_step by node Ran)
 ran_once_more by node zero = refl
-ran_once_more by node (suc count) = ap (λ (rest : List Answered). stepped by node Ran ∷ rest) (ran_once_more by node count)
+ran_once_more by node (suc count) = ap (λ (rest : List AnsweredCall). answered_step by node Ran ∷ rest) (ran_once_more by node count)
 
-pub steps-ran : (by : By) (node count : ℕ) → steps by node count Ran ≡ replicate count (stepped by node Ran)
+pub steps-ran : (by : By) (node count : ℕ) → steps by node count Ran ≡ replicate count (answered_step by node Ran)
 steps-ran by node zero = refl
 steps-ran by node (suc count) = ran_once_more by node count
 
@@ -35,7 +35,7 @@ steps-add by node before (suc count) last some = steps-add_suc by node before co
 
 pub length-steps : (by : By) (node count : ℕ) (last : Stepped) → length (steps by node count last) ≡ count
 length-steps by node zero last = refl
-length-steps by node (suc count) last = omega (arith, length-append (replicate count (stepped by node Ran)) (stepped by node last ∷ []), length-replicate count (stepped by node Ran))
+length-steps by node (suc count) last = omega (arith, length-append (replicate count (answered_step by node Ran)) (answered_step by node last ∷ []), length-replicate count (answered_step by node Ran))
 
 -- a new run
 pub expanded_new : (old new : List Entry) (by : By) (node count : ℕ) (last : Stepped) → new ≡ old ++ Run by node count last ∷ [] → expanded new ≡ expanded old ++ steps by node count last

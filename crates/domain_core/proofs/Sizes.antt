@@ -5,22 +5,22 @@ use Rattle.os_link.specs.declared.latch.Packet.{Packet}
 use Rattle.crossbar.specs.Switch.{Switch}
 use Rattle.plan_checker.specs.declared.part.NodePart.{NodePart}
 use Rattle.plan_checker.specs.Part.{PartData}
-use Rattle.virtual_switch.specs.Seen.{Seen}
-use Rattle.domain_core.specs.Hosts as host
+use Rattle.virtual_switch.specs.SwitchValue.{SwitchValue}
+use Rattle.domain_core.specs.Hosts.{opened_host}
 use Rattle.domain_core.specs.Hosts.{HostState}
 use Rattle.domain_core.specs.MachineValue.{MachineValue, IsOfPart}
 use Rattle.domain_core.proofs.Lists.{map_const}
 use Rattle.bootstrap.specs.declared.node.Node.{Node}
 use Rattle.bootstrap.specs.Laws.{StepKeepsTheSize}
-use Rattle.bootstrap.specs.Opening as node
+use Rattle.bootstrap.specs.Opening.{opened_node}
 use Rattle.domain_core.specs.declared.device.Device.{Device}
 use Rattle.domain_core.specs.declared.device.Device.TheVariants.{Host, Link}
 use Rattle.domain_core.specs.declared.event.Event.{Event}
 use Rattle.domain_core.specs.declared.event.Event.TheVariants.{Config, Write, Read, Reset, Look, Step, Move}
 use Rattle.domain_core.specs.declared.event.Moved.{Moved}
 use Rattle.domain_core.specs.declared.event.Moved.TheVariants.{Nothing, Lost, Stayed, Passed}
-use Rattle.domain_core.specs.Devices.{DeviceStates, memories, opened, reopened, node_at, with_node, taken, arrived, waiting, device_at}
-use Rattle.domain_core.specs.Moves.{copied, outcome, driven, moved_by, sent, moved_from}
+use Rattle.domain_core.specs.Devices.{DeviceStates, memories, opened_devices, reopened, node_at, with_node, taken_from_device, arrived_at_device, packet_waiting, device_at}
+use Rattle.domain_core.specs.Moves.{copies_arrived, outcome, driven, moved_by, sent, moved_from}
 use Rattle.domain_core.specs.Machine.{Machine, acted}
 
 same_sizes : (nodes : List Node) (i : ℕ) (n d : Node) → length n.memory ≡ length (get_or nodes i d).memory → map (λ k. length k.memory) (set nodes i n) ≡ map (λ k. length k.memory) nodes
@@ -40,24 +40,24 @@ then_large : (d e f : DeviceStates) → AreAsLarge d e → AreAsLarge e f → Ar
 then_large d e f one two = record { memories = two.memories ∙ one.memories; hosts = two.hosts ∙ one.hosts }
 
 pub large_with_node : (d : DeviceStates) (number : ℕ) (n : Node) → length n.memory ≡ length (node_at d number).memory → AreAsLarge d (with_node number n d)
-large_with_node d number n same = record { memories = same_sizes d.nodes number n (node.opened 0) same; hosts = refl }
+large_with_node d number n same = record { memories = same_sizes d.nodes number n (opened_node 0) same; hosts = refl }
 
-large_taken : (d : DeviceStates) (device : Device) → AreAsLarge d (taken device d)
+large_taken : (d : DeviceStates) (device : Device) → AreAsLarge d (taken_from_device device d)
 large_taken d (Host number) = record { memories = refl; hosts = length-set d.hosts number _ }
 large_taken d (Link number link) = large_with_node d number _ refl
 
-large_arrived : (d : DeviceStates) (packet : Packet) (device : Option Device) → AreAsLarge d (arrived packet device d)
+large_arrived : (d : DeviceStates) (packet : Packet) (device : Option Device) → AreAsLarge d (arrived_at_device packet device d)
 large_arrived d packet None = as_large d
 large_arrived d packet (Some (Host number)) = record { memories = refl; hosts = length-set d.hosts number _ }
 large_arrived d packet (Some (Link number link)) = large_with_node d number _ refl
 
-large_copied : (part : PartData) (packet : Packet) (outputs : List ℕ) (d : DeviceStates) → AreAsLarge d (copied part packet outputs d)
+large_copied : (part : PartData) (packet : Packet) (outputs : List ℕ) (d : DeviceStates) → AreAsLarge d (copies_arrived part packet outputs d)
 large_copied part packet [] d = as_large d
 large_copied part packet (output ∷ outputs) d =
-    then_large d (arrived packet (device_at part output) d) (copied part packet (output ∷ outputs) d)
-    (large_arrived d packet (device_at part output)) (large_copied part packet outputs (arrived packet (device_at part output) d))
+    then_large d (arrived_at_device packet (device_at part output) d) (copies_arrived part packet (output ∷ outputs) d)
+    (large_arrived d packet (device_at part output)) (large_copied part packet outputs (arrived_at_device packet (device_at part output) d))
 
-pub large_gone : (part : PartData) (device : Device) (packet : Packet) (outputs : List ℕ) (d e f : DeviceStates) → e ≡ taken device d → f ≡ copied part packet outputs e → AreAsLarge d f
+pub large_gone : (part : PartData) (device : Device) (packet : Packet) (outputs : List ℕ) (d e f : DeviceStates) → e ≡ taken_from_device device d → f ≡ copies_arrived part packet outputs e → AreAsLarge d f
 large_gone part device packet outputs d e f one two =
     then_large d e f (subst (AreAsLarge d) (sym one) (large_taken d device)) (subst (AreAsLarge e) (sym two) (large_copied part packet outputs e))
 
@@ -66,7 +66,7 @@ large_moved_by Nothing part device packet outputs d = as_large d
 large_moved_by Lost part device packet outputs d = large_taken d device
 large_moved_by Stayed part device packet outputs d = as_large d
 large_moved_by Passed part device packet outputs d =
-    then_large d (taken device d) (copied part packet outputs (taken device d)) (large_taken d device) (large_copied part packet outputs (taken device d))
+    then_large d (taken_from_device device d) (copies_arrived part packet outputs (taken_from_device device d)) (large_taken d device) (large_copied part packet outputs (taken_from_device device d))
 
 large_sent : (part : PartData) (s : Switch) (d : DeviceStates) (outputs : List ℕ) (device : Device) (packet : Option Packet) → AreAsLarge d (sent part s d outputs device packet).0
 large_sent part s d outputs device None = as_large d
@@ -74,7 +74,7 @@ large_sent part s d outputs device (Some packet) = large_moved_by (outcome s out
 
 large_from : (part : PartData) (s : Switch) (d : DeviceStates) (outputs : List ℕ) (device : Option Device) → AreAsLarge d (moved_from part s d outputs device).0
 large_from part s d outputs None = as_large d
-large_from part s d outputs (Some device) = large_sent part s d outputs device (waiting d device)
+large_from part s d outputs (Some device) = large_sent part s d outputs device (packet_waiting d device)
 
 -- no event changes how large the memories are, and how many hosts there are
 pub large_acted : StepKeepsTheSize → (part : PartData) (m : Machine) (event : Event) → AreAsLarge m.devices (acted part m event).0.devices
@@ -88,53 +88,53 @@ large_acted law part m (Move port) = large_from part m.switch m.devices (driven 
 
 -- ---- what a machine is stays so
 
-pub still_of_part : (v : MachineValue) (switch : Seen) (d : DeviceStates) → IsOfPart v → length switch.ports ≡ length v.switch.ports → AreAsLarge v.devices d → IsOfPart (record { part = v.part; switch = switch; devices = d })
+pub still_of_part : (v : MachineValue) (switch : SwitchValue) (d : DeviceStates) → IsOfPart v → length switch.ports ≡ length v.switch.ports → AreAsLarge v.devices d → IsOfPart (record { part = v.part; switch = switch; devices = d })
 still_of_part v switch d of ports large = record { few = of.few; count = ports ∙ of.count; memories = large.memories ∙ of.memories; hosts = large.hosts ∙ of.hosts }
 
 pub large_by : (d e f : DeviceStates) → f ≡ e → AreAsLarge d e → AreAsLarge d f
 large_by d e f is large = subst (AreAsLarge d) (sym is) large
 
-sizes_opened : (nodes : List NodePart) → map (λ n. length n.memory) (map (λ n. node.opened n.memory) nodes) ≡ map (λ n. n.memory) nodes
+sizes_opened : (nodes : List NodePart) → map (λ n. length n.memory) (map (λ n. opened_node n.memory) nodes) ≡ map (λ n. n.memory) nodes
 sizes_opened [] = refl
 sizes_opened (n ∷ nodes) = rw (length-replicate {A = ℕ} n.memory 0, sizes_opened nodes) refl
 
-pub opened_of_part : (part : PartData) (switch : Seen) (d : DeviceStates) → part.count ≤ 32 → length switch.ports ≡ part.count → d ≡ opened part → IsOfPart (record { part = part; switch = switch; devices = d })
+pub opened_of_part : (part : PartData) (switch : SwitchValue) (d : DeviceStates) → part.count ≤ 32 → length switch.ports ≡ part.count → d ≡ opened_devices part → IsOfPart (record { part = part; switch = switch; devices = d })
 opened_of_part part switch d few count is = record {
   few = few;
   count = count;
   memories = ap memories is ∙ sizes_opened part.nodes;
-  hosts = ap (λ (e : DeviceStates). length e.hosts) is ∙ length-map part.hosts (λ h. host.opened);
+  hosts = ap (λ (e : DeviceStates). length e.hosts) is ∙ length-map part.hosts (λ h. opened_host);
 }
 
-sizes_reopened : (nodes : List Node) → map (λ n. length n.memory) (map (λ n. node.opened (length n.memory)) nodes) ≡ map (λ n. length n.memory) nodes
+sizes_reopened : (nodes : List Node) → map (λ n. length n.memory) (map (λ n. opened_node (length n.memory)) nodes) ≡ map (λ n. length n.memory) nodes
 sizes_reopened [] = refl
 sizes_reopened (n ∷ nodes) = rw (length-replicate {A = ℕ} (length n.memory) 0, sizes_reopened nodes) refl
 
 pub large_reopened : (d : DeviceStates) → AreAsLarge d (reopened d)
-large_reopened d = record { memories = sizes_reopened d.nodes; hosts = length-map d.hosts (λ h. host.opened) }
+large_reopened d = record { memories = sizes_reopened d.nodes; hosts = length-map d.hosts (λ h. opened_host) }
 
-pub reopened_by : (d : DeviceStates) (ns : List Node) (hs : List HostState) → ns ≡ map (λ n. node.opened (length n.memory)) d.nodes → hs ≡ map (λ h. host.opened) d.hosts → (let e : DeviceStates = record { nodes = ns; hosts = hs } in e) ≡ reopened d
+pub reopened_by : (d : DeviceStates) (ns : List Node) (hs : List HostState) → ns ≡ map (λ n. opened_node (length n.memory)) d.nodes → hs ≡ map (λ h. opened_host) d.hosts → (let e : DeviceStates = record { nodes = ns; hosts = hs } in e) ≡ reopened d
 reopened_by d ns hs nodes hosts =
     ap (λ (xs : List Node). let e : DeviceStates = record { nodes = xs; hosts = hs } in e) nodes
-    ∙ ap (λ (xs : List HostState). let e : DeviceStates = record { nodes = map (λ n. node.opened (length n.memory)) d.nodes; hosts = xs } in e) hosts
+    ∙ ap (λ (xs : List HostState). let e : DeviceStates = record { nodes = map (λ n. opened_node (length n.memory)) d.nodes; hosts = xs } in e) hosts
 
-nodes_reopened : (nodes : List Node) → map (λ n. node.opened (length n.memory)) nodes ≡ map node.opened (map (λ n. length n.memory) nodes)
+nodes_reopened : (nodes : List Node) → map (λ n. opened_node (length n.memory)) nodes ≡ map opened_node (map (λ n. length n.memory) nodes)
 nodes_reopened [] = refl
-nodes_reopened (n ∷ nodes) = ap (λ (rest : List Node). node.opened (length n.memory) ∷ rest) (nodes_reopened nodes)
+nodes_reopened (n ∷ nodes) = ap (λ (rest : List Node). opened_node (length n.memory) ∷ rest) (nodes_reopened nodes)
 
-nodes_opened : (nodes : List NodePart) → map node.opened (map (λ n. n.memory) nodes) ≡ map (λ n. node.opened n.memory) nodes
+nodes_opened : (nodes : List NodePart) → map opened_node (map (λ n. n.memory) nodes) ≡ map (λ n. opened_node n.memory) nodes
 nodes_opened [] = refl
-nodes_opened (n ∷ nodes) = ap (λ (rest : List Node). node.opened n.memory ∷ rest) (nodes_opened nodes)
+nodes_opened (n ∷ nodes) = ap (λ (rest : List Node). opened_node n.memory ∷ rest) (nodes_opened nodes)
 
 -- a machine that is opened again is as it was opened at first
-pub reopened_opened : (v : MachineValue) → IsOfPart v → reopened v.devices ≡ opened v.part
+pub reopened_opened : (v : MachineValue) → IsOfPart v → reopened v.devices ≡ opened_devices v.part
 reopened_opened v of =
-    let nodes : map (λ n. node.opened (length n.memory)) v.devices.nodes ≡ map (λ n. node.opened n.memory) v.part.nodes =
-    nodes_reopened v.devices.nodes ∙ ap (map node.opened) of.memories ∙ nodes_opened v.part.nodes in
-    let hosts : map (λ h. host.opened) v.devices.hosts ≡ map (λ h. host.opened) v.part.hosts =
-    map_const host.opened v.devices.hosts ∙ ap (λ (n : ℕ). replicate n host.opened) of.hosts ∙ sym (map_const host.opened v.part.hosts) in
-    ap (λ (ns : List Node). let d : DeviceStates = record { nodes = ns; hosts = map (λ h. host.opened) v.devices.hosts } in d) nodes
-    ∙ ap (λ (hs : List HostState). let d : DeviceStates = record { nodes = map (λ n. node.opened n.memory) v.part.nodes; hosts = hs } in d) hosts
+    let nodes : map (λ n. opened_node (length n.memory)) v.devices.nodes ≡ map (λ n. opened_node n.memory) v.part.nodes =
+    nodes_reopened v.devices.nodes ∙ ap (map opened_node) of.memories ∙ nodes_opened v.part.nodes in
+    let hosts : map (λ h. opened_host) v.devices.hosts ≡ map (λ h. opened_host) v.part.hosts =
+    map_const opened_host v.devices.hosts ∙ ap (λ (n : ℕ). replicate n opened_host) of.hosts ∙ sym (map_const opened_host v.part.hosts) in
+    ap (λ (ns : List Node). let d : DeviceStates = record { nodes = ns; hosts = map (λ h. opened_host) v.devices.hosts } in d) nodes
+    ∙ ap (λ (hs : List HostState). let d : DeviceStates = record { nodes = map (λ n. opened_node n.memory) v.part.nodes; hosts = hs } in d) hosts
 
 pub machine_by : (s t : Switch) (r q : List ℕ) (d e : DeviceStates) → s ≡ t → r ≡ q → d ≡ e → (let m : Machine = record { switch = s; rest = r; devices = d } in m) ≡ (let m : Machine = record { switch = t; rest = q; devices = e } in m)
 machine_by s t r q d e switches rests devices =

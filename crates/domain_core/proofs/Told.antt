@@ -5,8 +5,8 @@ use Rattle.t414_step.specs.declared.stepping.Stepped.{Stepped}
 use Rattle.t414_step.specs.declared.stepping.Stepped.TheVariants.{Ran}
 use Rattle.domain_core.specs.declared.event.By.{By}
 use Rattle.domain_core.specs.declared.event.By.TheVariants.{User, Farm}
-use Rattle.domain_core.specs.Private.{State, answers, opening}
-use Rattle.domain_core.specs.Journal.{Answered, stepped, calls_of}
+use Rattle.domain_core.specs.PrivateFarm.{State, answers, opening}
+use Rattle.domain_core.specs.Journal.{AnsweredCall, answered_step, calls_of}
 use Rattle.domain_core.specs.Commands.{is_own, own_commands}
 use Rattle.domain_core.specs.Laws.{FittingStays, NextIsAnAnswer, OwnCommandsAddUp, StepsAreNobodys}
 use Rattle.domain_core.proofs.Histories.{answers-append}
@@ -30,16 +30,16 @@ and_false : (b : Bool) → (b && false) ≡ false
 and_false true = refl
 and_false false = refl
 
-no_command : (user : ℕ) (by : By) (node : ℕ) (answer : Stepped) → is_own user (stepped by node answer) ≡ false
+no_command : (user : ℕ) (by : By) (node : ℕ) (answer : Stepped) → is_own user (answered_step by node answer) ≡ false
 no_command user Farm node answer = refl
 no_command user (User other) node answer = and_false (other == user)
 
-none_replicated : (user : ℕ) (by : By) (node count : ℕ) → own_commands user (replicate count (stepped by node Ran)) ≡ []
+none_replicated : (user : ℕ) (by : By) (node count : ℕ) → own_commands user (replicate count (answered_step by node Ran)) ≡ []
 none_replicated user by node zero = refl
 none_replicated user by node (suc count) = rw (no_command user by node Ran) (none_replicated user by node count)
 
 pub steps_are_nobodys : StepsAreNobodys
 steps_are_nobodys user by node zero last = refl
 steps_are_nobodys user by node (suc count) last =
-    own_commands_add_up user (replicate count (stepped by node Ran)) (stepped by node last ∷ [])
-    ∙ ap (λ (xs : List Answered). xs ++ own_commands user (stepped by node last ∷ [])) (none_replicated user by node count) ∙ rw (no_command user by node last) refl
+    own_commands_add_up user (replicate count (answered_step by node Ran)) (answered_step by node last ∷ [])
+    ∙ ap (λ (xs : List AnsweredCall). xs ++ own_commands user (answered_step by node last ∷ [])) (none_replicated user by node count) ∙ rw (no_command user by node last) refl

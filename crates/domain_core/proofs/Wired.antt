@@ -12,7 +12,7 @@ use Rattle.plan_checker.specs.Part.{PartData, wired_ports, ports_used}
 use Rattle.domain_core.specs.declared.device.Device.{Device}
 use Rattle.domain_core.specs.declared.device.Device.TheVariants.{Host, Link}
 use Rattle.domain_core.specs.Devices.{or_else, is_wired_to, host_at_port, link_at_port, link_of_four, device_at}
-use Rattle.domain_core.specs.Wiring.{place_of, Names, DevicesAreWhereNamed}
+use Rattle.domain_core.specs.Wiring.{link_index, Names, DevicesAreWhereNamed}
 
 -- ---- numbers of a list, each of which stands there once
 
@@ -134,7 +134,7 @@ apart_rest : (wired : Option ℕ) (links : List (Option ℕ)) → Apart (ports_i
 apart_rest None links apart = apart
 apart_rest (Some w) links apart = apart.1
 
-four_found : (number : ℕ) (links : List (Option ℕ)) (port : ℕ) (link : LinkNumber) → length links ≡ 4 → Apart (ports_in links) → slice_get links (place_of link) ≡ Some (Some port)
+four_found : (number : ℕ) (links : List (Option ℕ)) (port : ℕ) (link : LinkNumber) → length links ≡ 4 → Apart (ports_in links) → slice_get links (link_index link) ≡ Some (Some port)
     → link_of_four number links port ≡ Some (Link number link)
 four_found number (a ∷ b ∷ c ∷ d ∷ []) port Zero four apart at = wired_here a port _ _ (same_Some _ _ at)
 four_found number (a ∷ b ∷ c ∷ d ∷ []) port One four apart at =
@@ -167,7 +167,7 @@ no_link_of_four number (a ∷ b ∷ c ∷ d ∷ e ∷ rest) port none = refl
 record FoundLink (links : List (Option ℕ)) (number port : ℕ) (device : Device) : Type 0 where
   link : LinkNumber
   is : device ≡ Link number link
-  port_is : slice_get links (place_of link) ≡ Some (Some port)
+  port_is : slice_get links (link_index link) ≡ Some (Some port)
 
 one_wired : (wired : Option ℕ) (port : ℕ) (one : Device) (other : Option Device) (device : Device) → is_wired_to wired port (Some one) other ≡ Some device
     → ((wired ≡ Some port) × (device ≡ one)) ⊎ (other ≡ Some device)
@@ -238,18 +238,18 @@ has_link (x ∷ nodes) zero n port at has = has_left (wired_ports x) (flat_map w
 has_link (x ∷ nodes) (suc number) n port at has = has_right (wired_ports x) (flat_map wired_ports nodes) port (has_link nodes number n port at has)
 
 link_found : (first : ℕ) (nodes : List NodePart) (port number : ℕ) (n : NodePart) (link : LinkNumber) → AllFour nodes → Apart (flat_map wired_ports nodes) → slice_get nodes number ≡ Some n
-    → slice_get n.links (place_of link) ≡ Some (Some port) → link_at_port first nodes port ≡ Some (Link (first + number) link)
+    → slice_get n.links (link_index link) ≡ Some (Some port) → link_at_port first nodes port ≡ Some (Link (first + number) link)
 link_found first [] port number n link four apart at is = absurd (none-some n at)
 link_found first (x ∷ nodes) port zero n link four apart at is =
     let same : x ≡ n = same_Some _ _ at in
-    let mine : slice_get x.links (place_of link) ≡ Some (Some port) = ap (λ (m : NodePart). slice_get m.links (place_of link)) same ∙ is in
+    let mine : slice_get x.links (link_index link) ≡ Some (Some port) = ap (λ (m : NodePart). slice_get m.links (link_index link)) same ∙ is in
     let found : link_of_four first x.links port ≡ Some (Link first link) =
     four_found first x.links port link (All-head (λ (m : NodePart). length m.links ≡ 4) x nodes four) (apart_left (wired_ports x) (flat_map wired_ports nodes) apart) mine in
     let none : first ≡ first + 0 = omega arith in
     ap (λ (f : Option Device). or_else f (link_at_port (first + 1) nodes port)) found ∙ ap (λ (k : ℕ). Some (Link k link)) none
 link_found first (x ∷ nodes) port (suc number) n link four apart at is =
     let away : Has (wired_ports x) port → ⊥ =
-    λ has. apart_across (wired_ports x) (flat_map wired_ports nodes) port apart has (has_link nodes number n port at (has_port n.links (place_of link) port is)) in
+    λ has. apart_across (wired_ports x) (flat_map wired_ports nodes) port apart has (has_link nodes number n port at (has_port n.links (link_index link) port is)) in
     let more : first + 1 + number ≡ first + suc number = omega arith in
     ap (λ (f : Option Device). or_else f (link_at_port (first + 1) nodes port)) (no_link_of_four first x.links port away)
     ∙ link_found (first + 1) nodes port number n link (All-tail (λ (m : NodePart). length m.links ≡ 4) x nodes four) (apart_right (wired_ports x) (flat_map wired_ports nodes) apart) at is
@@ -282,7 +282,7 @@ found part port (Host number) apart four at =
     (host_found 0 part.hosts port number at.host (apart_left (host_ports part.hosts) (flat_map wired_ports part.nodes) apart) at.there at.port_is)
     ∙ ap (λ (n : ℕ). Some (Host n)) (zero_more number)
 found part port (Link number link) apart four at =
-    let has = has_link part.nodes number at.node port at.there (has_port at.node.links (place_of link) port at.port_is) in
+    let has = has_link part.nodes number at.node port at.there (has_port at.node.links (link_index link) port at.port_is) in
     ap (λ (f : Option Device). or_else f (link_at_port 0 part.nodes port))
     (no_host 0 part.hosts port (λ here. apart_across (host_ports part.hosts) (flat_map wired_ports part.nodes) port apart here has))
     ∙ link_found 0 part.nodes port number at.node link four (apart_right (host_ports part.hosts) (flat_map wired_ports part.nodes) apart) at.there at.port_is

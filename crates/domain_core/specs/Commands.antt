@@ -4,7 +4,7 @@ use Rattle.domain_core.specs.declared.event.By.{By}
 use Rattle.domain_core.specs.declared.event.By.TheVariants.{User, Farm}
 use Rattle.domain_core.specs.declared.event.Event.{Event}
 use Rattle.domain_core.specs.declared.event.Event.TheVariants.{Config, Write, Read, Reset, Look, Step, Move}
-use Rattle.domain_core.specs.Journal.{Answered}
+use Rattle.domain_core.specs.Journal.{AnsweredCall}
 
 -- what a user asks for himself; Steps and Moves are the farm's
 abbrev pub is_command : Event → Bool
@@ -22,9 +22,9 @@ is_user user (User other) = other == user
 is_user user Farm = false
 
 -- a command for which this user asked
-abbrev pub is_own : ℕ → Answered → Bool
+abbrev pub is_own : ℕ → AnsweredCall → Bool
 is_own user a = is_user user a.call.by && is_command a.call.event
 
 -- a user's commands in a history, in their order
-abbrev pub own_commands : ℕ → List Answered → List Answered
+abbrev pub own_commands : ℕ → List AnsweredCall → List AnsweredCall
 own_commands user history = filter (is_own user) history

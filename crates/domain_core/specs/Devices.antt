@@ -5,15 +5,15 @@ use Rattle.os_link.specs.declared.latch.Packet.{Packet}
 use Rattle.link_channels.specs.Links.{at, packet_arrived, packet_taken}
 use Rattle.link_channels.specs.declared.number.LinkNumber.TheVariants.{Zero, One, Two, Three}
 use Rattle.bootstrap.specs.declared.node.Node.{Node}
-use Rattle.bootstrap.specs.Opening as node
-use Rattle.bootstrap.specs.Step.{is_recorded}
+use Rattle.bootstrap.specs.Opening.{opened_node}
+use Rattle.bootstrap.specs.Step.{is_step_recorded}
 use Rattle.plan_checker.specs.declared.part.NodePart.{NodePart}
 use Rattle.plan_checker.specs.declared.part.HostPart.{HostPart}
 use Rattle.plan_checker.specs.Part.{PartData}
 use Rattle.domain_core.specs.declared.device.Device.{Device}
 use Rattle.domain_core.specs.declared.device.Device.TheVariants.{Host, Link}
 use Rattle.domain_core.specs.Hosts.{HostState, delivered, packet_left}
-use Rattle.domain_core.specs.Hosts as host
+use Rattle.domain_core.specs.Hosts.{opened_host}
 
 -- ---- which device is joined to a port: the first host or link of the part that names it
 
@@ -59,11 +59,11 @@ pub record DeviceStates : Type 0 where
 
 -- the node of a number that is there
 abbrev pub node_at : DeviceStates → ℕ → Node
-node_at d number = slice_index_or d.nodes number (node.opened 0)
+node_at d number = slice_index_or d.nodes number (opened_node 0)
 
 -- the host of a number that is there
 abbrev pub host_at : DeviceStates → ℕ → HostState
-host_at d number = slice_index_or d.hosts number host.opened
+host_at d number = slice_index_or d.hosts number opened_host
 
 -- one node is changed to this
 abbrev pub with_node : ℕ → Node → DeviceStates → DeviceStates
@@ -74,30 +74,30 @@ abbrev pub with_host : ℕ → HostState → DeviceStates → DeviceStates
 with_host number h d = record d { hosts = slice_set d.hosts number h }
 
 -- nodes and hosts as they are opened
-abbrev pub opened : PartData → DeviceStates
-opened part = record { nodes = map (λ n. node.opened n.memory) part.nodes; hosts = map (λ h. host.opened) part.hosts }
+abbrev pub opened_devices : PartData → DeviceStates
+opened_devices part = record { nodes = map (λ n. opened_node n.memory) part.nodes; hosts = map (λ h. opened_host) part.hosts }
 
 -- the packet that leaves a device next
-abbrev pub waiting : DeviceStates → Device → Option Packet
-waiting d (Host number) = next_of (host_at d number).end.latch
-waiting d (Link number link) = next_of (at link (node_at d number).links).end.latch
+abbrev pub packet_waiting : DeviceStates → Device → Option Packet
+packet_waiting d (Host number) = next_of (host_at d number).end.latch
+packet_waiting d (Link number link) = next_of (at link (node_at d number).links).end.latch
 
 -- it is taken
-abbrev pub taken : Device → DeviceStates → DeviceStates
-taken (Host number) d = with_host number (packet_left (host_at d number)) d
-taken (Link number link) d = with_node number (record (node_at d number) { links = packet_taken link (node_at d number).links }) d
+abbrev pub taken_from_device : Device → DeviceStates → DeviceStates
+taken_from_device (Host number) d = with_host number (packet_left (host_at d number)) d
+taken_from_device (Link number link) d = with_node number (record (node_at d number) { links = packet_taken link (node_at d number).links }) d
 
 -- a packet arrives at a device; at a port without one it is lost
-abbrev pub arrived : Packet → Option Device → DeviceStates → DeviceStates
-arrived packet None d = d
-arrived packet (Some (Host number)) d = with_host number (delivered packet (host_at d number)) d
-arrived packet (Some (Link number link)) d =
+abbrev pub arrived_at_device : Packet → Option Device → DeviceStates → DeviceStates
+arrived_at_device packet None d = d
+arrived_at_device packet (Some (Host number)) d = with_host number (delivered packet (host_at d number)) d
+arrived_at_device packet (Some (Link number link)) d =
     with_node number (record (node_at d number) { links = packet_arrived link packet (node_at d number).links }) d
 
 -- the device is one of these
-abbrev pub Holds : DeviceStates → Device → Type 0
-Holds d (Host number) = number < length d.hosts
-Holds d (Link number link) = number < length d.nodes
+abbrev pub HasDevice : DeviceStates → Device → Type 0
+HasDevice d (Host number) = number < length d.hosts
+HasDevice d (Link number link) = number < length d.nodes
 
 -- how many bytes of memory each node has
 abbrev pub memories : DeviceStates → List ℕ
@@ -105,8 +105,8 @@ memories d = map (λ n. length n.memory) d.nodes
 
 -- nodes and hosts as they are opened, each node with the memory that it has
 abbrev pub reopened : DeviceStates → DeviceStates
-reopened d = record { nodes = map (λ n. node.opened (length n.memory)) d.nodes; hosts = map (λ h. host.opened) d.hosts }
+reopened d = record { nodes = map (λ n. opened_node (length n.memory)) d.nodes; hosts = map (λ h. opened_host) d.hosts }
 
 -- no Step of a node would be recorded
 abbrev pub AreQuiet : DeviceStates → Type 0
-AreQuiet d = (number : ℕ) → number < length d.nodes → is_recorded (node_at d number) ≡ false
+AreQuiet d = (number : ℕ) → number < length d.nodes → is_step_recorded (node_at d number) ≡ false

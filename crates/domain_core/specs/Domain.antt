@@ -7,8 +7,8 @@ use Rattle.domain_core.specs.declared.event.Refusal.TheVariants.{NoSuch, Journal
 use Rattle.domain_core.specs.declared.journal.Entry.{Entry}
 use Rattle.domain_core.specs.Machine.{Machine, is_recorded}
 use Rattle.domain_core.specs.MachineValue.{MachineValue, machine_of}
-use Rattle.domain_core.specs.Private.{State, Answer, Call}
-use Rattle.domain_core.specs.Journal.{Answered, expanded, IsHistory}
+use Rattle.domain_core.specs.PrivateFarm.{State, Answer, Call}
+use Rattle.domain_core.specs.Journal.{AnsweredCall, expanded, IsHistory}
 
 -- what contracts see of a domain
 pub record DomainValue : Type 0 where
@@ -26,7 +26,7 @@ pub record IsMeant (d : DomainValue) : Type 0 where
   pub limit : d.machine.part.limit ≤ 2 ^ 40
 
 -- what the journal gains by an answer
-abbrev pub gained : PartData → State → Call → Answer → List Answered
+abbrev pub gained : PartData → State → Call → Answer → List AnsweredCall
 gained part s call (Ok reply) =
     if is_recorded part s.machine call.event then record { call = call; reply = reply } ∷ [] else []
 gained part s call (Err refusal) = []

@@ -9,37 +9,37 @@ use Rattle.domain_core.specs.declared.event.Reply.{Reply}
 use Rattle.domain_core.specs.declared.event.Reply.TheVariants as reply
 use Rattle.domain_core.specs.declared.journal.Entry.{Entry}
 use Rattle.domain_core.specs.declared.journal.Entry.TheVariants.{One, Run}
-use Rattle.domain_core.specs.Private.{State, Answer, Call, answers, after, opening}
+use Rattle.domain_core.specs.PrivateFarm.{State, Answer, Call, answers, after, opening}
 
 -- an event, with who asked and the reply
-pub record Answered : Type 0 where
+pub record AnsweredCall : Type 0 where
   pub call : Call
   pub reply : Reply
 
 -- a Step of a node, with its answer
-abbrev pub stepped : By → ℕ → Stepped → Answered
-stepped by node answer = record { call = record { by = by; event = Step node }; reply = reply.Stepped answer }
+abbrev pub answered_step : By → ℕ → Stepped → AnsweredCall
+answered_step by node answer = record { call = record { by = by; event = Step node }; reply = reply.Stepped answer }
 
 -- so many Steps of a node: the last answered this, all others Ran
-abbrev pub steps : By → ℕ → ℕ → Stepped → List Answered
+abbrev pub steps : By → ℕ → ℕ → Stepped → List AnsweredCall
 steps by node zero last = []
-steps by node (suc count) last = replicate count (stepped by node Ran) ++ stepped by node last ∷ []
+steps by node (suc count) last = replicate count (answered_step by node Ran) ++ answered_step by node last ∷ []
 
 -- what the entries stand for
-abbrev pub expanded : List Entry → List Answered
+abbrev pub expanded : List Entry → List AnsweredCall
 expanded [] = []
 expanded (One by event reply ∷ entries) = record { call = record { by = by; event = event }; reply = reply } ∷ expanded entries
 expanded (Run by node count last ∷ entries) = steps by node count last ++ expanded entries
 
 -- the calls of a history
-abbrev pub calls_of : List Answered → List Call
+abbrev pub calls_of : List AnsweredCall → List Call
 calls_of history = map (λ a. a.call) history
 
 -- the answers of a history: its replies
-abbrev pub replies_of : List Answered → List Answer
+abbrev pub replies_of : List AnsweredCall → List Answer
 replies_of history = map (λ a. Ok a.reply) history
 
 -- a farm that holds the domain alone answers just so from its opening, and ends in this state
-pub record IsHistory (part : PartData) (history : List Answered) (s : State) : Type 0 where
+pub record IsHistory (part : PartData) (history : List AnsweredCall) (s : State) : Type 0 where
   pub state : after part (opening part) (calls_of history) ≡ s
   pub replies : answers part (opening part) (calls_of history) ≡ replies_of history

@@ -6,8 +6,8 @@ use Rattle.plan_checker.specs.Part.{PartData}
 use Rattle.domain_core.specs.declared.event.By.{By}
 use Rattle.domain_core.specs.declared.event.Reply.{Reply}
 use Rattle.domain_core.specs.declared.journal.Entry.{Entry}
-use Rattle.domain_core.specs.Private.{State, Call, next}
-use Rattle.domain_core.specs.Journal.{Answered, expanded, steps, IsHistory}
+use Rattle.domain_core.specs.PrivateFarm.{State, Call, next}
+use Rattle.domain_core.specs.Journal.{AnsweredCall, expanded, steps, IsHistory}
 use Rattle.domain_core.specs.Answers.{IsAnswer}
 use Rattle.domain_core.specs.Commands.{own_commands}
 use Rattle.domain_core.specs.Domain.{DomainValue, Fits}
@@ -24,17 +24,17 @@ JournalsAddUp = (journal later : List Entry) → expanded (journal ++ later) ≡
 
 -- what comes next after a history is the last answer to some list of calls
 abbrev pub NextIsAnAnswer : Type 0
-NextIsAnAnswer = (part : PartData) (history : List Answered) (s : State) (call : Call) → IsHistory part history s → IsAnswer part call (next part s call).1
+NextIsAnAnswer = (part : PartData) (history : List AnsweredCall) (s : State) (call : Call) → IsHistory part history s → IsAnswer part call (next part s call).1
 
 -- a history and the next reply are a history, which leads to the next state
 abbrev pub HistoriesGrow : Type 0
 HistoriesGrow =
-    (part : PartData) (history : List Answered) (s : State) (call : Call) (reply : Reply) → IsHistory part history s → (next part s call).1 ≡ Ok reply
+    (part : PartData) (history : List AnsweredCall) (s : State) (call : Call) (reply : Reply) → IsHistory part history s → (next part s call).1 ≡ Ok reply
     → IsHistory part (history ++ record { call = call; reply = reply } ∷ []) (next part s call).0
 
 -- a user's commands of two histories stand one after the other
 abbrev pub OwnCommandsAddUp : Type 0
-OwnCommandsAddUp = (user : ℕ) (history later : List Answered) → own_commands user (history ++ later) ≡ own_commands user history ++ own_commands user later
+OwnCommandsAddUp = (user : ℕ) (history later : List AnsweredCall) → own_commands user (history ++ later) ≡ own_commands user history ++ own_commands user later
 
 -- Steps of a node are no command of any user
 abbrev pub StepsAreNobodys : Type 0

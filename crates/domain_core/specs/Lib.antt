@@ -4,7 +4,7 @@ pub mod Devices
 pub mod Wiring
 pub mod Moves
 pub mod Machine
-pub mod Private
+pub mod PrivateFarm
 pub mod Journal
 pub mod MachineValue
 pub mod Domain

@@ -2,7 +2,7 @@
 use Rattle.std.specs.Prelude.{◌≡◌, ◌<◌, ◌≤◌, ◌==◌, ℕ, List, length, map, filter, Option, None, Bool, if◌then◌else◌, slice_index_or}
 use Rattle.std.specs.Int.{bit_at}
 use Rattle.plan_checker.specs.Part.{PartData}
-use Rattle.virtual_switch.specs.Seen.{Seen, private_of}
+use Rattle.virtual_switch.specs.SwitchValue.{SwitchValue, private_of}
 use Rattle.domain_core.specs.declared.device.Device.{Device}
 use Rattle.domain_core.specs.declared.event.Event.{Event}
 use Rattle.domain_core.specs.declared.event.Event.TheVariants.{Config, Write, Read, Reset, Look, Step, Move}
@@ -12,7 +12,7 @@ use Rattle.domain_core.specs.Machine.{Machine}
 -- what contracts see of a machine
 pub record MachineValue : Type 0 where
   pub part : PartData
-  pub switch : Seen
+  pub switch : SwitchValue
   pub devices : DeviceStates
 
 -- the machine that the value stands for

@@ -9,7 +9,7 @@ use Rattle.plan_checker.specs.Part.{PartData}
 use Rattle.domain_core.specs.declared.device.Device.{Device}
 use Rattle.domain_core.specs.declared.event.Moved.{Moved}
 use Rattle.domain_core.specs.declared.event.Moved.TheVariants.{Nothing, Lost, Stayed, Passed}
-use Rattle.domain_core.specs.Devices.{DeviceStates, device_at, waiting, taken, arrived}
+use Rattle.domain_core.specs.Devices.{DeviceStates, device_at, packet_waiting, taken_from_device, arrived_at_device}
 
 -- the outputs that an input drives, in rising order
 abbrev pub driven : PartData → Switch → ℕ → List ℕ
@@ -20,9 +20,9 @@ abbrev pub are_ready : Switch → List ℕ → Bool
 are_ready s outputs = list_all (set.contains s.ready) outputs
 
 -- a packet arrives at the devices of outputs, one after another
-abbrev pub copied : PartData → Packet → List ℕ → DeviceStates → DeviceStates
-copied part packet [] d = d
-copied part packet (output ∷ outputs) d = copied part packet outputs (arrived packet (device_at part output) d)
+abbrev pub copies_arrived : PartData → Packet → List ℕ → DeviceStates → DeviceStates
+copies_arrived part packet [] d = d
+copies_arrived part packet (output ∷ outputs) d = copies_arrived part packet outputs (arrived_at_device packet (device_at part output) d)
 
 -- what becomes of a packet, by the outputs that its port drives
 abbrev pub outcome : Switch → List ℕ → Moved
@@ -32,9 +32,9 @@ outcome s (output ∷ outputs) = if are_ready s (output ∷ outputs) then Passed
 -- a packet is taken from its device before it is delivered
 abbrev pub moved_by : Moved → PartData → Device → Packet → List ℕ → DeviceStates → DeviceStates
 moved_by Nothing part device packet outputs d = d
-moved_by Lost part device packet outputs d = taken device d
+moved_by Lost part device packet outputs d = taken_from_device device d
 moved_by Stayed part device packet outputs d = d
-moved_by Passed part device packet outputs d = copied part packet outputs (taken device d)
+moved_by Passed part device packet outputs d = copies_arrived part packet outputs (taken_from_device device d)
 
 -- a Move from a device, by the packet that waits there
 abbrev pub sent : PartData → Switch → DeviceStates → List ℕ → Device → Option Packet → DeviceStates × Moved
@@ -44,7 +44,7 @@ sent part s d outputs device (Some packet) = (moved_by (outcome s outputs) part 
 -- a Move from a port, by the device that is joined to it
 abbrev pub moved_from : PartData → Switch → DeviceStates → List ℕ → Option Device → DeviceStates × Moved
 moved_from part s d outputs None = (d, Nothing)
-moved_from part s d outputs (Some device) = sent part s d outputs device (waiting d device)
+moved_from part s d outputs (Some device) = sent part s d outputs device (packet_waiting d device)
 
 -- the devices after a Move of a port, and the answer
 abbrev pub moved : PartData → Switch → DeviceStates → ℕ → DeviceStates × Moved

@@ -4,7 +4,7 @@ use Rattle.domain_core.specs.declared.event.Refusal.{Refusal}
 use Rattle.domain_core.specs.declared.event.Refusal.TheVariants.{NoSuch, JournalFull, NoMemory}
 
 -- the number of a refusal
-abbrev pub number_of : Refusal → ℕ
-number_of NoSuch = 1
-number_of JournalFull = 2
-number_of NoMemory = 3
+abbrev pub refusal_number : Refusal → ℕ
+refusal_number NoSuch = 1
+refusal_number JournalFull = 2
+refusal_number NoMemory = 3

@@ -2,14 +2,14 @@
 -- Reference Manual, links, and bootstrapping, peek.
 use Rattle.std.specs.Prelude.{ℕ, zero, suc, ◌+◌, ◌<◌, ◌≤◌, ◌^◌, ◌≡◌, true, false, List, [], ◌∷◌, ◌++◌, map, length, Some, None, Ok}
 use Rattle.std.specs.FinSet as set
-use Rattle.os_link.specs.End.{fresh}
+use Rattle.os_link.specs.End.{fresh_end}
 use Rattle.os_link.specs.declared.end.LinkEnd.{LinkEnd}
 use Rattle.link_channels.specs.Links.{at, acknowledge_heard}
 use Rattle.link_channels.specs.declared.number.LinkNumber.{LinkNumber}
 use Rattle.node_memory.specs.Bytes.{word_at}
 use Rattle.crossbar.specs.Switch.{Switch}
 use Rattle.t414_step.specs.declared.stepping.Stepped.TheVariants.{Ran}
-use Rattle.bootstrap.specs.Messages.{bytes_of}
+use Rattle.bootstrap.specs.Messages.{bytes_of_word}
 use Rattle.bootstrap.specs.Step.{or_zero}
 use Rattle.bootstrap.specs.declared.node.Node.{Node}
 use Rattle.bootstrap.specs.declared.state.State.TheVariants.{WantsControl}
@@ -24,7 +24,7 @@ use Rattle.domain_core.specs.Hosts.{HostState}
 use Rattle.domain_core.specs.Devices.{device_at, node_at, host_at, with_node, with_host}
 use Rattle.domain_core.specs.Machine.{Machine, with_devices}
 use Rattle.domain_core.specs.Moves.{driven}
-use Rattle.domain_core.specs.Private.{State, Answer, Call, is_known, answers, after}
+use Rattle.domain_core.specs.PrivateFarm.{State, Answer, Call, is_known, answers, after}
 
 -- a host and a link of a node, each with the port that it is joined to
 pub record Route : Type 0 where
@@ -50,7 +50,7 @@ pub record IsOpen (part : PartData) (s : Switch) (r : Route) : Type 0 where
 
 -- what a host sends for the word at an address: 1, and the address
 abbrev pub peek_message : ℕ → List ℕ
-peek_message address = 1 ∷ bytes_of address
+peek_message address = 1 ∷ bytes_of_word address
 
 -- the sending queue is the message, its first byte is posted and its acknowledge awaited, nothing else waits or is
 -- held, and 4 bytes have room
@@ -65,7 +65,7 @@ pub record Asks (address : ℕ) (h : HostState) : Type 0 where
 pub record Listens (link : LinkNumber) (n : Node) : Type 0 where
   pub state : n.state ≡ WantsControl
   pub buffers : (other : LinkNumber) → (at other n.links).end.input.buffer ≡ None
-  pub latch : (at link n.links).end.latch ≡ fresh.latch
+  pub latch : (at link n.links).end.latch ≡ fresh_end.latch
   pub output : (at link n.links).end.output.awaits ≡ false
 
 -- the machine has both devices, the host asks for the word, the node listens, and 27 events have room
@@ -82,9 +82,9 @@ pub record CanPeek (part : PartData) (r : Route) (address : ℕ) (s : State) : T
 -- ---- the events
 
 -- a list repeated so many times
-abbrev pub times : {A : Type 0} → ℕ → List A → List A
-times zero xs = []
-times (suc count) xs = xs ++ times count xs
+abbrev pub repeated : {A : Type 0} → ℕ → List A → List A
+repeated zero xs = []
+repeated (suc count) xs = xs ++ repeated count xs
 
 -- a byte goes from the host to the node, which takes it, and the acknowledge goes back
 abbrev pub byte_there : Route → List Event
@@ -96,7 +96,7 @@ byte_back r = Move r.link_port ∷ Move r.host_port ∷ Step r.node ∷ []
 
 -- the five bytes of the message, and the four of the word
 abbrev pub peek_calls : By → Route → List Call
-peek_calls by r = map (λ event. record { by = by; event = event }) (times 5 (byte_there r) ++ times 4 (byte_back r))
+peek_calls by r = map (λ event. record { by = by; event = event }) (repeated 5 (byte_there r) ++ repeated 4 (byte_back r))
 
 -- ---- what comes of them
 
@@ -111,19 +111,19 @@ node_ran = Ok (reply.Stepped Ran)
 -- the answers to the 27 events
 abbrev pub peek_answers : List Answer
 peek_answers =
-    times 5 (packet_passed ∷ node_ran ∷ packet_passed ∷ []) ++ times 4 (packet_passed ∷ packet_passed ∷ node_ran ∷ [])
+    repeated 5 (packet_passed ∷ node_ran ∷ packet_passed ∷ []) ++ repeated 4 (packet_passed ∷ packet_passed ∷ node_ran ∷ [])
 
 -- a link end at which nothing waits, is buffered or is awaited, with the overruns that it has
 abbrev pub at_rest : LinkEnd → LinkEnd
-at_rest e = record fresh { input = record { buffer = None; overruns = e.input.overruns } }
+at_rest e = record fresh_end { input = record { buffer = None; overruns = e.input.overruns } }
 
 -- the message is gone, and bytes were received
-abbrev pub told : List ℕ → HostState → HostState
-told bytes h = record { sending = []; received = h.received ++ bytes; end = at_rest h.end }
+abbrev pub host_after_peek : List ℕ → HostState → HostState
+host_after_peek bytes h = record { sending = []; received = h.received ++ bytes; end = at_rest h.end }
 
 -- the bytes of the word at an address, least significant first; four zeros if it lies outside memory
 abbrev pub word_bytes : Node → ℕ → List ℕ
-word_bytes n address = bytes_of (or_zero (word_at n.memory address))
+word_bytes n address = bytes_of_word (or_zero (word_at n.memory address))
 
 -- a node whose link no longer knows of an acknowledge that came
 abbrev pub quieted : LinkNumber → Node → Node
@@ -135,7 +135,7 @@ abbrev pub after_peek : Route → ℕ → Machine → Machine
 after_peek r address m =
     let n = node_at m.devices r.node in
     let h = host_at m.devices r.host in
-    with_devices (with_host r.host (told (word_bytes n address) h) (with_node r.node (quieted r.link n) m.devices)) m
+    with_devices (with_host r.host (host_after_peek (word_bytes n address) h) (with_node r.node (quieted r.link n) m.devices)) m
 
 -- the events leave just that, each is recorded, and no packet is lost or stays
 pub record Peeks (part : PartData) (by : By) (r : Route) (address : ℕ) (s : State) : Type 0 where

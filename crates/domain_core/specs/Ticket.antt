@@ -8,7 +8,7 @@ use Rattle.bootstrap.specs.Steps.{IsAfter, last_answer}
 use Rattle.domain_core.specs.declared.event.By.TheVariants.{Farm}
 use Rattle.domain_core.specs.Devices.{with_node}
 use Rattle.domain_core.specs.Domain.{DomainValue}
-use Rattle.domain_core.specs.Journal.{Answered, expanded, steps}
+use Rattle.domain_core.specs.Journal.{AnsweredCall, expanded, steps}
 
 -- what contracts see of a ticket
 pub record TicketValue : Type 0 where
@@ -53,7 +53,7 @@ abbrev pub IsHome : DomainValue → TicketValue → Type 0
 IsHome d t = slice_get d.machine.devices.nodes t.number ≡ Some t.start
 
 -- the ticket's Steps, for which the farm asked
-abbrev pub steps_told : ℕ → ℕ → Option Stepped → List Answered
+abbrev pub steps_told : ℕ → ℕ → Option Stepped → List AnsweredCall
 steps_told node count None = []
 steps_told node count (Some last) = steps Farm node count last
 

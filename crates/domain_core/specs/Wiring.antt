@@ -10,11 +10,11 @@ use Rattle.domain_core.specs.declared.device.Device.TheVariants.{Host, Link}
 use Rattle.domain_core.specs.Devices.{device_at}
 
 -- the place of a link among a node's four
-abbrev pub place_of : LinkNumber → ℕ
-place_of Zero = 0
-place_of One = 1
-place_of Two = 2
-place_of Three = 3
+abbrev pub link_index : LinkNumber → ℕ
+link_index Zero = 0
+link_index One = 1
+link_index Two = 2
+link_index Three = 3
 
 -- the part has a host of this number, at this port
 pub record IsHostAt (part : PartData) (number port : ℕ) : Type 0 where
@@ -26,7 +26,7 @@ pub record IsHostAt (part : PartData) (number port : ℕ) : Type 0 where
 pub record IsLinkAt (part : PartData) (number : ℕ) (link : LinkNumber) (port : ℕ) : Type 0 where
   pub node : NodePart
   pub there : slice_get part.nodes number ≡ Some node
-  pub port_is : slice_get node.links (place_of link) ≡ Some (Some port)
+  pub port_is : slice_get node.links (link_index link) ≡ Some (Some port)
 
 -- the part names the port for the device
 abbrev pub Names : PartData → Device → ℕ → Type 0

@@ -2,13 +2,13 @@
 ghost use Rattle.std.specs.Prelude.{◌≡◌, ◌<◌, All, IfOk, IsTrue, ◌↔◌, Some, map, length, not, slice_get};
 ghost use Rattle.std.specs.Option.{option_copied};
 ghost use Rattle.plan_checker.specs.Part.{IsNodePart};
-ghost use Rattle.bootstrap.specs.Opening as node;
+ghost use Rattle.bootstrap.specs.Opening.{opened_node};
 ghost use Rattle.bootstrap.specs.Opening.{restarted};
 ghost use Rattle.bootstrap.specs.Seen.{seen};
 ghost use Rattle.bootstrap.specs.Step.{node_step, is_quiet};
-ghost use Rattle.domain_core.specs.Hosts.{is_full, written, front, read};
-ghost use Rattle.domain_core.specs.Hosts as host;
-ghost use Rattle.domain_core.specs.Devices.{Holds, AreQuiet, node_at, host_at, with_node, with_host, opened, reopened, waiting, taken, arrived};
+ghost use Rattle.domain_core.specs.Hosts.{is_full, host_written, front, host_read};
+ghost use Rattle.domain_core.specs.Hosts.{opened_host};
+ghost use Rattle.domain_core.specs.Devices.{HasDevice, AreQuiet, node_at, host_at, with_node, with_host, opened_devices, reopened, packet_waiting, taken_from_device, arrived_at_device};
 
 use crate::NoMemory;
 use crate::device::Device;
@@ -38,7 +38,7 @@ impl Model for Devices {
 // The nodes of a part, as they are opened.
 fn open_nodes(alloc: Global, parts: &[NodePart]) -> Result<Vec<Node>, NoMemory>
     requires { All IsNodePart parts.now }
-    ensures { IfOk result (λ nodes. nodes.items ≡ map (λ n. node.opened n.memory) parts.now) }
+    ensures { IfOk result (λ nodes. nodes.items ≡ map (λ n. opened_node n.memory) parts.now) }
 {
     let mut nodes = Vec::with_capacity(alloc, parts.len())?;
     for part in parts {
@@ -50,7 +50,7 @@ fn open_nodes(alloc: Global, parts: &[NodePart]) -> Result<Vec<Node>, NoMemory>
 // The hosts of a part, as they are opened.
 #[tactic(auto, using(crate::proofs::Lists::one_more_of, crate::proofs::Lists::map_const))]
 fn open_hosts(alloc: Global, parts: &[HostPart]) -> Result<Vec<Host>, NoMemory>
-    ensures { IfOk result (λ hosts. hosts.items ≡ map (λ h. host.opened) parts.now) }
+    ensures { IfOk result (λ hosts. hosts.items ≡ map (λ h. opened_host) parts.now) }
 {
     let mut hosts = Vec::with_capacity(alloc, parts.len())?;
     for _number in 0..parts.len() {
@@ -61,7 +61,7 @@ fn open_hosts(alloc: Global, parts: &[HostPart]) -> Result<Vec<Host>, NoMemory>
 
 // Makes a node as it was opened, with the memory that it has.
 fn clear_node(home: &mut Node)
-    ensures { home.new ≡ node.opened (length home.old.memory) }
+    ensures { home.new ≡ opened_node (length home.old.memory) }
 {
     home.clear();
 }
@@ -69,7 +69,7 @@ fn clear_node(home: &mut Node)
 impl Devices {
     /// The nodes and hosts of a part, as they are opened.
     pub(crate) fn open(alloc: Global, part: &Part) -> Result<Devices, NoMemory>
-        ensures { IfOk result (λ devices. devices ≡ opened part.now) }
+        ensures { IfOk result (λ devices. devices ≡ opened_devices part.now) }
     {
         let nodes = open_nodes(alloc, part.nodes())?;
         let hosts = open_hosts(alloc, part.hosts())?;
@@ -90,8 +90,8 @@ impl Devices {
 
     /// The packet that leaves a device next, which goes on waiting.
     pub(crate) fn waiting(&self, device: Device) -> Option<Packet>
-        requires { Holds self.now device }
-        ensures { result ≡ waiting self.now device }
+        requires { HasDevice self.now device }
+        ensures { result ≡ packet_waiting self.now device }
     {
         match device {
             Device::Host(host) => self.hosts[usize::from(host)].waiting(),
@@ -101,8 +101,8 @@ impl Devices {
 
     /// Takes the packet that leaves a device next.
     pub(crate) fn take(&mut self, device: Device)
-        requires { Holds self.old device }
-        ensures state { self.new ≡ taken device self.old }
+        requires { HasDevice self.old device }
+        ensures state { self.new ≡ taken_from_device device self.old }
         ensures nodes { length self.new.nodes ≡ length self.old.nodes }
         ensures hosts { length self.new.hosts ≡ length self.old.hosts }
     {
@@ -118,8 +118,8 @@ impl Devices {
 
     /// A packet arrives at a device.
     pub(crate) fn deliver(&mut self, device: Device, packet: Packet)
-        requires { Holds self.old device }
-        ensures state { self.new ≡ arrived packet (Some device) self.old }
+        requires { HasDevice self.old device }
+        ensures state { self.new ≡ arrived_at_device packet (Some device) self.old }
         ensures nodes { length self.new.nodes ≡ length self.old.nodes }
         ensures hosts { length self.new.hosts ≡ length self.old.hosts }
     {
@@ -133,7 +133,7 @@ impl Devices {
     pub(crate) fn write(&mut self, host: u8, byte: u8) -> bool
         requires { host < length self.old.hosts }
         ensures answer { result ≡ not (is_full (host_at self.old host).sending) }
-        ensures state { self.new ≡ with_host host (written byte (host_at self.old host)) self.old }
+        ensures state { self.new ≡ with_host host (host_written byte (host_at self.old host)) self.old }
         ensures hosts { length self.new.hosts ≡ length self.old.hosts }
     {
         self.hosts[usize::from(host)].write(byte)
@@ -143,7 +143,7 @@ impl Devices {
     pub(crate) fn read(&mut self, host: u8) -> Option<u8>
         requires { host < length self.old.hosts }
         ensures answer { result ≡ front (host_at self.old host).received }
-        ensures state { self.new ≡ with_host host (read (host_at self.old host)) self.old }
+        ensures state { self.new ≡ with_host host (host_read (host_at self.old host)) self.old }
         ensures hosts { length self.new.hosts ≡ length self.old.hosts }
     {
         self.hosts[usize::from(host)].read()

@@ -1,7 +1,7 @@
 //! A domain: its machine, with the journal of what it answered.
 ghost use Rattle.std.specs.Prelude.{◌≡◌, ◌≢◌, ◌<◌, ◌+◌, ◌++◌, [], None, Some, Ok, Err, length, IfOk, OnErr, IsTrue, ◌↔◌, slice_get, true, not};
 ghost use Rattle.std.specs.List.{AllZip};
-ghost use Rattle.crossbar.specs.Row.{switch_of, IsRow, number_in};
+ghost use Rattle.crossbar.specs.Row.{switch_of, AreWordsOf, number_in};
 ghost use Rattle.crossbar.specs.Switch.{cleared};
 ghost use Rattle.crossbar.specs.Word.{CountsChange};
 ghost use Rattle.domain_core.specs.declared.domain.Committed.TheVariants.{Done, Stale};
@@ -9,7 +9,7 @@ ghost use Rattle.domain_core.specs.declared.event.Event.{Event as SpecEvent};
 ghost use Rattle.domain_core.specs.declared.event.Refusal.TheVariants.{NoSuch, JournalFull};
 ghost use Rattle.domain_core.specs.Machine.{is_recorded};
 ghost use Rattle.domain_core.specs.MachineValue.{machine_of};
-ghost use Rattle.domain_core.specs.Private.{next, opening};
+ghost use Rattle.domain_core.specs.PrivateFarm.{next, opening};
 ghost use Rattle.domain_core.specs.Journal.{expanded};
 ghost use Rattle.domain_core.specs.Domain.{state_of, IsMeant, gained, Fits, IsQuiet, UnlessNoMemory};
 ghost use Rattle.domain_core.specs.Ticket.{IsHome, Commits, fresh_ticket};
@@ -90,7 +90,7 @@ impl<O: Outputs + Drop> Domain<O> {
     /// The call does nothing: its contract is the law.
     pub fn meant(&self)
         ensures journal { IsMeant self.now }
-        ensures row { IsRow self.now.machine.switch.ports self.now.machine.switch.words }
+        ensures row { AreWordsOf self.now.machine.switch.ports self.now.machine.switch.words }
         ensures count { length self.now.machine.switch.ports ≡ self.now.machine.part.count }
         ensures nodes { length self.now.machine.devices.nodes ≡ length self.now.machine.part.nodes }
     {
@@ -151,7 +151,7 @@ impl<O: Outputs + Drop> Domain<O> {
     pub fn word(&mut self, output: u8) -> Word
         requires { output < self.old.machine.part.count }
         ensures word { slice_get self.old.machine.switch.words output ≡ Some result }
-        ensures row { IsRow self.old.machine.switch.ports self.old.machine.switch.words }
+        ensures row { AreWordsOf self.old.machine.switch.ports self.old.machine.switch.words }
         ensures same { self.new ≡ self.old }
     {
         self.machine.word(output)

@@ -1,6 +1,6 @@
 //! What is asked of a domain, by whom, and what it answers.
 ghost use Rattle.std.specs.Prelude.{◌≡◌};
-ghost use Rattle.domain_core.specs.Numbers.{number_of};
+ghost use Rattle.domain_core.specs.Numbers.{refusal_number};
 ghost use Rattle.domain_core.specs.declared.event.Refusal.TheVariants.{NoMemory};
 
 use bootstrap::Seen;
@@ -88,7 +88,7 @@ pub enum Refusal {
 impl Refusal {
     /// The number of the refusal, from 1 to 3 in the order in which they are tested.
     pub fn number(self) -> u8
-        ensures { result ≡ number_of self }
+        ensures { result ≡ refusal_number self }
     {
         match self {
             Refusal::NoSuch => 1,

@@ -2,7 +2,7 @@
 ghost use Rattle.std.specs.Prelude.{◌≡◌, IfOk, not};
 ghost use Rattle.os_link.specs.End.{next_of};
 ghost use Rattle.os_link.specs.declared.latch.Packet.TheVariants.{Ack};
-ghost use Rattle.domain_core.specs.Hosts.{opened, is_full, written, front, read, delivered, packet_left, sending_on, receiving};
+ghost use Rattle.domain_core.specs.Hosts.{opened_host, is_full, host_written, front, host_read, delivered, packet_left, sending_on, receiving};
 
 use crate::NoMemory;
 use os_link::{LinkEnd, Packet};
@@ -37,7 +37,7 @@ impl Model for Host {
 impl Host {
     /// A host to which nothing happened. Both queues are reserved; `NoMemory` where they can't be.
     pub fn open(alloc: Global) -> Result<Host, NoMemory>
-        ensures { IfOk result (λ host. host ≡ opened) }
+        ensures { IfOk result (λ host. host ≡ opened_host) }
     {
         Ok(Host {
             sending: VecDeque::with_capacity(alloc, QUEUE_BYTES)?,
@@ -48,7 +48,7 @@ impl Host {
 
     /// Empties both queues and clears the link end: the host is as it was opened.
     pub fn clear(&mut self)
-        ensures { self.new ≡ opened }
+        ensures { self.new ≡ opened_host }
     {
         self.sending.clear();
         self.received.clear();
@@ -59,7 +59,7 @@ impl Host {
     /// until its acknowledge has come.
     pub fn write(&mut self, byte: u8) -> bool
         ensures answer { result ≡ not (is_full self.old.sending) }
-        ensures state { self.new ≡ written byte self.old }
+        ensures state { self.new ≡ host_written byte self.old }
     {
         if self.sending.len() >= QUEUE_BYTES {
             return false;
@@ -72,7 +72,7 @@ impl Host {
     /// Takes the front byte of the receiving queue. A byte that was held then moves in.
     pub fn read(&mut self) -> Option<u8>
         ensures answer { result ≡ front self.old.received }
-        ensures state { self.new ≡ read self.old }
+        ensures state { self.new ≡ host_read self.old }
     {
         let byte = self.received.pop_front();
         self.receive();

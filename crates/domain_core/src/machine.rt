@@ -5,15 +5,15 @@ ghost use Rattle.domain_core.specs.declared.event.Event.{Event as SpecEvent};
 ghost use Rattle.domain_core.specs.Domain.{IsQuiet};
 ghost use Rattle.std.specs.Int.{bit_at};
 ghost use Rattle.std.specs.List.{AllZip, range_with_len};
-ghost use Rattle.crossbar.specs.Row.{switch_of, IsRow, number_in};
+ghost use Rattle.crossbar.specs.Row.{switch_of, AreWordsOf, number_in};
 ghost use Rattle.crossbar.specs.Switch.{cleared, drives};
 ghost use Rattle.crossbar.specs.Word.{CountsChange};
-ghost use Rattle.virtual_switch.specs.Seen.{private_of};
+ghost use Rattle.virtual_switch.specs.SwitchValue.{private_of};
 ghost use Rattle.domain_core.specs.Devices.{memories, node_at, with_node};
-ghost use Rattle.domain_core.specs.Moves.{moved, outcome, copied, driven};
-ghost use Rattle.domain_core.specs.Machine.{acted, is_recorded, has_moved, fresh};
+ghost use Rattle.domain_core.specs.Moves.{moved, outcome, copies_arrived, driven};
+ghost use Rattle.domain_core.specs.Machine.{acted, is_recorded, has_moved, fresh_machine};
 ghost use Rattle.domain_core.specs.MachineValue.{machine_of, IsIn, AreJoined, Marks, marked_in};
-ghost use Rattle.domain_core.specs.Private.{is_there, is_known, owns};
+ghost use Rattle.domain_core.specs.PrivateFarm.{is_there, is_known, owns};
 
 use crate::NoMemory;
 use crate::device::Device;
@@ -123,7 +123,7 @@ fn copy_at(
     requires joined { AreJoined part.now table.now }
     requires nodes { length devices.old.nodes ≡ length part.now.nodes }
     requires hosts { length devices.old.hosts ≡ length part.now.hosts }
-    ensures state { devices.new ≡ copied part.now packet (marked_in outputs (output ∷ [])) devices.old }
+    ensures state { devices.new ≡ copies_arrived part.now packet (marked_in outputs (output ∷ [])) devices.old }
     ensures nodes { length devices.new.nodes ≡ length devices.old.nodes }
     ensures hosts { length devices.new.hosts ≡ length devices.old.hosts }
 {
@@ -141,7 +141,7 @@ fn copy_to(devices: &mut Devices, part: &Part, table: &DeviceTable, outputs: u32
     requires joined { AreJoined part.now table.now }
     requires nodes { length devices.old.nodes ≡ length part.now.nodes }
     requires hosts { length devices.old.hosts ≡ length part.now.hosts }
-    ensures { devices.new ≡ copied part.now packet (marked_in outputs (range_with_len 0 part.now.count)) devices.old }
+    ensures { devices.new ≡ copies_arrived part.now packet (marked_in outputs (range_with_len 0 part.now.count)) devices.old }
 {
     for output in 0..part.count() {
         copy_at(devices, part, table, outputs, output, packet);
@@ -153,7 +153,7 @@ impl<O: Outputs + Drop> Machine<O> {
     pub(crate) fn open(alloc: Global, part: Part, outputs: O) -> Result<Machine<O>, NoMemory>
         requires count { length (O.ports outputs) ≡ part.count }
         requires cleared { switch_of (O.words outputs) ≡ cleared }
-        ensures state { IfOk result (λ m. machine_of m ≡ fresh part) }
+        ensures state { IfOk result (λ m. machine_of m ≡ fresh_machine part) }
         ensures part { IfOk result (λ m. m.part ≡ part) }
         ensures ports { IfOk result (λ m. m.switch.ports ≡ O.ports outputs) }
         ensures words { IfOk result (λ m. m.switch.words ≡ O.words outputs) }
@@ -170,7 +170,7 @@ impl<O: Outputs + Drop> Machine<O> {
 
     /// Makes the machine as it was opened. Change counts go on.
     pub(crate) fn clear(&mut self)
-        ensures state { machine_of self.new ≡ fresh self.old.part }
+        ensures state { machine_of self.new ≡ fresh_machine self.old.part }
         ensures part { self.new.part ≡ self.old.part }
         ensures ports { self.new.switch.ports ≡ self.old.switch.ports }
         ensures counts { AllZip CountsChange self.old.switch.words self.new.switch.words }
@@ -188,7 +188,7 @@ impl<O: Outputs + Drop> Machine<O> {
 
     /// The words are a row of the ports, which are as many as the part's count, and the nodes are as many as the part's.
     pub(crate) fn of_part(&self)
-        ensures row { IsRow self.now.switch.ports self.now.switch.words }
+        ensures row { AreWordsOf self.now.switch.ports self.now.switch.words }
         ensures count { length self.now.switch.ports ≡ self.now.part.count }
         ensures nodes { length self.now.devices.nodes ≡ length self.now.part.nodes }
     {
@@ -307,7 +307,7 @@ impl<O: Outputs + Drop> Machine<O> {
     pub(crate) fn word(&mut self, output: u8) -> Word
         requires { output < self.old.part.count }
         ensures word { slice_get self.old.switch.words output ≡ Some result }
-        ensures row { IsRow self.old.switch.ports self.old.switch.words }
+        ensures row { AreWordsOf self.old.switch.ports self.old.switch.words }
         ensures same { self.new ≡ self.old }
     {
         self.switch.word(output)

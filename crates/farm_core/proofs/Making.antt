@@ -12,8 +12,8 @@ use Rattle.crossbar.specs.Switch.{Switch}
 use Rattle.crossbar.specs.Ranges.{IsOneToOne}
 use Rattle.crossbar.specs.Row.{number_in}
 use Rattle.crossbar.proofs.Numberings.{number_in-port, number_in-some}
-use Rattle.domain_core.specs.Private.{State, Call, Answer, next, opening}
-use Rattle.farm_core.specs.Places.{Place, AreApart, IsSeparate}
+use Rattle.domain_core.specs.PrivateFarm.{State, Call, Answer, next, opening}
+use Rattle.farm_core.specs.Places.{Place, AreApart, AreSeparatePlaces}
 use Rattle.farm_core.specs.Messages.{raised}
 use Rattle.farm_core.specs.Whole.{Farm, next_in, whole_next, whole_after, whole_opening}
 use Rattle.farm_core.specs.Projection.{own_switch, driver_at, ready_at, projected, lowered_for}
@@ -68,7 +68,7 @@ pub record IsTidy (plan : List Place) (s : Switch) : Type 0 where
   pub within : EachDrivesItself plan s
   pub free : (port : ℕ) → IsFree plan port → output_of s port ≡ disconnected_output
 
-free-by : (plan : List Place) (farm : Farm) (caller : ℕ) (call : Call) (found : Option Place) → slice_get plan caller ≡ found → IsSeparate plan → IsTidy plan farm.switch
+free-by : (plan : List Place) (farm : Farm) (caller : ℕ) (call : Call) (found : Option Place) → slice_get plan caller ≡ found → AreSeparatePlaces plan → IsTidy plan farm.switch
     → (port : ℕ) → IsFree plan port → output_of (next_in plan farm caller call found).0.switch port ≡ disconnected_output
 free-by plan farm caller call None at separate tidy port free = tidy.free port free
 free-by plan farm caller call (Some place) at separate tidy port free =
@@ -76,13 +76,13 @@ free-by plan farm caller call (Some place) at separate tidy port free =
     subst (λ (found : Option Place). output_of (next_in plan farm caller call found).0.switch port ≡ disconnected_output) at
     (still_free place caller farm _ _ port (free caller place at) step (tidy.free port free))
 
-pub tidy_next : (plan : List Place) (farm : Farm) (call : ℕ × Call) → IsSeparate plan → IsTidy plan farm.switch → IsTidy plan (whole_next plan farm call).0.switch
+pub tidy_next : (plan : List Place) (farm : Farm) (call : ℕ × Call) → AreSeparatePlaces plan → IsTidy plan farm.switch → IsTidy plan (whole_next plan farm call).0.switch
 tidy_next plan farm call separate tidy = record {
   within = still_each_drives plan farm call separate tidy.within;
   free = free-by plan farm call.0 call.1 (slice_get plan call.0) refl separate tidy;
 }
 
-pub tidy_after : (plan : List Place) (farm : Farm) (calls : List (ℕ × Call)) → IsSeparate plan → IsTidy plan farm.switch → IsTidy plan (whole_after plan farm calls).switch
+pub tidy_after : (plan : List Place) (farm : Farm) (calls : List (ℕ × Call)) → AreSeparatePlaces plan → IsTidy plan farm.switch → IsTidy plan (whole_after plan farm calls).switch
 tidy_after plan farm [] separate tidy = tidy
 tidy_after plan farm (call ∷ calls) separate tidy = tidy_after plan (whole_next plan farm call).0 calls separate (tidy_next plan farm call separate tidy)
 

@@ -3,11 +3,11 @@ use Rattle.std.proofs.Common.{◌≡◌, inl, inr, ℕ, ◌<◌, ◌≤◌, List
 use Rattle.std.proofs.lemmas.Bool.{cases_eq}
 use Rattle.std.proofs.lemmas.List.{length-map}
 use Rattle.std.proofs.lemmas.Option.{slice_get_within, slice_get_past, slice_get_cases, none-some, same_Some, slice_get-map, get_or_from_slice_get}
-use Rattle.domain_core.specs.Private.{State, Call, Answer, answers, after, opening}
+use Rattle.domain_core.specs.PrivateFarm.{State, Call, Answer, answers, after, opening}
 use Rattle.domain_core.specs.Domain.{DomainValue, state_of, IsMeant}
-use Rattle.domain_core.specs.Journal.{Answered, IsHistory, calls_of, replies_of}
-use Rattle.farm_core.specs.Places.{Place, IsSeparate}
-use Rattle.farm_core.specs.Whole.{whole_answers, whole_opening}
+use Rattle.domain_core.specs.Journal.{AnsweredCall, IsHistory, calls_of, replies_of}
+use Rattle.farm_core.specs.Places.{Place, AreSeparatePlaces}
+use Rattle.farm_core.specs.Whole.{physical_answers, whole_opening}
 use Rattle.farm_core.specs.Projection.{own}
 use Rattle.farm_core.specs.Merges.{journal_at, IsMerge, calls_in, replies_in, AreHistories, EachMergeIsARun, own_place, own_journal, EachMergeOfDomainsIsARun}
 use Rattle.farm_core.proofs.Making.{tidy_after, tidy_opening}
@@ -40,20 +40,20 @@ same-list (x ∷ xs) (y ∷ ys) domains each =
 
 -- ---- what a merge asks, and the stored replies
 
-abbrev stored : List (ℕ × Answered) → List (ℕ × Answer)
+abbrev stored : List (ℕ × AnsweredCall) → List (ℕ × Answer)
 stored merge = map (λ x. (x.0, Ok x.1.reply)) merge
 
-own_calls : (domain : ℕ) (merge : List (ℕ × Answered)) → own domain (calls_in merge) ≡ calls_of (own domain merge)
+own_calls : (domain : ℕ) (merge : List (ℕ × AnsweredCall)) → own domain (calls_in merge) ≡ calls_of (own domain merge)
 own_calls domain merge = own-map (λ d a. a.call) domain merge
 
-own_stored : (domain : ℕ) (merge : List (ℕ × Answered)) → own domain (stored merge) ≡ replies_of (own domain merge)
+own_stored : (domain : ℕ) (merge : List (ℕ × AnsweredCall)) → own domain (stored merge) ≡ replies_of (own domain merge)
 own_stored domain merge = own-map (λ d a. Ok a.reply) domain merge
 
-call_domains : (merge : List (ℕ × Answered)) → map (λ c. c.0) (calls_in merge) ≡ map (λ t. t.0) (stored merge)
+call_domains : (merge : List (ℕ × AnsweredCall)) → map (λ c. c.0) (calls_in merge) ≡ map (λ t. t.0) (stored merge)
 call_domains [] = refl
 call_domains (x ∷ merge) = ap (λ rest. x.0 ∷ rest) (call_domains merge)
 
-stored_replies : (merge : List (ℕ × Answered)) → map (λ t. t.1) (stored merge) ≡ replies_in merge
+stored_replies : (merge : List (ℕ × AnsweredCall)) → map (λ t. t.1) (stored merge) ≡ replies_in merge
 stored_replies [] = refl
 stored_replies (x ∷ merge) = ap (λ (rest : List Answer). (let a : Answer = Ok x.1.reply in a) ∷ rest) (stored_replies merge)
 
@@ -77,17 +77,17 @@ none_own d (x ∷ xs) (y ∷ ys) domains none =
     ]
 
 -- the history of a domain that is there
-history : (plan : List Place) (journals : List (List Answered)) (states : List State) (domain : ℕ) (place : Place) → AreHistories plan journals states → slice_get plan domain ≡ Some place
-    → (journal : List Answered) × (s : State) × (slice_get journals domain ≡ Some journal) × (slice_get states domain ≡ Some s) × IsHistory place.part journal s
+history : (plan : List Place) (journals : List (List AnsweredCall)) (states : List State) (domain : ℕ) (place : Place) → AreHistories plan journals states → slice_get plan domain ≡ Some place
+    → (journal : List AnsweredCall) × (s : State) × (slice_get journals domain ≡ Some journal) × (slice_get states domain ≡ Some s) × IsHistory place.part journal s
 history plan journals states domain place are there =
     let inside = slice_get_within plan domain place there in
     let journal = there_is journals domain (omega (arith, inside, are.journal_each)) in
     let s = there_is states domain (omega (arith, inside, are.state_each)) in
     (journal.0, s.0, journal.1, s.1, are.each domain place journal.0 s.0 there journal.1 s.1)
 
-own_replies : (plan : List Place) (journals : List (List Answered)) (states : List State) (merge : List (ℕ × Answered)) (domain : ℕ) (found : Option Place) → slice_get plan domain ≡ found
-    → IsSeparate plan → AreHistories plan journals states → IsMerge journals merge
-    → own domain (told_pairs plan (whole_answers plan (whole_opening plan) (calls_in merge))) ≡ own domain (stored merge)
+own_replies : (plan : List Place) (journals : List (List AnsweredCall)) (states : List State) (merge : List (ℕ × AnsweredCall)) (domain : ℕ) (found : Option Place) → slice_get plan domain ≡ found
+    → AreSeparatePlaces plan → AreHistories plan journals states → IsMerge journals merge
+    → own domain (told_pairs plan (physical_answers plan (whole_opening plan) (calls_in merge))) ≡ own domain (stored merge)
 own_replies plan journals states merge domain None at separate are is =
     let out : length plan ≤ domain =
     elim (slice_get_cases plan domain).1 [
@@ -108,7 +108,7 @@ own_replies plan journals states merge domain (Some place) at separate are is =
 pub each_merge_is_a_run : EachMergeIsARun
 each_merge_is_a_run plan journals states merge separate are is = record {
   replies =
-      let heard = whole_answers plan (whole_opening plan) (calls_in merge) in
+      let heard = physical_answers plan (whole_opening plan) (calls_in merge) in
       sym (told_answers plan heard)
       ∙ ap (map (λ t. t.1))
       (same-list (told_pairs plan heard) (stored merge) (told_domains plan (whole_opening plan) (calls_in merge) ∙ call_domains merge) (λ d. own_replies plan journals states merge d (slice_get plan d) refl separate are is))

@@ -14,10 +14,10 @@ use Rattle.crossbar.specs.Ranges.{IsOneToOne}
 use Rattle.crossbar.specs.Row.{number_in}
 use Rattle.crossbar.proofs.Below.{same_switch}
 use Rattle.virtual_switch.specs.declared.reply.ConfigReply.TheVariants.{Answer}
-use Rattle.virtual_switch.specs.Private.{ports_named, are_below, answer_byte, performed, answer_to, after_item, reply_to}
+use Rattle.virtual_switch.specs.PrivateSwitch.{ports_named, are_below, answer_byte, performed, answer_to, after_item, reply_to}
 use Rattle.crossbar.proofs.Numberings.{number_in-port, number_in-some}
 use Rattle.farm_core.specs.Places.{Place, AreApart}
-use Rattle.farm_core.specs.Messages.{readied, emptied, is_among, raised, raised_message, performed_in, after_item_in, reply_in}
+use Rattle.farm_core.specs.Messages.{readied, disconnected_ports, is_among, raised, raised_message, performed_in, after_item_in, reply_in}
 use Rattle.farm_core.specs.Projection.{own_switch, driver_at, ready_at, lowered_byte, lowered_config}
 use Rattle.farm_core.specs.Domains.{DrivesItself}
 use Rattle.farm_core.proofs.Setting.{SetsOutput, contains_at, at_contained, sets_connected, sets_disconnected, one_set, get-own_switch, contains-own_switch, same_own_switch, own_switch_sets, untouched, still_drives, number_in-none, keys_of, contains-readied, get-emptied, contains-emptied}
@@ -66,16 +66,16 @@ own_readied ports s own =
     readies q (Some port) e =
         contains-readied ports s port ∙ cond-true _ _ _ (number_in-some ports port q e) ∙ known_driver ports (map.get s.pairs port) (λ input is. at_contained ports input (own port input (contains_at ports q port e) is))
 
-own_emptied : (ports : List ℕ) (s : Switch) → own_switch ports (emptied ports s) ≡ cleared
+own_emptied : (ports : List ℕ) (s : Switch) → own_switch ports (disconnected_ports ports s) ≡ cleared
 own_emptied ports s =
-    same_switch _ _ (λ q. get-own_switch ports (emptied ports s) q ∙ drivers q (slice_get ports q) refl ∙ sym (map.get-empty nat_cmp q)) (λ q.
-    contains-own_switch ports (emptied ports s) q ∙ readies q (slice_get ports q) refl ∙ sym (set.contains-empty nat_cmp q))
+    same_switch _ _ (λ q. get-own_switch ports (disconnected_ports ports s) q ∙ drivers q (slice_get ports q) refl ∙ sym (map.get-empty nat_cmp q)) (λ q.
+    contains-own_switch ports (disconnected_ports ports s) q ∙ readies q (slice_get ports q) refl ∙ sym (set.contains-empty nat_cmp q))
   where
-    drivers : (q : ℕ) (found : Option ℕ) → slice_get ports q ≡ found → driver_at ports (emptied ports s) found ≡ None
+    drivers : (q : ℕ) (found : Option ℕ) → slice_get ports q ≡ found → driver_at ports (disconnected_ports ports s) found ≡ None
     drivers q None e = refl
     drivers q (Some port) e = ap (option_and_then (number_in ports)) (get-emptied ports s port ∙ cond-true _ _ _ (number_in-some ports port q e))
 
-    readies : (q : ℕ) (found : Option ℕ) → slice_get ports q ≡ found → ready_at (emptied ports s) found ≡ false
+    readies : (q : ℕ) (found : Option ℕ) → slice_get ports q ≡ found → ready_at (disconnected_ports ports s) found ≡ false
     readies q None e = refl
     readies q (Some port) e = contains-emptied ports s port ∙ cond-true _ _ _ (number_in-some ports port q e)
 
@@ -153,9 +153,9 @@ other_readied ports others s apart =
     same_own_switch others s (readied ports s) (λ v port at. refl) (λ v port at.
     contains-readied ports s port ∙ cond-false _ _ _ (ap is_some (number_in-none ports port (λ w is. never_both ports others w v port apart is at))))
 
-other_emptied : (ports others : List ℕ) (s : Switch) → AreApart ports others → own_switch others (emptied ports s) ≡ own_switch others s
+other_emptied : (ports others : List ℕ) (s : Switch) → AreApart ports others → own_switch others (disconnected_ports ports s) ≡ own_switch others s
 other_emptied ports others s apart =
-    same_own_switch others s (emptied ports s) (λ v port at.
+    same_own_switch others s (disconnected_ports ports s) (λ v port at.
     get-emptied ports s port ∙ cond-false _ _ _ (ap is_some (number_in-none ports port (λ w is. never_both ports others w v port apart is at)))) (λ v port at.
     contains-emptied ports s port ∙ cond-false _ _ _ (ap is_some (number_in-none ports port (λ w is. never_both ports others w v port apart is at))))
 

@@ -3,14 +3,14 @@ use Rattle.std.proofs.Common.{◌≡◌, ℕ, zero, suc, ◌+◌, ◌<◌, Optio
 use Rattle.std.proofs.lemmas.Option.{slice_get-get_or, slice_get_past, same_Some, none-some}
 use Rattle.std.specs.List.{cons_option}
 use Rattle.crossbar.specs.declared.word.Word.{Word}
-use Rattle.crossbar.specs.Plain.{Row, row_of, words_at}
+use Rattle.crossbar.specs.Plain.{Row, outputs_of, words_at}
 use Rattle.crossbar.specs.Ranges.{ports_in}
 use Rattle.crossbar.specs.declared.range.PortRange.{PortRange}
 use Rattle.std.proofs.lemmas.List.{take_more, map-append}
 use Rattle.std.proofs.lemmas.List.Elements.{All-push, All-cons, All-nil}
 use Rattle.plan_checker.specs.Data.{DomainData}
 use Rattle.plan_checker.specs.Part.{part_of}
-use Rattle.domain_core.specs.Private.{opening}
+use Rattle.domain_core.specs.PrivateFarm.{opening}
 use Rattle.domain_core.specs.Domain.{DomainValue, state_of}
 use Rattle.farm_core.specs.Places.{Place, place_of, places_of}
 use Rattle.farm_core.specs.Whole.{whole_opening}
@@ -36,7 +36,7 @@ pub words_of_a_row : (n : ℕ) (x : Word) (ports : List ℕ) → All (λ w. w �
 words_of_a_row n x [] = All-nil (λ w. w ≡ x)
 words_of_a_row n x (port ∷ ports) = one_more_word x (slice_get (replicate n x) port) (words_at (replicate n x) ports) (λ w at. replicated n port x w at) (words_of_a_row n x ports)
 
-pub opened_unused : {E : Type 0} (r : Result DomainValue E) (n : ℕ) (row : Row) (ranges : List (Option PortRange)) → row ≡ row_of (replicate n (record { bits = 0 })) ranges
+pub opened_unused : {E : Type 0} (r : Result DomainValue E) (n : ℕ) (row : Row) (ranges : List (Option PortRange)) → row ≡ outputs_of (replicate n (record { bits = 0 })) ranges
     → IfOk r (λ d. d.machine.switch.words ≡ row.words) → IfOk r IsUnused
 opened_unused (Ok d) n row ranges is same =
     subst (λ (words : List Word). All (λ w. w ≡ record { bits = 0 }) words) (sym (same ∙ ap (λ (r : Row). r.words) is)) (words_of_a_row n (record { bits = 0 }) (ports_in ranges))

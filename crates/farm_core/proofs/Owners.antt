@@ -9,13 +9,13 @@ use Rattle.std.specs.FinSet as set
 use Rattle.crossbar.specs.declared.word.Word.{Word}
 use Rattle.crossbar.specs.declared.word.Connection.{Connection}
 use Rattle.crossbar.specs.Word.{connection_of}
-use Rattle.crossbar.specs.Row.{IsRow, InputIsIn, number_in, switch_of, input_of, is_ready}
+use Rattle.crossbar.specs.Row.{AreWordsOf, InputIsIn, number_in, switch_of, input_of, is_ready}
 use Rattle.crossbar.proofs.Numberings.{number_in-get, number_in-some}
 use Rattle.crossbar.proofs.Switching.{enquired, contains-switch_of, word_within}
-use Rattle.virtual_switch.specs.Seen.{lowered}
+use Rattle.virtual_switch.specs.SwitchValue.{lowered}
 use Rattle.virtual_switch.proofs.Lowering.{driver-lowered, contains-lowered}
 use Rattle.domain_core.specs.Domain.{DomainValue, state_of}
-use Rattle.farm_core.specs.Places.{Place, IsSeparate}
+use Rattle.farm_core.specs.Places.{Place, AreSeparatePlaces}
 use Rattle.farm_core.specs.Domains.{IsFree}
 use Rattle.farm_core.specs.Merges.{own_place}
 use Rattle.farm_core.specs.Messages.{raised}
@@ -61,7 +61,7 @@ owner_of (Some d) number output has = (d, refl, has)
 pub within_farm : (domains : List DomainValue) (index number output : ℕ) → HasOutput (slice_get domains index) number output → index < length domains
 within_farm domains index number output has = let d = owner_of (slice_get domains index) number output has in slice_get_within domains index d.0 d.1
 
-pub within_count : (domains : List DomainValue) (index : ℕ) (d : DomainValue) (number output : ℕ) → IsSeparate (places_in domains) → slice_get domains index ≡ Some d
+pub within_count : (domains : List DomainValue) (index : ℕ) (d : DomainValue) (number output : ℕ) → AreSeparatePlaces (places_in domains) → slice_get domains index ≡ Some d
     → slice_get d.machine.switch.ports number ≡ Some output → number < d.machine.part.count
 within_count domains index d number output separate at is =
     let count = (separate.each index (own_place d) (place_at domains index d at)).count in
@@ -82,7 +82,7 @@ word_of_nobody domains output word free index number d at is = absurd (nobody_ha
 
 -- ---- one owner alone
 
-pub word_of_owner : (domains : List DomainValue) (index : ℕ) (d : DomainValue) (number output : ℕ) (word : Word) → IsSeparate (places_in domains) → slice_get domains index ≡ Some d
+pub word_of_owner : (domains : List DomainValue) (index : ℕ) (d : DomainValue) (number output : ℕ) (word : Word) → AreSeparatePlaces (places_in domains) → slice_get domains index ≡ Some d
     → slice_get d.machine.switch.ports number ≡ Some output → slice_get d.machine.switch.words number ≡ Some word → IsWordOfOwner domains output word
 word_of_owner domains index d number output word separate at is has other v e there port =
     elim (cases_eq other index) [
@@ -99,7 +99,7 @@ word_of_owner domains index d number output word separate at is has other v e th
 
 -- ---- what a word says
 
-driver_is : (ports : List ℕ) (words : List Word) (number : ℕ) (word : Word) → IsRow ports words → number < length ports → slice_get words number ≡ Some word
+driver_is : (ports : List ℕ) (words : List Word) (number : ℕ) (word : Word) → AreWordsOf ports words → number < length ports → slice_get words number ≡ Some word
     → option_map (raised ports) (fin.get (lowered ports (switch_of words)).pairs number) ≡ input_of (connection_of word)
 driver_is ports words number word row within has =
     let is = driver-lowered ports (switch_of words) number within ∙ ap (option_and_then (number_in ports)) (enquired words number word has) in
@@ -116,8 +116,8 @@ readiness_is ports words number word within has =
     contains-lowered ports (switch_of words) number ∙ ap (λ t. t && set.contains (switch_of words).ready number) (lt-ltb _ _ within)
     ∙ contains-switch_of words number ∙ ap (λ found. is_ready (option_and_then connection_of found)) has
 
-pub word_says : (domains : List DomainValue) (index : ℕ) (d : DomainValue) (number output : ℕ) (word : Word) → IsSeparate (places_in domains) → slice_get domains index ≡ Some d
-    → slice_get d.machine.switch.ports number ≡ Some output → slice_get d.machine.switch.words number ≡ Some word → IsRow d.machine.switch.ports d.machine.switch.words
+pub word_says : (domains : List DomainValue) (index : ℕ) (d : DomainValue) (number output : ℕ) (word : Word) → AreSeparatePlaces (places_in domains) → slice_get domains index ≡ Some d
+    → slice_get d.machine.switch.ports number ≡ Some output → slice_get d.machine.switch.words number ≡ Some word → AreWordsOf d.machine.switch.ports d.machine.switch.words
     → SaysEachWhole domains output word
 word_says domains index d number output word separate at is has row farm made =
     let ports = d.machine.switch.ports in

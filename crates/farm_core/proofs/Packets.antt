@@ -15,9 +15,9 @@ use Rattle.plan_checker.specs.Part.{PartData}
 use Rattle.domain_core.specs.declared.device.Device.{Device}
 use Rattle.domain_core.specs.declared.event.Moved.{Moved}
 use Rattle.domain_core.specs.declared.event.Moved.TheVariants.{Nothing, Lost, Stayed, Passed}
-use Rattle.domain_core.specs.Devices.{DeviceStates, device_at, waiting, taken, arrived}
-use Rattle.domain_core.specs.Moves.{driven, are_ready, copied, outcome, moved_by, sent, moved_from, moved}
-use Rattle.farm_core.specs.Places.{Place, put_at, IsSeparate, joined_to, device_or, device_from, device_in, all_ports}
+use Rattle.domain_core.specs.Devices.{DeviceStates, device_at, packet_waiting, taken_from_device, arrived_at_device}
+use Rattle.domain_core.specs.Moves.{driven, are_ready, copies_arrived, outcome, moved_by, sent, moved_from, moved}
+use Rattle.farm_core.specs.Places.{Place, put_at, AreSeparatePlaces, joined_to, device_or, device_from, device_in, all_ports}
 use Rattle.farm_core.specs.Messages.{raised}
 use Rattle.farm_core.specs.Packets.{AllDevices, changed_at, driven_in, arrived_in, copied_in, moved_by_in, sent_in, moved_from_in, moved_in}
 use Rattle.farm_core.specs.Projection.{own_switch, driver_at, ready_at}
@@ -31,7 +31,7 @@ use Rattle.farm_core.proofs.Messages.{port_at, never_both}
 abbrev pub IsOnlyAt : List Place → ℕ → ℕ → Type 0
 IsOnlyAt plan domain port = (e : ℕ) (place : Place) (w : ℕ) → domain ≢ e → slice_get plan e ≡ Some place → slice_get place.ports w ≡ Some port → ⊥
 
-pub only_at : (plan : List Place) (domain : ℕ) (place : Place) (v port : ℕ) → IsSeparate plan → slice_get plan domain ≡ Some place → slice_get place.ports v ≡ Some port → IsOnlyAt plan domain port
+pub only_at : (plan : List Place) (domain : ℕ) (place : Place) (v port : ℕ) → AreSeparatePlaces plan → slice_get plan domain ≡ Some place → slice_get place.ports v ≡ Some port → IsOnlyAt plan domain port
 only_at plan domain place v port separate there at e other w ne is here = never_both place.ports other.ports v w port (separate.apart domain e place other ne there is) at here
 
 device-nowhere : (first : ℕ) (plan : List Place) (port : ℕ) → ((e : ℕ) (place : Place) (w : ℕ) → slice_get plan e ≡ Some place → slice_get place.ports w ≡ Some port → ⊥) → device_from first plan port ≡ None
@@ -51,7 +51,7 @@ device-at first (head ∷ plan) (suc d) place v port number there one at only is
     ap (λ n. device_or first head n (device_from (first + 1) plan port)) out
     ∙ device-at (first + 1) plan d place v port number there one at (λ e other w ne. only (suc e) other w (λ same. ne (omega arith))) (omega arith)
 
-pub device_own : (plan : List Place) (domain : ℕ) (place : Place) (v port : ℕ) → IsSeparate plan → slice_get plan domain ≡ Some place → slice_get place.ports v ≡ Some port
+pub device_own : (plan : List Place) (domain : ℕ) (place : Place) (v port : ℕ) → AreSeparatePlaces plan → slice_get plan domain ≡ Some place → slice_get place.ports v ≡ Some port
     → device_in plan port ≡ joined_to domain (device_at place.part v)
 device_own plan domain place v port separate there at =
     device-at 0 plan domain place v port domain there (separate.each domain place there).ports.one_to_one at (only_at plan domain place v port separate there at) (omega arith)
@@ -124,7 +124,7 @@ driven-alike ports (Some input) w port one at own =
     same-test input port u.0 w (λ e. one u.0 w port (u.1 ∙ ap (λ (x : ℕ). Some x) e) at) (λ e. same_Some _ _ (sym u.1 ∙ ap (slice_get ports) e ∙ at))
     ∙ ap (λ n. names n w) (sym (number_in-port ports u.0 input one u.1))
 
-pub driven_own : (plan : List Place) (s : Switch) (domain : ℕ) (place : Place) (w port : ℕ) → IsSeparate plan → EachDrivesItself plan s → slice_get plan domain ≡ Some place → slice_get place.ports w ≡ Some port
+pub driven_own : (plan : List Place) (s : Switch) (domain : ℕ) (place : Place) (w port : ℕ) → AreSeparatePlaces plan → EachDrivesItself plan s → slice_get plan domain ≡ Some place → slice_get place.ports w ≡ Some port
     → driven_in plan s port ≡ map (raised place.ports) (driven place.part (own_switch place.ports s) w)
 driven_own plan s domain place w port separate own there at =
     let is = separate.each domain place there in
@@ -190,25 +190,25 @@ changes_at : (domain : ℕ) (change : DeviceStates → DeviceStates) (all : AllD
 changes_at domain change all = record { own = put-own domain (change (all domain)) all; others = put-other domain (change (all domain)) all }
 
 arrives_at : (domain : ℕ) (packet : Packet) (device : Option Device) (all : AllDevices)
-    → Changes domain all (arrived_in packet (joined_to domain device) all) (arrived packet device (all domain))
+    → Changes domain all (arrived_in packet (joined_to domain device) all) (arrived_at_device packet device (all domain))
 arrives_at domain packet None all = unchanged domain all
-arrives_at domain packet (Some device) all = changes_at domain (arrived packet (Some device)) all
+arrives_at domain packet (Some device) all = changes_at domain (arrived_at_device packet (Some device)) all
 
 -- in this plan the devices at these physical ports are those at the domain's virtual ones
 abbrev pub HasDevices : List Place → ℕ → Place → Type 0
 HasDevices plan domain place = (v : ℕ) → v < length place.ports → device_in plan (raised place.ports v) ≡ joined_to domain (device_at place.part v)
 
 copies_to : (plan : List Place) (domain : ℕ) (place : Place) (packet : Packet) (outputs : List ℕ) (all : AllDevices) → HasDevices plan domain place → AreBelow (length place.ports) outputs
-    → Changes domain all (copied_in plan packet (map (raised place.ports) outputs) all) (copied place.part packet outputs (all domain))
+    → Changes domain all (copied_in plan packet (map (raised place.ports) outputs) all) (copies_arrived place.part packet outputs (all domain))
 copies_to plan domain place packet [] all has below = unchanged domain all
 copies_to plan domain place packet (output ∷ outputs) all has below =
     let device = device_at place.part output in
     let first = arrives_at domain packet device all in
     let next = arrived_in packet (joined_to domain device) all in
     let rest = copies_to plan domain place packet outputs next has below.1 in
-    subst (λ found. Changes domain all (copied_in plan packet (map (raised place.ports) outputs) (arrived_in packet found all)) (copied place.part packet (output ∷ outputs) (all domain)))
+    subst (λ found. Changes domain all (copied_in plan packet (map (raised place.ports) outputs) (arrived_in packet found all)) (copies_arrived place.part packet (output ∷ outputs) (all domain)))
     (sym (has output below.0)) (record {
-      own = rest.own ∙ ap (copied place.part packet outputs) first.own;
+      own = rest.own ∙ ap (copies_arrived place.part packet outputs) first.own;
       others = λ d ne. rest.others d ne ∙ first.others d ne;
     })
 
@@ -216,13 +216,13 @@ moves_by : (m : Moved) (plan : List Place) (domain : ℕ) (place : Place) (devic
     → AreBelow (length place.ports) outputs
     → Changes domain all (moved_by_in m plan (record { domain = domain; device = device }) packet (map (raised place.ports) outputs) all) (moved_by m place.part device packet outputs (all domain))
 moves_by Nothing plan domain place device packet outputs all has below = unchanged domain all
-moves_by Lost plan domain place device packet outputs all has below = changes_at domain (taken device) all
+moves_by Lost plan domain place device packet outputs all has below = changes_at domain (taken_from_device device) all
 moves_by Stayed plan domain place device packet outputs all has below = unchanged domain all
 moves_by Passed plan domain place device packet outputs all has below =
-    let first = changes_at domain (taken device) all in
-    let rest = copies_to plan domain place packet outputs (changed_at domain (taken device) all) has below in
+    let first = changes_at domain (taken_from_device device) all in
+    let rest = copies_to plan domain place packet outputs (changed_at domain (taken_from_device device) all) has below in
     record {
-      own = rest.own ∙ ap (copied place.part packet outputs) first.own;
+      own = rest.own ∙ ap (copies_arrived place.part packet outputs) first.own;
       others = λ d ne. rest.others d ne ∙ first.others d ne;
     }
 
@@ -251,9 +251,9 @@ moves_from : (plan : List Place) (s : Switch) (domain : ℕ) (place : Place) (ou
     → MovesAlone domain all (moved_from_in plan s all (map (raised place.ports) outputs) (joined_to domain device))
     (moved_from place.part (own_switch place.ports s) (all domain) outputs device)
 moves_from plan s domain place outputs None all has below = record { answer = refl; devices = unchanged domain all }
-moves_from plan s domain place outputs (Some device) all has below = sends plan s domain place outputs device (waiting (all domain) device) all has below
+moves_from plan s domain place outputs (Some device) all has below = sends plan s domain place outputs device (packet_waiting (all domain) device) all has below
 
-pub moves_alone : (plan : List Place) (s : Switch) (all : AllDevices) (domain : ℕ) (place : Place) (port : ℕ) → IsSeparate plan → EachDrivesItself plan s → slice_get plan domain ≡ Some place
+pub moves_alone : (plan : List Place) (s : Switch) (all : AllDevices) (domain : ℕ) (place : Place) (port : ℕ) → AreSeparatePlaces plan → EachDrivesItself plan s → slice_get plan domain ≡ Some place
     → port < place.part.count → MovesAlone domain all (moved_in plan s all (raised place.ports port)) (moved place.part (own_switch place.ports s) (all domain) port)
 moves_alone plan s all domain place port separate own there inside =
     let is = separate.each domain place there in

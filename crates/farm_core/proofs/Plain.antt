@@ -8,9 +8,9 @@ use Rattle.domain_core.specs.declared.domain.Committed.TheVariants.{Done, Stale}
 use Rattle.domain_core.specs.declared.event.Refusal.{Refusal}
 use Rattle.domain_core.specs.declared.event.Refusal.TheVariants.{NoSuch, JournalFull, NoMemory}
 use Rattle.domain_core.specs.Ticket.{TicketValue}
-use Rattle.domain_core.specs.Private.{Answer, Call, next}
+use Rattle.domain_core.specs.PrivateFarm.{Answer, Call, next}
 use Rattle.domain_core.specs.Domain.{DomainValue, state_of, UnlessNoMemory}
-use Rattle.farm_core.specs.Places.{IsSeparate}
+use Rattle.farm_core.specs.Places.{AreSeparatePlaces}
 use Rattle.farm_core.specs.Whole.{whole_next}
 use Rattle.farm_core.specs.Projection.{lowered_for}
 use Rattle.farm_core.specs.Domains.{IsMadeOf}
@@ -42,8 +42,8 @@ pub places_stay : (domains later : List DomainValue) (domain : ℕ) (old new : D
 places_stay domains later domain old new is =
     ap places_in is.later_is ∙ map-set_same own_place domains domain new old (is.place ∙ ap own_place (sym (get_or_from_slice_get domains domain old old is.there)))
 
-pub still_separate : (domains later : List DomainValue) (domain : ℕ) (old new : DomainValue) → Replaces domains later domain old new → IsSeparate (places_in domains) → IsSeparate (places_in later)
-still_separate domains later domain old new is separate = subst IsSeparate (sym (places_stay domains later domain old new is)) separate
+pub still_separate : (domains later : List DomainValue) (domain : ℕ) (old new : DomainValue) → Replaces domains later domain old new → AreSeparatePlaces (places_in domains) → AreSeparatePlaces (places_in later)
+still_separate domains later domain old new is separate = subst AreSeparatePlaces (sym (places_stay domains later domain old new is)) separate
 
 pub place_at : (domains : List DomainValue) (domain : ℕ) (d : DomainValue) → slice_get domains domain ≡ Some d → slice_get (places_in domains) domain ≡ Some (own_place d)
 place_at domains domain d at = slice_get-map own_place domains domain ∙ ap (option_map own_place) at
@@ -66,7 +66,7 @@ unless_no_memory (Err NoSuch) make p q = make p q
 unless_no_memory (Err JournalFull) make p q = make p q
 unless_no_memory (Err NoMemory) make p q = tt
 
-whole_call : (domains later : List DomainValue) (domain : ℕ) (old new : DomainValue) (call : Call) (told : Answer) → Replaces domains later domain old new → IsSeparate (places_in domains)
+whole_call : (domains later : List DomainValue) (domain : ℕ) (old new : DomainValue) (call : Call) (told : Answer) → Replaces domains later domain old new → AreSeparatePlaces (places_in domains)
     → told ≡ (next old.machine.part (state_of old) call).1 → state_of new ≡ (next old.machine.part (state_of old) call).0 → IsCallOfEachWhole domain call told domains later
 whole_call domains later domain old new call told is separate answer state farm made =
     let plan = places_in domains in
@@ -80,7 +80,7 @@ whole_call domains later domain old new call told is separate answer state farm 
       made = subst (λ p. IsMadeOf p after (states_in later)) (sym (places_stay domains later domain old new is)) (subst (IsMadeOf plan after) (sym states) one.made);
     }
 
-pub call_of_each_whole : (domains later : List DomainValue) (domain : ℕ) (old new : DomainValue) (call : Call) (told : Answer) → Replaces domains later domain old new → IsSeparate (places_in domains)
+pub call_of_each_whole : (domains later : List DomainValue) (domain : ℕ) (old new : DomainValue) (call : Call) (told : Answer) → Replaces domains later domain old new → AreSeparatePlaces (places_in domains)
     → IsCalled call told old new → UnlessNoMemory told (IsCallOfEachWhole domain call told domains later)
 call_of_each_whole domains later domain old new call told is separate called =
     unless_no_memory told (λ answer state. whole_call domains later domain old new call told is separate answer state) called.answer called.state

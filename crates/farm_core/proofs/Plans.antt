@@ -3,13 +3,13 @@ use Rattle.std.proofs.Common.{◌≡◌, ℕ, Some, List, slice_get, option_map,
 use Rattle.std.proofs.lemmas.Option.{slice_get-map}
 use Rattle.plan_checker.specs.Data.{DomainData}
 use Rattle.plan_checker.specs.Laws.{SeparatePlansAreNumbered, SeparatePlansShareNoPort}
-use Rattle.plan_checker.specs.Separate as checker
-use Rattle.farm_core.specs.Places.{place_of, places_of, IsSeparate}
+use Rattle.plan_checker.specs.Separate.{IsSeparate}
+use Rattle.farm_core.specs.Places.{place_of, places_of, AreSeparatePlaces}
 use Rattle.farm_core.specs.Laws.{EachDomainOfAPlanIsPrivate, EachOfAPlanIsToldPrivately, EqualDomainsOfPlansAreAnsweredAlike}
 use Rattle.farm_core.proofs.Runs.{each_domain_is_private, each_is_told_privately, equal_domains_are_answered_alike}
 use Rattle.farm_core.proofs.Separation.{numbered_domains_are_separate}
 
-separate_places : SeparatePlansAreNumbered → SeparatePlansShareNoPort → (plan : List DomainData) → checker.IsSeparate plan → IsSeparate (places_of plan)
+separate_places : SeparatePlansAreNumbered → SeparatePlansShareNoPort → (plan : List DomainData) → IsSeparate plan → AreSeparatePlaces (places_of plan)
 separate_places numbered apart plan is = numbered_domains_are_separate plan (numbered plan is) (apart plan is)
 
 place_at : (plan : List DomainData) (domain : ℕ) (d : DomainData) → slice_get plan domain ≡ Some d → slice_get (places_of plan) domain ≡ Some (place_of d)

@@ -10,10 +10,10 @@ use Rattle.std.specs.Option.{option_and_then}
 use Rattle.crossbar.specs.Row.{number_in}
 use Rattle.crossbar.specs.Switch.{cleared}
 use Rattle.crossbar.proofs.Below.{same_switch}
-use Rattle.domain_core.specs.Private.{Call, Answer, next, answers, after, opening}
-use Rattle.farm_core.specs.Places.{Place, IsSeparate}
-use Rattle.farm_core.specs.Whole.{Farm, opened_at, whole_next, whole_answers, whole_after, whole_opening}
-use Rattle.farm_core.specs.Projection.{own_switch, driver_at, ready_at, projected, lowered, lowered_for, own}
+use Rattle.domain_core.specs.PrivateFarm.{Call, Answer, next, answers, after, opening}
+use Rattle.farm_core.specs.Places.{Place, AreSeparatePlaces}
+use Rattle.farm_core.specs.Whole.{Farm, opened_at, whole_next, physical_answers, whole_after, whole_opening}
+use Rattle.farm_core.specs.Projection.{own_switch, driver_at, ready_at, projected, lowered_answer, lowered_for, own}
 use Rattle.farm_core.specs.Laws.{EachDomainIsPrivate, EqualDomainsAreAnsweredAlike, EachIsToldPrivately}
 use Rattle.farm_core.proofs.Setting.{get-own_switch, contains-own_switch}
 use Rattle.farm_core.specs.Domains.{EachDrivesItself}
@@ -31,7 +31,7 @@ own-there domain x xs ne = let test : (x.0 == domain) ≡ false = ne_eqb _ _ ne 
 
 -- from any farm on, a domain is told what it would be told alone, and becomes what it would become
 record RunsAlone (plan : List Place) (farm : Farm) (calls : List (ℕ × Call)) (domain : ℕ) (place : Place) : Type 0 where
-  told : map (lowered place) (own domain (whole_answers plan farm calls)) ≡ answers place.part (projected place farm domain) (own domain calls)
+  told : map (lowered_answer place) (own domain (physical_answers plan farm calls)) ≡ answers place.part (projected place farm domain) (own domain calls)
   state : projected place (whole_after plan farm calls) domain ≡ after place.part (projected place farm domain) (own domain calls)
 
 -- its own call
@@ -41,10 +41,10 @@ own-call : (plan : List Place) (farm : Farm) (call : ℕ × Call) (calls : List 
 own-call plan farm call calls domain place same step rest =
     let asked = own-here domain call calls same in
     let answer : ℕ × Answer = (call.0, (whole_next plan farm call).1) in
-    let heard = own-here domain answer (whole_answers plan (whole_next plan farm call).0 calls) same in
+    let heard = own-here domain answer (physical_answers plan (whole_next plan farm call).0 calls) same in
     record {
       told =
-          ap (map (lowered place)) heard
+          ap (map (lowered_answer place)) heard
           ∙ (λ i. step.answer i ∷ (rest.told ∙ ap (λ s. answers place.part s (own domain calls)) step.state) i)
           ∙ sym (ap (answers place.part (projected place farm domain)) asked);
       state = rest.state ∙ ap (λ s. after place.part s (own domain calls)) step.state ∙ sym (ap (after place.part (projected place farm domain)) asked);
@@ -57,15 +57,15 @@ other-call : (plan : List Place) (farm : Farm) (call : ℕ × Call) (calls : Lis
 other-call plan farm call calls domain place ne stays rest =
     let asked = own-there domain call calls ne in
     let answer : ℕ × Answer = (call.0, (whole_next plan farm call).1) in
-    let heard = own-there domain answer (whole_answers plan (whole_next plan farm call).0 calls) ne in
+    let heard = own-there domain answer (physical_answers plan (whole_next plan farm call).0 calls) ne in
     record {
       told =
-          ap (map (lowered place)) heard ∙ rest.told ∙ ap (λ s. answers place.part s (own domain calls)) stays
+          ap (map (lowered_answer place)) heard ∙ rest.told ∙ ap (λ s. answers place.part s (own domain calls)) stays
           ∙ sym (ap (answers place.part (projected place farm domain)) asked);
       state = rest.state ∙ ap (λ s. after place.part s (own domain calls)) stays ∙ sym (ap (after place.part (projected place farm domain)) asked);
     }
 
-runs-alone : (plan : List Place) (farm : Farm) (calls : List (ℕ × Call)) (domain : ℕ) (place : Place) → IsSeparate plan → EachDrivesItself plan farm.switch → slice_get plan domain ≡ Some place
+runs-alone : (plan : List Place) (farm : Farm) (calls : List (ℕ × Call)) (domain : ℕ) (place : Place) → AreSeparatePlaces plan → EachDrivesItself plan farm.switch → slice_get plan domain ≡ Some place
     → RunsAlone plan farm calls domain place
 runs-alone plan farm [] domain place separate own there = record { told = refl; state = refl }
 runs-alone plan farm (call ∷ calls) domain place separate own there =
@@ -102,7 +102,7 @@ opens_alone plan domain place there =
     λ i. record { machine = record { switch = own_cleared place.ports i; rest = []; devices = devices i }; recorded = 0 }
 
 -- after each list of calls every domain's outputs are driven from inside it
-drives_after : (plan : List Place) (farm : Farm) (calls : List (ℕ × Call)) → IsSeparate plan → EachDrivesItself plan farm.switch → EachDrivesItself plan (whole_after plan farm calls).switch
+drives_after : (plan : List Place) (farm : Farm) (calls : List (ℕ × Call)) → AreSeparatePlaces plan → EachDrivesItself plan farm.switch → EachDrivesItself plan (whole_after plan farm calls).switch
 drives_after plan farm [] separate own = own
 drives_after plan farm (call ∷ calls) separate own = drives_after plan (whole_next plan farm call).0 calls separate (still_each_drives plan farm call separate own)
 
@@ -140,14 +140,14 @@ own-map {X} {Y} make domain (x ∷ xs) =
 abbrev pub told_pairs : List Place → List (ℕ × Answer) → List (ℕ × Answer)
 told_pairs plan heard = map (λ t. (t.0, lowered_for (slice_get plan t.0) t.1)) heard
 
-pub own_told : (plan : List Place) (calls : List (ℕ × Call)) (domain : ℕ) (place : Place) → IsSeparate plan → slice_get plan domain ≡ Some place
-    → own domain (told_pairs plan (whole_answers plan (whole_opening plan) calls)) ≡ answers place.part (opening place.part) (own domain calls)
+pub own_told : (plan : List Place) (calls : List (ℕ × Call)) (domain : ℕ) (place : Place) → AreSeparatePlaces plan → slice_get plan domain ≡ Some place
+    → own domain (told_pairs plan (physical_answers plan (whole_opening plan) calls)) ≡ answers place.part (opening place.part) (own domain calls)
 own_told plan calls domain place separate there =
-    own-map (λ d answer. lowered_for (slice_get plan d) answer) domain (whole_answers plan (whole_opening plan) calls)
-    ∙ ap (λ found. map (lowered_for found) (own domain (whole_answers plan (whole_opening plan) calls))) there
+    own-map (λ d answer. lowered_for (slice_get plan d) answer) domain (physical_answers plan (whole_opening plan) calls)
+    ∙ ap (λ found. map (lowered_for found) (own domain (physical_answers plan (whole_opening plan) calls))) there
     ∙ (each_domain_is_private plan calls domain place separate there).told
 
-pub told_domains : (plan : List Place) (farm : Farm) (calls : List (ℕ × Call)) → map (λ t. t.0) (told_pairs plan (whole_answers plan farm calls)) ≡ map (λ c. c.0) calls
+pub told_domains : (plan : List Place) (farm : Farm) (calls : List (ℕ × Call)) → map (λ t. t.0) (told_pairs plan (physical_answers plan farm calls)) ≡ map (λ c. c.0) calls
 told_domains plan farm [] = refl
 told_domains plan farm (call ∷ calls) = ap (λ ds. call.0 ∷ ds) (told_domains plan (whole_next plan farm call).0 calls)
 
@@ -161,6 +161,6 @@ zip-parts (x ∷ xs) = ap (λ rest. x ∷ rest) (zip-parts xs)
 
 pub each_is_told_privately : EachIsToldPrivately
 each_is_told_privately plan calls domain place separate there =
-    let heard = whole_answers plan (whole_opening plan) calls in
+    let heard = physical_answers plan (whole_opening plan) calls in
     (λ i. own domain (zip (sym (told_domains plan (whole_opening plan) calls) i) (sym (told_answers plan heard) i)))
     ∙ ap (own domain) (zip-parts (told_pairs plan heard)) ∙ own_told plan calls domain place separate there

@@ -11,7 +11,7 @@ use Rattle.crossbar.specs.Switch.{Switch, connected, disconnected, all_ready}
 use Rattle.crossbar.specs.Ranges.{IsOneToOne}
 use Rattle.crossbar.specs.Row.{number_in}
 use Rattle.crossbar.proofs.Below.{get-map_below, contains-set_below, same_switch, tied, untied}
-use Rattle.farm_core.specs.Messages.{readied, emptied, is_among}
+use Rattle.farm_core.specs.Messages.{readied, disconnected_ports, is_among}
 use Rattle.farm_core.specs.Projection.{own_switch, driver_at, ready_at}
 use Rattle.farm_core.specs.Domains.{DrivesItself}
 
@@ -157,9 +157,9 @@ contains-readied ports s p =
     set.contains-union nat_cmp_total _ _ p ∙ (λ i. away i || kept i) ∙ ap (λ t. (set.contains s.ready p && not (is_among ports p)) || (t && is_among ports p)) (keys_of s p)
     ∙ chosen (set.contains s.ready p) (is_among ports p) (is_some (map.get s.pairs p))
 
-pub get-emptied : (ports : List ℕ) (s : Switch) (p : ℕ) → map.get (emptied ports s).pairs p ≡ cond (is_among ports p) None (map.get s.pairs p)
+pub get-emptied : (ports : List ℕ) (s : Switch) (p : ℕ) → map.get (disconnected_ports ports s).pairs p ≡ cond (is_among ports p) None (map.get s.pairs p)
 get-emptied ports s p = map.get-retain_keys s.pairs (λ port. not (is_among ports port)) p (λ x e. alike (λ port. not (is_among ports port)) p x e) ∙ hidden (is_among ports p) _
 
-pub contains-emptied : (ports : List ℕ) (s : Switch) (p : ℕ) → set.contains (emptied ports s).ready p ≡ cond (is_among ports p) false (set.contains s.ready p)
+pub contains-emptied : (ports : List ℕ) (s : Switch) (p : ℕ) → set.contains (disconnected_ports ports s).ready p ≡ cond (is_among ports p) false (set.contains s.ready p)
 contains-emptied ports s p =
     set.contains-retain s.ready (λ port. not (is_among ports port)) p (λ x e. alike (λ port. not (is_among ports port)) p x e) ∙ masked (set.contains s.ready p) (is_among ports p)

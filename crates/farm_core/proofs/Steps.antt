@@ -4,7 +4,7 @@ use Rattle.std.proofs.lemmas.Bool.{cases_eq, ltb-true, and_parts}
 use Rattle.std.proofs.lemmas.Option.{same_Some}
 use Rattle.c004_commands.specs.Grammar.{Item, item_of}
 use Rattle.virtual_switch.specs.declared.reply.ConfigReply.{ConfigReply}
-use Rattle.virtual_switch.specs.Private.{Configured, configured_by}
+use Rattle.virtual_switch.specs.PrivateSwitch.{Configured, configured_by}
 use Rattle.crossbar.specs.Switch.{Switch}
 use Rattle.domain_core.specs.declared.event.By.{By}
 use Rattle.domain_core.specs.declared.event.Event.{Event}
@@ -16,11 +16,11 @@ use Rattle.domain_core.specs.declared.event.Refusal.TheVariants.{NoSuch, Journal
 use Rattle.domain_core.specs.Devices.{host_at}
 use Rattle.domain_core.specs.Hosts.{is_full}
 use Rattle.domain_core.specs.Machine.{Machine, acted, is_recorded, has_moved}
-use Rattle.domain_core.specs.Private.{State, Call, Answer, is_there, names_own, answered, next}
-use Rattle.farm_core.specs.Places.{Place, AreApart, IsSeparate, IsPlace}
+use Rattle.domain_core.specs.PrivateFarm.{State, Call, Answer, is_there, names_own, answered, next}
+use Rattle.farm_core.specs.Places.{Place, AreApart, AreSeparatePlaces, IsPlace}
 use Rattle.farm_core.specs.Messages.{configured_by_in}
 use Rattle.farm_core.specs.Whole.{Farm, machine_in, acted_on_own, acted_in, is_recorded_in, answered_in, next_in, whole_next}
-use Rattle.farm_core.specs.Projection.{own_switch, projected, lowered_config, lowered_reply, lowered}
+use Rattle.farm_core.specs.Projection.{own_switch, projected, lowered_config, lowered_reply, lowered_answer}
 use Rattle.farm_core.specs.Domains.{DrivesItself, EachDrivesItself}
 use Rattle.farm_core.proofs.Messages.{Beside, own_item, own_reply, other_item, drives_item}
 use Rattle.farm_core.proofs.Packets.{moves_alone, put-own, put-other}
@@ -84,7 +84,7 @@ written-alike : (ports : List ℕ) (full : Bool) → lowered_reply ports (if ful
 written-alike ports true = refl
 written-alike ports false = refl
 
-acts : (plan : List Place) (farm : Farm) (domain : ℕ) (place : Place) (by : By) (event : Event) → IsSeparate plan → EachDrivesItself plan farm.switch → slice_get plan domain ≡ Some place
+acts : (plan : List Place) (farm : Farm) (domain : ℕ) (place : Place) (by : By) (event : Event) → AreSeparatePlaces plan → EachDrivesItself plan farm.switch → slice_get plan domain ≡ Some place
     → names_own place.part by event ≡ true → ActsAlone place domain farm (acted_in plan place farm domain event) (acted place.part (projected place farm domain).machine event)
 acts plan farm domain place by (Config byte) separate own there named =
     let is = separate.each domain place there in
@@ -117,7 +117,7 @@ acts plan farm domain place by (Move port) separate own there named =
       others = same-switch place.ports farm.switch;
     }
 
-records : (plan : List Place) (farm : Farm) (domain : ℕ) (place : Place) (by : By) (event : Event) → IsSeparate plan → EachDrivesItself plan farm.switch → slice_get plan domain ≡ Some place
+records : (plan : List Place) (farm : Farm) (domain : ℕ) (place : Place) (by : By) (event : Event) → AreSeparatePlaces plan → EachDrivesItself plan farm.switch → slice_get plan domain ≡ Some place
     → names_own place.part by event ≡ true → is_recorded_in plan place farm domain event ≡ is_recorded place.part (projected place farm domain).machine event
 records plan farm domain place by (Config byte) separate own there named = refl
 records plan farm domain place by (Write host byte) separate own there named = refl
@@ -132,16 +132,16 @@ records plan farm domain place by (Move port) separate own there named =
 
 -- the domain is answered as alone and becomes what it would become alone; the others see nothing
 pub record StepsAlone (place : Place) (domain : ℕ) (old : Farm) (whole : Farm × Answer) (alone : State × Answer) : Type 0 where
-  pub answer : lowered place whole.1 ≡ alone.1
+  pub answer : lowered_answer place whole.1 ≡ alone.1
   pub state : projected place whole.0 domain ≡ alone.0
   pub others : (d : ℕ) (other : Place) → d ≢ domain → AreApart place.ports other.ports → projected other whole.0 d ≡ projected other old d
   pub unseen : (ports : List ℕ) → AreApart place.ports ports → own_switch ports whole.0.switch ≡ own_switch ports old.switch
   pub drives : (ports : List ℕ) → Beside place.ports ports → DrivesItself ports old.switch → DrivesItself ports whole.0.switch
 
-refused : (place : Place) (domain : ℕ) (farm : Farm) (whole alone : Answer) → lowered place whole ≡ alone → StepsAlone place domain farm (farm, whole) (projected place farm domain, alone)
+refused : (place : Place) (domain : ℕ) (farm : Farm) (whole alone : Answer) → lowered_answer place whole ≡ alone → StepsAlone place domain farm (farm, whole) (projected place farm domain, alone)
 refused place domain farm whole alone told = record { answer = told; state = refl; others = λ d other ne apart. refl; unseen = λ ports apart. refl; drives = λ ports beside own. own }
 
-answers-alone : (plan : List Place) (farm : Farm) (domain : ℕ) (place : Place) (call : Call) → IsSeparate plan → EachDrivesItself plan farm.switch → slice_get plan domain ≡ Some place
+answers-alone : (plan : List Place) (farm : Farm) (domain : ℕ) (place : Place) (call : Call) → AreSeparatePlaces plan → EachDrivesItself plan farm.switch → slice_get plan domain ≡ Some place
     → names_own place.part call.by call.event ≡ true
     → StepsAlone place domain farm (answered_in plan place farm domain call.event, Ok (acted_in plan place farm domain call.event).1)
     (answered place.part (projected place farm domain) call.event, Ok (acted place.part (projected place farm domain).machine call.event).1)
@@ -160,7 +160,7 @@ answers-alone plan farm domain place call separate own there named =
       drives = a.others.drives;
     }
 
-steps-by : (plan : List Place) (farm : Farm) (domain : ℕ) (place : Place) (call : Call) → IsSeparate plan → EachDrivesItself plan farm.switch → slice_get plan domain ≡ Some place
+steps-by : (plan : List Place) (farm : Farm) (domain : ℕ) (place : Place) (call : Call) → AreSeparatePlaces plan → EachDrivesItself plan farm.switch → slice_get plan domain ≡ Some place
     → (named full : Bool) → is_there place.part call ≡ named
     → StepsAlone place domain farm (if named then (if full then (farm, Err JournalFull) else (answered_in plan place farm domain call.event, Ok (acted_in plan place farm domain call.event).1)) else (farm, Err NoSuch))
     (if named then (if full then (projected place farm domain, Err JournalFull) else (answered place.part (projected place farm domain) call.event, Ok (acted place.part (projected place farm domain).machine call.event).1))
@@ -169,7 +169,7 @@ steps-by plan farm domain place call separate own there false full is = refused 
 steps-by plan farm domain place call separate own there true true is = refused place domain farm (Err JournalFull) _ refl
 steps-by plan farm domain place call separate own there true false is = answers-alone plan farm domain place call separate own there (and_parts _ _ is).1
 
-pub steps_alone : (plan : List Place) (farm : Farm) (domain : ℕ) (place : Place) (call : Call) → IsSeparate plan → EachDrivesItself plan farm.switch → slice_get plan domain ≡ Some place
+pub steps_alone : (plan : List Place) (farm : Farm) (domain : ℕ) (place : Place) (call : Call) → AreSeparatePlaces plan → EachDrivesItself plan farm.switch → slice_get plan domain ≡ Some place
     → StepsAlone place domain farm (whole_next plan farm (domain, call)) (next place.part (projected place farm domain) call)
 steps_alone plan farm domain place call separate own there =
     subst (λ found. StepsAlone place domain farm (next_in plan farm domain call found) (next place.part (projected place farm domain) call)) (sym there)
@@ -178,7 +178,7 @@ steps_alone plan farm domain place call separate own there =
 -- ---- what stays
 
 -- another domain's call is not seen
-other-by : (plan : List Place) (farm : Farm) (caller : ℕ) (call : Call) (d : ℕ) (place : Place) (found : Option Place) → slice_get plan caller ≡ found → IsSeparate plan → EachDrivesItself plan farm.switch
+other-by : (plan : List Place) (farm : Farm) (caller : ℕ) (call : Call) (d : ℕ) (place : Place) (found : Option Place) → slice_get plan caller ≡ found → AreSeparatePlaces plan → EachDrivesItself plan farm.switch
     → slice_get plan d ≡ Some place → d ≢ caller → projected place (next_in plan farm caller call found).0 d ≡ projected place farm d
 other-by plan farm caller call d place None at separate own there ne = refl
 other-by plan farm caller call d place (Some from) at separate own there ne =
@@ -186,11 +186,11 @@ other-by plan farm caller call d place (Some from) at separate own there ne =
     ap (λ (found : Option Place). projected place (next_in plan farm caller call found).0 d) (sym at)
     ∙ step.others d place ne (separate.apart caller d from place (λ e. ne (sym e)) at there)
 
-pub other_stays : (plan : List Place) (farm : Farm) (caller : ℕ) (call : Call) (d : ℕ) (place : Place) → IsSeparate plan → EachDrivesItself plan farm.switch → slice_get plan d ≡ Some place → d ≢ caller
+pub other_stays : (plan : List Place) (farm : Farm) (caller : ℕ) (call : Call) (d : ℕ) (place : Place) → AreSeparatePlaces plan → EachDrivesItself plan farm.switch → slice_get plan d ≡ Some place → d ≢ caller
     → projected place (whole_next plan farm (caller, call)).0 d ≡ projected place farm d
 other_stays plan farm caller call d place separate own there ne = other-by plan farm caller call d place (slice_get plan caller) refl separate own there ne
 
-drives-by : (plan : List Place) (farm : Farm) (caller : ℕ) (call : Call) (found : Option Place) → slice_get plan caller ≡ found → IsSeparate plan → EachDrivesItself plan farm.switch
+drives-by : (plan : List Place) (farm : Farm) (caller : ℕ) (call : Call) (found : Option Place) → slice_get plan caller ≡ found → AreSeparatePlaces plan → EachDrivesItself plan farm.switch
     → EachDrivesItself plan (next_in plan farm caller call found).0.switch
 drives-by plan farm caller call None at separate own = own
 drives-by plan farm caller call (Some from) at separate own =
@@ -203,5 +203,5 @@ drives-by plan farm caller call (Some from) at separate own =
     ] in
     subst (λ (found : Option Place). DrivesItself place.ports (next_in plan farm caller call found).0.switch) at (step.drives place.ports beside (own d place there))
 
-pub still_each_drives : (plan : List Place) (farm : Farm) (call : ℕ × Call) → IsSeparate plan → EachDrivesItself plan farm.switch → EachDrivesItself plan (whole_next plan farm call).0.switch
+pub still_each_drives : (plan : List Place) (farm : Farm) (call : ℕ × Call) → AreSeparatePlaces plan → EachDrivesItself plan farm.switch → EachDrivesItself plan (whole_next plan farm call).0.switch
 still_each_drives plan farm call separate own = drives-by plan farm call.0 call.1 (slice_get plan call.0) refl separate own

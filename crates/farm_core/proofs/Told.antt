@@ -7,14 +7,14 @@ use Rattle.std.proofs.lemmas.List.Elements.{All-nil, All-cons}
 use Rattle.domain_core.specs.declared.event.By.{By}
 use Rattle.domain_core.specs.declared.event.Event.{Event}
 use Rattle.domain_core.specs.declared.event.Refusal.TheVariants.{NoSuch, JournalFull, NoMemory}
-use Rattle.domain_core.specs.Private.{Call, Answer}
+use Rattle.domain_core.specs.PrivateFarm.{Call, Answer}
 use Rattle.domain_core.specs.Domain.{UnlessNoMemory, DomainValue}
 use Rattle.plan_checker.specs.Data.{DomainData}
 use Rattle.farm_core.specs.Places.{Place, places_of}
-use Rattle.farm_core.specs.Whole.{Farm, whole_next, whole_answers, whole_opening}
+use Rattle.farm_core.specs.Whole.{Farm, whole_next, physical_answers, whole_opening}
 use Rattle.farm_core.specs.Projection.{lowered_for, own}
 use Rattle.farm_core.specs.Domains.{IsMadeOf}
-use Rattle.farm_core.specs.Laws.{told_from, told_by, told_to}
+use Rattle.farm_core.specs.Laws.{caller_answers_from, caller_answers, answers_among}
 use Rattle.farm_core.specs.PlainFarm.{places_in, states_in, IsCallOfEachWhole}
 use Rattle.farm_core.specs.Run.{calls_asked, NobodyElsewhere}
 use Rattle.farm_core.proofs.Making.{no_domain_no_change}
@@ -27,7 +27,7 @@ pub record IsToldSoFar (plan : List Place) (told : List Answer) (left all : List
   pub farm : Farm
   pub places : places_in domains ≡ plan
   pub made : IsMadeOf plan farm (states_in domains)
-  pub told_is : told ++ told_from plan farm left ≡ told_by plan all
+  pub told_is : told ++ caller_answers_from plan farm left ≡ caller_answers plan all
 
 pub told_nothing : (plan : List Place) (calls : List (ℕ × Call)) (domains : List DomainValue) → places_in domains ≡ plan → IsMadeOf plan (whole_opening plan) (states_in domains)
     → IsToldSoFar plan [] calls calls domains
@@ -55,7 +55,7 @@ told_one_more plan told domain call left all domains later answer so is places =
       farm = after;
       places = same;
       made = made;
-      told_is = append_assoc told (answer ∷ []) (told_from plan after left) ∙ ap (λ a. told ++ a ∷ told_from plan after left) says ∙ so.told_is;
+      told_is = append_assoc told (answer ∷ []) (caller_answers_from plan after left) ∙ ap (λ a. told ++ a ∷ caller_answers_from plan after left) says ∙ so.told_is;
     }
 
 -- the same at an index of the calls that were asked
@@ -69,8 +69,8 @@ told_next plan told asked index d domains later answer within so is places =
     told_one_more plan told x.0 (record { by = x.1; event = x.2 }) (calls_asked (drop (index + 1) asked)) (calls_asked asked) domains later answer
     (subst (λ (rest : List (ℕ × By × Event)). IsToldSoFar plan told (calls_asked rest) (calls_asked asked) domains) left so) is places
 
-pub told_all : (plan : List Place) (told : List Answer) (left all : List (ℕ × Call)) (domains : List DomainValue) → left ≡ [] → IsToldSoFar plan told left all domains → told ≡ told_by plan all
-told_all plan told left all domains none so = sym (append_none told) ∙ sym (ap (λ calls. told ++ told_from plan so.farm calls) none) ∙ so.told_is
+pub told_all : (plan : List Place) (told : List Answer) (left all : List (ℕ × Call)) (domains : List DomainValue) → left ≡ [] → IsToldSoFar plan told left all domains → told ≡ caller_answers plan all
+told_all plan told left all domains none so = sym (append_none told) ∙ sym (ap (λ calls. told ++ caller_answers_from plan so.farm calls) none) ∙ so.told_is
   where
     append_none : (xs : List Answer) → xs ++ [] ≡ xs
     append_none [] = refl
@@ -78,11 +78,11 @@ told_all plan told left all domains none so = sym (append_none told) ∙ sym (ap
 
 -- ---- one answer for each call
 
-length_answers : (plan : List Place) (farm : Farm) (calls : List (ℕ × Call)) → length (told_from plan farm calls) ≡ length calls
+length_answers : (plan : List Place) (farm : Farm) (calls : List (ℕ × Call)) → length (caller_answers_from plan farm calls) ≡ length calls
 length_answers plan farm [] = refl
 length_answers plan farm (call ∷ calls) = ap suc (length_answers plan (whole_next plan farm call).0 calls)
 
-pub one_answer_each : (plan : List Place) (asked : List (ℕ × By × Event)) → length (told_by plan (calls_asked asked)) ≡ length asked
+pub one_answer_each : (plan : List Place) (asked : List (ℕ × By × Event)) → length (caller_answers plan (calls_asked asked)) ≡ length asked
 one_answer_each plan asked = length_answers plan (whole_opening plan) (calls_asked asked) ∙ length-map asked _
 
 -- ---- calls of no domain
@@ -90,12 +90,12 @@ one_answer_each plan asked = length_answers plan (whole_opening plan) (calls_ask
 abbrev IsNoSuch : Answer → Type 0
 IsNoSuch answer = answer ≡ Err NoSuch
 
-none_elsewhere : (plan : List Place) (farm : Farm) (calls : List (ℕ × Call)) (domain : ℕ) → slice_get plan domain ≡ None → All IsNoSuch (own domain (told_pairs plan (whole_answers plan farm calls)))
+none_elsewhere : (plan : List Place) (farm : Farm) (calls : List (ℕ × Call)) (domain : ℕ) → slice_get plan domain ≡ None → All IsNoSuch (own domain (told_pairs plan (physical_answers plan farm calls)))
 none_elsewhere plan farm [] domain none = All-nil IsNoSuch
 none_elsewhere plan farm (call ∷ calls) domain none =
     let answer = lowered_for (slice_get plan call.0) (whole_next plan farm call).1 in
     let head : ℕ × Answer = (call.0, answer) in
-    let rest = told_pairs plan (whole_answers plan (whole_next plan farm call).0 calls) in
+    let rest = told_pairs plan (physical_answers plan (whole_next plan farm call).0 calls) in
     let later = none_elsewhere plan (whole_next plan farm call).0 calls domain none in
     elim (cases_eq call.0 domain) [
       | inl same ↦
@@ -106,10 +106,10 @@ none_elsewhere plan farm (call ∷ calls) domain none =
       | inr ne ↦ subst (All IsNoSuch) (sym (own-there domain head rest ne)) later
     ]
 
-pub nobody_elsewhere : (plan : List DomainData) (calls : List (ℕ × Call)) → NobodyElsewhere plan calls (told_by (places_of plan) calls)
+pub nobody_elsewhere : (plan : List DomainData) (calls : List (ℕ × Call)) → NobodyElsewhere plan calls (caller_answers (places_of plan) calls)
 nobody_elsewhere plan calls domain none =
     let places = places_of plan in
-    let heard = whole_answers places (whole_opening places) calls in
-    let is : told_to domain calls (told_by places calls) ≡ own domain (told_pairs places heard) =
+    let heard = physical_answers places (whole_opening places) calls in
+    let is : answers_among domain calls (caller_answers places calls) ≡ own domain (told_pairs places heard) =
     (λ i. own domain (zip (sym (told_domains places (whole_opening places) calls) i) (sym (told_answers places heard) i))) ∙ ap (own domain) (zip-parts (told_pairs places heard)) in
     subst (All IsNoSuch) (sym is) (none_elsewhere places (whole_opening places) calls domain none)

@@ -7,8 +7,8 @@ use Rattle.std.proofs.lemmas.Option.{slice_get_past, slice_get-get_or, slice_get
 use Rattle.plan_checker.specs.Data.{DomainData}
 use Rattle.plan_checker.specs.Part.{part_with}
 use Rattle.domain_core.specs.Domain.{DomainValue, IsMeant, Fits}
-use Rattle.domain_core.specs.Journal.{Answered}
-use Rattle.farm_core.specs.Places.{Place, place_of, places_of, IsSeparate}
+use Rattle.domain_core.specs.Journal.{AnsweredCall}
+use Rattle.farm_core.specs.Places.{Place, place_of, places_of, AreSeparatePlaces}
 use Rattle.farm_core.specs.Projection.{own}
 use Rattle.farm_core.specs.Merges.{journal_at, IsMerge, own_place, own_journal}
 use Rattle.farm_core.specs.PlainFarm.{places_in}
@@ -20,34 +20,34 @@ use Rattle.farm_core.proofs.Owners.{word_says}
 
 -- ---- one journal after another
 
-abbrev tagged : ℕ → List Answered → List (ℕ × Answered)
+abbrev tagged : ℕ → List AnsweredCall → List (ℕ × AnsweredCall)
 tagged number journal = map (λ a. (number, a)) journal
 
 -- journals of which the first is the domain's of this number
-abbrev joined_from : ℕ → List (List Answered) → List (ℕ × Answered)
+abbrev joined_from : ℕ → List (List AnsweredCall) → List (ℕ × AnsweredCall)
 joined_from number [] = []
 joined_from number (journal ∷ journals) = tagged number journal ++ joined_from (number + 1) journals
 
-own-append : (domain : ℕ) (xs ys : List (ℕ × Answered)) → own domain (xs ++ ys) ≡ own domain xs ++ own domain ys
+own-append : (domain : ℕ) (xs ys : List (ℕ × AnsweredCall)) → own domain (xs ++ ys) ≡ own domain xs ++ own domain ys
 own-append domain xs ys =
-    ap (map (λ (x : ℕ × Answered). x.1)) (filter-append (λ (x : ℕ × Answered). x.0 == domain) xs ys)
-    ∙ map-append (λ (x : ℕ × Answered). x.1) _ _
+    ap (map (λ (x : ℕ × AnsweredCall). x.1)) (filter-append (λ (x : ℕ × AnsweredCall). x.0 == domain) xs ys)
+    ∙ map-append (λ (x : ℕ × AnsweredCall). x.1) _ _
 
-own_of_tagged : (number : ℕ) (journal : List Answered) → own number (tagged number journal) ≡ journal
+own_of_tagged : (number : ℕ) (journal : List AnsweredCall) → own number (tagged number journal) ≡ journal
 own_of_tagged number [] = refl
 own_of_tagged number (a ∷ journal) = own-here number (number, a) (tagged number journal) refl ∙ ap (λ rest. a ∷ rest) (own_of_tagged number journal)
 
-none_of_tagged : (domain number : ℕ) (journal : List Answered) → number ≢ domain → own domain (tagged number journal) ≡ []
+none_of_tagged : (domain number : ℕ) (journal : List AnsweredCall) → number ≢ domain → own domain (tagged number journal) ≡ []
 none_of_tagged domain number [] ne = refl
 none_of_tagged domain number (a ∷ journal) ne = own-there domain (number, a) (tagged number journal) ne ∙ none_of_tagged domain number journal ne
 
-none_before : (domain number : ℕ) (journals : List (List Answered)) → domain < number → own domain (joined_from number journals) ≡ []
+none_before : (domain number : ℕ) (journals : List (List AnsweredCall)) → domain < number → own domain (joined_from number journals) ≡ []
 none_before domain number [] less = refl
 none_before domain number (journal ∷ journals) less =
     own-append domain (tagged number journal) (joined_from (number + 1) journals)
     ∙ (λ i. none_of_tagged domain number journal (λ e. omega arith) i ++ none_before domain (number + 1) journals (omega arith) i)
 
-own_of_joined : (domain number k : ℕ) (journals : List (List Answered)) → domain ≡ number + k → own domain (joined_from number journals) ≡ journal_at (slice_get journals k)
+own_of_joined : (domain number k : ℕ) (journals : List (List AnsweredCall)) → domain ≡ number + k → own domain (joined_from number journals) ≡ journal_at (slice_get journals k)
 own_of_joined domain number k [] is = ap journal_at (sym (slice_get_past [] k (omega arith)))
 own_of_joined domain number zero (journal ∷ journals) is =
     let same : number ≡ domain = omega (arith, is) in
@@ -58,10 +58,10 @@ own_of_joined domain number (suc k) (journal ∷ journals) is =
     own-append domain (tagged number journal) (joined_from (number + 1) journals)
     ∙ (λ i. none_of_tagged domain number journal (λ e. omega (arith, is, e)) i ++ own_of_joined domain (number + 1) k journals (omega (arith, is)) i)
 
-joined_merges : (journals : List (List Answered)) → IsMerge journals (joined_from 0 journals)
+joined_merges : (journals : List (List AnsweredCall)) → IsMerge journals (joined_from 0 journals)
 joined_merges journals domain = own_of_joined domain 0 domain journals (omega arith)
 
-pub have_a_whole : (domains : List DomainValue) → IsSeparate (places_in domains) → All IsMeant domains → HaveAWhole domains
+pub have_a_whole : (domains : List DomainValue) → AreSeparatePlaces (places_in domains) → All IsMeant domains → HaveAWhole domains
 have_a_whole domains separate meant = record {
   merge = joined_from 0 (map own_journal domains);
   merges = joined_merges (map own_journal domains);

@@ -5,11 +5,11 @@ use Rattle.std.specs.FinMap as fin
 use Rattle.std.specs.FinSet as set
 use Rattle.crossbar.specs.Switch.{Switch}
 use Rattle.domain_core.specs.declared.event.Refusal.TheVariants.{NoSuch}
-use Rattle.domain_core.specs.Private.{State, Call, next, opening}
-use Rattle.farm_core.specs.Places.{Place, IsSeparate}
+use Rattle.domain_core.specs.PrivateFarm.{State, Call, next, opening}
+use Rattle.farm_core.specs.Places.{Place, AreSeparatePlaces}
 use Rattle.farm_core.specs.Messages.{raised}
 use Rattle.farm_core.specs.Whole.{Farm, whole_next, whole_opening}
-use Rattle.farm_core.specs.Projection.{projected, lowered}
+use Rattle.farm_core.specs.Projection.{projected, lowered_answer}
 
 -- each connected output of these ports is driven by one of them
 abbrev pub DrivesItself : List ℕ → Switch → Type 0
@@ -53,13 +53,13 @@ OpeningIsMadeOfOpenings = (plan : List Place) → IsMadeOf plan (whole_opening p
 
 -- a call of a domain is answered as by the domain alone, which becomes what it would become alone, and all others stay
 pub record IsOneCall (plan : List Place) (farm : Farm) (states : List State) (domain : ℕ) (call : Call) (place : Place) (s : State) : Type 0 where
-  pub answer : lowered place (whole_next plan farm (domain, call)).1 ≡ (next place.part s call).1
+  pub answer : lowered_answer place (whole_next plan farm (domain, call)).1 ≡ (next place.part s call).1
   pub made : IsMadeOf plan (whole_next plan farm (domain, call)).0 (slice_set states domain (next place.part s call).0)
 
 -- each call of a domain is so, in every farm that is made of its domains' states
 abbrev pub EachCallIsPrivate : Type 0
 EachCallIsPrivate =
-    (plan : List Place) (farm : Farm) (states : List State) (domain : ℕ) (call : Call) (place : Place) (s : State) → IsSeparate plan → IsMadeOf plan farm states
+    (plan : List Place) (farm : Farm) (states : List State) (domain : ℕ) (call : Call) (place : Place) (s : State) → AreSeparatePlaces plan → IsMadeOf plan farm states
     → slice_get plan domain ≡ Some place → slice_get states domain ≡ Some s → IsOneCall plan farm states domain call place s
 
 -- a call of a domain that isn't in the plan changes nothing
@@ -69,6 +69,6 @@ NoDomainNoChange = (plan : List Place) (farm : Farm) (domain : ℕ) (call : Call
 -- a physical output is driven and ready as its domain says of its virtual number
 abbrev pub EachOutputIsOfItsDomain : Type 0
 EachOutputIsOfItsDomain =
-    (plan : List Place) (farm : Farm) (states : List State) (domain : ℕ) (place : Place) (s : State) (output port : ℕ) → IsSeparate plan → IsMadeOf plan farm states
+    (plan : List Place) (farm : Farm) (states : List State) (domain : ℕ) (place : Place) (s : State) (output port : ℕ) → AreSeparatePlaces plan → IsMadeOf plan farm states
     → slice_get plan domain ≡ Some place → slice_get states domain ≡ Some s → slice_get place.ports output ≡ Some port
     → output_of farm.switch port ≡ raised_output place.ports (output_of s.machine.switch output)

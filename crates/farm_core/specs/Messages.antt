@@ -10,7 +10,7 @@ use Rattle.crossbar.specs.Switch.{Switch}
 use Rattle.crossbar.specs.Row.{number_in}
 use Rattle.virtual_switch.specs.declared.reply.ConfigReply.{ConfigReply}
 use Rattle.virtual_switch.specs.declared.reply.ConfigReply.TheVariants.{Nothing, BadCommand, BadPort}
-use Rattle.virtual_switch.specs.Private.{ports_named, are_below, performed, answer_to, Configured}
+use Rattle.virtual_switch.specs.PrivateSwitch.{ports_named, are_below, performed, answer_to, Configured}
 use Rattle.farm_core.specs.Places.{Place}
 
 -- the physical port of a virtual number that is there
@@ -39,8 +39,8 @@ readied ports s = record {
 }
 
 -- the outputs of these ports are disconnected
-abbrev pub emptied : List ℕ → Switch → Switch
-emptied ports s = record {
+abbrev pub disconnected_ports : List ℕ → Switch → Switch
+disconnected_ports ports s = record {
   pairs = map.retain_keys s.pairs (λ port. not (is_among ports port));
   ready = set.retain s.ready (λ port. not (is_among ports port));
 }
@@ -51,7 +51,7 @@ performed_in ports s (Connect input output) = performed s (raised_message ports 
 performed_in ports s (ConnectBoth first second) = performed s (raised_message ports (ConnectBoth first second))
 performed_in ports s (Enquire output) = performed s (raised_message ports (Enquire output))
 performed_in ports s MakeReady = readied ports s
-performed_in ports s Clear = emptied ports s
+performed_in ports s Clear = disconnected_ports ports s
 performed_in ports s (Disconnect output) = performed s (raised_message ports (Disconnect output))
 performed_in ports s (DisconnectBoth first second) = performed s (raised_message ports (DisconnectBoth first second))
 

@@ -5,7 +5,7 @@ use Rattle.os_link.specs.declared.latch.Packet.{Packet}
 use Rattle.crossbar.specs.Switch.{Switch, drives}
 use Rattle.domain_core.specs.declared.event.Moved.{Moved}
 use Rattle.domain_core.specs.declared.event.Moved.TheVariants.{Nothing, Lost, Stayed, Passed}
-use Rattle.domain_core.specs.Devices.{DeviceStates, waiting, taken, arrived}
+use Rattle.domain_core.specs.Devices.{DeviceStates, packet_waiting, taken_from_device, arrived_at_device}
 use Rattle.domain_core.specs.Moves.{outcome}
 use Rattle.farm_core.specs.Places.{Place, put_at, Joined, all_ports, device_in}
 
@@ -23,12 +23,12 @@ driven_in plan s input = filter (drives s input) (all_ports plan)
 
 -- the packet that waits at a device of the farm is taken
 abbrev pub taken_in : Joined → AllDevices → AllDevices
-taken_in from all = changed_at from.domain (taken from.device) all
+taken_in from all = changed_at from.domain (taken_from_device from.device) all
 
 -- a packet arrives at a device of the farm; at a port without one it is lost
 abbrev pub arrived_in : Packet → Option Joined → AllDevices → AllDevices
 arrived_in packet None all = all
-arrived_in packet (Some to) all = changed_at to.domain (arrived packet (Some to.device)) all
+arrived_in packet (Some to) all = changed_at to.domain (arrived_at_device packet (Some to.device)) all
 
 -- a packet arrives at the devices of outputs, one after another
 abbrev pub copied_in : List Place → Packet → List ℕ → AllDevices → AllDevices
@@ -50,7 +50,7 @@ sent_in plan s all outputs from (Some packet) = (moved_by_in (outcome s outputs)
 -- a Move from a physical port, by the device that is joined to it
 abbrev pub moved_from_in : List Place → Switch → AllDevices → List ℕ → Option Joined → AllDevices × Moved
 moved_from_in plan s all outputs None = (all, Nothing)
-moved_from_in plan s all outputs (Some from) = sent_in plan s all outputs from (waiting (all from.domain) from.device)
+moved_from_in plan s all outputs (Some from) = sent_in plan s all outputs from (packet_waiting (all from.domain) from.device)
 
 -- the devices of all domains after a Move of a physical port, and the answer
 abbrev pub moved_in : List Place → Switch → AllDevices → ℕ → AllDevices × Moved

@@ -31,7 +31,7 @@ abbrev pub AreApart : List ℕ → List ℕ → Type 0
 AreApart ports others = (port : ℕ) → Contains ports port → Contains others port → ⊥
 
 -- each domain has ports of its own
-pub record IsSeparate (plan : List Place) : Type 0 where
+pub record AreSeparatePlaces (plan : List Place) : Type 0 where
   pub each : (domain : ℕ) (place : Place) → slice_get plan domain ≡ Some place → IsPlace place
   pub apart : (domain other : ℕ) (place there : Place) → domain ≢ other → slice_get plan domain ≡ Some place → slice_get plan other ≡ Some there → AreApart place.ports there.ports
 

@@ -12,7 +12,7 @@ use Rattle.domain_core.specs.declared.domain.Committed.TheVariants.{Done, Stale}
 use Rattle.domain_core.specs.declared.event.Refusal.{Refusal}
 use Rattle.domain_core.specs.declared.event.Refusal.TheVariants.{NoSuch, JournalFull}
 use Rattle.domain_core.specs.declared.journal.Entry.{Entry}
-use Rattle.domain_core.specs.Private.{State, Answer, Call, next, opening}
+use Rattle.domain_core.specs.PrivateFarm.{State, Answer, Call, next, opening}
 use Rattle.domain_core.specs.Domain.{DomainValue, state_of, gained, Fits, UnlessNoMemory}
 use Rattle.domain_core.specs.Journal.{expanded}
 use Rattle.domain_core.specs.Ticket.{TicketValue, IsHome, Commits}

@@ -7,10 +7,10 @@ use Rattle.crossbar.specs.Switch.{Switch, map_below, set_below}
 use Rattle.crossbar.specs.Row.{number_in}
 use Rattle.virtual_switch.specs.declared.reply.ConfigReply.{ConfigReply}
 use Rattle.virtual_switch.specs.declared.reply.ConfigReply.TheVariants.{Nothing, Answer, BadCommand, BadPort}
-use Rattle.virtual_switch.specs.Private.{answer_byte}
+use Rattle.virtual_switch.specs.PrivateSwitch.{answer_byte}
 use Rattle.domain_core.specs.declared.event.Reply.{Reply}
 use Rattle.domain_core.specs.declared.event.Reply.TheVariants as reply
-use Rattle.domain_core.specs.Private as private
+use Rattle.domain_core.specs.PrivateFarm as private
 use Rattle.farm_core.specs.Places.{Place}
 use Rattle.farm_core.specs.Whole.{Farm}
 
@@ -56,14 +56,14 @@ lowered_reply ports (reply.Config c) = reply.Config (lowered_config ports c)
 lowered_reply ports r = r
 
 -- an answer as the domain is told it
-abbrev pub lowered : Place → private.Answer → private.Answer
-lowered place (Ok r) = Ok (lowered_reply place.ports r)
-lowered place (Err refusal) = Err refusal
+abbrev pub lowered_answer : Place → private.Answer → private.Answer
+lowered_answer place (Ok r) = Ok (lowered_reply place.ports r)
+lowered_answer place (Err refusal) = Err refusal
 
 -- the same for a domain that may not be there
 abbrev pub lowered_for : Option Place → private.Answer → private.Answer
 lowered_for None answer = answer
-lowered_for (Some place) answer = lowered place answer
+lowered_for (Some place) answer = lowered_answer place answer
 
 -- one domain's own, in order
 abbrev pub own : {X : Type 0} → ℕ → List (ℕ × X) → List X

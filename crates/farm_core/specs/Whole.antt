@@ -6,9 +6,9 @@ use Rattle.domain_core.specs.declared.event.Event.TheVariants.{Config, Move}
 use Rattle.domain_core.specs.declared.event.Reply.{Reply}
 use Rattle.domain_core.specs.declared.event.Reply.TheVariants as reply
 use Rattle.domain_core.specs.declared.event.Refusal.TheVariants.{NoSuch, JournalFull}
-use Rattle.domain_core.specs.Devices.{DeviceStates, opened}
+use Rattle.domain_core.specs.Devices.{DeviceStates, opened_devices}
 use Rattle.domain_core.specs.Machine.{Machine, acted, is_recorded, has_moved}
-use Rattle.domain_core.specs.Private.{Call, Answer, is_there}
+use Rattle.domain_core.specs.PrivateFarm.{Call, Answer, is_there}
 use Rattle.farm_core.specs.Places.{Place, put_at}
 use Rattle.farm_core.specs.Messages.{raised, configured_in}
 use Rattle.farm_core.specs.Packets.{AllDevices, moved_in}
@@ -66,9 +66,9 @@ abbrev pub whole_next : List Place → Farm → ℕ × Call → Farm × Answer
 whole_next plan farm call = next_in plan farm call.0 call.1 (slice_get plan call.0)
 
 -- each answer with the domain that it goes to, in order
-abbrev pub whole_answers : List Place → Farm → List (ℕ × Call) → List (ℕ × Answer)
-whole_answers plan farm [] = []
-whole_answers plan farm (call ∷ calls) = (call.0, (whole_next plan farm call).1) ∷ whole_answers plan (whole_next plan farm call).0 calls
+abbrev pub physical_answers : List Place → Farm → List (ℕ × Call) → List (ℕ × Answer)
+physical_answers plan farm [] = []
+physical_answers plan farm (call ∷ calls) = (call.0, (whole_next plan farm call).1) ∷ physical_answers plan (whole_next plan farm call).0 calls
 
 -- the farm after all calls
 abbrev pub whole_after : List Place → Farm → List (ℕ × Call) → Farm
@@ -78,7 +78,7 @@ whole_after plan farm (call ∷ calls) = whole_after plan (whole_next plan farm 
 -- the nodes and hosts of a domain as they are opened; none if there is no such domain
 abbrev pub opened_at : Option Place → DeviceStates
 opened_at None = record { nodes = []; hosts = [] }
-opened_at (Some place) = opened place.part
+opened_at (Some place) = opened_devices place.part
 
 -- all outputs disconnected, no message begun, nodes and hosts fresh, nothing recorded
 abbrev pub whole_opening : List Place → Farm

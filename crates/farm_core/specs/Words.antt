@@ -1,12 +1,12 @@
 -- What the switch words of domains say of the whole farm that is made of them.
 use Rattle.std.specs.Prelude.{◌≡◌, ℕ, List, length, map, Some, slice_get, All}
 use Rattle.crossbar.specs.declared.word.Word.{Word}
-use Rattle.crossbar.specs.Row.{IsRow}
+use Rattle.crossbar.specs.Row.{AreWordsOf}
 use Rattle.crossbar.specs.Switch.{Switch}
 use Rattle.plan_checker.specs.Data.{DomainData}
 use Rattle.domain_core.specs.Domain.{DomainValue, IsMeant, Fits}
-use Rattle.domain_core.specs.Journal.{Answered}
-use Rattle.farm_core.specs.Places.{places_of, IsSeparate}
+use Rattle.domain_core.specs.Journal.{AnsweredCall}
+use Rattle.farm_core.specs.Places.{places_of, AreSeparatePlaces}
 use Rattle.farm_core.specs.Whole.{Farm, whole_after, whole_opening}
 use Rattle.farm_core.specs.Domains.{output_of}
 use Rattle.farm_core.specs.Merges.{own_journal, IsMerge, calls_in, IsRun}
@@ -14,7 +14,7 @@ use Rattle.farm_core.specs.PlainFarm.{places_in, states_in, IsMadeOfDomains, out
 
 -- its words are a row of its ports
 abbrev pub HasRow : DomainValue → Type 0
-HasRow d = IsRow d.machine.switch.ports d.machine.switch.words
+HasRow d = AreWordsOf d.machine.switch.ports d.machine.switch.words
 
 -- its words are all 0: disconnected, and never changed
 abbrev pub IsUnused : DomainValue → Type 0
@@ -29,17 +29,17 @@ IsAsWordsSay domains s =
 -- so it is in every whole farm that is made of them
 abbrev pub EachWholeIsAsWordsSay : Type 0
 EachWholeIsAsWordsSay =
-    (domains : List DomainValue) (farm : Farm) → IsSeparate (places_in domains) → All HasRow domains → IsMadeOfDomains farm domains → IsAsWordsSay domains farm.switch
+    (domains : List DomainValue) (farm : Farm) → AreSeparatePlaces (places_in domains) → All HasRow domains → IsMadeOfDomains farm domains → IsAsWordsSay domains farm.switch
 
 -- and at the end of every merge of their journals
 abbrev pub EachMergeEndsAsWordsSay : Type 0
 EachMergeEndsAsWordsSay =
-    (domains : List DomainValue) (merge : List (ℕ × Answered)) → IsSeparate (places_in domains) → All IsMeant domains → All HasRow domains
+    (domains : List DomainValue) (merge : List (ℕ × AnsweredCall)) → AreSeparatePlaces (places_in domains) → All IsMeant domains → All HasRow domains
     → IsMerge (map own_journal domains) merge → IsAsWordsSay domains (whole_after (places_in domains) (whole_opening (places_in domains)) (calls_in merge)).switch
 
 -- some merge of the domains' journals leads the whole farm from its opening, by the stored replies, to one that is made of the domains
 pub record HaveAWhole (domains : List DomainValue) : Type 0 where
-  pub merge : List (ℕ × Answered)
+  pub merge : List (ℕ × AnsweredCall)
   pub merges : IsMerge (map own_journal domains) merge
   pub run : IsRun (places_in domains) merge (states_in domains)
 

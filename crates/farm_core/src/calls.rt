@@ -2,7 +2,7 @@
 ghost use Rattle.std.specs.Prelude.{◌≡◌, ◌↔◌, IsTrue, Err, IfOk, IfErr, length};
 ghost use Rattle.domain_core.specs.declared.event.Refusal.TheVariants.{NoMemory as WantOfMemory};
 ghost use Rattle.farm_core.specs.Places.{places_of};
-ghost use Rattle.farm_core.specs.Laws.{told_by};
+ghost use Rattle.farm_core.specs.Laws.{caller_answers};
 ghost use Rattle.farm_core.specs.Run.{calls_asked, EachToldAlone, NobodyElsewhere};
 
 use crate::farm::PlainFarm;
@@ -26,7 +26,7 @@ fn answers_to(
     plan: &AcceptedPlan,
     calls: &[(u8, By, Event)],
 ) -> Result<Answers, NoMemory>
-    ensures { IfOk result (λ told. told.items ≡ told_by (places_of plan.now) (calls_asked calls.now)) }
+    ensures { IfOk result (λ told. told.items ≡ caller_answers (places_of plan.now) (calls_asked calls.now)) }
 {
     let mut farm = PlainFarm::open(alloc, plan)?;
     let mut told = Vec::new(alloc);
@@ -51,7 +51,7 @@ pub fn run(
     plan: &AcceptedPlan,
     calls: &[(u8, By, Event)],
 ) -> Result<Answers, Refusal>
-    ensures whole { IfOk result (λ told. told.items ≡ told_by (places_of plan.now) (calls_asked calls.now)) }
+    ensures whole { IfOk result (λ told. told.items ≡ caller_answers (places_of plan.now) (calls_asked calls.now)) }
     ensures private { IfOk result (λ told. EachToldAlone plan.now (calls_asked calls.now) told.items) }
     ensures elsewhere { IfOk result (λ told. NobodyElsewhere plan.now (calls_asked calls.now) told.items) }
     ensures one_each { IfOk result (λ told. length told.items ≡ length calls.now) }

@@ -8,8 +8,8 @@ ghost use Rattle.domain_core.specs.declared.event.Refusal.TheVariants.{NoSuch, J
 ghost use Rattle.domain_core.specs.Domain.{state_of, IsMeant, IsQuiet, UnlessNoMemory};
 ghost use Rattle.domain_core.specs.Ticket.{fresh_ticket};
 ghost use Rattle.domain_core.specs.MachineValue.{machine_of};
-ghost use Rattle.domain_core.specs.Private.{opening};
-ghost use Rattle.farm_core.specs.Places.{place_of, places_of, IsSeparate};
+ghost use Rattle.domain_core.specs.PrivateFarm.{opening};
+ghost use Rattle.farm_core.specs.Places.{place_of, places_of, AreSeparatePlaces};
 ghost use Rattle.farm_core.specs.Whole.{whole_opening};
 ghost use Rattle.farm_core.specs.Domains.{IsFree, IsMadeOf};
 ghost use Rattle.farm_core.specs.Merges.{own_place};
@@ -33,14 +33,14 @@ pub struct PlainFarm {
 impl Model for PlainFarm {
     ghost use Rattle.std.specs.Prelude.{List};
     ghost use Rattle.domain_core.specs.Domain.{DomainValue};
-    ghost use Rattle.farm_core.specs.Places.{IsSeparate};
+    ghost use Rattle.farm_core.specs.Places.{AreSeparatePlaces};
     ghost use Rattle.farm_core.specs.PlainFarm.{places_in};
 
     ghost Value = { List DomainValue };
 
     ghost view = { λ f. f.domains.items };
 
-    ghost invariant = { λ f. IsSeparate (places_in f.domains.items) };
+    ghost invariant = { λ f. AreSeparatePlaces (places_in f.domains.items) };
 }
 
 // A domain of a plan as it is opened.
@@ -113,7 +113,7 @@ impl PlainFarm {
     ///
     /// The call changes nothing: its contract is the law.
     pub fn whole(&self)
-        ensures separate { IsSeparate (places_in self.now) }
+        ensures separate { AreSeparatePlaces (places_in self.now) }
         ensures meant { All IsMeant self.now }
         ensures rows { All HasRow self.now }
         ensures whole { HaveAWhole self.now }

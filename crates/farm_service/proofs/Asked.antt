@@ -3,7 +3,7 @@ use Rattle.std.proofs.Common.{◌≡◌, ℕ, List, None, Ok, Err, refl, sym, su
 use Rattle.plan_checker.specs.Data.{DomainData}
 use Rattle.plan_checker.specs.Part.{PartData, part_of}
 use Rattle.domain_core.specs.declared.event.Refusal.TheVariants.{NoSuch, JournalFull, NoMemory}
-use Rattle.domain_core.specs.Private.{Answer, Call, next}
+use Rattle.domain_core.specs.PrivateFarm.{Answer, Call, next}
 use Rattle.domain_core.specs.Domain.{DomainValue, state_of, IsMeant, Fits, UnlessNoMemory}
 use Rattle.domain_core.specs.Journal.{expanded}
 use Rattle.domain_core.specs.Answers.{IsAnswer}

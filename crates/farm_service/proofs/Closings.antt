@@ -8,8 +8,8 @@ use Rattle.crossbar.specs.declared.word.Word.{Word}
 use Rattle.plan_checker.specs.Data.{DomainData}
 use Rattle.plan_checker.specs.Part.{physical_ports}
 use Rattle.domain_core.specs.Domain.{DomainValue, IsMeant}
-use Rattle.domain_core.specs.Journal.{Answered, expanded}
-use Rattle.farm_core.specs.Places.{Place, place_of, places_of, IsSeparate}
+use Rattle.domain_core.specs.Journal.{AnsweredCall, expanded}
+use Rattle.farm_core.specs.Places.{Place, place_of, places_of, AreSeparatePlaces}
 use Rattle.farm_core.specs.PlainFarm.{places_in}
 use Rattle.farm_core.specs.Merges.{own_place, own_journal, IsMerge, EachMergeOfDomainsIsARun}
 use Rattle.farm_core.specs.Words.{HasRow, EachMergeEndsAsWordsSay}
@@ -114,10 +114,10 @@ made_of (Some d) place is = (d, refl, same_Some _ _ is)
 domain_of : (domains : List DomainValue) (i : ℕ) (place : Place) → slice_get (map own_place domains) i ≡ Some place → (d : DomainValue) × (slice_get domains i ≡ Some d) × (own_place d ≡ place)
 domain_of domains i place at = made_of (slice_get domains i) place (sym (slice_get-map own_place domains i) ∙ at)
 
-runs_in : (domains : List DomainValue) (closed : List ClosedDomain) → EachMergeOfDomainsIsARun → EachMergeEndsAsWordsSay → IsSeparate (places_in domains) → All IsMeant domains → All HasRow domains
+runs_in : (domains : List DomainValue) (closed : List ClosedDomain) → EachMergeOfDomainsIsARun → EachMergeEndsAsWordsSay → AreSeparatePlaces (places_in domains) → All IsMeant domains → All HasRow domains
     → map history_of closed ≡ map own_journal domains → map (λ c. c.words.items) closed ≡ map (λ d. d.machine.switch.words) domains → EachMergeRuns (places_in domains) closed
 runs_in domains closed law says_law separate meant rows journals words merge is =
-    let merges = subst (λ (js : List (List Answered)). IsMerge js merge) journals is in
+    let merges = subst (λ (js : List (List AnsweredCall)). IsMerge js merge) journals is in
     let run = law domains merge separate meant merges in record {
       replies = run.replies;
       words = λ domain output port place c word at there has says.
@@ -127,11 +127,11 @@ runs_in domains closed law says_law separate meant rows journals words merge is 
       free = run.ends.free;
     }
 
-pub all_run : (plan : List DomainData) (closed : List ClosedDomain) (domains : List DomainValue) → EachMergeOfDomainsIsARun → EachMergeEndsAsWordsSay → IsSeparate (places_of plan) → AreEnds plan domains closed
+pub all_run : (plan : List DomainData) (closed : List ClosedDomain) (domains : List DomainValue) → EachMergeOfDomainsIsARun → EachMergeEndsAsWordsSay → AreSeparatePlaces (places_of plan) → AreEnds plan domains closed
     → EachMergeRuns (places_of plan) closed
 all_run plan closed domains law says_law separate ends =
     subst (λ (places : List Place). EachMergeRuns places closed) ends.places
-    (runs_in domains closed law says_law (subst IsSeparate (sym ends.places) separate) ends.meant ends.rows ends.journals ends.words)
+    (runs_in domains closed law says_law (subst AreSeparatePlaces (sym ends.places) separate) ends.meant ends.rows ends.journals ends.words)
 
 pub whole : (plan : List DomainData) (i : ℕ) (closed : List ClosedDomain) → length plan ≡ i → AreEndsSoFar plan i closed → (domains : List DomainValue) × AreEnds plan domains closed
 whole plan i closed count ends = (ends.0, subst (λ (xs : List DomainData). AreEnds xs ends.0 closed) (take_all i plan (omega arith)) ends.1)

@@ -11,7 +11,7 @@ use Rattle.domain_core.specs.declared.event.Event.{Event}
 use Rattle.domain_core.specs.declared.event.Reply.{Reply}
 use Rattle.domain_core.specs.declared.journal.Entry.{Entry}
 use Rattle.domain_core.specs.declared.journal.Entry.TheVariants.{One, Run}
-use Rattle.domain_core.specs.Journal.{Answered, expanded, stepped}
+use Rattle.domain_core.specs.Journal.{AnsweredCall, expanded, answered_step}
 use Rattle.domain_core.specs.Commands.{is_command, is_user}
 use Rattle.domain_core.specs.Laws.{JournalsAddUp}
 use Rattle.farm_service.specs.declared.told.Told.{Told}
@@ -22,11 +22,11 @@ and_none true x = refl
 and_none false x = refl
 
 -- a Step is no command
-no_command : (user : ℕ) (by : By) (node : ℕ) (answer : Stepped) → command_in user (stepped by node answer) ≡ None
+no_command : (user : ℕ) (by : By) (node : ℕ) (answer : Stepped) → command_in user (answered_step by node answer) ≡ None
 no_command user Farm node answer = refl
 no_command user (User other) node answer = and_none (other == user) _
 
-no_replicated : (user : ℕ) (by : By) (node count : ℕ) (rest : List Answered) → commands_of user (replicate count (stepped by node Ran) ++ rest) ≡ commands_of user rest
+no_replicated : (user : ℕ) (by : By) (node count : ℕ) (rest : List AnsweredCall) → commands_of user (replicate count (answered_step by node Ran) ++ rest) ≡ commands_of user rest
 no_replicated user by node zero rest = refl
 no_replicated user by node (suc count) rest = rw (no_command user by node Ran) (no_replicated user by node count rest)
 
@@ -34,7 +34,7 @@ no_replicated user by node (suc count) rest = rw (no_command user by node Ran) (
 pub no_steps : (user : ℕ) (by : By) (node count : ℕ) (last : Stepped) → commands_of user (expanded (Run by node count last ∷ [])) ≡ []
 no_steps user by node zero last = refl
 no_steps user by node (suc count) last =
-    ap (commands_of user) (append_assoc (replicate count (stepped by node Ran)) (stepped by node last ∷ []) []) ∙ no_replicated user by node count (stepped by node last ∷ []) ∙ rw (no_command user by node last) refl
+    ap (commands_of user) (append_assoc (replicate count (answered_step by node Ran)) (answered_step by node last ∷ []) []) ∙ no_replicated user by node count (answered_step by node last ∷ []) ∙ rw (no_command user by node last) refl
 
 -- an event that is a command of the user, and one that isn't
 pub own_command : (user : ℕ) (by : By) (event : Event) (reply : Reply) → (is_user user by && is_command event) ≡ true

@@ -4,7 +4,7 @@ use Rattle.plan_checker.specs.Data.{DomainData}
 use Rattle.plan_checker.specs.Part.{part_of}
 use Rattle.domain_core.specs.declared.event.Event.{Event}
 use Rattle.domain_core.specs.declared.event.Refusal.TheVariants.{NoSuch}
-use Rattle.domain_core.specs.Private.{Answer, Call}
+use Rattle.domain_core.specs.PrivateFarm.{Answer, Call}
 use Rattle.domain_core.specs.Answers.{IsAnswer}
 use Rattle.domain_core.specs.Domain.{UnlessNoMemory}
 use Rattle.farm_service.specs.Passes.{SessionValue, call_of}

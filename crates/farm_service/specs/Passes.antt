@@ -4,11 +4,11 @@ use Rattle.plan_checker.specs.Data.{DomainData}
 use Rattle.domain_core.specs.declared.event.By.TheVariants.{User}
 use Rattle.domain_core.specs.declared.event.Event.{Event}
 use Rattle.domain_core.specs.declared.event.Reply.{Reply}
-use Rattle.domain_core.specs.Private.{Answer, Call}
+use Rattle.domain_core.specs.PrivateFarm.{Answer, Call}
 use Rattle.farm_service.specs.declared.told.Told.{Told}
 
 -- whose it is, by the number of his domain in the plan and his number there; and what he asked and was answered, in his order
-pub record PassValue : Type 0 where
+pub record UserPassValue : Type 0 where
   pub domain : ℕ
   pub user : ℕ
   pub told : List Told
@@ -16,36 +16,36 @@ pub record PassValue : Type 0 where
 -- the plan of its service, and the user's pass
 pub record SessionValue : Type 0 where
   pub plan : List DomainData
-  pub pass : PassValue
+  pub pass : UserPassValue
 
 -- ---- as a service is opened
 
 -- a pass before its user has asked anything
-abbrev pub fresh_pass : ℕ → ℕ → PassValue
+abbrev pub fresh_pass : ℕ → ℕ → UserPassValue
 fresh_pass domain user = record { domain = domain; user = user; told = [] }
 
 -- the passes of so many users of a domain
-abbrev pub passes_in : ℕ → ℕ → List PassValue
+abbrev pub passes_in : ℕ → ℕ → List UserPassValue
 passes_in domain zero = []
 passes_in domain (suc count) = passes_in domain count ++ fresh_pass domain count ∷ []
 
 -- the passes of the users of domains, the first of which has this number
-abbrev pub passes_from : ℕ → List DomainData → List PassValue
+abbrev pub passes_from : ℕ → List DomainData → List UserPassValue
 passes_from number [] = []
 passes_from number (d ∷ plan) = passes_in number (length d.users) ++ passes_from (suc number) plan
 
 -- one pass for each user of a plan, in its order
-abbrev pub fresh_passes : List DomainData → List PassValue
+abbrev pub fresh_passes : List DomainData → List UserPassValue
 fresh_passes plan = passes_from 0 plan
 
 -- ---- a command
 
 -- the call that a user's event is in his domain
-abbrev pub call_of : PassValue → Event → Call
+abbrev pub call_of : UserPassValue → Event → Call
 call_of pass event = record { by = User pass.user; event = event }
 
 -- the pass with one more answered event at the end of its list
-abbrev pub with_told : PassValue → Event → Reply → PassValue
+abbrev pub with_told : UserPassValue → Event → Reply → UserPassValue
 with_told pass event reply = record pass { told = pass.told ++ record { event = event; reply = reply } ∷ [] }
 
 -- the list gains just an answered event with its reply, and nothing if it was refused

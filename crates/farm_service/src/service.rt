@@ -10,7 +10,7 @@ ghost use Rattle.farm_core.specs.Places.{places_of};
 ghost use Rattle.plan_checker.specs.Part.{part_of};
 ghost use Rattle.switch_table.specs.Domains.{domains_of};
 ghost use Rattle.switch_table.specs.Rule.{IsConfined, word_of};
-ghost use Rattle.switch_table.specs.Seats.{seen};
+ghost use Rattle.switch_table.specs.Seats.{seen_words};
 ghost use Rattle.token_queue.specs.Passes.{AreItsPasses};
 ghost use Rattle.token_queue.specs.Tokens.{HasEachOnce};
 ghost use Rattle.farm_service.specs.Answers.{IsAnswerIn};
@@ -110,7 +110,7 @@ impl Service {
         ensures workers { IfOk result (λ o. length o.passes.items ≡ workers) }
         ensures passes { IfOk result (λ o. AreItsPasses plan o.service.queue o.passes.items) }
         ensures operator { IfOk result (λ o. IsItsOperator o.service o.operator) }
-        ensures seen { IfOk result (λ o. seen o.operator ≡ replicate 32 0) }
+        ensures seen { IfOk result (λ o. seen_words o.operator ≡ replicate 32 0) }
         ensures err { IfErr result (λ refusal. refusal ≡ NoMemory) }
     {
         let (table, seats, operator) = SwitchTable::open(alloc, &plan)?;
@@ -147,8 +147,8 @@ impl Service {
     pub fn survey(&self, operator: &mut OperatorSeat, output: u8) -> Word
         requires operator { IsItsOperator self.now operator.old }
         requires output { output < 32 }
-        ensures seen { seen operator.new ≡ slice_set (seen operator.old) output result.bits }
-        ensures newer { IsAtLeastAsNew result (word_of (slice_index (seen operator.old) output)) }
+        ensures seen { seen_words operator.new ≡ slice_set (seen_words operator.old) output result.bits }
+        ensures newer { IsAtLeastAsNew result (word_of (slice_index (seen_words operator.old) output)) }
         ensures confined { IsConfined (domains_of self.now.plan) output result.bits }
         ensures operator { IsItsOperator self.now operator.new }
     {

@@ -9,9 +9,9 @@ use Rattle.link_channels.specs.declared.link.FourLinks.{FourLinks}
 use Rattle.link_channels.specs.declared.number.LinkNumber.{LinkNumber}
 use Rattle.link_channels.specs.declared.number.LinkNumber.TheVariants.{Zero, One, Two, Three}
 use Rattle.link_channels.specs.Links.{has_work, any_has_work, within}
-use Rattle.link_channels.specs.Reply.{Reply, Gave, Halted, read, written, requeued, and_then, acts, has_acted, served}
-use Rattle.link_channels.specs.Service.{acted, input_byte, output_byte, arrival, wakes, woken, serve_link, serve, serve_all}
-use Rattle.link_channels.specs.Waiting.{state_of}
+use Rattle.link_channels.specs.Reply.{Reply, Gave, Halted, read_then, written_then, requeued_then, reply_and_then, acts, has_acted, served}
+use Rattle.link_channels.specs.Service.{marked_acted, input_byte, output_byte, arrival, wakes, woken, serve_link, serve, serve_all}
+use Rattle.link_channels.specs.Waiting.{state_address}
 
 -- where no link has work nothing is done
 pub quiet-link : (i o : ℕ) (l : Link) (q : Queue) (m : List ℕ) → has_work l ≡ false → serve_link i o l q m ≡ Gave (false, q) l m
@@ -32,16 +32,16 @@ quiet-links ls q m e =
     rw (quiet-link _ _ ls.zero q m idle.0, quiet-link _ _ ls.one q m idle.1.0, quiet-link _ _ ls.two q m idle.1.1.0, quiet-link _ _ ls.three q m idle.1.1.1) refl
 
 -- what comes after keeps that something was done
-acts-acted : (r : Reply (Unit {0} × Queue) Link) → acts (acted r) ≡ true
+acts-acted : (r : Reply (Unit {0} × Queue) Link) → acts (marked_acted r) ≡ true
 acts-acted (Gave x l m) = refl
 acts-acted (Halted fault l m) = refl
 
-acts-then : {L : Type 0} → (r : Reply (Bool × Queue) L) (f : Bool × Queue → L → List ℕ → Reply (Bool × Queue) L) → acts r ≡ true → ((q : Queue) (l : L) (m : List ℕ) → acts (f (true, q) l m) ≡ true) → acts (and_then r f) ≡ true
+acts-then : {L : Type 0} → (r : Reply (Bool × Queue) L) (f : Bool × Queue → L → List ℕ → Reply (Bool × Queue) L) → acts r ≡ true → ((q : Queue) (l : L) (m : List ℕ) → acts (f (true, q) l m) ≡ true) → acts (reply_and_then r f) ≡ true
 acts-then (Gave (true, q) l m) f e h = h q l m
 acts-then (Gave (false, q) l m) f e h = cc
 acts-then (Halted fault l m) f e h = refl
 
-then-acts : {L : Type 0} → (r : Reply (Bool × Queue) L) (f : Bool × Queue → L → List ℕ → Reply (Bool × Queue) L) → ((x : Bool × Queue) (l : L) (m : List ℕ) → acts (f x l m) ≡ true) → acts (and_then r f) ≡ true
+then-acts : {L : Type 0} → (r : Reply (Bool × Queue) L) (f : Bool × Queue → L → List ℕ → Reply (Bool × Queue) L) → ((x : Bool × Queue) (l : L) (m : List ℕ) → acts (f x l m) ≡ true) → acts (reply_and_then r f) ≡ true
 then-acts (Gave x l m) f h = h x l m
 then-acts (Halted fault l m) f h = refl
 
@@ -49,15 +49,15 @@ acts-within : (n : LinkNumber) (ls : FourLinks) (r : Reply (Bool × Queue) Link)
 acts-within n ls (Gave x l m) = refl
 acts-within n ls (Halted fault l m) = refl
 
-acts-written : (r : Result (List ℕ) Fault) (l : Link) (m : List ℕ) (f : List ℕ → Reply (Bool × Queue) Link) → ((n : List ℕ) → acts (f n) ≡ true) → acts (written r l m f) ≡ true
+acts-written : (r : Result (List ℕ) Fault) (l : Link) (m : List ℕ) (f : List ℕ → Reply (Bool × Queue) Link) → ((n : List ℕ) → acts (f n) ≡ true) → acts (written_then r l m f) ≡ true
 acts-written (Ok n) l m f h = h n
 acts-written (Err fault) l m f h = refl
 
-acts-requeued : (r : Change) (l : Link) (f : Queue → List ℕ → Reply (Bool × Queue) Link) → ((q : Queue) (n : List ℕ) → acts (f q n) ≡ true) → acts (requeued r l f) ≡ true
+acts-requeued : (r : Change) (l : Link) (f : Queue → List ℕ → Reply (Bool × Queue) Link) → ((q : Queue) (n : List ℕ) → acts (f q n) ≡ true) → acts (requeued_then r l f) ≡ true
 acts-requeued (Changed q n) l f h = h q n
 acts-requeued (Kept fault q n) l f h = refl
 
-acts-read : {B : Type 0} → (r : Result B Fault) (l : Link) (m : List ℕ) (f : B → Reply (Bool × Queue) Link) → ((x : B) → acts (f x) ≡ true) → acts (read r l m f) ≡ true
+acts-read : {B : Type 0} → (r : Result B Fault) (l : Link) (m : List ℕ) (f : B → Reply (Bool × Queue) Link) → ((x : B) → acts (f x) ≡ true) → acts (read_then r l m f) ≡ true
 acts-read (Ok x) l m f h = h x
 acts-read (Err fault) l m f h = refl
 
@@ -76,7 +76,7 @@ acts-woken state v l q m = search (rules, acts-written, acts-requeued, acts-if)
 
 acts-wakes : (other : Option ℕ) (l : Link) (q : Queue) (m : List ℕ) → acts (wakes other l q m) ≡ true
 acts-wakes None l q m = refl
-acts-wakes (Some v) l q m = acts-read (word_at m (state_of v)) l m (λ state. woken state v l q m) (λ state. acts-woken state v l q m)
+acts-wakes (Some v) l q m = acts-read (word_at m (state_address v)) l m (λ state. woken state v l q m) (λ state. acts-woken state v l q m)
 
 acts-arrival : (i : ℕ) (l : Link) (q : Queue) (m : List ℕ) → (l.watched && is_some l.end.input.buffer) ≡ true → acts (arrival i l q m) ≡ true
 acts-arrival i l q m e = grind (arith, rules, acts-read, acts-wakes)
@@ -85,25 +85,25 @@ abbrev Stage : Type 0 → Type 0
 Stage L = Bool × Queue → L → List ℕ → Reply (Bool × Queue) L
 
 -- of three or four stages the first acts
-first-of-three : {L : Type 0} → (r : Reply (Bool × Queue) L) (g h : Stage L) → acts r ≡ true → acts (and_then r (λ x l m. and_then (g x l m) (λ y l m. and_then (h y l m) (λ z l m. Gave (x.0 || y.0 || z.0, z.1) l m)))) ≡ true
+first-of-three : {L : Type 0} → (r : Reply (Bool × Queue) L) (g h : Stage L) → acts r ≡ true → acts (reply_and_then r (λ x l m. reply_and_then (g x l m) (λ y l m. reply_and_then (h y l m) (λ z l m. Gave (x.0 || y.0 || z.0, z.1) l m)))) ≡ true
 first-of-three r g h e =
-    acts-then r (λ x l m. and_then (g x l m) (λ y l m. and_then (h y l m) (λ z l m. Gave (x.0 || y.0 || z.0, z.1) l m))) e
-    (λ q l m. then-acts (g (true, q) l m) (λ y l m. and_then (h y l m) (λ z l m. Gave (true, z.1) l m))
+    acts-then r (λ x l m. reply_and_then (g x l m) (λ y l m. reply_and_then (h y l m) (λ z l m. Gave (x.0 || y.0 || z.0, z.1) l m))) e
+    (λ q l m. then-acts (g (true, q) l m) (λ y l m. reply_and_then (h y l m) (λ z l m. Gave (true, z.1) l m))
     (λ y l m. then-acts (h y l m) (λ z l m. Gave (true, z.1) l m) (λ z l m. refl)))
 
-first-of-two : {L : Type 0} → (r : Reply (Bool × Queue) L) (h : Stage L) → acts r ≡ true → acts (and_then r (λ y l m. and_then (h y l m) (λ z l m. Gave (y.0 || z.0, z.1) l m))) ≡ true
+first-of-two : {L : Type 0} → (r : Reply (Bool × Queue) L) (h : Stage L) → acts r ≡ true → acts (reply_and_then r (λ y l m. reply_and_then (h y l m) (λ z l m. Gave (y.0 || z.0, z.1) l m))) ≡ true
 first-of-two r h e =
-    acts-then r (λ y l m. and_then (h y l m) (λ z l m. Gave (y.0 || z.0, z.1) l m)) e
+    acts-then r (λ y l m. reply_and_then (h y l m) (λ z l m. Gave (y.0 || z.0, z.1) l m)) e
     (λ q l m. then-acts (h (true, q) l m) (λ z l m. Gave (true, z.1) l m) (λ z l m. refl))
 
-first-of-one : {L : Type 0} → (r : Reply (Bool × Queue) L) → acts r ≡ true → acts (and_then r (λ z l m. Gave (z.0, z.1) l m)) ≡ true
+first-of-one : {L : Type 0} → (r : Reply (Bool × Queue) L) → acts r ≡ true → acts (reply_and_then r (λ z l m. Gave (z.0, z.1) l m)) ≡ true
 first-of-one r e = acts-then r (λ z l m. Gave (z.0, z.1) l m) e (λ q l m. refl)
 
-first-of-four : {L : Type 0} → (r : Reply (Bool × Queue) L) (g h k : Stage L) → acts r ≡ true → acts (and_then r (λ x l m. and_then (g x l m) (λ y l m. and_then (h y l m) (λ z l m. and_then (k z l m) (λ w l m. Gave (x.0 || y.0 || z.0 || w.0, w.1) l m))))) ≡ true
+first-of-four : {L : Type 0} → (r : Reply (Bool × Queue) L) (g h k : Stage L) → acts r ≡ true → acts (reply_and_then r (λ x l m. reply_and_then (g x l m) (λ y l m. reply_and_then (h y l m) (λ z l m. reply_and_then (k z l m) (λ w l m. Gave (x.0 || y.0 || z.0 || w.0, w.1) l m))))) ≡ true
 first-of-four r g h k e =
-    acts-then r (λ x l m. and_then (g x l m) (λ y l m. and_then (h y l m) (λ z l m. and_then (k z l m) (λ w l m. Gave (x.0 || y.0 || z.0 || w.0, w.1) l m)))) e
-    (λ q l m. then-acts (g (true, q) l m) (λ y l m. and_then (h y l m) (λ z l m. and_then (k z l m) (λ w l m. Gave (true, w.1) l m)))
-    (λ y l m. then-acts (h y l m) (λ z l m. and_then (k z l m) (λ w l m. Gave (true, w.1) l m))
+    acts-then r (λ x l m. reply_and_then (g x l m) (λ y l m. reply_and_then (h y l m) (λ z l m. reply_and_then (k z l m) (λ w l m. Gave (x.0 || y.0 || z.0 || w.0, w.1) l m)))) e
+    (λ q l m. then-acts (g (true, q) l m) (λ y l m. reply_and_then (h y l m) (λ z l m. reply_and_then (k z l m) (λ w l m. Gave (true, w.1) l m)))
+    (λ y l m. then-acts (h y l m) (λ z l m. reply_and_then (k z l m) (λ w l m. Gave (true, w.1) l m))
     (λ z l m. then-acts (k z l m) (λ w l m. Gave (true, w.1) l m) (λ w l m. refl))))
 
 idle-input : (i : ℕ) (l : Link) (q : Queue) (m : List ℕ) → (is_some l.end.input.buffer && not (l.input_count == 0)) ≡ false → input_byte i l q m ≡ Gave (false, q) l m
@@ -156,5 +156,5 @@ acts-serve_all ls q m = acts-by ls q m _ refl
 
 -- so the code's answer tells whether one had
 pub has_acted-serve_all : (r : Result Bool Fault) (before after now : FourLinks) (q p : Queue) (m n : List ℕ) → before ≡ now → served r after p n ≡ serve_all before q m → has_acted r ≡ any_has_work now
-has_acted-serve_all (Ok acted) before after now q p m n same e = ap acts e ∙ (acts-serve_all before q m ∙ ap any_has_work same)
+has_acted-serve_all (Ok marked_acted) before after now q p m n same e = ap acts e ∙ (acts-serve_all before q m ∙ ap any_has_work same)
 has_acted-serve_all (Err fault) before after now q p m n same e = ap acts e ∙ (acts-serve_all before q m ∙ ap any_has_work same)

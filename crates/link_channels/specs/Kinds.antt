@@ -20,10 +20,10 @@ channels =
     []
 
 -- what a list has at a word address, a soft channel if it has nothing there
-abbrev pub found : List (ℕ × Channel) → ℕ → Channel
-found [] word = Soft
-found (entry ∷ entries) word = if word == entry.0 then entry.1 else found entries word
+abbrev pub kind_in : List (ℕ × Channel) → ℕ → Channel
+kind_in [] word = Soft
+kind_in (entry ∷ entries) word = if word == entry.0 then entry.1 else kind_in entries word
 
 -- what an address stands for, whose low two bits are ignored
 unfoldable pub kind_of : ℕ → Channel
-kind_of address = found channels (aligned address)
+kind_of address = kind_in channels (aligned address)

@@ -5,7 +5,7 @@ use Rattle.link_channels.specs.declared.number.LinkNumber.{LinkNumber}
 use Rattle.link_channels.specs.declared.number.LinkNumber.TheVariants.{Zero, One, Two, Three}
 use Rattle.link_channels.specs.declared.link.FourLinks.{FourLinks}
 use Rattle.link_channels.specs.Reply.{Reply, Gave, Halted}
-use Rattle.os_link.specs.End.{fresh, arrived, without_next, posted, emptied}
+use Rattle.os_link.specs.End.{fresh_end, arrived, without_next, posted, emptied}
 use Rattle.os_link.specs.declared.latch.Packet.{Packet}
 
 -- each of them, in the order of the numbers
@@ -48,7 +48,7 @@ input_channel Three = 0x8000001C
 -- a link at which nothing has happened and of which nobody has asked anything
 abbrev pub fresh_link : Link
 fresh_link = record {
-  end = fresh;
+  end = fresh_end;
   input_pointer = 0;
   input_count = 0;
   output_pointer = 0;

@@ -21,41 +21,41 @@ served (Ok x) l q m = Gave (x, q) l m
 served (Err fault) l q m = Halted fault l m
 
 -- goes on with what was read
-abbrev pub read : {A B L : Type 0} → Result B Fault → L → List ℕ → (B → Reply A L) → Reply A L
-read (Ok x) l m next = next x
-read (Err fault) l m next = Halted fault l m
+abbrev pub read_then : {A B L : Type 0} → Result B Fault → L → List ℕ → (B → Reply A L) → Reply A L
+read_then (Ok x) l m next = next x
+read_then (Err fault) l m next = Halted fault l m
 
 -- goes on with the memory that a write leaves
-abbrev pub written : {A L : Type 0} → Result (List ℕ) Fault → L → List ℕ → (List ℕ → Reply A L) → Reply A L
-written (Ok n) l m next = next n
-written (Err fault) l m next = Halted fault l m
+abbrev pub written_then : {A L : Type 0} → Result (List ℕ) Fault → L → List ℕ → (List ℕ → Reply A L) → Reply A L
+written_then (Ok n) l m next = next n
+written_then (Err fault) l m next = Halted fault l m
 
 -- goes on with the queue and memory that a put leaves
-abbrev pub requeued : {A L : Type 0} → Change → L → (Queue → List ℕ → Reply A L) → Reply A L
-requeued (Changed q n) l next = next q n
-requeued (Kept fault q n) l next = Halted fault l n
+abbrev pub requeued_then : {A L : Type 0} → Change → L → (Queue → List ℕ → Reply A L) → Reply A L
+requeued_then (Changed q n) l next = next q n
+requeued_then (Kept fault q n) l next = Halted fault l n
 
 -- goes on with the memory that a copy leaves
-abbrev pub moved : {A L : Type 0} → Result (Unit {0}) Fault → L → List ℕ → (List ℕ → Reply A L) → Reply A L
-moved (Ok _) l n next = next n
-moved (Err fault) l n next = Halted fault l n
+abbrev pub copied_then : {A L : Type 0} → Result (Unit {0}) Fault → L → List ℕ → (List ℕ → Reply A L) → Reply A L
+copied_then (Ok _) l n next = next n
+copied_then (Err fault) l n next = Halted fault l n
 
 -- goes on with an answer and what it left
-abbrev pub and_then : {A B L : Type 0} → Reply A L → (A → L → List ℕ → Reply B L) → Reply B L
-and_then (Gave x l m) next = next x l m
-and_then (Halted fault l m) next = Halted fault l m
+abbrev pub reply_and_then : {A B L : Type 0} → Reply A L → (A → L → List ℕ → Reply B L) → Reply B L
+reply_and_then (Gave x l m) next = next x l m
+reply_and_then (Halted fault l m) next = Halted fault l m
 
 -- the word at an address is read
-abbrev pub load : {A L : Type 0} → ℕ → L → List ℕ → (ℕ → Reply A L) → Reply A L
-load a l m next = read (word_at m a) l m next
+abbrev pub load_then : {A L : Type 0} → ℕ → L → List ℕ → (ℕ → Reply A L) → Reply A L
+load_then a l m next = read_then (word_at m a) l m next
 
 -- a word is written at an address
-abbrev pub store : {A L : Type 0} → ℕ → ℕ → L → List ℕ → (List ℕ → Reply A L) → Reply A L
-store a w l m next = written (with_word m a w) l m next
+abbrev pub store_then : {A L : Type 0} → ℕ → ℕ → L → List ℕ → (List ℕ → Reply A L) → Reply A L
+store_then a w l m next = written_then (with_word m a w) l m next
 
 -- a workspace is put in the queue
-abbrev pub put : {A L : Type 0} → ℕ → L → Queue → List ℕ → (Queue → List ℕ → Reply A L) → Reply A L
-put w l q m next = requeued (after_put q m w) l next
+abbrev pub put_then : {A L : Type 0} → ℕ → L → Queue → List ℕ → (Queue → List ℕ → Reply A L) → Reply A L
+put_then w l q m next = requeued_then (after_put q m w) l next
 
 -- a service that did something, or met a fault
 abbrev pub acts : {L : Type 0} → Reply (Bool × Queue) L → Bool

@@ -7,7 +7,7 @@ use Rattle.node_memory.specs.Words.{◌⊖◌, aligned}
 use Rattle.node_memory.specs.declared.fault.Fault.{Fault}
 use Rattle.node_memory.specs.declared.fault.Fault.TheVariants.{HighPriority}
 use Rattle.process_queue.specs.declared.queue.Queue.{Queue}
-use Rattle.link_channels.specs.Reply.{Reply, Gave, Halted, store, put}
+use Rattle.link_channels.specs.Reply.{Reply, Gave, Halted, store_then, put_then}
 use Rattle.link_channels.specs.declared.process.Process.{Process}
 
 -- the own descriptor: the workspace, with the bit of low priority
@@ -15,12 +15,12 @@ abbrev pub descriptor_of : Process → ℕ
 descriptor_of p = bit_or p.workspace 1
 
 -- the pointer of a transfer, or the state of an alternative, lies 12 below a workspace
-abbrev pub state_of : ℕ → ℕ
-state_of workspace = workspace ⊖ 12
+abbrev pub state_address : ℕ → ℕ
+state_address workspace = workspace ⊖ 12
 
 -- save: the word 4 below the workspace becomes the address of the next instruction
-abbrev pub save : {A L : Type 0} → Process → L → List ℕ → (List ℕ → Reply A L) → Reply A L
-save p l m next = store (p.workspace ⊖ 4) p.instruction l m next
+abbrev pub save_then : {A L : Type 0} → Process → L → List ℕ → (List ℕ → Reply A L) → Reply A L
+save_then p l m next = store_then (p.workspace ⊖ 4) p.instruction l m next
 
 -- a channel word read as a descriptor: nobody, a workspace, or a process of high priority
 abbrev pub described : Result ℕ Fault → Result (Option ℕ) Fault
@@ -36,4 +36,4 @@ waiting_at m channel = described (word_at m channel)
 abbrev pub scheduled : {L : Type 0} → ℕ → L → Queue → List ℕ → Reply (Unit {0} × Queue) L
 scheduled d l q m =
     if d == not_process then Gave (tt, q) l m
-    else (if d % 2 == 0 then Halted HighPriority l m else put (aligned d) l q m (λ q m. Gave (tt, q) l m))
+    else (if d % 2 == 0 then Halted HighPriority l m else put_then (aligned d) l q m (λ q m. Gave (tt, q) l m))

@@ -1,7 +1,7 @@
 // Channels of links: a process asks a link of its node for bytes, or gives it bytes to send.
 
 ghost use Rattle.std.specs.Prelude.{◌≡◌};
-ghost use Rattle.link_channels.specs.Hard as hard;
+ghost use Rattle.link_channels.specs.Hard.{input_reset, link_disable, link_enable, link_input, link_output, output_reset};
 ghost use Rattle.link_channels.specs.Reply.{gave};
 
 use crate::link::Link;
@@ -18,7 +18,7 @@ impl Process {
         link: &mut Link,
         transfer: Transfer,
     ) -> Result<Turn, Fault>
-        ensures answer { gave result link.new memory.new ≡ hard.input self.now transfer link.old memory.old }
+        ensures answer { gave result link.new memory.new ≡ link_input self.now transfer link.old memory.old }
     {
         if transfer.count == 0 {
             return Ok(Turn::GoesOn);
@@ -38,7 +38,7 @@ impl Process {
         link: &mut Link,
         transfer: Transfer,
     ) -> Result<Turn, Fault>
-        ensures answer { gave result link.new memory.new ≡ hard.output self.now transfer link.old memory.old }
+        ensures answer { gave result link.new memory.new ≡ link_output self.now transfer link.old memory.old }
     {
         if transfer.count == 0 {
             return Ok(Turn::GoesOn);
@@ -59,7 +59,7 @@ impl Process {
         link: &mut Link,
         channel: u32,
     ) -> Result<(), Fault>
-        ensures answer { gave result link.new memory.new ≡ hard.enable self.now channel link.old memory.old }
+        ensures answer { gave result link.new memory.new ≡ link_enable self.now channel link.old memory.old }
     {
         if link.end.input.buffer.is_some() {
             return memory.set_word(self.workspace.wrapping_sub(12), READY);
@@ -77,7 +77,7 @@ impl Process {
         channel: u32,
         offset: u32,
     ) -> Result<bool, Fault>
-        ensures answer { gave result link.new memory.new ≡ hard.disable self.now channel offset link.old memory.old }
+        ensures answer { gave result link.new memory.new ≡ link_disable self.now channel offset link.old memory.old }
     {
         link.watched = false;
         if memory.word(channel)? == self.descriptor() {
@@ -93,7 +93,7 @@ impl Process {
 impl Link {
     // The output side as where nothing was sent.
     pub(crate) fn reset_output(&mut self)
-        ensures state { self.new ≡ hard.output_reset self.old }
+        ensures state { self.new ≡ output_reset self.old }
     {
         self.end.latch.withdraw();
         self.end.output.clear();
@@ -102,7 +102,7 @@ impl Link {
 
     // The input side as where nothing has come; no acknowledge is posted.
     pub(crate) fn reset_input(&mut self)
-        ensures state { self.new ≡ hard.input_reset self.old }
+        ensures state { self.new ≡ input_reset self.old }
     {
         self.end.input.empty();
         self.input_count = 0;

@@ -4,7 +4,7 @@ ghost use Rattle.std.specs.Prelude.{◌≡◌, OnErr};
 ghost use Rattle.link_channels.specs.Reply.{gave, served};
 ghost use Rattle.link_channels.specs.declared.link.FourLinks.{FourLinks};
 ghost use Rattle.link_channels.specs.declared.link.Link.{Link};
-ghost use Rattle.link_channels.specs.Soft as soft;
+ghost use Rattle.link_channels.specs.Soft.{chosen, soft_disable, soft_enable, soft_input, soft_output, soft_reset, wait_there};
 
 use crate::process::{Process, Transfer, Turn};
 use crate::waiting::{ENABLING, NONE_SELECTED, READY, WAITING, waiting_at};
@@ -19,7 +19,7 @@ impl Process {
         queue: &Queue,
         transfer: Transfer,
     ) -> Result<Turn, Fault>
-        ensures answer { (ls : FourLinks) → served result ls queue.now memory.new ≡ soft.wait_there self.now transfer ls queue.now memory.old }
+        ensures answer { (ls : FourLinks) → served result ls queue.now memory.new ≡ wait_there self.now transfer ls queue.now memory.old }
     {
         memory.set_word(transfer.channel, self.descriptor())?;
         memory.set_word(self.workspace.wrapping_sub(12), transfer.pointer)?;
@@ -28,14 +28,14 @@ impl Process {
     }
 
     // Takes a message from a process that has one, or waits for it.
-    #[tactic(auto, unfolding(crate::specs::Soft::input))]
+    #[tactic(auto, unfolding(crate::specs::Soft::soft_input))]
     pub(crate) fn input_softly(
         &self,
         memory: &mut Memory,
         queue: &mut Queue,
         transfer: Transfer,
     ) -> Result<Turn, Fault>
-        ensures answer { (ls : FourLinks) → served result ls queue.new memory.new ≡ soft.input self.now transfer ls queue.old memory.old }
+        ensures answer { (ls : FourLinks) → served result ls queue.new memory.new ≡ soft_input self.now transfer ls queue.old memory.old }
         ensures queue_unchanged { OnErr result (queue.new ≡ queue.old) }
     {
         let Some(sender) = waiting_at(memory, transfer.channel)? else {
@@ -49,14 +49,14 @@ impl Process {
     }
 
     // Gives a message to a process that waits for one, or waits for it.
-    #[tactic(auto, unfolding(crate::specs::Soft::output))]
+    #[tactic(auto, unfolding(crate::specs::Soft::soft_output))]
     pub(crate) fn output_softly(
         &self,
         memory: &mut Memory,
         queue: &mut Queue,
         transfer: Transfer,
     ) -> Result<Turn, Fault>
-        ensures answer { (ls : FourLinks) → served result ls queue.new memory.new ≡ soft.output self.now transfer ls queue.old memory.old }
+        ensures answer { (ls : FourLinks) → served result ls queue.new memory.new ≡ soft_output self.now transfer ls queue.old memory.old }
         ensures queue_unchanged { OnErr result (queue.new ≡ queue.old) }
     {
         let Some(receiver) = waiting_at(memory, transfer.channel)? else {
@@ -88,9 +88,9 @@ impl Process {
     }
 
     // Names a channel that the process is ready to take from.
-    #[tactic(auto, unfolding(crate::specs::Soft::enable))]
+    #[tactic(auto, unfolding(crate::specs::Soft::soft_enable))]
     pub(crate) fn enable_softly(&self, memory: &mut Memory, channel: u32) -> Result<(), Fault>
-        ensures answer { (ls : FourLinks) → gave result ls memory.new ≡ soft.enable self.now channel ls memory.old }
+        ensures answer { (ls : FourLinks) → gave result ls memory.new ≡ soft_enable self.now channel ls memory.old }
     {
         let other = memory.word(channel)?;
         if other == NOT_PROCESS {
@@ -104,8 +104,8 @@ impl Process {
 
     // Chooses the branch of a guard that is ready, unless one was chosen before; whether it is chosen.
     pub(crate) fn choose(&self, memory: &mut Memory, offset: u32) -> Result<bool, Fault>
-        ensures of_four { (ls : FourLinks) → gave result ls memory.new ≡ soft.chosen self.now offset ls memory.old }
-        ensures of_one { (l : Link) → gave result l memory.new ≡ soft.chosen self.now offset l memory.old }
+        ensures of_four { (ls : FourLinks) → gave result ls memory.new ≡ chosen self.now offset ls memory.old }
+        ensures of_one { (l : Link) → gave result l memory.new ≡ chosen self.now offset l memory.old }
     {
         if memory.word(self.workspace)? != NONE_SELECTED {
             return Ok(false);
@@ -115,14 +115,14 @@ impl Process {
     }
 
     // Names it no more; whether its branch is the chosen one.
-    #[tactic(auto, unfolding(crate::specs::Soft::disable))]
+    #[tactic(auto, unfolding(crate::specs::Soft::soft_disable))]
     pub(crate) fn disable_softly(
         &self,
         memory: &mut Memory,
         channel: u32,
         offset: u32,
     ) -> Result<bool, Fault>
-        ensures answer { (ls : FourLinks) → gave result ls memory.new ≡ soft.disable self.now channel offset ls memory.old }
+        ensures answer { (ls : FourLinks) → gave result ls memory.new ≡ soft_disable self.now channel offset ls memory.old }
     {
         let other = memory.word(channel)?;
         if other == NOT_PROCESS {
@@ -137,9 +137,9 @@ impl Process {
 }
 
 // Frees a channel; the word that it had.
-#[tactic(auto, unfolding(crate::specs::Soft::reset))]
+#[tactic(auto, unfolding(crate::specs::Soft::soft_reset))]
 pub(crate) fn reset_softly(memory: &mut Memory, channel: u32) -> Result<u32, Fault>
-    ensures answer { (ls : FourLinks) → gave result ls memory.new ≡ soft.reset channel ls memory.old }
+    ensures answer { (ls : FourLinks) → gave result ls memory.new ≡ soft_reset channel ls memory.old }
 {
     let other = memory.word(channel)?;
     memory.set_word(channel, NOT_PROCESS)?;

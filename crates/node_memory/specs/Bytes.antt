@@ -59,9 +59,9 @@ stored (Ok _) m = Ok m
 stored (Err fault) m = Err fault
 
 -- goes on with what was read or written, unless it is a fault
-abbrev pub and_then : {A B : Type 0} → Result A Fault → (A → Result B Fault) → Result B Fault
-and_then (Ok a) next = next a
-and_then (Err fault) next = Err fault
+abbrev pub result_and_then : {A B : Type 0} → Result A Fault → (A → Result B Fault) → Result B Fault
+result_and_then (Ok a) next = next a
+result_and_then (Err fault) next = Err fault
 
 -- goes on with the memory that a write leaves; a fault leaves the memory before it
 abbrev pub after_write : Result (List ℕ) Fault → List ℕ → (List ℕ → Result (Unit {0}) Fault × List ℕ) → Result (Unit {0}) Fault × List ℕ
@@ -73,4 +73,4 @@ after_write (Err fault) m next = (Err fault, m)
 abbrev pub copied : ℕ → List ℕ → ℕ → ℕ → Result (Unit {0}) Fault × List ℕ
 copied zero m from to = (Ok tt, m)
 copied (suc count) m from to =
-    after_write (and_then (byte_at m from) (with_byte m to)) m (λ n. copied count n (from + 1) (to + 1))
+    after_write (result_and_then (byte_at m from) (with_byte m to)) m (λ n. copied count n (from + 1) (to + 1))

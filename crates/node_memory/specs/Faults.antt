@@ -4,9 +4,9 @@ use Rattle.node_memory.specs.declared.fault.Fault.{Fault}
 use Rattle.node_memory.specs.declared.fault.Fault.TheVariants.{OutsideMemory, UnknownOperation, ErrorSet, HighPriority, WrongChannel}
 
 -- the number of a fault
-abbrev pub number_of : Fault → ℕ
-number_of OutsideMemory = 1
-number_of (UnknownOperation code) = 2
-number_of ErrorSet = 3
-number_of HighPriority = 4
-number_of WrongChannel = 5
+abbrev pub fault_number : Fault → ℕ
+fault_number OutsideMemory = 1
+fault_number (UnknownOperation code) = 2
+fault_number ErrorSet = 3
+fault_number HighPriority = 4
+fault_number WrongChannel = 5

@@ -24,11 +24,11 @@ pub enum Fault {
 
 impl Fault {
     ghost use Rattle.std.specs.Prelude.{◌≡◌};
-    ghost use Rattle.node_memory.specs.Faults.{number_of};
+    ghost use Rattle.node_memory.specs.Faults.{fault_number};
 
     /// The number of the fault, from 1 to 5 in the order of the variants.
     pub fn number(self) -> u8
-        ensures { result ≡ number_of self }
+        ensures { result ≡ fault_number self }
     {
         match self {
             Fault::OutsideMemory => 1,

@@ -10,8 +10,8 @@ use Rattle.os_link.specs.declared.outgoing.LinkOut.{LinkOut}
 use Rattle.os_link.specs.declared.end.LinkEnd.{LinkEnd}
 
 -- a link end at which nothing has happened
-abbrev pub fresh : LinkEnd
-fresh = record {
+abbrev pub fresh_end : LinkEnd
+fresh_end = record {
   latch = record { byte = None; acknowledge = false };
   input = record { buffer = None; overruns = 0 };
   output = record { awaits = false; acknowledged = false };

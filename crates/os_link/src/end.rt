@@ -21,11 +21,11 @@ pub struct LinkEnd {
 
 impl LinkEnd {
     ghost use Rattle.std.specs.Prelude.{IsTrue};
-    ghost use Rattle.os_link.specs.End.{fresh, posted, emptied, arrived, next_of, without_next};
+    ghost use Rattle.os_link.specs.End.{fresh_end, posted, emptied, arrived, next_of, without_next};
 
     /// The link end at which nothing has happened.
     pub fn new() -> LinkEnd
-        ensures { result ≡ fresh }
+        ensures { result ≡ fresh_end }
     {
         LinkEnd {
             latch: Latch::empty(),

@@ -6,7 +6,7 @@ use Rattle.toml.specs.declared.value.Value.{Value}
 use Rattle.toml.proofs.Views.{items_view-push, get_item_within}
 use Rattle.plan_checker.specs.Fields.{keys_of}
 use Rattle.plan_checker.specs.Data.{DomainData}
-use Rattle.plan_checker.specs.Document.{Spells, list, document, IsDocument, ReadsDocument, Reads}
+use Rattle.plan_checker.specs.Document.{ReadsValue, list, document, IsDocument, ReadsDocument, Reads}
 use Rattle.plan_checker.specs.declared.fault.PlanFault.{PlanFault}
 use Rattle.plan_checker.specs.declared.fault.PlanFault.TheVariants.{Text, Shape, DomainCount, Name, NameTwice, Range, SharedPort, NodeCount, Memory, Port, PortTwice, HostCount, UnwiredNode, Limit, NoMemory, RangeCount, UserCount}
 use Rattle.std.proofs.lemmas.List.{take_more}
@@ -51,8 +51,8 @@ array_is (table ms) items h = cc
 
 -- the fault of an item is that of the list
 pub list_fault : {X : Type 0} (Whole : X → Type 0) (f : X → Data) (value : Data) (vs : List Value) (i : ℕ) (d : Value) (e : PlanFault)
-    → value ≡ array (items_view vs) → i < length vs → d ≡ get_or vs i d → Spells {X = X} Whole f (λ x. x) (view d) (Err e)
-    → Spells {X = Vec X Global} (All Whole) (list f) (λ v. v.items) value (Err e)
+    → value ≡ array (items_view vs) → i < length vs → d ≡ get_or vs i d → ReadsValue {X = X} Whole f (λ x. x) (view d) (Err e)
+    → ReadsValue {X = Vec X Global} (All Whole) (list f) (λ v. v.items) value (Err e)
 list_fault Whole f value vs i d Shape is within at_i h = λ xs whole. rw is (refused Whole f vs i d within at_i h xs whole)
 list_fault Whole f value vs i d NoMemory is within at_i h = tt
 list_fault Whole f value vs i d Text is within at_i h = h
@@ -224,7 +224,7 @@ reads_document bytes ms (Err UserCount) is h = absurd h
 -- A part of a value that has a fault gives the value that fault.
 pub part_fault : {X Y Z W D E : Type 0} (Part : Y → Type 0) (f : Y → D) (shown : X → Y) (Whole : Z → Type 0) (g : Z → E) (seen : W → Z) (v : D) (w : E) (e : PlanFault) (of : Z → Y)
     → ((z : Z) → Whole z → w ≡ g z → (v ≡ f (of z)) × Part (of z))
-    → Spells {X = X} Part f shown v (Err e) → Spells {X = W} Whole g seen w (Err e)
+    → ReadsValue {X = X} Part f shown v (Err e) → ReadsValue {X = W} Whole g seen w (Err e)
 part_fault Part f shown Whole g seen v w Shape of taken h = λ z whole is. h (of z) (taken z whole is).1 (taken z whole is).0
 part_fault Part f shown Whole g seen v w NoMemory of taken h = tt
 part_fault Part f shown Whole g seen v w _ of taken h = absurd h

@@ -1,7 +1,7 @@
 -- The rules in the order of their numbers.
 use Rattle.std.proofs.Common.{◌≡◌, ◌<◌, ◌+◌, ℕ, zero, suc, List, [], ◌∷◌, get_or, refl, ap, sym, subst, ◌∙◌, arith}
 use Rattle.plan_checker.specs.Data.{DomainData}
-use Rattle.plan_checker.specs.Fault.{number_of}
+use Rattle.plan_checker.specs.Fault.{plan_fault_number}
 use Rattle.plan_checker.specs.Separate.{Rule, IsSeparate, KeepsBelow}
 use Rattle.plan_checker.specs.declared.fault.PlanFault.{PlanFault}
 use Rattle.plan_checker.specs.declared.fault.PlanFault.TheVariants.{Text, Shape, DomainCount, Name, NameTwice, Range, SharedPort, NodeCount, Memory, Port, PortTwice, HostCount, UnwiredNode, Limit, NoMemory, RangeCount, UserCount}
@@ -27,7 +27,7 @@ fault_of (suc (suc (suc (suc (suc (suc (suc (suc (suc (suc (suc (suc (suc (suc (
 fault_of (suc (suc (suc (suc (suc (suc (suc (suc (suc (suc (suc (suc (suc (suc (suc (suc (suc zero))))))))))))))))) = UserCount
 fault_of _ = NoMemory
 
-fault_of-number : (f : PlanFault) → fault_of (number_of f) ≡ f
+fault_of-number : (f : PlanFault) → fault_of (plan_fault_number f) ≡ f
 fault_of-number Text = refl
 fault_of-number Shape = refl
 fault_of-number DomainCount = refl
@@ -47,7 +47,7 @@ fault_of-number RangeCount = refl
 fault_of-number UserCount = refl
 
 -- two faults of one number have one rule
-pub same_rule : (plan : List DomainData) (a b : PlanFault) → number_of a ≡ number_of b → Rule a plan → Rule b plan
+pub same_rule : (plan : List DomainData) (a b : PlanFault) → plan_fault_number a ≡ plan_fault_number b → Rule a plan → Rule b plan
 same_rule plan a b same kept = subst (λ (f : PlanFault). Rule f plan) (sym (fault_of-number a) ∙ ap fault_of same ∙ fault_of-number b) kept
 
 -- the first two faults are no rules of a plan
@@ -94,7 +94,7 @@ every_rule plan h UserCount = h UserCount (omega arith)
 abbrev pub rules_in_order : List PlanFault
 rules_in_order = DomainCount ∷ Name ∷ NameTwice ∷ Range ∷ SharedPort ∷ NodeCount ∷ Memory ∷ Port ∷ PortTwice ∷ HostCount ∷ UnwiredNode ∷ Limit ∷ NoMemory ∷ RangeCount ∷ UserCount ∷ []
 
-pub numbered : (i : ℕ) → i < 15 → number_of (get_or rules_in_order i Text) ≡ i + 3
+pub numbered : (i : ℕ) → i < 15 → plan_fault_number (get_or rules_in_order i Text) ≡ i + 3
 numbered zero h = refl
 numbered (suc zero) h = refl
 numbered (suc (suc zero)) h = refl

@@ -11,7 +11,7 @@ use Rattle.std.proofs.lemmas.List.Concat.{flat_map-cons}
 use Rattle.std.proofs.lemmas.List.Elements.{All-head, All-tail, All-cons, All-nil, All-contains}
 use Rattle.std.proofs.lemmas.Map.Made.{IsDistinct-from_AllPairs}
 use Rattle.std.proofs.lemmas.Map.Steps.{length-le_from_distinct_below}
-use Rattle.crossbar.specs.Ranges.{ports_of, ports_in, IsOneToOne, IsNumbering, AreRanges, IsRange as IsPlace}
+use Rattle.crossbar.specs.Ranges.{ports_of, ports_in, IsOneToOne, IsNumbering, AreRanges, IsPortRange as IsPlace}
 use Rattle.plan_checker.specs.declared.plan.RangePlan.{RangePlan}
 use Rattle.plan_checker.specs.Separate.{IsRange, ShareNoPort, HasPort, length_of, count_of}
 use Rattle.plan_checker.specs.Part.{port_range}

@@ -13,8 +13,8 @@ use Rattle.plan_checker.specs.declared.plan.RangePlan.{RangePlan}
 use Rattle.plan_checker.specs.declared.part.NodePart.{NodePart}
 use Rattle.plan_checker.specs.declared.part.HostPart.{HostPart}
 use Rattle.plan_checker.specs.declared.fault.PlanFault.TheVariants.{Text, Shape, DomainCount, Name, NameTwice, Range, SharedPort, NodeCount, Memory, Port, PortTwice, HostCount, UnwiredNode, Limit, NoMemory, RangeCount, UserCount}
-use Rattle.plan_checker.specs.Separate.{IsSeparate, IsFrom, Lies, IsName, HaveOtherNames, IsRange, ShareNoPort, HasWiredLink, IsMemorySize, IsVirtualPort, IsDistinct, length_of, count_of, is_wired, wired_links, hosts_of, used_ports}
-use Rattle.plan_checker.specs.Part.{IsPart, part_with, IsNodePart, part_of, node_part, port_at, host_part, host_parts, wired_ports, ports_used, IsNumbered, AreSeparate, physical_ports, place_of, port_range}
+use Rattle.plan_checker.specs.Separate.{IsSeparate, IsFrom, Lies, IsName, HaveOtherNames, IsRange, ShareNoPort, HasWiredLink, IsPlannedMemory, IsVirtualPort, IsDistinct, length_of, count_of, is_wired, wired_links, hosts_of, used_ports}
+use Rattle.plan_checker.specs.Part.{IsPart, part_with, IsNodePart, part_of, node_part, port_at, host_part, host_parts, wired_ports, ports_used, IsNumbered, AreSeparate, physical_ports, range_at, port_range}
 use Rattle.crossbar.specs.Ranges.{IsNumbering}
 use Rattle.plan_checker.proofs.ListLemmas.{all_left, all_right, all_lists, pairs_head, pairs_tail, pairs_nil, lists_each, lists_across, pairs_alone, pairs_of_one}
 use Rattle.plan_checker.proofs.RuleLemmas.{count_more}
@@ -78,11 +78,11 @@ some_host (u ∷ us) some h =
     omega (arith, here, whole)
 
 -- a size of memory that is a multiple of 4
-size_is : (z : ℤ) → IsMemorySize z → (2048 ≤ unsigned_abs z) × (unsigned_abs z ≤ 65536) × (unsigned_abs z % 4 ≡ 0)
+size_is : (z : ℤ) → IsPlannedMemory z → (2048 ≤ unsigned_abs z) × (unsigned_abs z ≤ 65536) × (unsigned_abs z % 4 ≡ 0)
 size_is (pos n) h = let least = h.0.0 in let most = h.0.1 in let rest = h.1 in (omega (arith, ints, least), omega (arith, ints, most), cc)
 size_is (negsuc n) h = let least = h.0.0 in absurd (omega (arith, ints, least))
 
-node_is : (n : NodePlan) → IsMemorySize n.memory → HasWiredLink n → IsNodePart (node_part n)
+node_is : (n : NodePlan) → IsPlannedMemory n.memory → HasWiredLink n → IsNodePart (node_part n)
 node_is n size wired =
     let s = size_is n.memory size in
     let links = ap length (abs_wired n.links) ∙ length-map (wired_links n) unsigned_abs in
@@ -102,7 +102,7 @@ is_part d sep =
     let range_count = All-head (λ (d : DomainData). IsFrom 1 4 (length d.ranges)) d [] (sep RangeCount) in
     let user_count = All-head (λ (d : DomainData). IsFrom 1 4 (length d.users)) d [] (sep UserCount) in
     let node_count = All-head (λ (d : DomainData). IsFrom 1 8 (length d.nodes)) d [] (sep NodeCount) in
-    let sizes = All-head (λ (d : DomainData). All (λ n. IsMemorySize n.memory) d.nodes) d [] (sep Memory) in
+    let sizes = All-head (λ (d : DomainData). All (λ n. IsPlannedMemory n.memory) d.nodes) d [] (sep Memory) in
     let ports = All-head (λ (d : DomainData). All (IsVirtualPort d.ranges) (used_ports d)) d [] (sep Port) in
     let twice = All-head (λ (d : DomainData). IsDistinct (used_ports d)) d [] (sep PortTwice) in
     let hosts = All-head (λ (d : DomainData). All (λ u. 1 ≤ length u.hosts) d.users × (length (hosts_of d) ≤ 4)) d [] (sep HostCount) in
@@ -136,7 +136,7 @@ alone plan sep k e less NameTwice = pairs_alone HaveOtherNames (λ d. d.users) (
 alone plan sep k e less Range = only (λ d. All IsRange d.ranges) (get_or plan k e) (sep Range k e less)
 alone plan sep k e less SharedPort = pairs_alone ShareNoPort (λ d. d.ranges) (get_or plan k e) (lists_each ShareNoPort (λ d. d.ranges) plan (sep SharedPort) k e less)
 alone plan sep k e less NodeCount = only (λ d. IsFrom 1 8 (length d.nodes)) (get_or plan k e) (sep NodeCount k e less)
-alone plan sep k e less Memory = only (λ d. All (λ n. IsMemorySize n.memory) d.nodes) (get_or plan k e) (sep Memory k e less)
+alone plan sep k e less Memory = only (λ d. All (λ n. IsPlannedMemory n.memory) d.nodes) (get_or plan k e) (sep Memory k e less)
 alone plan sep k e less Port = only (λ d. All (IsVirtualPort d.ranges) (used_ports d)) (get_or plan k e) (sep Port k e less)
 alone plan sep k e less PortTwice = only (λ d. IsDistinct (used_ports d)) (get_or plan k e) (sep PortTwice k e less)
 alone plan sep k e less HostCount = only (λ d. All (λ u. 1 ≤ length u.hosts) d.users × (length (hosts_of d) ≤ 4)) (get_or plan k e) (sep HostCount k e less)
@@ -228,8 +228,8 @@ four_links _ d four = absurd (omega (arith, four))
 
 -- ---- the rules of one domain
 
-pub sizes_of : (d : DomainData) → IsSeparate (d ∷ []) → All (λ n. IsMemorySize n.memory) d.nodes
-sizes_of d sep = All-head (λ (d : DomainData). All (λ n. IsMemorySize n.memory) d.nodes) d [] (sep Memory)
+pub sizes_of : (d : DomainData) → IsSeparate (d ∷ []) → All (λ n. IsPlannedMemory n.memory) d.nodes
+sizes_of d sep = All-head (λ (d : DomainData). All (λ n. IsPlannedMemory n.memory) d.nodes) d [] (sep Memory)
 
 pub users_few : (d : DomainData) → IsSeparate (d ∷ []) → length d.users ≤ 4
 users_few d sep = (All-head (λ (d : DomainData). IsFrom 1 4 (length d.users)) d [] (sep UserCount)).1
@@ -254,7 +254,7 @@ part_is d count limit users nodes hosts a b e f g = let same : count ≡ unsigne
 
 -- the four places of a row
 pub row_places : (rs : List RangePlan) → length rs ≤ 4
-    → place_of rs 0 ∷ place_of rs 1 ∷ place_of rs 2 ∷ place_of rs 3 ∷ [] ≡ map (λ r. Some (port_range r)) rs ++ replicate (4 - length rs) None
+    → range_at rs 0 ∷ range_at rs 1 ∷ range_at rs 2 ∷ range_at rs 3 ∷ [] ≡ map (λ r. Some (port_range r)) rs ++ replicate (4 - length rs) None
 row_places [] few = refl
 row_places (a ∷ []) few = refl
 row_places (a ∷ b ∷ []) few = refl

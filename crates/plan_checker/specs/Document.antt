@@ -123,12 +123,12 @@ ReadsDocument fields (Err NoMemory) = Unit {0}
 ReadsDocument fields (Err _) = ⊥
 
 -- What a function that reads a part answers: a value that the data spells, or that nothing whole is spelled so.
-abbrev pub Spells : {X Y D : Type 0} → (Y → Type 0) → (Y → D) → (X → Y) → D → Result X PlanFault → Type 0
-Spells Whole spelling shown value (Ok x) = (value ≡ spelling (shown x)) × Whole (shown x)
-Spells {X} {Y} Whole spelling shown value (Err Shape) = (y : Y) → Whole y → ¬ (value ≡ spelling y)
-Spells Whole spelling shown value (Err NoMemory) = Unit {0}
-Spells Whole spelling shown value (Err _) = ⊥
+abbrev pub ReadsValue : {X Y D : Type 0} → (Y → Type 0) → (Y → D) → (X → Y) → D → Result X PlanFault → Type 0
+ReadsValue Whole spelling shown value (Ok x) = (value ≡ spelling (shown x)) × Whole (shown x)
+ReadsValue {X} {Y} Whole spelling shown value (Err Shape) = (y : Y) → Whole y → ¬ (value ≡ spelling y)
+ReadsValue Whole spelling shown value (Err NoMemory) = Unit {0}
+ReadsValue Whole spelling shown value (Err _) = ⊥
 
 -- the data is a table with exactly the fields of these names
-abbrev pub IsTable : Data → List (Bor (List ℕ)) → Members → Type 0
-IsTable value names members = (value ≡ table members) × (keys_of members ≡ map (λ n. n.now) names)
+abbrev pub IsTomlTable : Data → List (Bor (List ℕ)) → Members → Type 0
+IsTomlTable value names members = (value ≡ table members) × (keys_of members ≡ map (λ n. n.now) names)

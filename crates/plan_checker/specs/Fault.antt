@@ -4,21 +4,21 @@ use Rattle.plan_checker.specs.declared.fault.PlanFault.{PlanFault}
 use Rattle.plan_checker.specs.declared.fault.PlanFault.TheVariants.{Text, Shape, DomainCount, Name, NameTwice, Range, SharedPort, NodeCount, Memory, Port, PortTwice, HostCount, UnwiredNode, Limit, NoMemory, RangeCount, UserCount}
 
 -- the number of a fault
-abbrev pub number_of : PlanFault → ℕ
-number_of Text = 1
-number_of Shape = 2
-number_of DomainCount = 3
-number_of Name = 4
-number_of NameTwice = 5
-number_of Range = 6
-number_of SharedPort = 7
-number_of NodeCount = 8
-number_of Memory = 9
-number_of Port = 10
-number_of PortTwice = 11
-number_of HostCount = 12
-number_of UnwiredNode = 13
-number_of Limit = 14
-number_of NoMemory = 15
-number_of RangeCount = 16
-number_of UserCount = 17
+abbrev pub plan_fault_number : PlanFault → ℕ
+plan_fault_number Text = 1
+plan_fault_number Shape = 2
+plan_fault_number DomainCount = 3
+plan_fault_number Name = 4
+plan_fault_number NameTwice = 5
+plan_fault_number Range = 6
+plan_fault_number SharedPort = 7
+plan_fault_number NodeCount = 8
+plan_fault_number Memory = 9
+plan_fault_number Port = 10
+plan_fault_number PortTwice = 11
+plan_fault_number HostCount = 12
+plan_fault_number UnwiredNode = 13
+plan_fault_number Limit = 14
+plan_fault_number NoMemory = 15
+plan_fault_number RangeCount = 16
+plan_fault_number UserCount = 17

@@ -80,12 +80,12 @@ abbrev pub port_range : RangePlan → PortRange
 port_range r = record { first = unsigned_abs r.first; last = unsigned_abs r.last }
 
 -- the range at a place of a list, if there is one
-abbrev pub place_of : List RangePlan → ℕ → Option PortRange
-place_of ranges place = option_map port_range (slice_get ranges place)
+abbrev pub range_at : List RangePlan → ℕ → Option PortRange
+range_at ranges place = option_map port_range (slice_get ranges place)
 
 -- the ranges of a domain in a row of four places, of which the last are unused
-abbrev pub row_of : DomainData → List (Option PortRange)
-row_of d = map (λ r. Some (port_range r)) d.ranges ++ replicate (4 - length d.ranges) None
+abbrev pub four_ranges : DomainData → List (Option PortRange)
+four_ranges d = map (λ r. Some (port_range r)) d.ranges ++ replicate (4 - length d.ranges) None
 
 -- a separate plan, and the parts of its domains
 pub record IsAccepted (plan : List DomainData) (parts : List PartData) : Type 0 where
@@ -94,11 +94,11 @@ pub record IsAccepted (plan : List DomainData) (parts : List PartData) : Type 0 
 
 -- the physical ports of a domain: virtual port v is the v-th of them
 abbrev pub physical_ports : DomainData → List ℕ
-physical_ports d = ports_in (row_of d)
+physical_ports d = ports_in (four_ranges d)
 
 -- the ports of a domain are ports of the crossbar, each with one number
 pub record IsNumbered (d : DomainData) : Type 0 where
-  pub ranges : AreRanges (row_of d)
+  pub ranges : AreRanges (four_ranges d)
   pub ports : IsNumbering (physical_ports d)
   pub count : length (physical_ports d) ≡ (part_of d).count
 

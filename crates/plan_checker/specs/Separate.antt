@@ -4,7 +4,7 @@ use Rattle.std.specs.Ordering.{int_eq}
 use Rattle.plan_checker.specs.declared.plan.NodePlan.{NodePlan}
 use Rattle.plan_checker.specs.declared.plan.RangePlan.{RangePlan}
 use Rattle.plan_checker.specs.Data.{UserData, DomainData}
-use Rattle.plan_checker.specs.Fault.{number_of}
+use Rattle.plan_checker.specs.Fault.{plan_fault_number}
 use Rattle.plan_checker.specs.declared.fault.PlanFault.{PlanFault}
 use Rattle.plan_checker.specs.declared.fault.PlanFault.TheVariants.{DomainCount, Name, NameTwice, Range, SharedPort, NodeCount, Memory, Port, PortTwice, HostCount, UnwiredNode, Limit, RangeCount, UserCount}
 
@@ -58,8 +58,8 @@ abbrev pub IsVirtualPort : List RangePlan → ℤ → Type 0
 IsVirtualPort ranges port = (pos 0 ≤ℤ port) × (port <ℤ count_of ranges)
 
 -- a multiple of 4 from 2,048 to 65,536
-abbrev pub IsMemorySize : ℤ → Type 0
-IsMemorySize bytes = Lies (pos 2048) (pos 65536) bytes × (int_rem bytes (pos 4) ≡ pos 0)
+abbrev pub IsPlannedMemory : ℤ → Type 0
+IsPlannedMemory bytes = Lies (pos 2048) (pos 65536) bytes × (int_rem bytes (pos 4) ≡ pos 0)
 
 -- whether the value of a link wires it to a port
 abbrev pub is_wired : ℤ → Bool
@@ -101,7 +101,7 @@ Rule NameTwice plan = AllPairs HaveOtherNames (users_of plan)
 Rule Range plan = All (λ d. All IsRange d.ranges) plan
 Rule SharedPort plan = AllPairs ShareNoPort (ranges_of plan)
 Rule NodeCount plan = All (λ d. IsFrom 1 8 (length d.nodes)) plan
-Rule Memory plan = All (λ d. All (λ n. IsMemorySize n.memory) d.nodes) plan
+Rule Memory plan = All (λ d. All (λ n. IsPlannedMemory n.memory) d.nodes) plan
 Rule Port plan = All (λ d. All (IsVirtualPort d.ranges) (used_ports d)) plan
 Rule PortTwice plan = All (λ d. IsDistinct (used_ports d)) plan
 Rule HostCount plan = All HasHosts plan
@@ -117,8 +117,8 @@ IsSeparate plan = (fault : PlanFault) → Rule fault plan
 
 -- the plan keeps the rules of the faults of smaller numbers
 abbrev pub KeepsBelow : List DomainData → ℕ → Type 0
-KeepsBelow plan number = (other : PlanFault) → number_of other < number → Rule other plan
+KeepsBelow plan number = (other : PlanFault) → plan_fault_number other < number → Rule other plan
 
 -- the rule is broken, and no rule of a smaller number
 abbrev pub IsSmallestFault : List DomainData → PlanFault → Type 0
-IsSmallestFault plan fault = (¬ Rule fault plan) × KeepsBelow plan (number_of fault)
+IsSmallestFault plan fault = (¬ Rule fault plan) × KeepsBelow plan (plan_fault_number fault)

@@ -2,7 +2,7 @@
 ghost use Rattle.std.specs.Prelude.{◌≡◌, ◌≢◌, ◌<◌, ◌≤◌, IfOk, IfErr, IfSome, All, AllPairs, length, slice_get};
 ghost use Rattle.crossbar.specs.Ranges.{AreRanges};
 ghost use Rattle.plan_checker.specs.Separate.{IsSeparate, IsSmallestFault};
-ghost use Rattle.plan_checker.specs.Part.{IsNumbered, AreSeparate, part_of, row_of};
+ghost use Rattle.plan_checker.specs.Part.{IsNumbered, AreSeparate, part_of, four_ranges};
 
 use crate::fault::PlanFault;
 use crate::part::Part;
@@ -94,7 +94,7 @@ impl AcceptedPlan {
     /// The ranges of a domain in the order of the plan, and then the unused places.
     pub fn ranges(&self, domain: u8) -> [Option<PortRange>; MOST_RANGES]
         requires { domain < length self.now }
-        ensures row { IfSome (slice_get self.now domain) (λ d. result ≡ row_of d) }
+        ensures row { IfSome (slice_get self.now domain) (λ d. result ≡ four_ranges d) }
         ensures ranges { AreRanges result }
     {
         row_of(&self.domains[usize::from(domain)])

@@ -1,6 +1,6 @@
 //! Why a plan was refused.
 ghost use Rattle.std.specs.Prelude.{◌≡◌};
-ghost use Rattle.plan_checker.specs.Fault.{number_of};
+ghost use Rattle.plan_checker.specs.Fault.{plan_fault_number};
 ghost use Rattle.plan_checker.specs.declared.fault.PlanFault.TheVariants.{NoMemory};
 
 use std::alloc::{AllocError, AllocFailed};
@@ -65,7 +65,7 @@ pub enum PlanFault {
 impl PlanFault {
     /// The number of the fault, 1 to 17.
     pub fn number(self) -> u8
-        ensures { result ≡ number_of self }
+        ensures { result ≡ plan_fault_number self }
     {
         self as u8 + 1
     }

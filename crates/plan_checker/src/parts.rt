@@ -1,6 +1,6 @@
 //! Making the parts of the domains of a separate plan.
 ghost use Rattle.std.specs.Prelude.{◌≡◌, ◌≤◌, ◌++◌, pos, IsTrue, IfOk, OnOk, All, map, length, unsigned_abs, [], ◌∷◌};
-ghost use Rattle.plan_checker.specs.Separate.{IsSeparate, IsRange, IsMemorySize, Lies, is_wired, wired_links, count_of};
+ghost use Rattle.plan_checker.specs.Separate.{IsSeparate, IsRange, IsPlannedMemory, Lies, is_wired, wired_links, count_of};
 ghost use Rattle.plan_checker.specs.Part.{part_of, node_part, port_at, host_part, host_parts};
 
 use crate::NoMemory;
@@ -23,7 +23,7 @@ fn port_at(link: i64) -> Option<u8>
 }
 
 fn node_part(node: &NodePlan) -> NodePart
-    requires size { IsMemorySize node.now.memory }
+    requires size { IsPlannedMemory node.now.memory }
     requires ports { All (Lies (pos 0) (pos 31)) (wired_links node.now) }
     ensures { result ≡ node_part node.now }
 {
@@ -35,7 +35,7 @@ fn node_part(node: &NodePlan) -> NodePart
 }
 
 fn node_parts(alloc: Global, nodes: &[NodePlan]) -> Result<Vec<NodePart>, NoMemory>
-    requires sizes { All (λ n. IsMemorySize n.memory) nodes.now }
+    requires sizes { All (λ n. IsPlannedMemory n.memory) nodes.now }
     requires ports { All (λ n. All (Lies (pos 0) (pos 31)) (wired_links n)) nodes.now }
     ensures { IfOk result (λ parts. parts.items ≡ map node_part nodes.now) }
 {

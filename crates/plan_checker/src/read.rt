@@ -3,7 +3,7 @@ ghost use Rattle.std.specs.Prelude.{◌≡◌, ℤ, [], ◌∷◌, length, Match
 ghost use Rattle.toml.specs.Data.{integer};
 ghost use Rattle.toml.specs.View.{view, table_view};
 ghost use Rattle.plan_checker.specs.declared.version.PlanVersion.TheVariants.{One, Two, Three};
-ghost use Rattle.plan_checker.specs.Document.{Reads, ReadsDocument, Spells, list, node, range, user, domain, HasFourLinks, IsWhole};
+ghost use Rattle.plan_checker.specs.Document.{Reads, ReadsDocument, ReadsValue, list, node, range, user, domain, HasFourLinks, IsWhole};
 
 use crate::fault::PlanFault;
 use crate::fields::has_fields;
@@ -31,7 +31,7 @@ impl FromValue for NodePlan {
 }
 
 fn links_of(alloc: Global, value: &Value) -> Result<[i64; 4], PlanFault>
-    ensures { Spells (λ links. length links ≡ 4) (list integer) (λ links. links)
+    ensures { ReadsValue (λ links. length links ≡ 4) (list integer) (λ links. links)
         (view value.now) result }
 {
     let links = integers_of(alloc, value)?;
@@ -99,7 +99,7 @@ impl FromValue for DomainPlan {
 
 /// A domain as version 1 writes it.
 fn domain_of_one_range(alloc: Global, value: &Value) -> Result<DomainPlan, PlanFault>
-    ensures { Spells (IsWhole One) (domain One) (λ d. d) (view value.now) result }
+    ensures { ReadsValue (IsWhole One) (domain One) (λ d. d) (view value.now) result }
 {
     let table = table_of(value, &["first", "host", "last", "limit", "name", "node"])?;
     let first = integer_of(value_at(table, "first")?)?;
@@ -120,7 +120,7 @@ fn domain_of_one_range(alloc: Global, value: &Value) -> Result<DomainPlan, PlanF
 
 /// A domain as version 2 writes it.
 fn domain_of_one_user(alloc: Global, value: &Value) -> Result<DomainPlan, PlanFault>
-    ensures { Spells (IsWhole Two) (domain Two) (λ d. d) (view value.now) result }
+    ensures { ReadsValue (IsWhole Two) (domain Two) (λ d. d) (view value.now) result }
 {
     let table = table_of(value, &["host", "limit", "name", "node", "range"])?;
     let hosts = integers_of(alloc, value_at(table, "host")?)?;
@@ -139,7 +139,7 @@ fn domain_of_one_user(alloc: Global, value: &Value) -> Result<DomainPlan, PlanFa
 
 /// A domain as version 3 writes it.
 fn domain_of_users(alloc: Global, value: &Value) -> Result<DomainPlan, PlanFault>
-    ensures { Spells (IsWhole Three) (domain Three) (λ d. d) (view value.now) result }
+    ensures { ReadsValue (IsWhole Three) (domain Three) (λ d. d) (view value.now) result }
 {
     let table = table_of(value, &["limit", "node", "range", "user"])?;
     let limit = integer_of(value_at(table, "limit")?)?;

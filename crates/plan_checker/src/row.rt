@@ -1,7 +1,7 @@
 //! The physical ports of a domain.
 ghost use Rattle.std.specs.Prelude.{◌≡◌, ◌≤◌, [], ◌∷◌, All, length};
 ghost use Rattle.plan_checker.specs.Separate.{IsRange, IsSeparate};
-ghost use Rattle.plan_checker.specs.Part.{port_range, place_of, row_of};
+ghost use Rattle.plan_checker.specs.Part.{port_range, range_at, four_ranges};
 
 use crate::plan::{DomainPlan, RangePlan};
 use crossbar::{MOST_RANGES, PortRange};
@@ -19,7 +19,7 @@ fn port_range(range: &RangePlan) -> PortRange
 /// The range at a place of the row, if there is one.
 fn place_of(ranges: &[RangePlan], place: usize) -> Option<PortRange>
     requires { All IsRange ranges.now }
-    ensures { result ≡ place_of ranges.now place }
+    ensures { result ≡ range_at ranges.now place }
 {
     if place < ranges.len() {
         Some(port_range(&ranges[place]))
@@ -31,7 +31,7 @@ fn place_of(ranges: &[RangePlan], place: usize) -> Option<PortRange>
 /// The ranges of a domain, and then the unused places of the row.
 pub fn row_of(domain: &DomainPlan) -> [Option<PortRange>; MOST_RANGES]
     requires { IsSeparate (domain.now ∷ []) }
-    ensures { result ≡ row_of domain.now }
+    ensures { result ≡ four_ranges domain.now }
 {
     let ranges = domain.ranges.as_slice();
     [

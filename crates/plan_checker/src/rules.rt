@@ -1,6 +1,6 @@
 //! The rules of a separate plan, one a fault.
 ghost use Rattle.std.specs.Prelude.{◌≡◌, ◌↔◌, ◌++◌, ◌≤◌, ◌^◌, pos, IsTrue, All, length, filter};
-ghost use Rattle.plan_checker.specs.Separate.{IsRange, IsFrom, Lies, HasWiredLink, IsName, IsMemorySize, is_wired, hosts_of, HasHosts};
+ghost use Rattle.plan_checker.specs.Separate.{IsRange, IsFrom, Lies, HasWiredLink, IsName, IsPlannedMemory, is_wired, hosts_of, HasHosts};
 
 use crate::plan::{DomainPlan, NodePlan, RangePlan, UserPlan};
 
@@ -56,14 +56,14 @@ pub fn has_node_count(domain: &DomainPlan) -> bool
 }
 
 fn is_memory_size(bytes: i64) -> bool
-    ensures { IsTrue result ↔ IsMemorySize bytes }
+    ensures { IsTrue result ↔ IsPlannedMemory bytes }
 {
     2048 <= bytes && bytes <= 65536 && bytes % 4 == 0
 }
 
 /// Whether each node's memory has a permitted size.
 pub fn has_memory_sizes(domain: &DomainPlan) -> bool
-    ensures { IsTrue result ↔ All (λ n. IsMemorySize n.memory) domain.now.nodes }
+    ensures { IsTrue result ↔ All (λ n. IsPlannedMemory n.memory) domain.now.nodes }
 {
     domain.nodes.iter().all(|node| is_memory_size(node.memory))
 }

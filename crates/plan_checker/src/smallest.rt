@@ -1,6 +1,6 @@
 //! The smallest fault of a plan.
 ghost use Rattle.std.specs.Prelude.{◌≡◌, ◌↔◌, IsTrue, IfOk, MatchOption};
-ghost use Rattle.plan_checker.specs.Fault.{number_of};
+ghost use Rattle.plan_checker.specs.Fault.{plan_fault_number};
 ghost use Rattle.plan_checker.specs.Separate.{Rule, IsSeparate, KeepsBelow, IsSmallestFault};
 
 use crate::NoMemory;
@@ -35,7 +35,7 @@ const RULES: [PlanFault; 15] = [
 
 /// Whether the plan keeps the rule whose breach is this fault.
 fn keeps(alloc: Global, domains: &[DomainPlan], rule: PlanFault) -> Result<bool, NoMemory>
-    requires { KeepsBelow domains.now (number_of rule) }
+    requires { KeepsBelow domains.now (plan_fault_number rule) }
     ensures { IfOk result (λ kept. IsTrue kept ↔ Rule rule domains.now) }
 {
     let kept = match rule {

@@ -3,7 +3,7 @@ ghost use Rattle.std.specs.Prelude.{◌≡◌, ℤ, length, All, MatchResult, So
 ghost use Rattle.toml.specs.Data.{Data, Members, get_member, integer, string};
 ghost use Rattle.toml.specs.View.{view, table_view};
 ghost use Rattle.plan_checker.specs.declared.version.PlanVersion.{PlanVersion};
-ghost use Rattle.plan_checker.specs.Document.{Spells, list, IsTable};
+ghost use Rattle.plan_checker.specs.Document.{ReadsValue, list, IsTomlTable};
 
 use crate::fault::PlanFault;
 use crate::fields::has_fields;
@@ -21,7 +21,7 @@ pub trait FromValue: Sized + Drop {
 
     /// Reads the value that the data spells.
     fn from_value(alloc: Global, version: PlanVersion, value: &Value) -> Result<Self, PlanFault>
-        ensures { Spells (is_whole version) (spelling version) (λ x. x) (view value.now) result };
+        ensures { ReadsValue (is_whole version) (spelling version) (λ x. x) (view value.now) result };
 }
 
 impl FromValue for i64 {
@@ -36,14 +36,14 @@ impl FromValue for i64 {
 
 /// The integer that the data is.
 pub fn integer_of(value: &Value) -> Result<i64, PlanFault>
-    ensures { Spells (λ _. Unit {0}) integer (λ z. z) (view value.now) result }
+    ensures { ReadsValue (λ _. Unit {0}) integer (λ z. z) (view value.now) result }
 {
     value.as_integer().ok_or(PlanFault::Shape)
 }
 
 /// The text that the data is.
 pub fn text_of(alloc: Global, value: &Value) -> Result<String, PlanFault>
-    ensures { Spells (λ _. Unit {0}) string string_bytes (view value.now) result }
+    ensures { ReadsValue (λ _. Unit {0}) string string_bytes (view value.now) result }
 {
     let text = value.as_str().ok_or(PlanFault::Shape)?;
     Ok(String::from_str(alloc, text)?)
@@ -52,8 +52,8 @@ pub fn text_of(alloc: Global, value: &Value) -> Result<String, PlanFault>
 /// The table that a value is, where it has exactly the fields of these names, which ascend.
 pub fn table_of<'a>(value: &'a Value, names: &[&str]) -> Result<&'a Table, PlanFault>
     ensures { MatchResult result
-        (λ t. IsTable (view value.now) names.now (table_view t.now))
-        (λ e. (e ≡ PlanFault.Shape) × ((t : Members) → ¬ IsTable (view value.now) names.now t)) }
+        (λ t. IsTomlTable (view value.now) names.now (table_view t.now))
+        (λ e. (e ≡ PlanFault.Shape) × ((t : Members) → ¬ IsTomlTable (view value.now) names.now t)) }
 {
     let table = value.as_table().ok_or(PlanFault::Shape)?;
     if has_fields(table, names) {
@@ -81,7 +81,7 @@ pub fn list_of<T: FromValue>(
     version: PlanVersion,
     value: &Value,
 ) -> Result<Vec<T>, PlanFault>
-    ensures { Spells (All (T.is_whole version)) (list (T.spelling version)) (λ v. v.items)
+    ensures { ReadsValue (All (T.is_whole version)) (list (T.spelling version)) (λ v. v.items)
         (view value.now) result }
 {
     let array = value.as_array().ok_or(PlanFault::Shape)?;
@@ -94,7 +94,7 @@ pub fn list_of<T: FromValue>(
 
 /// The integers of an array, which every version writes alike.
 pub fn integers_of(alloc: Global, value: &Value) -> Result<Vec<i64>, PlanFault>
-    ensures { Spells (λ _. Unit {0}) (list integer) (λ v. v.items) (view value.now) result }
+    ensures { ReadsValue (λ _. Unit {0}) (list integer) (λ v. v.items) (view value.now) result }
 {
     list_of(alloc, PlanVersion::Three, value)
 }

@@ -10,6 +10,6 @@ Spells [] bytes = ⊥
 Spells (digit ∷ digits) bytes = decode_of (digit ∷ digits) ≡ Ok bytes
 
 -- the number of a fault
-abbrev pub number_of : HexFault → ℕ
-number_of NotHex = 1
-number_of NoMemory = 2
+abbrev pub hex_fault_number : HexFault → ℕ
+hex_fault_number NotHex = 1
+hex_fault_number NoMemory = 2

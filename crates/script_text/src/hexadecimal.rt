@@ -1,6 +1,6 @@
 //! Bytes that are spelled by hexadecimal digits.
 ghost use Rattle.std.specs.Prelude.{◌≡◌, ◌%◌, IfOk, IfErr, List, ℕ, length};
-ghost use Rattle.script_text.specs.Hexadecimal.{Spells, number_of};
+ghost use Rattle.script_text.specs.Hexadecimal.{Spells, hex_fault_number};
 
 use hex::FromHexError;
 use std::alloc::Global;
@@ -18,7 +18,7 @@ pub enum HexFault {
 impl HexFault {
     /// The number of the fault: 1 where the word isn't hexadecimal, 2 for want of memory.
     pub fn number(self) -> u8
-        ensures { result ≡ number_of self }
+        ensures { result ≡ hex_fault_number self }
     {
         match self {
             HexFault::NotHex => 1,

@@ -11,8 +11,8 @@ use Rattle.crossbar.specs.declared.word.Word.{Word}
 use Rattle.crossbar.specs.Row.{IsWordOf}
 use Rattle.crossbar.specs.Word.{IsAtLeastAsNew, changes_of}
 use Rattle.switch_table.specs.declared.view.View.{View}
-use Rattle.switch_table.specs.Domains.{IsSeparate}
-use Rattle.switch_table.specs.Rule.{word_of, IsNewer, IsConfined, Holds, Knows, IsRuled, opening_view, with_word, Read, Written, Surveyed}
+use Rattle.switch_table.specs.Domains.{AreDisjoint}
+use Rattle.switch_table.specs.Rule.{word_of, IsNewer, IsConfined, StoresAlone, Knows, IsRuled, opening_view, with_view_word, Read, Written, Surveyed}
 
 newer_same : (x : ℕ) → IsNewer x x
 newer_same x = inr (inl refl)
@@ -48,7 +48,7 @@ held_before views id seat v w u at same e = ⊎_elim
     (λ (t : (seat ≢ id) × (get_elem? views seat ≡ some u)). (u, t.1, refl))
     (at_set views id seat w u e)
 
-held_by : (u was : View) (i : ℕ) → u.held ≡ was.held → Holds u i → Holds was i
+held_by : (u was : View) (i : ℕ) → u.held ≡ was.held → StoresAlone u i → StoresAlone was i
 held_by u was i e h = (h.0, h.1, subst (λ (held : List (List ℕ)). slice_get held h.0 ≡ Some h.1) e h.2, h.3)
 
 -- a member of the list, or the new one at its end
@@ -70,7 +70,7 @@ left_over (x ∷ xs) k d e = e
 
 module _ (domains : List (List ℕ)) where
   -- the seat that sees or stores the word itself
-  knows_mine : (words : List ℕ) (v : View) (i n : ℕ) → i < 32 → length words ≡ 32 → Knows domains words v → Knows domains (set words i n) (with_word v i n)
+  knows_mine : (words : List ℕ) (v : View) (i n : ℕ) → i < 32 → length words ≡ 32 → Knows domains words v → Knows domains (set words i n) (with_view_word v i n)
   knows_mine words v i n low wide h = let wide_view : length v.words ≡ 32 = h.wide in record {
     plan = h.plan;
     wide = length-set v.words i n ∙ h.wide;
@@ -81,19 +81,19 @@ module _ (domains : List (List ℕ)) where
   }
 
   -- another seat, where the word is replaced by a newer one
-  knows_other : (words : List ℕ) (u : View) (i n : ℕ) → i < 32 → length words ≡ 32 → ¬ Holds u i → IsNewer n (slice_index words i) → Knows domains words u → Knows domains (set words i n) u
+  knows_other : (words : List ℕ) (u : View) (i n : ℕ) → i < 32 → length words ≡ 32 → ¬ StoresAlone u i → IsNewer n (slice_index words i) → Knows domains words u → Knows domains (set words i n) u
   knows_other words u i n low wide other newer h = record {
     plan = h.plan;
     wide = h.wide;
     own = h.own;
     separate = h.separate;
-    exact = λ k mine. get_or-set_other words i k n 0 (λ e. other (subst (Holds u) e mine)) ∙ h.exact k mine;
+    exact = λ k mine. get_or-set_other words i k n 0 (λ e. other (subst (StoresAlone u) e mine)) ∙ h.exact k mine;
     fresh = λ k. newer_trans _ _ _ (set_newer words i n k newer (omega arith)) (h.fresh k);
   }
 
   module _ {S : Type 0} where
     still_apart : (s : State S View) (r : IsRuled domains s) (id : ℕ) (v w : View) → get_elem? s.views id ≡ some v → w.held ≡ v.held → (one other i : ℕ) (x y : View)
-        → get_elem? (set s.views id w) one ≡ some x → get_elem? (set s.views id w) other ≡ some y → Holds x i → Holds y i → one ≡ other
+        → get_elem? (set s.views id w) one ≡ some x → get_elem? (set s.views id w) other ≡ some y → StoresAlone x i → StoresAlone y i → one ≡ other
     still_apart s r id v w at same one other i x y ex ey hx hy =
         let before_x = held_before s.views id one v w x at same ex in
         let before_y = held_before s.views id other v w y at same ey in
@@ -102,21 +102,21 @@ module _ (domains : List (List ℕ)) where
     -- the seat's word and its view of it become n
     changes : (s : State S View) (r : IsRuled domains s) (id i n : ℕ) (v : View) → get_elem? s.views id ≡ some v → i < 32
         → ((seat : ℕ) (u : View) → seat ≢ id → get_elem? s.views seat ≡ some u → Knows domains (set s.words i n) u) → IsConfined domains i n
-        → IsRuled domains record { words = set s.words i n; homes = s.homes; views = set s.views id (with_word v i n) }
+        → IsRuled domains record { words = set s.words i n; homes = s.homes; views = set s.views id (with_view_word v i n) }
     changes s r id i n v at low others confined = let wide_words : length s.words ≡ 32 = r.wide in record {
       wide = length-set s.words i n ∙ r.wide;
       separate = r.separate;
       knows = λ seat u e. ⊎_elim
-          (λ (t : (seat ≡ id) × (with_word v i n ≡ u)). subst (Knows domains (set s.words i n)) t.1 (knows_mine s.words v i n low r.wide (r.knows id v at)))
+          (λ (t : (seat ≡ id) × (with_view_word v i n ≡ u)). subst (Knows domains (set s.words i n)) t.1 (knows_mine s.words v i n low r.wide (r.knows id v at)))
           (λ (t : (seat ≢ id) × (get_elem? s.views seat ≡ some u)). others seat u t.0 t.1)
-          (at_set s.views id seat (with_word v i n) u e);
-      apart = still_apart s r id v (with_word v i n) at refl;
+          (at_set s.views id seat (with_view_word v i n) u e);
+      apart = still_apart s r id v (with_view_word v i n) at refl;
       confined = λ k. dite (ℕ_discrete k i)
           (λ e. subst (λ (j : ℕ). IsConfined domains j (slice_index (set s.words i n) j)) (sym e) (subst (IsConfined domains i) (sym (get_or-set_same s.words i n 0 (omega arith))) confined))
           (λ other. subst (IsConfined domains k) (sym (get_or-set_other s.words i k n 0 other)) (r.confined k));
     }
 
-    pub reads : (slots id i : ℕ) (me : Me S View) → Holds me.0 i → Allows (IsRuled domains) slots id me i (λ n. n) (Read (step slots i 0 0 none) me)
+    pub reads : (slots id i : ℕ) (me : Me S View) → StoresAlone me.0 i → Allows (IsRuled domains) slots id me i (λ n. n) (Read (step slots i 0 0 none) me)
     reads slots id i me mine s r deep at small = (
       me.0,
       keeps,
@@ -132,7 +132,7 @@ module _ (domains : List (List ℕ)) where
         let exact : slice_index s.words i ≡ slice_index me.0.words i = mine.exact i (k, own, held, here) in
         let there = mine.own k own held in
         let newer_stored : IsNewer n (slice_index s.words i) = subst (IsNewer n) (sym exact) newer in (
-          with_word me.0 i n,
+          with_view_word me.0 i n,
           keeps,
           tt,
           changes s r id i n me.0 at low
@@ -150,7 +150,7 @@ module _ (domains : List (List ℕ)) where
     surveys slots id i me low s r deep at small =
         let mine : Knows domains s.words me.0 = r.knows id me.0 at in
         let found : ℕ = slice_index s.words i in (
-          with_word me.0 i found,
+          with_view_word me.0 i found,
           keeps,
           tt,
           changes s r id i found me.0 at low (λ seat u other e. subst (λ (words : List ℕ). Knows domains words u) (sym (set-get_or s.words i 0)) (r.knows seat u e)) (r.confined i),
@@ -164,17 +164,17 @@ module _ (domains : List (List ℕ)) where
         let right : View = record v { held = take 1 v.held } in
         let views : List View = set s.views id left in
         -- what a seat holds afterwards some seat held before: itself, or the dealer
-        let from_left : (i : ℕ) → Holds left i → Holds v i = λ i h. (suc h.0, h.1, left_over v.held h.0 h.1 h.2, h.3) in
-        let from_right : (i : ℕ) → Holds right i → Holds v i = λ i h. (0, h.1, (taken v.held h.0 h.1 h.2).1, h.3) in
-        let never_both : (i : ℕ) → Holds left i → Holds right i → ⊥ = λ i l t.
+        let from_left : (i : ℕ) → StoresAlone left i → StoresAlone v i = λ i h. (suc h.0, h.1, left_over v.held h.0 h.1 h.2, h.3) in
+        let from_right : (i : ℕ) → StoresAlone right i → StoresAlone v i = λ i h. (0, h.1, (taken v.held h.0 h.1 h.2).1, h.3) in
+        let never_both : (i : ℕ) → StoresAlone left i → StoresAlone right i → ⊥ = λ i l t.
         let same : suc l.0 ≡ 0 = mine.separate (suc l.0) 0 i l.1 t.1 (left_over v.held l.0 l.1 l.2) (taken v.held t.0 t.1 t.2).1 l.3 t.3 in
         absurd (omega arith) in
-        let before : (seat i : ℕ) (u : View) → get_elem? views seat ≡ some u → Holds u i → (was : View) × (get_elem? s.views seat ≡ some was) × Holds was i = λ seat i u e h. ⊎_elim
-        (λ (t : (seat ≡ id) × (left ≡ u)). (v, ap (get_elem? s.views) t.0 ∙ at, from_left i (subst (λ (x : View). Holds x i) (sym t.1) h)))
+        let before : (seat i : ℕ) (u : View) → get_elem? views seat ≡ some u → StoresAlone u i → (was : View) × (get_elem? s.views seat ≡ some was) × StoresAlone was i = λ seat i u e h. ⊎_elim
+        (λ (t : (seat ≡ id) × (left ≡ u)). (v, ap (get_elem? s.views) t.0 ∙ at, from_left i (subst (λ (x : View). StoresAlone x i) (sym t.1) h)))
         (λ (t : (seat ≢ id) × (get_elem? s.views seat ≡ some u)). (u, t.1, h))
         (at_set s.views id seat left u e) in
-        let never_with_right : (seat i : ℕ) (u : View) → get_elem? views seat ≡ some u → Holds u i → Holds right i → ⊥ = λ seat i u e h t. ⊎_elim
-        (λ (c : (seat ≡ id) × (left ≡ u)). never_both i (subst (λ (x : View). Holds x i) (sym c.1) h) t)
+        let never_with_right : (seat i : ℕ) (u : View) → get_elem? views seat ≡ some u → StoresAlone u i → StoresAlone right i → ⊥ = λ seat i u e h t. ⊎_elim
+        (λ (c : (seat ≡ id) × (left ≡ u)). never_both i (subst (λ (x : View). StoresAlone x i) (sym c.1) h) t)
         (λ (c : (seat ≢ id) × (get_elem? s.views seat ≡ some u)). c.0 (r.apart seat id i u v c.1 at h (from_right i t)))
         (at_set s.views id seat left u e) in record {
           wide = r.wide;
@@ -203,17 +203,17 @@ module _ (domains : List (List ℕ)) where
           apart = λ one other i x y ex ey hx hy. ⊎_elim
               (λ old_x. ⊎_elim
               (λ old_y. let b = before one i x old_x hx in let c = before other i y old_y hy in r.apart one other i b.0 c.0 b.1 c.1 b.2 c.2)
-              (λ (t : (other ≡ length views) × (right ≡ y)). absurd (never_with_right one i x old_x hx (subst (λ (z : View). Holds z i) (sym t.1) hy)))
+              (λ (t : (other ≡ length views) × (right ≡ y)). absurd (never_with_right one i x old_x hx (subst (λ (z : View). StoresAlone z i) (sym t.1) hy)))
               (at_push views right y other ey))
               (λ (t : (one ≡ length views) × (right ≡ x)). ⊎_elim
-              (λ old_y. absurd (never_with_right other i y old_y hy (subst (λ (z : View). Holds z i) (sym t.1) hx)))
+              (λ old_y. absurd (never_with_right other i y old_y hy (subst (λ (z : View). StoresAlone z i) (sym t.1) hx)))
               (λ (c : (other ≡ length views) × (right ≡ y)). t.0 ∙ sym c.0)
               (at_push views right y other ey))
               (at_push views right x one ex);
           confined = r.confined;
         }
 
-    pub begins : IsSeparate domains → IsRuled {S = S} domains (opening (replicate 32 0) [] (opening_view domains domains))
+    pub begins : AreDisjoint domains → IsRuled {S = S} domains (opening (replicate 32 0) [] (opening_view domains domains))
     begins separate = record {
       wide = refl;
       separate = separate;
@@ -238,7 +238,7 @@ module _ (domains : List (List ℕ)) where
         }
         one (suc seat) v e = absurd (some-ne-none v (sym e))
 
-        only : (one other i : ℕ) (v w : View) → get_elem? (opening_view domains domains ∷ []) one ≡ some v → get_elem? (opening_view domains domains ∷ []) other ≡ some w → Holds v i → Holds w i → one ≡ other
+        only : (one other i : ℕ) (v w : View) → get_elem? (opening_view domains domains ∷ []) one ≡ some v → get_elem? (opening_view domains domains ∷ []) other ≡ some w → StoresAlone v i → StoresAlone w i → one ≡ other
         only zero zero i v w e f h h' = refl
         only zero (suc other) i v w e f h h' = absurd (some-ne-none w (sym f))
         only (suc one) other i v w e f h h' = absurd (some-ne-none v (sym e))

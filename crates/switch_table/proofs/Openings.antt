@@ -5,8 +5,8 @@ use Rattle.std.proofs.lemmas.Option.{none-some, same_Some, get_or_from_slice_get
 use Rattle.crossbar.specs.declared.range.PortRange.{PortRange}
 use Rattle.crossbar.specs.Ranges.{ports_in, IsNumbering}
 use Rattle.plan_checker.specs.Data.{DomainData}
-use Rattle.plan_checker.specs.Part.{row_of, physical_ports, IsNumbered, AreSeparate}
-use Rattle.switch_table.specs.Domains.{domains_of, IsSeparate}
+use Rattle.plan_checker.specs.Part.{four_ranges, physical_ports, IsNumbered, AreSeparate}
+use Rattle.switch_table.specs.Domains.{domains_of, AreDisjoint}
 use Rattle.std.specs.Prelude.{Option}
 
 mapped : (plan : List DomainData) (k : ℕ) (ports : List ℕ) → slice_get (domains_of plan) k ≡ Some ports → (d : DomainData) × (slice_get plan k ≡ Some d) × (physical_ports d ≡ ports)
@@ -26,7 +26,7 @@ apart plan m n port d e h less is_d is_e in_d in_e =
     (subst (λ (ports : List ℕ). Contains ports port) (sym (ap physical_ports second ∙ other.2)) in_e)
 
 -- no two of them have a port in common
-pub separate_domains : (plan : List DomainData) → AllPairs AreSeparate plan → IsSeparate (domains_of plan)
+pub separate_domains : (plan : List DomainData) → AllPairs AreSeparate plan → AreDisjoint (domains_of plan)
 separate_domains plan h m n port d e is_d is_e in_d in_e =
     elim (cases_order m n) [
       | inl same ↦ same
@@ -35,7 +35,7 @@ separate_domains plan h m n port d e is_d is_e in_d in_e =
     ]
 
 -- the numbering of a domain's ranges is its list of ports
-pub own_domain : (plan : List DomainData) (i : ℕ) (ranges : List (Option PortRange)) (numbering : List ℕ) → i < length plan → IfSome (slice_get plan i) (λ d. ranges ≡ row_of d) → numbering ≡ ports_in ranges → slice_get (domains_of plan) i ≡ Some numbering
+pub own_domain : (plan : List DomainData) (i : ℕ) (ranges : List (Option PortRange)) (numbering : List ℕ) → i < length plan → IfSome (slice_get plan i) (λ d. ranges ≡ four_ranges d) → numbering ≡ ports_in ranges → slice_get (domains_of plan) i ≡ Some numbering
 own_domain [] i ranges numbering inside row is = absurd (omega arith)
 own_domain (d ∷ plan) zero ranges numbering inside row is = ap (λ (ports : List ℕ). Some ports) (sym (is ∙ ap ports_in row))
 own_domain (d ∷ plan) (suc i) ranges numbering inside row is = own_domain plan i ranges numbering (omega arith) row is

@@ -6,13 +6,13 @@ use Rattle.std.proofs.lemmas.List.Elements.{All-append}
 use Rattle.std.proofs.lemmas.Option.{get_or_from_slice_get}
 use mathlib.Core.Logic.{dite}
 use Rattle.switch_table.specs.declared.view.View.{View}
-use Rattle.switch_table.specs.Rule.{Holds, bits_of, with_word}
+use Rattle.switch_table.specs.Rule.{StoresAlone, bits_of, with_view_word}
 
 module _ (view : View) (ports : List ℕ) (v i : ℕ) (there : v < length ports) (is : i ≡ slice_index ports v) where
   pub port_own : Contains ports i
   port_own = (v, there, get_or_default ports v i 0 there ∙ sym is)
 
-  pub port_held : view.held ≡ ports ∷ [] → Holds view i
+  pub port_held : view.held ≡ ports ∷ [] → StoresAlone view i
   port_held h = (0, ports, ap (λ (held : List (List ℕ)). slice_get held 0) h, port_own)
 
   -- the word of the virtual number is the view's word of the port
@@ -20,8 +20,8 @@ module _ (view : View) (ports : List ℕ) (v i : ℕ) (there : v < length ports)
   port_word = get_or-map (slice_index view.words) ports v 0 0 there ∙ ap (slice_index view.words) (sym is)
 
   -- a store at the port changes the word of its virtual number alone
-  pub port_set : (w : ℕ) → i < length view.words → ((u : ℕ) → u < length ports → slice_index ports u ≡ slice_index ports v → u ≡ v) → bits_of (with_word view i w) ports ≡ set (bits_of view ports) v w
-  port_set w inside one_to_one = ext_get_or 0 (bits_of (with_word view i w) ports) (set (bits_of view ports) v w)
+  pub port_set : (w : ℕ) → i < length view.words → ((u : ℕ) → u < length ports → slice_index ports u ≡ slice_index ports v → u ≡ v) → bits_of (with_view_word view i w) ports ≡ set (bits_of view ports) v w
+  port_set w inside one_to_one = ext_get_or 0 (bits_of (with_view_word view i w) ports) (set (bits_of view ports) v w)
       (length-map ports (slice_index (set view.words i w)) ∙ sym (length-set (bits_of view ports) v w ∙ length-map ports (slice_index view.words)))
       (λ u h. let short : u < length ports = let e = length-map ports (slice_index (set view.words i w)) in omega arith in
       get_or-map (slice_index (set view.words i w)) ports u 0 0 short ∙ dite (ℕ_discrete u v)

@@ -8,12 +8,12 @@ use Rattle.atomic_table.specs.Seated.{TableId}
 use Rattle.atomic_table.specs.Table.{Me}
 use Rattle.crossbar.specs.declared.word.Word.{Word}
 use Rattle.crossbar.specs.Ranges.{IsNumbering}
-use Rattle.crossbar.specs.Row.{IsRow, IsWordOf, switch_of}
+use Rattle.crossbar.specs.Row.{AreWordsOf, IsWordOf, switch_of}
 use Rattle.crossbar.specs.Switch.{cleared}
 use Rattle.crossbar.proofs.Numberings.{few}
 use Rattle.crossbar.proofs.PlainRows.{set_row, unused_switch}
 use Rattle.switch_table.specs.declared.view.View.{View}
-use Rattle.switch_table.specs.Rule.{word_of, bits_of, words_of, with_word, Holds}
+use Rattle.switch_table.specs.Rule.{word_of, bits_of, words_of, with_view_word, StoresAlone}
 use Rattle.switch_table.specs.SeatStates.{SeatState, IsSeated}
 use Rattle.switch_table.specs.Seats.{clear_words, seat_words}
 use Rattle.switch_table.proofs.Ports.{bits_of-clear, port_set, port_held, port_own}
@@ -30,7 +30,7 @@ length-clear : (n : ℕ) → length (replicate n (word_of 0)) ≡ n
 length-clear zero = refl
 length-clear (suc n) = ap suc (length-clear n)
 
-unused_row : (ports : List ℕ) → IsNumbering ports → IsRow ports (clear_words ports)
+unused_row : (ports : List ℕ) → IsNumbering ports → AreWordsOf ports (clear_words ports)
 unused_row ports h = record {
   length_is = length-clear (length ports);
   few = few ports h;
@@ -52,7 +52,7 @@ dealt board seat view me ports here wide clear next numbering is no_slot = recor
   view_wide = ap (λ (v : View). length v.words) is ∙ ap length clear;
   holds_its_domain = ap (λ (v : View). v.held) is ∙ first_held view.held ports next;
   takes_no_slot = no_slot;
-  row = subst (IsRow ports) (sym (clear_row me.0 ports (ap (λ (v : View). v.words) is ∙ clear))) (unused_row ports numbering);
+  row = subst (AreWordsOf ports) (sym (clear_row me.0 ports (ap (λ (v : View). v.words) is ∙ clear))) (unused_row ports numbering);
 }
 
 map-set : (xs : List ℕ) (i x : ℕ) → map word_of (set xs i x) ≡ set (map word_of xs) i (word_of x)
@@ -70,8 +70,8 @@ word_at view ports number port is =
     slice_get-map word_of (bits_of view ports) number ∙ ap (λ o. option_map word_of o) (slice_get-map (slice_index view.words) ports number ∙ ap (λ o. option_map (slice_index view.words) o) is)
 
 -- a store at the port changes the word of its number alone
-pub words_set : (view : View) (ports : List ℕ) (number port bits : ℕ) → IsRow ports (words_of view ports) → length view.words ≡ 32 → port < 32 → slice_get ports number ≡ Some port
-    → words_of (with_word view port bits) ports ≡ slice_set (words_of view ports) number (word_of bits)
+pub words_set : (view : View) (ports : List ℕ) (number port bits : ℕ) → AreWordsOf ports (words_of view ports) → length view.words ≡ 32 → port < 32 → slice_get ports number ≡ Some port
+    → words_of (with_view_word view port bits) ports ≡ slice_set (words_of view ports) number (word_of bits)
 words_set view ports number port bits row wide low is =
     ap (map word_of) (port_set view ports number port (slice_get_within ports number port is) (at_index ports number port is) bits (omega arith)
     (λ u h same. row.one_to_one u number port (slice_get-get_or ports u 0 h ∙ ap (λ (p : ℕ). Some p) (same ∙ sym (at_index ports number port is))) is))
@@ -79,7 +79,7 @@ words_set view ports number port bits row wide low is =
 
 -- and what the seat is stays
 pub written_seat : (board seat next : TableId) (me now : Me (Unit {0}) View) (ports : List ℕ) (number port bits : ℕ) → IsSeated board seat me ports → IsWordOf ports (word_of bits) → port < 32 → slice_get ports number ≡ Some port → next ≡ seat
-    → now ≡ (with_word me.0 port bits, me.1) → IsSeated board next now ports
+    → now ≡ (with_view_word me.0 port bits, me.1) → IsSeated board next now ports
 written_seat board seat next me now ports number port bits s proper low is same then = record {
   here = same ∙ s.here;
   wide = ap (λ (t : TableId). t.words) same ∙ s.wide;
@@ -87,17 +87,17 @@ written_seat board seat next me now ports number port bits s proper low is same 
   holds_its_domain = ap (λ (m : Me (Unit {0}) View). m.0.held) then ∙ s.holds_its_domain;
   takes_no_slot = ap (λ (m : Me (Unit {0}) View). m.1) then ∙ s.takes_no_slot;
   row =
-      subst (λ (m : Me (Unit {0}) View). IsRow ports (words_of m.0 ports)) (sym then)
-      (subst (IsRow ports) (sym (words_set me.0 ports number port bits s.row s.view_wide low is)) (set_row ports (words_of me.0 ports) number (word_of bits) s.row proper));
+      subst (λ (m : Me (Unit {0}) View). AreWordsOf ports (words_of m.0 ports)) (sym then)
+      (subst (AreWordsOf ports) (sym (words_set me.0 ports number port bits s.row s.view_wide low is)) (set_row ports (words_of me.0 ports) number (word_of bits) s.row proper));
 }
 
 -- the port of a number lies below 32
-pub port_low : (ports : List ℕ) (words : List Word) (number port : ℕ) → IsRow ports words → slice_get ports number ≡ Some port → port < 32
+pub port_low : (ports : List ℕ) (words : List Word) (number port : ℕ) → AreWordsOf ports words → slice_get ports number ≡ Some port → port < 32
 port_low ports words number port row is =
     subst (λ (p : ℕ). p < 32) (get_or_from_slice_get ports number port port is) (row.below number port (slice_get_within ports number port is))
 
 -- it is one of the seat's own
-pub port_mine : (view : View) (ports : List ℕ) (number port : ℕ) → view.held ≡ ports ∷ [] → slice_get ports number ≡ Some port → Holds view port
+pub port_mine : (view : View) (ports : List ℕ) (number port : ℕ) → view.held ≡ ports ∷ [] → slice_get ports number ≡ Some port → StoresAlone view port
 port_mine view ports number port held is = port_held view ports number port (slice_get_within ports number port is) (at_index ports number port is) held
 
 pub port_in : (view : View) (ports : List ℕ) (number port : ℕ) → slice_get ports number ≡ Some port → Contains ports port

@@ -6,7 +6,7 @@ use Rattle.atomic_table.specs.Table.{State, Me, Step}
 use Rattle.crossbar.specs.declared.word.Word.{Word}
 use Rattle.crossbar.specs.Row.{IsWordOf}
 use Rattle.crossbar.specs.Word.{IsAtLeastAsNew}
-use Rattle.switch_table.specs.Domains.{IsSeparate}
+use Rattle.switch_table.specs.Domains.{AreDisjoint}
 use Rattle.switch_table.specs.declared.view.View.{View}
 
 -- the word of these bits
@@ -24,27 +24,27 @@ IsConfined domains i w =
     × (((n : ℕ) (d : List ℕ) → slice_get domains n ≡ Some d → ¬ Contains d i) → w ≡ 0)
 
 -- the seat alone stores the output i
-abbrev pub Holds : View → ℕ → Type 0
-Holds v i = (k : ℕ) × (d : List ℕ) × (slice_get v.held k ≡ Some d) × Contains d i
+abbrev pub StoresAlone : View → ℕ → Type 0
+StoresAlone v i = (k : ℕ) × (d : List ℕ) × (slice_get v.held k ≡ Some d) × Contains d i
 
 -- what a seat's view says is true of the words of the table
 pub record Knows (domains : List (List ℕ)) (words : List ℕ) (v : View) : Type 0 where
   pub plan : v.domains ≡ domains
   pub wide : length v.words ≡ 32
   pub own : (k : ℕ) (d : List ℕ) → slice_get v.held k ≡ Some d → (n : ℕ) × (slice_get domains n ≡ Some d)
-  pub separate : IsSeparate v.held
+  pub separate : AreDisjoint v.held
   -- the words of a domain's outputs are those that its seat's view holds
-  pub exact : (i : ℕ) → Holds v i → slice_index words i ≡ slice_index v.words i
+  pub exact : (i : ℕ) → StoresAlone v i → slice_index words i ≡ slice_index v.words i
   -- each word is at least as new as any seat's view of it, the operator's above all
   pub fresh : (i : ℕ) → IsNewer (slice_index words i) (slice_index v.words i)
 
 -- the rule of the table, between any two steps
 pub record IsRuled {S : Type 0} (domains : List (List ℕ)) (s : State S View) : Type 0 where
   pub wide : length s.words ≡ 32
-  pub separate : IsSeparate domains
+  pub separate : AreDisjoint domains
   pub knows : (seat : ℕ) (v : View) → get_elem? s.views seat ≡ some v → Knows domains s.words v
   -- no two seats have an output in common
-  pub apart : (one other i : ℕ) (v w : View) → get_elem? s.views one ≡ some v → get_elem? s.views other ≡ some w → Holds v i → Holds w i → one ≡ other
+  pub apart : (one other i : ℕ) (v w : View) → get_elem? s.views one ≡ some v → get_elem? s.views other ≡ some w → StoresAlone v i → StoresAlone w i → one ≡ other
   pub confined : (i : ℕ) → IsConfined domains i (slice_index s.words i)
 
 -- a view that holds these domains, with all words 0
@@ -52,8 +52,8 @@ abbrev pub opening_view : List (List ℕ) → List (List ℕ) → View
 opening_view domains held = record { domains = domains; held = held; words = replicate 32 0 }
 
 -- the view with another word at an output
-abbrev pub with_word : View → ℕ → ℕ → View
-with_word v i w = record v { words = slice_set v.words i w }
+abbrev pub with_view_word : View → ℕ → ℕ → View
+with_view_word v i w = record v { words = slice_set v.words i w }
 
 -- the words that a view has of these ports
 abbrev pub bits_of : View → List ℕ → List ℕ
@@ -69,8 +69,8 @@ Read st me found now = (now ≡ me) × (found ≡ slice_index me.0.words st.word
 
 -- a domain's seat stores its own output
 abbrev pub Written : {S : Type 0} → Step S → Me S View → ℕ → Me S View → Type 0
-Written st me stored now = now ≡ (with_word me.0 st.word st.first, me.1)
+Written st me stored now = now ≡ (with_view_word me.0 st.word st.first, me.1)
 
 -- the operator's seat loads an output
 abbrev pub Surveyed : {S : Type 0} → Step S → Me S View → ℕ → Me S View → Type 0
-Surveyed st me found now = (now ≡ (with_word me.0 st.word found, me.1)) × IsNewer found (slice_index me.0.words st.word) × IsConfined me.0.domains st.word found
+Surveyed st me found now = (now ≡ (with_view_word me.0 st.word found, me.1)) × IsNewer found (slice_index me.0.words st.word) × IsConfined me.0.domains st.word found

@@ -2,7 +2,7 @@
 use Rattle.std.specs.Prelude.{◌≡◌, ℕ, List, [], ◌∷◌, length}
 use Rattle.atomic_table.specs.Seated.{TableId}
 use Rattle.atomic_table.specs.Table.{Me}
-use Rattle.crossbar.specs.Row.{IsRow}
+use Rattle.crossbar.specs.Row.{AreWordsOf}
 use Rattle.switch_table.specs.Rule.{words_of}
 use Rattle.switch_table.specs.declared.view.View.{View}
 
@@ -19,4 +19,4 @@ pub record IsSeated (board seat : TableId) (me : Me (Unit {0}) View) (ports : Li
   pub view_wide : length me.0.words ≡ 32
   pub holds_its_domain : me.0.held ≡ ports ∷ []
   pub takes_no_slot : me.1 ≡ []
-  pub row : IsRow ports (words_of me.0 ports)
+  pub row : AreWordsOf ports (words_of me.0 ports)

@@ -25,8 +25,8 @@ abbrev pub surveyed_domains : OperatorSeat → List (List ℕ)
 surveyed_domains o = o.seat.me.0.domains
 
 -- the newest word that the operator has seen of each output, as its bits
-abbrev pub seen : OperatorSeat → List ℕ
-seen o = o.seat.me.0.words
+abbrev pub seen_words : OperatorSeat → List ℕ
+seen_words o = o.seat.me.0.words
 
 -- one word 0 for each port
 abbrev pub clear_words : List ℕ → List Word

@@ -45,7 +45,7 @@ impl SwitchTable {
     ghost use Rattle.crossbar.specs.Word.{IsAtLeastAsNew};
     ghost use Rattle.switch_table.specs.Domains.{domains_of};
     ghost use Rattle.switch_table.specs.Rule.{IsConfined, word_of};
-    ghost use Rattle.switch_table.specs.Seats.{table_of, seat_words, surveyed_table, surveyed_domains, seen, clear_words};
+    ghost use Rattle.switch_table.specs.Seats.{table_of, seat_words, surveyed_table, surveyed_domains, seen_words, clear_words};
 
     /// A table with all words 0, one seat for each domain of the plan, in its order and with its
     /// numbering, and the operator's, who has seen 0 everywhere. `NoMemory` leaves nothing behind.
@@ -57,7 +57,8 @@ impl SwitchTable {
         ensures clear { IfOk result (λ o. All (λ s. seat_words s ≡ clear_words s.ports) o.1.items) }
         ensures switch { IfOk result (λ o. All (λ s. switch_of (seat_words s) ≡ cleared) o.1.items) }
         ensures table { IfOk result (λ o. All (λ s. s.table ≡ table_of o.0) o.1.items) }
-        ensures operator { IfOk result (λ o. (surveyed_table o.2 ≡ table_of o.0) × (surveyed_domains o.2 ≡ domains_of plan.now) × (seen o.2 ≡ replicate 32 0)) }
+        ensures operator { IfOk result (λ o. (surveyed_table o.2 ≡ table_of o.0) × (surveyed_domains o.2 ≡ domains_of plan.now)) }
+        ensures seen { IfOk result (λ o. seen_words o.2 ≡ replicate 32 0) }
     {
         plan.separate();
         let domains = plan.domains();
@@ -75,8 +76,8 @@ impl SwitchTable {
     pub fn survey(&self, operator: &mut OperatorSeat, output: u8) -> Word
         requires here { surveyed_table operator.old ≡ table_of self.now }
         requires there { output < 32 }
-        ensures seen { seen operator.new ≡ slice_set (seen operator.old) output result.bits }
-        ensures newer { IsAtLeastAsNew result (word_of (slice_index (seen operator.old) output)) }
+        ensures seen { seen_words operator.new ≡ slice_set (seen_words operator.old) output result.bits }
+        ensures newer { IsAtLeastAsNew result (word_of (slice_index (seen_words operator.old) output)) }
         ensures confined { IsConfined (surveyed_domains operator.old) output result.bits }
         ensures same { (surveyed_table operator.new ≡ surveyed_table operator.old) × (surveyed_domains operator.new ≡ surveyed_domains operator.old) }
     {

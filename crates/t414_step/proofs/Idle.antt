@@ -14,10 +14,10 @@ use Rattle.link_channels.proofs.Work.{quiet-links, acts-serve_all}
 use Rattle.t414_step.specs.declared.cpu.Cpu.{Cpu}
 use Rattle.t414_step.specs.declared.stepping.Stepped.{Stepped}
 use Rattle.t414_step.specs.declared.stepping.Stepped.TheVariants as code
-use Rattle.t414_step.specs.Answers.{answered, is_idle, tells_idle}
+use Rattle.t414_step.specs.Answers.{step_answer_of, is_idle, tells_idle}
 use Rattle.t414_step.specs.Outcome.{Effect, upon}
-use Rattle.t414_step.specs.Registers.{rests}
-use Rattle.t414_step.specs.Step.{Answer, Resumption, Resumed, Nobody, Lost, found, placed, resumed, resumption, going_on, processed, after_service, byte_answer, byte_done, step}
+use Rattle.t414_step.specs.Registers.{has_nothing_to_do}
+use Rattle.t414_step.specs.Step.{StepAnswer, Resumption, Resumed, Nobody, Lost, resumption_by, placed, resumed, resumption, going_on, processed, after_service, byte_answer, byte_done, step}
 
 and-false : (a b : Bool) → (a && b && false) ≡ false
 and-false true true = refl
@@ -38,11 +38,11 @@ going-acts (Resumed s) ls m = no-byte (upon ls (byte_done s m))
 going-acts (Nobody s) ls m = refl
 going-acts (Lost fault) ls m = refl
 
-busy-if : (b : Bool) (x y : Answer) → tells_idle x ≡ false → tells_idle y ≡ false → tells_idle (if b then x else y) ≡ false
+busy-if : (b : Bool) (x y : StepAnswer) → tells_idle x ≡ false → tells_idle y ≡ false → tells_idle (if b then x else y) ≡ false
 busy-if true x y e f = e
 busy-if false x y e f = f
 
-idle-if : (b : Bool) (x y : Answer) (v : Bool) → tells_idle x ≡ false → tells_idle y ≡ v → tells_idle (if b then x else y) ≡ (not b && v)
+idle-if : (b : Bool) (x y : StepAnswer) (v : Bool) → tells_idle x ≡ false → tells_idle y ≡ v → tells_idle (if b then x else y) ≡ (not b && v)
 idle-if true x y v e f = e
 idle-if false x y v e f = f
 
@@ -59,7 +59,7 @@ placed-busy : (r : Result ℕ Fault) (w : ℕ) (s : Cpu) (ls : FourLinks) (m : L
 placed-busy (Ok i) w s ls m = no-byte (upon ls (byte_done (resumed w i s) m))
 placed-busy (Err fault) w s ls m = refl
 
-followed-busy : (r : Result ℕ Fault) (q : Queue) (s : Cpu) (ls : FourLinks) (m : List ℕ) → tells_idle (going_on (found (followed r q) s m) false ls m) ≡ false
+followed-busy : (r : Result ℕ Fault) (q : Queue) (s : Cpu) (ls : FourLinks) (m : List ℕ) → tells_idle (going_on (resumption_by (followed r q) s m) false ls m) ≡ false
 followed-busy (Ok next) q s ls m =
     placed-busy (word_at m (aligned q.front ⊖ 4)) (aligned q.front) (record s { queue = record { front = next; back = q.back } }) ls m
 followed-busy (Err fault) q s ls m = refl
@@ -80,7 +80,7 @@ unserved s ls m =
     idle-if s.running (byte_answer (upon ls (byte_done s m))) (going_on (resumption s m) false ls m) (s.queue.front == not_process)
     (no-byte (upon ls (byte_done s m))) (looked (s.queue.front == not_process) s ls m refl)
 
-rests-by : (work : Bool) (s : Cpu) (ls : FourLinks) (m : List ℕ) → any_has_work ls ≡ work → tells_idle (step s ls m) ≡ rests s ls
+rests-by : (work : Bool) (s : Cpu) (ls : FourLinks) (m : List ℕ) → any_has_work ls ≡ work → tells_idle (step s ls m) ≡ has_nothing_to_do s ls
 unfolding step
 rests-by true s ls m e =
     let busy : tells_idle (after_service (serve_all ls s.queue m) s) ≡ false = acted-on (serve_all ls s.queue m) s (acts-serve_all ls s.queue m ∙ e) in
@@ -88,14 +88,14 @@ rests-by true s ls m e =
 rests-by false s ls m e =
     rw (quiet-links ls s.queue m e, unserved s ls m, e) (sym (and-true (not s.running) (s.queue.front == not_process)))
 
-pub tells_idle-step : (s : Cpu) (ls : FourLinks) (m : List ℕ) → tells_idle (step s ls m) ≡ rests s ls
+pub tells_idle-step : (s : Cpu) (ls : FourLinks) (m : List ℕ) → tells_idle (step s ls m) ≡ has_nothing_to_do s ls
 tells_idle-step s ls m = rests-by _ s ls m refl
 
-tells_idle-answered : (r : Stepped) (s : Cpu) (ls : FourLinks) (m : List ℕ) → is_idle r ≡ tells_idle (answered r s ls m)
+tells_idle-answered : (r : Stepped) (s : Cpu) (ls : FourLinks) (m : List ℕ) → is_idle r ≡ tells_idle (step_answer_of r s ls m)
 tells_idle-answered code.Ran s ls m = refl
 tells_idle-answered code.Idle s ls m = refl
 tells_idle-answered (code.Fault fault) s ls m = refl
 
 -- so the code's answer tells whether there was
-pub is_idle-step : (r : Stepped) (s t : Cpu) (ls ks : FourLinks) (m n : List ℕ) → answered r t ks n ≡ step s ls m → is_idle r ≡ rests s ls
+pub is_idle-step : (r : Stepped) (s t : Cpu) (ls ks : FourLinks) (m n : List ℕ) → step_answer_of r t ks n ≡ step s ls m → is_idle r ≡ has_nothing_to_do s ls
 is_idle-step r s t ls ks m n e = tells_idle-answered r t ks n ∙ (ap tells_idle e ∙ tells_idle-step s ls m)

@@ -4,14 +4,14 @@ use Rattle.link_channels.specs.declared.link.FourLinks.{FourLinks}
 use Rattle.t414_step.specs.declared.cpu.Cpu.{Cpu}
 use Rattle.t414_step.specs.declared.stepping.Stepped.{Stepped}
 use Rattle.t414_step.specs.declared.stepping.Stepped.TheVariants as code
-use Rattle.t414_step.specs.Step as model
-use Rattle.t414_step.specs.Step.{Answer}
+use Rattle.t414_step.specs.Step.{Broke, Idle, Ran}
+use Rattle.t414_step.specs.Step.{StepAnswer}
 
 -- the answer of the code, with what it left
-abbrev pub answered : Stepped → Cpu → FourLinks → List ℕ → Answer
-answered code.Ran s ls m = model.Ran s ls m
-answered code.Idle s ls m = model.Idle s ls m
-answered (code.Fault fault) s ls m = model.Broke fault ls m
+abbrev pub step_answer_of : Stepped → Cpu → FourLinks → List ℕ → StepAnswer
+step_answer_of code.Ran s ls m = Ran s ls m
+step_answer_of code.Idle s ls m = Idle s ls m
+step_answer_of (code.Fault fault) s ls m = Broke fault ls m
 
 -- an answer that there was nothing to do
 abbrev pub is_idle : Stepped → Bool
@@ -20,7 +20,7 @@ is_idle code.Idle = true
 is_idle (code.Fault fault) = false
 
 -- a step's answer that there was nothing to do
-abbrev pub tells_idle : Answer → Bool
-tells_idle (model.Ran s ls m) = false
-tells_idle (model.Idle s ls m) = true
-tells_idle (model.Broke fault ls m) = false
+abbrev pub tells_idle : StepAnswer → Bool
+tells_idle (Ran s ls m) = false
+tells_idle (Idle s ls m) = true
+tells_idle (Broke fault ls m) = false

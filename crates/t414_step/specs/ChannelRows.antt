@@ -8,7 +8,7 @@ use Rattle.link_channels.specs.declared.process.Transfer.{Transfer}
 use Rattle.link_channels.specs.declared.process.Turn.{Turn}
 use Rattle.link_channels.specs.declared.process.Turn.TheVariants.{GoesOn, Waits}
 use Rattle.link_channels.specs.Messages.{input, output, enable, disable, reset}
-use Rattle.link_channels.specs.Reply.{Reply, Gave, and_then, store}
+use Rattle.link_channels.specs.Reply.{Reply, Gave, reply_and_then, store_then}
 use Rattle.t414_decode.specs.declared.instruction.ChannelOperation.{ChannelOperation}
 use Rattle.t414_decode.specs.declared.instruction.ChannelOperation.TheVariants.{InputMessage, OutputMessage, OutputByte, OutputWord, ResetChannel, DisableChannel, EnableChannel}
 use Rattle.t414_step.specs.declared.cpu.Cpu.{Cpu}
@@ -30,11 +30,11 @@ turned Waits s = leave s
 
 -- goes on with the registers after a message, the queue's among them
 abbrev pub after_message : Reply (Turn × Queue) FourLinks → Cpu → Effect
-after_message r s = and_then r (λ x ls m. Gave (turned x.0 (record s { queue = x.1 })) ls m)
+after_message r s = reply_and_then r (λ x ls m. Gave (turned x.0 (record s { queue = x.1 })) ls m)
 
 -- outbyte and outword: word(W) becomes A; out of so many bytes, pointer W, channel B
 abbrev pub send : ℕ → Cpu → FourLinks → List ℕ → Effect
-send count s ls m = store s.workspace s.a ls m (λ m.
+send count s ls m = store_then s.workspace s.a ls m (λ m.
     after_message (output (process_of s) (transfer count s.b s.workspace) ls s.queue m) s)
 
 -- an operation on a channel, after the byte that asked for it. A guard of 0 looks at no channel
@@ -43,10 +43,10 @@ channel_row InputMessage s ls m = after_message (input (process_of s) (transfer 
 channel_row OutputMessage s ls m = after_message (output (process_of s) (transfer s.a s.b s.c) ls s.queue m) s  -- 0B out
 channel_row OutputByte s ls m = send 1 s ls m  -- 0E outbyte
 channel_row OutputWord s ls m = send 4 s ls m  -- 0F outword
-channel_row ResetChannel s ls m = and_then (reset s.a ls m) (λ word ls m. Gave (un word s) ls m)  -- 12 resetch
+channel_row ResetChannel s ls m = reply_and_then (reset s.a ls m) (λ word ls m. Gave (un word s) ls m)  -- 12 resetch
 channel_row DisableChannel s ls m =  -- 2F disc
     if s.b == 0 then Gave (un 0 s) ls m
-    else and_then (disable (process_of s) s.c s.a ls m) (λ chosen ls m. Gave (un (bit chosen) s) ls m)
+    else reply_and_then (disable (process_of s) s.c s.a ls m) (λ chosen ls m. Gave (un (bit chosen) s) ls m)
 channel_row EnableChannel s ls m =  -- 48 enbc
     if s.a == 0 then Gave (record s { b = s.c }) ls m
-    else and_then (enable (process_of s) s.b ls m) (λ _ ls m. Gave (record s { b = s.c }) ls m)
+    else reply_and_then (enable (process_of s) s.b ls m) (λ _ ls m. Gave (record s { b = s.c }) ls m)

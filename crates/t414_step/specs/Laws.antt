@@ -7,13 +7,13 @@ use Rattle.t414_decode.specs.declared.instruction.PlainOperation.TheVariants.{Mo
 use Rattle.t414_step.specs.declared.cpu.Cpu.{Cpu}
 use Rattle.t414_step.specs.Answers.{tells_idle}
 use Rattle.t414_step.specs.Outcome.{Stopped}
-use Rattle.t414_step.specs.Registers.{rests}
+use Rattle.t414_step.specs.Registers.{has_nothing_to_do}
 use Rattle.t414_step.specs.Rows.{row}
 use Rattle.t414_step.specs.Step.{step, byte_done}
 
 -- a step answers Idle exactly if there is nothing to do
 abbrev pub IdleWhereItRests : Type 0
-IdleWhereItRests = (s : Cpu) (ls : FourLinks) (m : List ℕ) → tells_idle (step s ls m) ≡ rests s ls
+IdleWhereItRests = (s : Cpu) (ls : FourLinks) (m : List ℕ) → tells_idle (step s ls m) ≡ has_nothing_to_do s ls
 
 -- a move of more bytes than memory has copies up to memory's edge and halts
 abbrev pub MoveStopsAtTheEdge : Type 0

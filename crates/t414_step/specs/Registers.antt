@@ -60,5 +60,5 @@ abbrev pub carry : Cpu → ℕ
 carry s = s.c % 2
 
 -- there is nothing to do: no current process, none in the queue, and no link that has work
-abbrev pub rests : Cpu → FourLinks → Bool
-rests s ls = not s.running && (s.queue.front == not_process) && not (any_has_work ls)
+abbrev pub has_nothing_to_do : Cpu → FourLinks → Bool
+has_nothing_to_do s ls = not s.running && (s.queue.front == not_process) && not (any_has_work ls)

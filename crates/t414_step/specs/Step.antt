@@ -39,14 +39,14 @@ placed (Ok i) w s = Resumed (resumed w i s)
 placed (Err fault) w s = Lost fault
 
 -- a look at the queue, by what was taken
-abbrev pub found : Taking → Cpu → List ℕ → Resumption
-found (Took None q) s m = Nobody (record s { queue = q })
-found (Took (Some w) q) s m = placed (word_at m (aligned w ⊖ 4)) (aligned w) (record s { queue = q })
-found (Stayed fault q) s m = Lost fault
+abbrev pub resumption_by : Taking → Cpu → List ℕ → Resumption
+resumption_by (Took None q) s m = Nobody (record s { queue = q })
+resumption_by (Took (Some w) q) s m = placed (word_at m (aligned w ⊖ 4)) (aligned w) (record s { queue = q })
+resumption_by (Stayed fault q) s m = Lost fault
 
 -- a process is taken from the queue, and the word at W - 4 read
 abbrev pub resumption : Cpu → List ℕ → Resumption
-resumption s m = found (after_take s.queue m) s m
+resumption s m = resumption_by (after_take s.queue m) s m
 
 -- the code's answer to it
 abbrev pub resuming : Result Bool Fault → Cpu → Resumption
@@ -55,32 +55,32 @@ resuming (Ok false) s = Nobody s
 resuming (Err fault) s = Lost fault
 
 -- a step's answer: a service acted or a byte was done, there was nothing to do, or a fault halted the node
-pub data Answer : Type 0 where
-  Ran : Cpu → FourLinks → List ℕ → Answer
-  Idle : Cpu → FourLinks → List ℕ → Answer
-  Broke : Fault → FourLinks → List ℕ → Answer
+pub data StepAnswer : Type 0 where
+  Ran : Cpu → FourLinks → List ℕ → StepAnswer
+  Idle : Cpu → FourLinks → List ℕ → StepAnswer
+  Broke : Fault → FourLinks → List ℕ → StepAnswer
 
 -- the answer of a step that did a byte
-abbrev pub byte_answer : Effect → Answer
+abbrev pub byte_answer : Effect → StepAnswer
 byte_answer (Gave s ls m) = Ran s ls m
 byte_answer (Halted fault ls m) = Broke fault ls m
 
 -- the step, by what came of the look at the queue
-abbrev pub going_on : Resumption → Bool → FourLinks → List ℕ → Answer
+abbrev pub going_on : Resumption → Bool → FourLinks → List ℕ → StepAnswer
 going_on (Resumed s) acted ls m = byte_answer (upon ls (byte_done s m))
 going_on (Nobody s) acted ls m = if acted then Ran s ls m else Idle s ls m
 going_on (Lost fault) acted ls m = Broke fault ls m
 
 -- if there is no current process one is taken, and if there is one then a byte is done
-abbrev pub processed : Bool → Cpu → FourLinks → List ℕ → Answer
+abbrev pub processed : Bool → Cpu → FourLinks → List ℕ → StepAnswer
 processed acted s ls m =
     if s.running then byte_answer (upon ls (byte_done s m)) else going_on (resumption s m) acted ls m
 
 -- the step, by what came of the service of the links
-abbrev pub after_service : Reply (Bool × Queue) FourLinks → Cpu → Answer
+abbrev pub after_service : Reply (Bool × Queue) FourLinks → Cpu → StepAnswer
 after_service (Gave x ls m) s = processed x.0 (record s { queue = x.1 }) ls m
 after_service (Halted fault ls m) s = Broke fault ls m
 
 -- one step: links 0 to 3 are served in order, and then the processor does its part
-unfoldable pub step : Cpu → FourLinks → List ℕ → Answer
+unfoldable pub step : Cpu → FourLinks → List ℕ → StepAnswer
 step s ls m = after_service (serve_all ls s.queue m) s

@@ -1,8 +1,8 @@
 //! One step of the processor.
 
 ghost use Rattle.std.specs.Prelude.{◌≡◌};
-ghost use Rattle.t414_step.specs.Answers.{answered, is_idle};
-ghost use Rattle.t414_step.specs.Registers.{rests};
+ghost use Rattle.t414_step.specs.Answers.{step_answer_of, is_idle};
+ghost use Rattle.t414_step.specs.Registers.{has_nothing_to_do};
 ghost use Rattle.t414_step.specs.Step.{resuming, resumption, step};
 
 use crate::cpu::Cpu;
@@ -45,7 +45,7 @@ impl Cpu {
 #[inline]
 #[tactic(auto, unfolding(crate::specs::Step::step))]
 fn advance(cpu: &mut Cpu, memory: &mut Memory, links: &mut Links) -> Stepped
-    ensures answer { answered result cpu.new links.new memory.new ≡ step cpu.old links.old memory.old }
+    ensures answer { step_answer_of result cpu.new links.new memory.new ≡ step cpu.old links.old memory.old }
 {
     let acted = match links.serve_all(memory, &mut cpu.queue) {
         Ok(acted) => acted,
@@ -75,9 +75,9 @@ fn advance(cpu: &mut Cpu, memory: &mut Memory, links: &mut Links) -> Stepped
 /// Source: Transputer instruction set handbook, and Reference Manual, links; the order and the slices are our choice.
 #[inline]
 pub fn step(cpu: &mut Cpu, memory: &mut Memory, links: &mut Links) -> Stepped
-    ensures answer { answered result cpu.new links.new memory.new ≡ step cpu.old links.old memory.old }
+    ensures answer { step_answer_of result cpu.new links.new memory.new ≡ step cpu.old links.old memory.old }
     // It is idle exactly where there is no current process, none in the queue, and no link that has work.
-    ensures idle { is_idle result ≡ rests cpu.old links.old }
+    ensures idle { is_idle result ≡ has_nothing_to_do cpu.old links.old }
 {
     advance(cpu, memory, links)
 }

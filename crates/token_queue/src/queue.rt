@@ -5,7 +5,7 @@ ghost use Rattle.atomic_table.specs.Seated.{TableId};
 ghost use Rattle.crossbeam_queue.specs.Passes.{IsSamePass, IsPassOf, ruled_capacity};
 ghost use Rattle.token_queue.specs.Passes.{AreOf, AreItsPasses, HoldNone, parts_of, outside_of};
 ghost use Rattle.token_queue.specs.Rules.{hand, hand_of, weight};
-ghost use Rattle.token_queue.specs.Tokens.{token, tokens_of, tokens_of_nodes, every_token, weigh, without, Holds, AreTheOthers, HasEachOnce};
+ghost use Rattle.token_queue.specs.Tokens.{token, tokens_of, tokens_of_nodes, every_token, weigh, without, HasToken, AreTheOthers, HasEachOnce};
 
 use crate::rule::{GivesBack, Line, LinePass, OnePart, PutsAside, Takes};
 use crate::token::Token;
@@ -47,9 +47,9 @@ pub struct WorkerPass {
 impl Model for WorkerPass {
     ghost use Rattle.std.specs.Prelude.{◌≡◌, ◌<◌, []};
     ghost use Rattle.token_queue.specs.Rules.{hand_of};
-    ghost use Rattle.token_queue.specs.Passes.{PassValue};
+    ghost use Rattle.token_queue.specs.Passes.{WorkerPassValue};
 
-    ghost Value = { PassValue };
+    ghost Value = { WorkerPassValue };
 
     ghost view = { λ p. record { queue = p.pass.table_id; parts = (hand_of p.pass).parts; held = (hand_of p.pass).held; outside = (hand_of p.pass).outside } };
 
@@ -60,7 +60,7 @@ impl Model for WorkerPass {
 fn put<R: Wait>(rt: &R, line: &Line, pass: &mut LinePass, token: Token)
     requires queue { IsPassOf line.now pass.old × (ruled_capacity line.now ≡ 128) }
     requires parts { 0 < (hand_of pass.old).parts }
-    requires held { Holds (hand_of pass.old).held token }
+    requires held { HasToken (hand_of pass.old).held token }
     ensures queue { IsSamePass pass.old pass.new }
     ensures held { hand_of pass.new ≡ hand (hand_of pass.old).parts (without token (hand_of pass.old).held) (hand_of pass.old).outside }
 {
@@ -74,7 +74,7 @@ fn put<R: Wait>(rt: &R, line: &Line, pass: &mut LinePass, token: Token)
 fn put_nodes<R: Wait>(rt: &R, line: &Line, pass: &mut LinePass, domain: u8, nodes: u8)
     requires queue { IsPassOf line.now pass.old × (ruled_capacity line.now ≡ 128) }
     requires parts { 0 < (hand_of pass.old).parts }
-    requires held { (node : ℕ) → node < nodes → Holds (hand_of pass.old).held (token domain node) }
+    requires held { (node : ℕ) → node < nodes → HasToken (hand_of pass.old).held (token domain node) }
     ensures queue { IsSamePass pass.old pass.new }
     ensures parts { (hand_of pass.new).parts ≡ (hand_of pass.old).parts }
     ensures outside { (hand_of pass.new).outside ≡ (hand_of pass.old).outside }
@@ -219,7 +219,7 @@ impl TokenQueue {
     /// Puts a token that the pass holds back at the end of the queue, which always has room for it.
     pub fn give_back<R: Wait>(&self, rt: &R, pass: &mut WorkerPass, token: Token)
         requires queue { pass.old.queue ≡ self.now }
-        requires held { Holds pass.old.held token }
+        requires held { HasToken pass.old.held token }
         ensures { pass.new ≡ record pass.old { held = without token pass.old.held } }
     {
         put(rt, &self.line, &mut pass.pass, token)

@@ -4,23 +4,23 @@ use Rattle.std.specs.List.{AllZip}
 use Rattle.std.proofs.lemmas.List.{map_push}
 use Rattle.crossbar.specs.Word.{CountsChange}
 use Rattle.virtual_switch.specs.declared.reply.ConfigReply.{ConfigReply}
-use Rattle.virtual_switch.specs.Seen.{Seen, private_of}
-use Rattle.virtual_switch.specs.Private.{Configured, configured}
+use Rattle.virtual_switch.specs.SwitchValue.{SwitchValue, private_of}
+use Rattle.virtual_switch.specs.PrivateSwitch.{Configured, configured}
 use Rattle.virtual_switch.specs.Each.{IsFed, LeadsTo, AreFed}
 
-leads_more : (old mid new : Seen) (steps : List (ℕ × Seen)) (byte : ℕ) → LeadsTo old steps mid → IsFed mid byte new → LeadsTo old (steps ++ (byte, new) ∷ []) new
-leads_more old mid new [] byte same fed = (subst (λ (s : Seen). IsFed s byte new) same fed, refl)
+leads_more : (old mid new : SwitchValue) (steps : List (ℕ × SwitchValue)) (byte : ℕ) → LeadsTo old steps mid → IsFed mid byte new → LeadsTo old (steps ++ (byte, new) ∷ []) new
+leads_more old mid new [] byte same fed = (subst (λ (s : SwitchValue). IsFed s byte new) same fed, refl)
 leads_more old mid new (step ∷ steps) byte leads fed = (leads.0, leads_more step.1 mid new steps byte leads.1 fed)
 
-pub none_fed_at : (old new : Seen) (bytes : List ℕ) → bytes ≡ [] → new ≡ old → AreFed old bytes new
+pub none_fed_at : (old new : SwitchValue) (bytes : List ℕ) → bytes ≡ [] → new ≡ old → AreFed old bytes new
 none_fed_at old new bytes none same = record { steps = []; bytes_are = sym none; leads = same }
 
-pub more_fed_at : (old mid new : Seen) (bytes more : List ℕ) (byte : ℕ) (reply : ConfigReply) → AreFed old bytes mid
+pub more_fed_at : (old mid new : SwitchValue) (bytes more : List ℕ) (byte : ℕ) (reply : ConfigReply) → AreFed old bytes mid
     → record { reply = reply; switch = private_of new; rest = new.rest } ≡ configured (length mid.ports) (private_of mid) mid.rest byte
     → new.ports ≡ mid.ports → AllZip CountsChange mid.words new.words → more ≡ bytes ++ byte ∷ [] → AreFed old more new
 more_fed_at old mid new bytes more byte reply h step ports counts more_is = record {
   steps = h.steps ++ (byte, new) ∷ [];
-  bytes_are = map_push (λ (step : ℕ × Seen). step.0) h.steps (byte, new) ∙ ap (λ (bs : List ℕ). bs ++ byte ∷ []) h.bytes_are ∙ sym more_is;
+  bytes_are = map_push (λ (step : ℕ × SwitchValue). step.0) h.steps (byte, new) ∙ ap (λ (bs : List ℕ). bs ++ byte ∷ []) h.bytes_are ∙ sym more_is;
   leads = leads_more old mid new h.steps byte h.leads (record {
     switch = ap (λ (c : Configured). c.switch) step;
     rest = ap (λ (c : Configured). c.rest) step;

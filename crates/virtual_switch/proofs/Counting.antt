@@ -5,16 +5,16 @@ use Rattle.std.specs.List.{AllZip}
 use Rattle.crossbar.specs.declared.word.Word.{Word}
 use Rattle.crossbar.specs.declared.word.Connection.{Connection}
 use Rattle.crossbar.specs.Word.{CountsChange}
-use Rattle.crossbar.specs.Row.{IsRow, words_after}
+use Rattle.crossbar.specs.Row.{AreWordsOf, words_after}
 use Rattle.crossbar.proofs.Words.{input_fits, counts_both, each_counts_itself}
-use Rattle.virtual_switch.specs.Seen.{Seen}
+use Rattle.virtual_switch.specs.SwitchValue.{SwitchValue}
 
 -- the words once the input is set at the output
 abbrev pub SetsInput : List ℕ → List Word → List Word → ℕ → ℕ → Type 0
 SetsInput ports old new input output =
     (port : ℕ) → slice_get ports input ≡ Some port → new ≡ words_after old output (Some (record { input = port; ready = false }))
 
-pub counts_two_ways : (ports left : List ℕ) (old mid new : List Word) (first second : ℕ) → IsRow left mid → left ≡ ports → first < length ports → second < length ports → SetsInput ports old mid first second → SetsInput left mid new second first
+pub counts_two_ways : (ports left : List ℕ) (old mid new : List Word) (first second : ℕ) → AreWordsOf left mid → left ≡ ports → first < length ports → second < length ports → SetsInput ports old mid first second → SetsInput left mid new second first
     → AllZip CountsChange old new
 counts_two_ways ports left old mid new first second row same first_in second_in one two =
     let first_port = get_or ports first 0 in
@@ -29,5 +29,5 @@ counts_two_ways ports left old mid new first second row same first_in second_in 
     (counts_both old second first _ _ (input_fits first_port false (below first 0 first_in)) (input_fits second_port false (below second 0 second_in)) alike)
 
 -- words that stay count no change
-pub counts_seen : (view seen : Seen) → view ≡ seen → AllZip CountsChange seen.words view.words
-counts_seen view seen same = subst (λ (s : Seen). AllZip CountsChange s.words view.words) same (each_counts_itself view.words)
+pub counts_seen : (view seen : SwitchValue) → view ≡ seen → AllZip CountsChange seen.words view.words
+counts_seen view seen same = subst (λ (s : SwitchValue). AllZip CountsChange s.words view.words) same (each_counts_itself view.words)

@@ -2,23 +2,23 @@
 use Rattle.std.specs.Prelude.{◌≡◌, ℕ, List, [], ◌∷◌, length, map}
 use Rattle.std.specs.List.{AllZip}
 use Rattle.crossbar.specs.Word.{CountsChange}
-use Rattle.virtual_switch.specs.Seen.{Seen, private_of}
-use Rattle.virtual_switch.specs.Private.{configured}
+use Rattle.virtual_switch.specs.SwitchValue.{SwitchValue, private_of}
+use Rattle.virtual_switch.specs.PrivateSwitch.{configured}
 
 -- one byte: the switch and the rest are those that it configures, and each word that changes counts its change once
-pub record IsFed (old : Seen) (byte : ℕ) (new : Seen) : Type 0 where
+pub record IsFed (old : SwitchValue) (byte : ℕ) (new : SwitchValue) : Type 0 where
   pub switch : private_of new ≡ (configured (length old.ports) (private_of old) old.rest byte).switch
   pub rest : new.rest ≡ (configured (length old.ports) (private_of old) old.rest byte).rest
   pub ports : new.ports ≡ old.ports
   pub counts : AllZip CountsChange old.words new.words
 
 -- bytes one after another, each with what it leaves
-abbrev pub LeadsTo : Seen → List (ℕ × Seen) → Seen → Type 0
+abbrev pub LeadsTo : SwitchValue → List (ℕ × SwitchValue) → SwitchValue → Type 0
 LeadsTo old [] new = new ≡ old
 LeadsTo old (step ∷ steps) new = IsFed old step.0 step.1 × LeadsTo step.1 steps new
 
 -- these bytes, one after another
-pub record AreFed (old : Seen) (bytes : List ℕ) (new : Seen) : Type 0 where
-  pub steps : List (ℕ × Seen)
+pub record AreFed (old : SwitchValue) (bytes : List ℕ) (new : SwitchValue) : Type 0 where
+  pub steps : List (ℕ × SwitchValue)
   pub bytes_are : map (λ step. step.0) steps ≡ bytes
   pub leads : LeadsTo old steps new

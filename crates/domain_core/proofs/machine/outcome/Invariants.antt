@@ -1,6 +1,6 @@
 use Rattle.std.proofs.Common.{◌≡◌}
 use Rattle.std.specs.List.{range_with_len}
-use Rattle.virtual_switch.specs.Seen.{private_of}
+use Rattle.virtual_switch.specs.SwitchValue.{private_of}
 use Rattle.domain_core.specs.Moves.{outcome}
 use Rattle.domain_core.specs.MachineValue.{marked_in}
 use Rattle.domain_core.proofs.machine.outcome.Given as goal

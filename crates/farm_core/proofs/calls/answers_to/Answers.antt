@@ -1,6 +1,6 @@
 use Rattle.std.proofs.Common.{◌≡◌, ◌+◌, true, List, Err, drop, sym, subst}
 use Rattle.domain_core.specs.declared.event.Refusal.TheVariants.{NoMemory}
-use Rattle.domain_core.specs.Private.{Answer}
+use Rattle.domain_core.specs.PrivateFarm.{Answer}
 use Rattle.farm_core.specs.Places.{places_of}
 use Rattle.farm_core.specs.Run.{calls_asked}
 use Rattle.farm_core.proofs.Told.{IsToldSoFar, told_nothing, told_next, but_for_memory}

@@ -1,7 +1,7 @@
 use Rattle.std.proofs.Common.{◌∙◌, ap, sym, subst, length, List}
-use Rattle.domain_core.specs.Private.{Answer}
+use Rattle.domain_core.specs.PrivateFarm.{Answer}
 use Rattle.farm_core.specs.Places.{places_of}
-use Rattle.farm_core.specs.Laws.{told_to}
+use Rattle.farm_core.specs.Laws.{answers_among}
 use Rattle.farm_core.specs.Run.{calls_asked, NobodyElsewhere}
 use Rattle.farm_core.proofs.Separation.{numbered_domains_are_separate}
 use Rattle.farm_core.proofs.Runs.{each_is_told_privately}
@@ -11,7 +11,7 @@ use Rattle.farm_core.proofs.calls.run.Goals as goal
 pub returns-in-Ok-clause-private : goal.returns-in-Ok-clause-private
 returns-in-Ok-clause-private c = λ domain place there.
     let separate = numbered_domains_are_separate c.args.plan.now c.separate.ensures.own c.separate.ensures.apart in
-    ap (told_to domain (calls_asked c.args.calls.now)) c.in-Ok.ensures ∙ each_is_told_privately (places_of c.args.plan.now) (calls_asked c.args.calls.now) domain place separate there
+    ap (answers_among domain (calls_asked c.args.calls.now)) c.in-Ok.ensures ∙ each_is_told_privately (places_of c.args.plan.now) (calls_asked c.args.calls.now) domain place separate there
 
 pub returns-in-Ok-clause-elsewhere : goal.returns-in-Ok-clause-elsewhere
 returns-in-Ok-clause-elsewhere c =

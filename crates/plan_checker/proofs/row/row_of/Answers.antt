@@ -1,5 +1,5 @@
 use Rattle.std.proofs.Common.{ap, ◌∙◌}
-use Rattle.plan_checker.specs.Part.{row_of}
+use Rattle.plan_checker.specs.Part.{four_ranges}
 use Rattle.plan_checker.proofs.SeparateLemmas.{are_all_ranges, ranges_few, row_places}
 use Rattle.plan_checker.proofs.row.row_of.Goals as goal
 
@@ -26,4 +26,4 @@ place_of-requires-4 c =
 pub returns : goal.returns
 returns c =
     let sep = rw (← c.domain.view_is) at c.requires in
-    rw (c.place_of.ensures, c.place_of-2.ensures, c.place_of-3.ensures, c.place_of-4.ensures, c.as_slice-ranges.ensures.value) (row_places _ (ranges_few _ sep) ∙ ap row_of c.domain.view_is)
+    rw (c.place_of.ensures, c.place_of-2.ensures, c.place_of-3.ensures, c.place_of-4.ensures, c.as_slice-ranges.ensures.value) (row_places _ (ranges_few _ sep) ∙ ap four_ranges c.domain.view_is)

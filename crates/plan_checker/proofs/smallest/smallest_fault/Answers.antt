@@ -1,6 +1,6 @@
 use Rattle.std.proofs.Common.{◌+◌, inl, inr, get_or, arith}
 use Rattle.std.proofs.lemmas.Bool.{both_ways, cases_lt}
-use Rattle.plan_checker.specs.Fault.{number_of}
+use Rattle.plan_checker.specs.Fault.{plan_fault_number}
 use Rattle.plan_checker.specs.declared.fault.PlanFault.TheVariants.{Text}
 use Rattle.plan_checker.proofs.NumberLemmas.{same_rule, no_rule, every_rule, numbered, rules_in_order}
 use Rattle.plan_checker.proofs.smallest.smallest_fault.Goals as goal
@@ -9,7 +9,7 @@ pub loop-rule-init : goal.loop-rule-init
 loop-rule-init c = λ other less. no_rule c.args.domains.now other less
 
 pub loop-rule-preserved : goal.loop-rule-preserved
-loop-rule-preserved c = λ other less. elim (cases_lt (number_of other) (c.loop-rule.rule-index + 3)) [
+loop-rule-preserved c = λ other less. elim (cases_lt (plan_fault_number other) (c.loop-rule.rule-index + 3)) [
   | inl before ↦ c.loop-rule.invariant other before
   | inr here ↦
       let number = numbered c.loop-rule.rule-index (omega arith) in

@@ -1,8 +1,8 @@
 use Rattle.std.proofs.Common.{rules, ◌≡◌, ap, sym, ◌∙◌, length, ◌++◌, ◌∷◌, [], ◌+◌}
 use Rattle.std.proofs.lemmas.List.{length-append}
 use Rattle.domain_core.specs.Domain.{DomainValue}
-use Rattle.domain_core.specs.Journal.{Answered, expanded}
-use Rattle.domain_core.specs.Private.{Call}
+use Rattle.domain_core.specs.Journal.{AnsweredCall, expanded}
+use Rattle.domain_core.specs.PrivateFarm.{Call}
 use Rattle.domain_core.proofs.Meant.{meant_recorded, meant_unrecorded}
 use Rattle.domain_core.proofs.domain.Domain.apply.Goals as goal
 
@@ -10,7 +10,7 @@ pub invariant_of-self-then-recorded : goal.invariant_of-self-then-recorded
 invariant_of-self-then-recorded g c =
     let d : DomainValue = record { machine = c.self.inside.machine; journal = c.self.inside.journal.items } in
     let call : Call = record { by = c.args.by; event = c.args.event } in
-    let one : Answered = record { call = call; reply = c.act-reply.result.reply } in
+    let one : AnsweredCall = record { call = call; reply = c.act-reply.result.reply } in
     let gains : expanded c.note.new.journal.items ≡ expanded c.self.inside.journal.items ++ one ∷ [] = c.note.ensures ∙ ap (λ l. expanded l ++ one ∷ []) c.reserve.ensures.items in
     let counted : length (expanded c.note.new.journal.items) ≡ length (expanded c.self.inside.journal.items) + 1 = ap length gains ∙ length-append (expanded c.self.inside.journal.items) (one ∷ []) in (
       meant_recorded d call c.act-reply.new.self c.act-reply.result.reply c.note.new.journal.items c.self.invariant.0 (search rules) (search rules) c.act-reply.ensures.state c.act-reply.ensures.reply c.act-reply.ensures.part (sym c.act-reply.ensures.recorded ∙ c.if-recorded.true) gains,

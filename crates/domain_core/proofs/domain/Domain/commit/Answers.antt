@@ -6,7 +6,7 @@ use Rattle.domain_core.specs.declared.event.Event.TheVariants.{Step}
 use Rattle.plan_checker.specs.Part.{PartData}
 use Rattle.domain_core.specs.Domain.{DomainValue}
 use Rattle.domain_core.specs.Journal.{expanded}
-use Rattle.domain_core.specs.Private.{is_there}
+use Rattle.domain_core.specs.PrivateFarm.{is_there}
 use Rattle.domain_core.specs.Ticket.{steps_told}
 use Rattle.domain_core.proofs.Commits.{meant_committed, length_told}
 use Rattle.domain_core.proofs.domain.Domain.commit.Goals as goal

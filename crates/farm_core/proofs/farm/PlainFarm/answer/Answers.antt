@@ -1,6 +1,6 @@
 use Rattle.std.proofs.Common.{◌≡◌, ◌<◌, List, length, slice_set, subst}
 use Rattle.domain_core.specs.Domain.{DomainValue}
-use Rattle.farm_core.specs.Places.{IsSeparate}
+use Rattle.farm_core.specs.Places.{AreSeparatePlaces}
 use Rattle.farm_core.specs.PlainFarm.{places_in, IsCalled}
 use Rattle.farm_core.proofs.Plain.{Replaces, read_at, still_separate, called_at, others_stay, places_stay, call_of_each_whole}
 use Rattle.farm_core.proofs.farm.PlainFarm.answer.Goals as goal
@@ -16,8 +16,8 @@ replaces c =
       place = λ i. record { part = c.apply.ensures.part i; ports = c.apply.ensures.ports i };
     }
 
-separate : (c : goal.After-self-2-1) → IsSeparate (places_in c.args.self.now)
-separate c = subst (λ (ds : List DomainValue). IsSeparate (places_in ds)) c.self.view_is c.self.invariant
+separate : (c : goal.After-self-2-1) → AreSeparatePlaces (places_in c.args.self.now)
+separate c = subst (λ (ds : List DomainValue). AreSeparatePlaces (places_in ds)) c.self.view_is c.self.invariant
 
 called : (c : goal.After-self-2-1) → IsCalled (record { by = c.args.by; event = c.args.event }) c.apply.result c.in-Some.domain.now c.apply.new.self
 called c = record { answer = c.apply.ensures.answer; state = c.apply.ensures.state; refused = c.apply.ensures.refused; journal = c.apply.ensures.journal; counts = c.apply.ensures.counts }

@@ -1,6 +1,6 @@
 use Rattle.std.proofs.Common.{◌≤◌, List, length, refl, ◌∙◌, subst}
 use Rattle.domain_core.specs.Domain.{DomainValue}
-use Rattle.farm_core.specs.Places.{IsSeparate}
+use Rattle.farm_core.specs.Places.{AreSeparatePlaces}
 use Rattle.farm_core.specs.PlainFarm.{places_in}
 use Rattle.farm_core.proofs.Plain.{read_at}
 use Rattle.farm_core.proofs.Wholes.{one_meant_more, all_meant, all_rows, have_a_whole}
@@ -26,5 +26,5 @@ returns-clause-rows c =
 pub returns-clause-whole : goal.returns-clause-whole
 returns-clause-whole c =
     let same = c.deref-domain-items.ensures.value ∙ c.self.view_is in
-    have_a_whole c.args.self.now (subst (λ (ds : List DomainValue). IsSeparate (places_in ds)) c.self.view_is c.self.invariant)
+    have_a_whole c.args.self.now (subst (λ (ds : List DomainValue). AreSeparatePlaces (places_in ds)) c.self.view_is c.self.invariant)
     (all_meant c.args.self.now c.loop-domain.domain-index (subst (λ (ds : List DomainValue). length ds ≤ c.loop-domain.domain-index) same c.loop-domain-test.false) c.loop-domain.invariant)

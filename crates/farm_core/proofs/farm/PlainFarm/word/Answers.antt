@@ -1,7 +1,7 @@
 use Rattle.std.proofs.Common.{◌<◌, List, length, arith, refl, sym, subst}
 use Rattle.crossbar.proofs.Switching.{word_within}
 use Rattle.domain_core.specs.Domain.{DomainValue}
-use Rattle.farm_core.specs.Places.{IsSeparate}
+use Rattle.farm_core.specs.Places.{AreSeparatePlaces}
 use Rattle.farm_core.specs.PlainFarm.{places_in}
 use Rattle.farm_core.proofs.Owners.{IsOwner, owner_read, within_farm, within_count, nobody_has, word_of_nobody, word_of_owner, word_says, nothing_says}
 use Rattle.farm_core.proofs.farm.PlainFarm.word.Goals as goal
@@ -21,7 +21,7 @@ index_mut-requires c =
 pub word-requires : goal.word-requires
 word-requires c =
     let owner = owner_read c.self.inside.domains.items c.args.self.now c.in-Some.domain c.index_mut.result.now c.in-Some.number c.args.output c.self.view_is c.in-Some.ensures.owned c.index_mut.ensures.value in
-    let separate = subst (λ (ds : List DomainValue). IsSeparate (places_in ds)) c.self.view_is c.self.invariant in
+    let separate = subst (λ (ds : List DomainValue). AreSeparatePlaces (places_in ds)) c.self.view_is c.self.invariant in
     within_count c.args.self.now c.in-Some.domain c.index_mut.result.now c.in-Some.number c.args.output separate owner.there owner.port
 
 pub returns-clause-proper : goal.returns-clause-proper
@@ -31,8 +31,8 @@ returns-clause-proper c = (word_within _ _ _ _ c.word.ensures.row c.word.ensures
 owner : (c : goal.After-self-1) → IsOwner c.args.self.now c.in-Some.domain c.index_mut.result.now c.in-Some.number c.args.output
 owner c = owner_read c.self.inside.domains.items c.args.self.now c.in-Some.domain c.index_mut.result.now c.in-Some.number c.args.output c.self.view_is c.in-Some.ensures.owned c.index_mut.ensures.value
 
-separate : (c : goal.After-self-1) → IsSeparate (places_in c.args.self.now)
-separate c = subst (λ (ds : List DomainValue). IsSeparate (places_in ds)) c.self.view_is c.self.invariant
+separate : (c : goal.After-self-1) → AreSeparatePlaces (places_in c.args.self.now)
+separate c = subst (λ (ds : List DomainValue). AreSeparatePlaces (places_in ds)) c.self.view_is c.self.invariant
 
 pub returns-clause-owner : goal.returns-clause-owner
 returns-clause-owner c = word_of_owner _ _ _ _ _ _ (separate c) (owner c).there (owner c).port c.word.ensures.word

@@ -2,7 +2,7 @@ use Rattle.std.proofs.Common.{rules, arith, refl, ◌≡◌, ◌<◌, ◌∙◌,
 use Rattle.atomic_table.specs.Table.{Me}
 use Rattle.crossbar.specs.Row.{IsWordOf}
 use Rattle.switch_table.specs.declared.view.View.{View}
-use Rattle.switch_table.specs.Rule.{IsNewer, word_of, words_of, with_word}
+use Rattle.switch_table.specs.Rule.{IsNewer, word_of, words_of, with_view_word}
 use Rattle.switch_table.specs.SeatStates.{SeatState}
 use Rattle.switch_table.specs.Seats.{seat_words}
 use Rattle.switch_table.proofs.Moves.{writes}
@@ -30,7 +30,7 @@ invariant_of-self c =
     let kept = c.self.invariant in
     let fits : IsWordOf s.numbering (word_of c.args.word.bits) = subst (λ (t : SeatState). IsWordOf t.ports c.args.word) (sym c.self.view_is) c.requires.word in
     let low = port_low s.numbering _ c.args.number c.physical-port.result kept.row c.physical-port.ensures in
-    let stored = c.store.ensures.2 ∙ ap (λ (port : ℕ). let now : Me (Unit {0}) View = (with_word s.seat.me.0 port c.args.word.bits, s.seat.me.1) in now) c.from.ensures in
+    let stored = c.store.ensures.2 ∙ ap (λ (port : ℕ). let now : Me (Unit {0}) View = (with_view_word s.seat.me.0 port c.args.word.bits, s.seat.me.1) in now) c.from.ensures in
     written_seat _ _ _ s.seat.me _ s.numbering c.args.number c.physical-port.result c.args.word.bits kept fits low c.physical-port.ensures c.store.ensures.0 stored
 
 pub returns-clause-words : goal.returns-clause-words
@@ -38,7 +38,7 @@ returns-clause-words c =
     let s = c.self.inside in
     let kept = c.self.invariant in
     let low = port_low s.numbering _ c.args.number c.physical-port.result kept.row c.physical-port.ensures in
-    let stored = c.store.ensures.2 ∙ ap (λ (port : ℕ). let now : Me (Unit {0}) View = (with_word s.seat.me.0 port c.args.word.bits, s.seat.me.1) in now) c.from.ensures in
+    let stored = c.store.ensures.2 ∙ ap (λ (port : ℕ). let now : Me (Unit {0}) View = (with_view_word s.seat.me.0 port c.args.word.bits, s.seat.me.1) in now) c.from.ensures in
     ap (λ (now : Me (Unit {0}) View). words_of now.0 s.numbering) stored ∙ words_set s.seat.me.0 s.numbering c.args.number c.physical-port.result c.args.word.bits kept.row kept.view_wide low c.physical-port.ensures
     ∙ ap (λ (t : SeatState). slice_set (seat_words t) c.args.number c.args.word) c.self.view_is
 
@@ -48,5 +48,5 @@ returns-clause-row c =
     let kept = c.self.invariant in
     let fits : IsWordOf s.numbering (word_of c.args.word.bits) = subst (λ (t : SeatState). IsWordOf t.ports c.args.word) (sym c.self.view_is) c.requires.word in
     let low = port_low s.numbering _ c.args.number c.physical-port.result kept.row c.physical-port.ensures in
-    let stored = c.store.ensures.2 ∙ ap (λ (port : ℕ). let now : Me (Unit {0}) View = (with_word s.seat.me.0 port c.args.word.bits, s.seat.me.1) in now) c.from.ensures in
+    let stored = c.store.ensures.2 ∙ ap (λ (port : ℕ). let now : Me (Unit {0}) View = (with_view_word s.seat.me.0 port c.args.word.bits, s.seat.me.1) in now) c.from.ensures in
     (written_seat _ _ _ s.seat.me _ s.numbering c.args.number c.physical-port.result c.args.word.bits kept fits low c.physical-port.ensures c.store.ensures.0 stored).row

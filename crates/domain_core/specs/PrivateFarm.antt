@@ -9,7 +9,7 @@ use Rattle.domain_core.specs.declared.event.Event.TheVariants.{Config, Write, Re
 use Rattle.domain_core.specs.declared.event.Reply.{Reply}
 use Rattle.domain_core.specs.declared.event.Refusal.{Refusal}
 use Rattle.domain_core.specs.declared.event.Refusal.TheVariants.{NoSuch, JournalFull}
-use Rattle.domain_core.specs.Machine.{Machine, acted, is_recorded, fresh}
+use Rattle.domain_core.specs.Machine.{Machine, acted, is_recorded, fresh_machine}
 
 -- an event, and who asks
 pub record Call : Type 0 where
@@ -82,4 +82,4 @@ after part s (call ∷ calls) = after part (next part s call).0 calls
 
 -- the state in which such a farm begins: a fresh machine, nothing recorded
 abbrev pub opening : PartData → State
-opening part = record { machine = fresh part; recorded = 0 }
+opening part = record { machine = fresh_machine part; recorded = 0 }
