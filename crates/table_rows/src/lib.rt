@@ -1,9 +1,8 @@
-//! Worked rows of the shared switch table: domains and an operator in threads of their own. Tests
-//! alone.
+//! Worked rows of the shared switch table: domains and an operator in threads of their own. All but `farm`, which opens
+//! tables for them, is tests.
 #![tactic(auto)]
 
-#[cfg(test)]
-mod farm;
+pub mod farm;
 #[cfg(test)]
 mod meeting;
 #[cfg(test)]
