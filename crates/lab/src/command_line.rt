@@ -17,6 +17,10 @@ pub enum Asked<'a> {
     Help(String),
     /// To replay standard input on farms.
     Replay,
+    /// To show the plan on standard input.
+    Plan,
+    /// To draw the switch of the farm that standard input leaves.
+    Draw,
     /// To trace what standard input asks of a node.
     Trace,
     /// To boot a node with code, and to trace at most so many Steps.
@@ -58,6 +62,12 @@ fn command<'a>(alloc: Global) -> Result<Command<'a>, AllocError> {
         .about("Traces a node alone: reads lines that set it and let it do Steps")
         .arg(code)?
         .arg(steps)?;
+    let plan = Command::new(alloc, "plan").about(
+        "Shows the domains, users, ports and devices of a plan, or where and why it is refused",
+    );
+    let draw = Command::new(alloc, "draw").about(
+        "Draws the switch in SVG after the events of a text as replay reads it",
+    );
     let files = Arg::new(alloc, "file")
         .value_name("FILE")
         .help(
@@ -73,12 +83,16 @@ fn command<'a>(alloc: Global) -> Result<Command<'a>, AllocError> {
         .about("A laboratory for the farm of T414 processors")
         .subcommand_required(true)
         .subcommand(replay)?
+        .subcommand(plan)?
+        .subcommand(draw)?
         .subcommand(trace)?
         .subcommand(rows)
 }
 
 fn chosen<'a>(alloc: Global, matches: &ArgMatches<'a>) -> Result<Asked<'a>, Failure> {
     match matches.subcommand() {
+        Some(("plan", _)) => Ok(Asked::Plan),
+        Some(("draw", _)) => Ok(Asked::Draw),
         Some(("trace", matches)) => traced(alloc, matches),
         Some(("rows", matches)) => {
             let mut files = Vec::new(alloc);
