@@ -10,6 +10,13 @@ use std::convert::AsStr;
 /// How many Steps are traced unless the words say it.
 const USUAL_STEPS: u32 = 1000;
 
+/// What stands below the help.
+const AFTER_HELP: &str = "\
+Example:
+  lab plan < examples/two-users.farm
+
+Each subcommand tells by --help what it reads. docs/LAB.md has them all.";
+
 /// What the words ask.
 #[derive(Drop)]
 pub enum Asked<'a> {
@@ -81,6 +88,7 @@ fn command<'a>(alloc: Global) -> Result<Command<'a>, AllocError> {
         .arg(files)?;
     Command::new(alloc, "lab")
         .about("A laboratory for the farm of T414 processors")
+        .after_help(AFTER_HELP)
         .subcommand_required(true)
         .subcommand(replay)?
         .subcommand(plan)?
