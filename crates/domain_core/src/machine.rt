@@ -4,10 +4,10 @@ ghost use Rattle.std.specs.Option.{option_copied};
 ghost use Rattle.domain_core.specs.declared.event.Event.{Event as SpecEvent};
 ghost use Rattle.domain_core.specs.Domain.{IsQuiet};
 ghost use Rattle.std.specs.Int.{bit_at};
-ghost use Rattle.std.specs.List.{AllZip, range_with_len};
+ghost use Rattle.std.specs.List.{range_with_len};
 ghost use Rattle.crossbar.specs.Row.{switch_of, AreWordsOf, number_in};
 ghost use Rattle.crossbar.specs.Switch.{cleared, drives};
-ghost use Rattle.crossbar.specs.Word.{CountsChange};
+ghost use Rattle.virtual_switch.specs.Each.{KeepsPorts};
 ghost use Rattle.virtual_switch.specs.SwitchValue.{private_of};
 ghost use Rattle.domain_core.specs.Devices.{memories, node_at, with_node};
 ghost use Rattle.domain_core.specs.Moves.{moved, outcome, copies_arrived, driven};
@@ -22,6 +22,7 @@ use crate::event::{By, Event, Moved, Reply};
 use crate::table::{DeviceTable, table_of};
 use crate::ticket::Ticket;
 use bootstrap::Node;
+use crossbar::laws::rows_are_words_of_ports;
 use crossbar::{Numbering, Outputs, Word};
 use os_link::Packet;
 use plan_checker::Part;
@@ -172,8 +173,7 @@ impl<O: Outputs + Drop> Machine<O> {
     pub(crate) fn clear(&mut self)
         ensures state { machine_of self.new ≡ fresh_machine self.old.part }
         ensures part { self.new.part ≡ self.old.part }
-        ensures ports { self.new.switch.ports ≡ self.old.switch.ports }
-        ensures counts { AllZip CountsChange self.old.switch.words self.new.switch.words }
+        ensures kept { KeepsPorts self.old.switch self.new.switch }
     {
         self.switch.clear();
         self.devices.clear();
@@ -241,17 +241,17 @@ impl<O: Outputs + Drop> Machine<O> {
     }
 
     /// Does an event, and answers it.
-    #[tactic(auto, using(crate::proofs::Unchanged::each_counts_itself))]
+    #[tactic(auto, using(crate::proofs::Unchanged::keeps_itself))]
     pub(crate) fn act(&mut self, event: Event) -> Acted
         requires { IsIn self.old.part event }
         ensures reply { result.reply ≡ (acted self.old.part (machine_of self.old) event).1 }
         ensures recorded { result.recorded ≡ is_recorded self.old.part (machine_of self.old) event }
         ensures state { machine_of self.new ≡ (acted self.old.part (machine_of self.old) event).0 }
         ensures part { self.new.part ≡ self.old.part }
-        ensures ports { self.new.switch.ports ≡ self.old.switch.ports }
-        ensures counts { AllZip CountsChange self.old.switch.words self.new.switch.words }
+        ensures kept { KeepsPorts self.old.switch self.new.switch }
     {
         bootstrap::steps_keep_the_size();
+        rows_are_words_of_ports();
         let mut recorded = true;
         let reply = match event {
             Event::Config(byte) => Reply::Config(self.switch.feed(byte)),

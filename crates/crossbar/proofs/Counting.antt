@@ -6,13 +6,8 @@ use Rattle.crossbar.specs.declared.word.Word.{Word}
 use Rattle.crossbar.specs.declared.word.Connection.{Connection}
 use Rattle.crossbar.specs.Word.{CountsChange}
 use Rattle.crossbar.specs.Row.{AreWordsOf, words_after}
-use Rattle.crossbar.proofs.Words.{input_fits, counts_both, each_counts_itself}
-use Rattle.virtual_switch.specs.SwitchValue.{SwitchValue}
-
--- the words once the input is set at the output
-abbrev pub SetsInput : List ℕ → List Word → List Word → ℕ → ℕ → Type 0
-SetsInput ports old new input output =
-    (port : ℕ) → slice_get ports input ≡ Some port → new ≡ words_after old output (Some (record { input = port; ready = false }))
+use Rattle.crossbar.specs.Kept.{SetsInput}
+use Rattle.crossbar.proofs.Words.{input_fits, counts_both}
 
 pub counts_two_ways : (ports left : List ℕ) (old mid new : List Word) (first second : ℕ) → AreWordsOf left mid → left ≡ ports → first < length ports → second < length ports → SetsInput ports old mid first second → SetsInput left mid new second first
     → AllZip CountsChange old new
@@ -27,7 +22,3 @@ counts_two_ways ports left old mid new first second row same first_in second_in 
     λ e. ap (λ (p : ℕ). Some (let c : Connection = record { input = p; ready = false } in c)) (same_Some _ _ (sym first_is ∙ ap (slice_get ports) (sym e) ∙ second_is)) in
     subst (AllZip CountsChange old) (sym words)
     (counts_both old second first _ _ (input_fits first_port false (below first 0 first_in)) (input_fits second_port false (below second 0 second_in)) alike)
-
--- words that stay count no change
-pub counts_seen : (view seen : SwitchValue) → view ≡ seen → AllZip CountsChange seen.words view.words
-counts_seen view seen same = subst (λ (s : SwitchValue). AllZip CountsChange s.words view.words) same (each_counts_itself view.words)
