@@ -1,5 +1,5 @@
 -- A domain: a machine and the journal of what it answered. What holds of every domain.
-use Rattle.std.specs.Prelude.{ℕ, List, [], ◌∷◌, ◌++◌, length, OnErr, ◌≡◌, ◌<◌, ◌≤◌, ◌^◌, Ok, Err, false, if◌then◌else◌, slice_get, Some}
+use Rattle.std.specs.Prelude.{ℕ, ◌+◌, List, [], ◌∷◌, ◌++◌, length, OnErr, ◌≡◌, ◌<◌, ◌≤◌, ◌^◌, Ok, Err, false, if◌then◌else◌, slice_get, Some}
 use Rattle.std.specs.List.{AllZip}
 use Rattle.crossbar.specs.Word.{CountsChange}
 use Rattle.plan_checker.specs.Data.{DomainData}
@@ -49,10 +49,18 @@ pub record IsCalled (call : Call) (told : Answer) (old new : DomainValue) : Type
   pub journal : expanded new.journal ≡ expanded old.journal ++ gained old.machine.part (state_of old) call told
   pub counts : AllZip CountsChange old.machine.switch.words new.machine.switch.words
 
+-- so many events more would pass the limit
+abbrev pub IsPastLimit : DomainValue → ℕ → Type 0
+IsPastLimit d count = d.machine.part.limit < length (expanded d.journal) + count
+
+-- no Move would be recorded
+abbrev pub PortsAreQuiet : PartData → Machine → Type 0
+PortsAreQuiet part m = (port : ℕ) → port < part.count → is_recorded part m (Move port) ≡ false
+
 -- no Step and no Move would be recorded
 pub record IsQuiet (part : PartData) (m : Machine) : Type 0 where
   pub nodes : (node : ℕ) → node < length part.nodes → is_recorded part m (Step node) ≡ false
-  pub ports : (port : ℕ) → port < part.count → is_recorded part m (Move port) ≡ false
+  pub ports : PortsAreQuiet part m
 
 -- the domain has the part and the ports of this domain of a plan
 pub record Fits (plan : List DomainData) (number : ℕ) (d : DomainValue) : Type 0 where

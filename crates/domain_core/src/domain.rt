@@ -11,7 +11,7 @@ ghost use Rattle.domain_core.specs.Machine.{is_recorded};
 ghost use Rattle.domain_core.specs.MachineValue.{machine_of};
 ghost use Rattle.domain_core.specs.PrivateFarm.{opening};
 ghost use Rattle.domain_core.specs.Journal.{expanded};
-ghost use Rattle.domain_core.specs.Domain.{state_of, IsMeant, IsCalled, Fits, IsQuiet};
+ghost use Rattle.domain_core.specs.Domain.{state_of, IsMeant, IsCalled, IsPastLimit, Fits, IsQuiet};
 ghost use Rattle.domain_core.specs.Ticket.{IsHome, Commits, fresh_ticket};
 
 use crate::NoMemory;
@@ -234,7 +234,7 @@ impl<O: Outputs + Drop> Domain<O> {
     /// grow. In each of these nothing has changed.
     pub fn commit(&mut self, ticket: Ticket) -> Result<Committed, Refusal>
         ensures stale { (result ≡ Ok Stale) ↔ ¬ IsHome self.old ticket }
-        ensures full { (result ≡ Err JournalFull) ↔ (IsHome self.old ticket × (self.old.machine.part.limit < length (expanded self.old.journal) + ticket.steps)) }
+        ensures full { (result ≡ Err JournalFull) ↔ (IsHome self.old ticket × IsPastLimit self.old ticket.steps) }
         ensures no_such { result ≢ Err NoSuch }
         ensures done { result ≡ Ok Done → Commits self.old ticket self.new }
         ensures same { result ≢ Ok Done → self.new ≡ self.old }

@@ -34,6 +34,7 @@ impl Model for DomainSeat {
 
 impl DomainSeat {
     /// Cuts the first domain off what the dealer holds.
+    // Eight clauses: the dealer's seat is known by six facts, of which each is met by another, and both seats change.
     pub(crate) fn deal(
         board: &Arc<Board>,
         dealer: &mut BoardSeat,

@@ -1,7 +1,7 @@
 //! The switch table, and the operator's seat.
 ghost use Rattle.std.specs.Prelude.{◌≡◌, [], length, IfOk};
 ghost use Rattle.switch_table.specs.Domains.{domains_of};
-ghost use Rattle.switch_table.specs.Rule.{dealer_view};
+ghost use Rattle.switch_table.specs.Rule.{dealer_of};
 ghost use Rattle.std.specs.Arc.{arc_value};
 
 use crate::NoMemory;
@@ -32,7 +32,7 @@ pub struct OperatorSeat {
 
 /// The words of a plan's outputs, all 0, and the seat that holds every domain.
 fn board_of(alloc: Global, plan: &AcceptedPlan) -> Result<(Arc<Board>, BoardSeat), NoMemory>
-    ensures { IfOk result (λ o. (o.1.table_id ≡ (arc_value o.0).shared.table_id) × (o.1.table_id.words ≡ 32) × (o.1.me ≡ (dealer_view (domains_of plan.now), []))) }
+    ensures { IfOk result (λ o. (o.1.table_id ≡ (arc_value o.0).shared.table_id) × (o.1.table_id.words ≡ 32) × (o.1.me ≡ dealer_of (domains_of plan.now))) }
 {
     plan.separate();
     let (table, dealer): (Board, BoardSeat) = Table::of_words(alloc, &[0; 32], plan)?;
@@ -50,6 +50,7 @@ impl SwitchTable {
 
     /// A table with all words 0, one seat for each domain of the plan, in its order and with its
     /// numbering, and the operator's, who has seen 0 everywhere. `NoMemory` leaves nothing behind.
+    // Six clauses: four of the seats, and two of the operator's.
     pub fn open(
         alloc: Global,
         plan: &AcceptedPlan,

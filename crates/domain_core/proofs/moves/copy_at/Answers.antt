@@ -1,6 +1,6 @@
 use Rattle.std.proofs.Common.{rules, ◌∙◌, Some, None}
 use Rattle.domain_core.proofs.Outcomes.{held_at, joined_is, copied_one}
-use Rattle.domain_core.proofs.machine.copy_at.Goals as goal
+use Rattle.domain_core.proofs.moves.copy_at.Goals as goal
 
 pub deliver-requires : goal.deliver-requires
 deliver-requires c = held_at c.args.part.now c.args.devices.now c.args.table.now c.args.output c.in-Some.device c.requires.joined c.requires.nodes c.requires.hosts c.requires.there (search rules)

@@ -1,8 +1,8 @@
 use Rattle.std.proofs.Common.{◌≡◌, length}
 use Rattle.std.specs.List.{range_with_len}
 use Rattle.domain_core.specs.Moves.{copies_arrived}
-use Rattle.domain_core.specs.MachineValue.{marked_in}
-use Rattle.domain_core.proofs.machine.copy_to.Given as goal
+use Rattle.domain_core.specs.Routes.{marked_in}
+use Rattle.domain_core.proofs.moves.copy_to.Given as goal
 
 abbrev pub invariant-loop-output : goal.invariant-loop-output
 invariant-loop-output l =

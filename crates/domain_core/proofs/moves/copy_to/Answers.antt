@@ -1,6 +1,6 @@
 use Rattle.std.proofs.Common.{◌∙◌}
 use Rattle.domain_core.proofs.Outcomes.{copied_more}
-use Rattle.domain_core.proofs.machine.copy_to.Goals as goal
+use Rattle.domain_core.proofs.moves.copy_to.Goals as goal
 
 pub loop-output-preserved : goal.loop-output-preserved
 loop-output-preserved c = (
