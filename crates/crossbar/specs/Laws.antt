@@ -1,13 +1,13 @@
 -- What holds of every private switch, of the numbers of ports and of rows of words.
-use Rattle.std.specs.Prelude.{◌≡◌, ℕ, ◌<◌, ◌≤◌, ◌&&◌, Bool, true, List, length, Option, Some, None, is_some, replicate, slice_get, slice_set, nat_lt, if◌then◌else◌}
+use Rattle.std.specs.Prelude.{◌≡◌, ℕ, ◌<◌, ◌≤◌, ◌&&◌, Bool, true, false, List, length, Option, Some, None, is_some, replicate, slice_get, slice_set, nat_lt, if◌then◌else◌}
 use Rattle.std.specs.List.{AllZip}
 use Rattle.std.specs.Option.{option_and_then}
 use Rattle.std.specs.FinMap as map
 use Rattle.std.specs.FinSet as set
 use Rattle.crossbar.specs.declared.word.Word.{Word}
 use Rattle.crossbar.specs.Ranges.{IsOneToOne, IsNumbering}
-use Rattle.crossbar.specs.Row.{AreWordsOf, IsWordOf, number_in, switch_of, private_at, lowered, input_of, is_ready}
-use Rattle.crossbar.specs.Switch.{Switch, map_below, set_below, cleared}
+use Rattle.crossbar.specs.Row.{AreWordsOf, IsWordOf, number_in, switch_of, private_at, lowered, input_of, is_ready, words_after, each_after, ready_of}
+use Rattle.crossbar.specs.Switch.{Switch, map_below, set_below, connected, disconnected, all_ready, cleared}
 use Rattle.crossbar.specs.Word.{connection_of, CountsChange}
 
 -- what a switch says, and whose number a port has
@@ -51,3 +51,11 @@ RowTakesAWord = (ports : List ℕ) (words : List Word) (number : ℕ) (word : Wo
 -- words that say nothing are a switch without pairs
 abbrev pub UnusedIsCleared : Type 0
 UnusedIsCleared = (n : ℕ) → switch_of (replicate n (let unused : Word = record { bits = 0 } in unused)) ≡ cleared
+
+-- what words say, inputs by their physical numbers, once a connection is set or taken away, and once all are changed
+pub record WordsAreASwitch : Type 0 where
+  pub connects : (words : List Word) (output input : ℕ) → input < 32 → output < length words →
+      switch_of (words_after words output (Some (record { input = input; ready = false }))) ≡ connected (switch_of words) input output
+  pub disconnects : (words : List Word) (output : ℕ) → output < length words → switch_of (words_after words output None) ≡ disconnected (switch_of words) output
+  pub readies : (words : List Word) → switch_of (each_after ready_of words) ≡ all_ready (switch_of words)
+  pub clears : (words : List Word) → switch_of (each_after (λ connection. None) words) ≡ cleared

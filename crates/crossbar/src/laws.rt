@@ -1,5 +1,5 @@
 //! Laws of private switches, of the numbers of ports and of rows of words.
-ghost use Rattle.crossbar.specs.Laws.{SwitchLaws, ClearedIsPrivate, UnchangedCountsNothing, NumberingsAreFew, RowTakesAWord, UnusedIsCleared};
+ghost use Rattle.crossbar.specs.Laws.{SwitchLaws, ClearedIsPrivate, UnchangedCountsNothing, NumberingsAreFew, RowTakesAWord, UnusedIsCleared, WordsAreASwitch};
 
 /// What a private switch says of its outputs, and whose number a port has.
 pub fn switches_say_their_words()
@@ -7,10 +7,11 @@ pub fn switches_say_their_words()
     ensures cleared { ClearedIsPrivate }
 {}
 
-/// What holds of the words of outputs and of their ports.
+/// What holds of the words of outputs and of their ports, and what switch changed words are in physical numbers.
 pub fn rows_are_words_of_ports()
     ensures unchanged { UnchangedCountsNothing }
     ensures few { NumberingsAreFew }
     ensures set { RowTakesAWord }
     ensures unused { UnusedIsCleared }
+    ensures switch { WordsAreASwitch }
 {}
