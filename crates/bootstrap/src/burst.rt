@@ -5,9 +5,9 @@ ghost use Rattle.bootstrap.specs.Steps.{IsBurst, running, left_by, state_after};
 
 use crate::node::Node;
 use crate::state::State;
-use link_channels::Links;
+use link_channels::{Links, services_act_on_work};
 use node_memory::Memory;
-use t414_step::{Cpu, Stepped, step};
+use t414_step::{Cpu, Stepped, idle_where_it_rests, step};
 
 /// What a burst of Steps came to.
 #[derive(Clone, Copy, Debug, PartialEq, Eq)]
@@ -22,6 +22,8 @@ pub struct Burst {
 fn run(cpu: &mut Cpu, memory: &mut Memory, links: &mut Links, n: u64) -> Burst
     ensures burst { IsBurst n (running cpu.old links.old memory.old) result (left_by result.last cpu.new links.new memory.new) }
 {
+    idle_where_it_rests();
+    services_act_on_work();
     let mut last = None;
     for steps in 0..n {
         match step(cpu, memory, links) {

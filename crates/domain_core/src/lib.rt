@@ -10,6 +10,7 @@ mod host;
 mod journal;
 pub mod laws;
 mod machine;
+mod moves;
 mod table;
 mod ticket;
 

@@ -3,7 +3,7 @@
 ghost use Rattle.std.specs.Prelude.{◌≡◌, ◌≢◌, ◌↔◌, ◌++◌, ◌∷◌, [], List, ℕ, OnOk, OnErr};
 ghost use Rattle.node_memory.specs.declared.fault.Fault.TheVariants.{OutsideMemory};
 
-use node_memory::{Fault, Memory};
+use node_memory::{Fault, Memory, written_words_are_read};
 
 /// The word that stands for no process, MinInt.
 ///
@@ -65,6 +65,7 @@ impl Queue {
         ensures queue_unchanged { OnErr result (self.new ≡ self.old) }
         ensures memory_unchanged { OnErr result (memory.new ≡ memory.old) }
     {
+        written_words_are_read();
         if self.front == NOT_PROCESS {
             self.front = workspace;
         } else {

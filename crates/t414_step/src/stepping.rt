@@ -6,7 +6,7 @@ ghost use Rattle.t414_step.specs.Registers.{has_nothing_to_do};
 ghost use Rattle.t414_step.specs.Step.{resuming, resumption, step};
 
 use crate::cpu::Cpu;
-use link_channels::Links;
+use link_channels::{Links, services_act_on_work};
 use node_memory::{Fault, Memory};
 
 /// What one step came to.
@@ -79,5 +79,6 @@ pub fn step(cpu: &mut Cpu, memory: &mut Memory, links: &mut Links) -> Stepped
     // It is idle exactly where there is no current process, none in the queue, and no link that has work.
     ensures idle { is_idle result ≡ has_nothing_to_do cpu.old links.old }
 {
+    services_act_on_work();
     advance(cpu, memory, links)
 }
