@@ -32,7 +32,7 @@ impl Cpu {
     }
 
     // lend
-    #[inline]
+    #[inline(always)]
     pub(crate) fn loop_end(&mut self, memory: &mut Memory) -> Result<(), Fault>
         ensures { left result self.new memory.new ≡ row op.LoopEnd self.old memory.old }
     {
