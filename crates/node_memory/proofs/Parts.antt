@@ -31,4 +31,4 @@ four_set a k xs v0 v1 v2 v3 four within =
     ∙ ap (λ (l : List ℕ). slice_set l (a + 3) v3) (set-mid a k 2 xs m2 v2 inside (omega (arith, n2)))
     ∙ ap (λ (l : List ℕ). slice_set (slice_set l (a + 2) v2) (a + 3) v3) (set-mid a k 1 xs m1 v1 inside (omega (arith, n1)))
     ∙ ap (λ (l : List ℕ). slice_set (slice_set (slice_set l (a + 1) v1) (a + 2) v2) (a + 3) v3)
-        (set-mid a k 0 xs m0 v0 inside (omega (arith, n0)) ∙ ap (λ (l : List ℕ). slice_set l (a + 0) v0) (put_same a k xs) ∙ ap (λ (i : ℕ). slice_set xs i v0) (omega arith))
+    (set-mid a k 0 xs m0 v0 inside (omega (arith, n0)) ∙ ap (λ (l : List ℕ). slice_set l (a + 0) v0) (put_same a k xs) ∙ ap (λ (i : ℕ). slice_set xs i v0) (omega arith))
