@@ -203,6 +203,15 @@ impl Node {
         }
     }
 
+    fn look(&self) -> Seen {
+        let state = match self.state {
+            State::Runs(cpu) if cpu.running || cpu.front != NOT_PROCESS => Activity::Running,
+            State::Runs(_) => Activity::Idle,
+            State::Halted(fault) => Activity::Halted(fault),
+        };
+        Seen { state, overruns: self.ends.map(|end| end.overruns) }
+    }
+
     fn step(&mut self) -> Stepped {
         let cpu = match &mut self.state {
             State::Runs(cpu) => cpu,
@@ -423,8 +432,23 @@ enum Event {
     Config(u8),
     Write(u8, u8),
     Read(u8),
+    Reset(u8),
+    Look(u8),
     Step(u8),
     Move(u8),
+}
+
+#[derive(Clone, Copy, PartialEq, Eq, Debug)]
+enum Activity {
+    Running,
+    Idle,
+    Halted(Fault),
+}
+
+#[derive(Clone, Copy, PartialEq, Eq, Debug)]
+struct Seen {
+    state: Activity,
+    overruns: [u32; 4],
 }
 
 #[derive(Clone, Copy, PartialEq, Eq, Debug)]
@@ -441,6 +465,8 @@ enum Reply {
     Written,
     Full,
     Read(Option<u8>),
+    Reset,
+    Look(Seen),
     Stepped(Stepped),
     Moved(Moved),
 }
@@ -518,7 +544,7 @@ impl Domain {
             Event::Write(host, _) | Event::Read(host) => {
                 self.hosts.get(usize::from(host)).is_some_and(|host| by == By::User(host.user))
             }
-            Event::Step(node) => usize::from(node) < self.nodes.len(),
+            Event::Reset(node) | Event::Look(node) | Event::Step(node) => usize::from(node) < self.nodes.len(),
             Event::Move(port) => port < PORTS,
         }
     }
@@ -582,6 +608,12 @@ impl Domain {
                 if self.hosts[usize::from(host)].write(byte) { Reply::Written } else { Reply::Full }
             }
             Event::Read(host) => Reply::Read(self.hosts[usize::from(host)].read()),
+            Event::Reset(node) => {
+                let node = &mut self.nodes[usize::from(node)];
+                *node = Node::booted(node.memory.len());
+                Reply::Reset
+            }
+            Event::Look(node) => Reply::Look(self.nodes[usize::from(node)].look()),
             Event::Step(node) => {
                 recorded = !self.nodes[usize::from(node)].quiet();
                 Reply::Stepped(self.nodes[usize::from(node)].step())
@@ -640,6 +672,12 @@ impl Domain {
         self.recorded += ticket.steps;
         Ok(true)
     }
+}
+
+// Events that these works don't ask for are kept all the same, since they make an entry as large as it is.
+fn rests(domain: &mut Domain) -> bool {
+    let seen = domain.apply(By::User(0), Event::Look(1));
+    domain.apply(By::User(0), Event::Reset(1)) == Ok(Reply::Reset) && seen.is_ok()
 }
 
 fn steps(domain: &mut Domain, count: u64) -> u64 {
@@ -719,6 +757,9 @@ fn main() {
         println!("configs: {}", configs(&mut domain, count));
     }
     domain.begin(&[]);
+    if words.len() > 9 && !rests(&mut domain) {
+        return;
+    }
     if runs("steps") {
         println!("steps: {}", steps(&mut domain, count));
     }

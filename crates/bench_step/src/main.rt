@@ -103,32 +103,40 @@ fn burst(cpu: &mut Cpu, memory: &mut Memory, links: &mut Links, limit: u32) -> u
     limit
 }
 
+// Runs a loop for so many steps, and prints what came of it.
+fn run(rt: &HostRuntime, name: &str, code: &[u8], count: u32) -> io::Result<()> {
+    let mut memory = Memory::new(rt.alloc(), 4096)?;
+    if place(&mut memory, code).is_err() {
+        return Ok(());
+    }
+    let mut cpu = opened();
+    let mut links = Links::new();
+    let done = burst(&mut cpu, &mut memory, &mut links, count);
+    let word = memory.word(0x8000_0204).unwrap_or(0);
+    println!(rt; "{name}: {done} bytes, word {word}")
+}
+
 fn main(rt: HostRuntime) -> io::Result<()> {
     let words: Vec<String> = env::args(&rt)?.collect(rt.alloc())?;
     let count = words
         .get(1)
         .and_then(|word| word.parse::<u32>().ok())
         .unwrap_or(1000);
-    let loops: [(&str, &[u8]); 5] = [
-        ("arithmetic", &ARITHMETIC),
-        ("memory", &MEMORY),
-        ("lend", &LEND),
-        ("channel", &CHANNEL),
-        ("sieve", &SIEVE),
-    ];
-    for (name, code) in loops {
-        if words.get(2).is_some_and(|word| word.as_str() != name) {
-            continue;
-        }
-        let mut memory = Memory::new(rt.alloc(), 4096)?;
-        if place(&mut memory, code).is_err() {
-            continue;
-        }
-        let mut cpu = opened();
-        let mut links = Links::new();
-        let done = burst(&mut cpu, &mut memory, &mut links, count);
-        let word = memory.word(0x8000_0204).unwrap_or(0);
-        println!(rt; "{name}: {done} bytes, word {word}")?;
+    let runs = |name: &str| words.get(2).is_none_or(|word| word.as_str() == name);
+    if runs("arithmetic") {
+        run(&rt, "arithmetic", &ARITHMETIC, count)?;
+    }
+    if runs("memory") {
+        run(&rt, "memory", &MEMORY, count)?;
+    }
+    if runs("lend") {
+        run(&rt, "lend", &LEND, count)?;
+    }
+    if runs("channel") {
+        run(&rt, "channel", &CHANNEL, count)?;
+    }
+    if runs("sieve") {
+        run(&rt, "sieve", &SIEVE, count)?;
     }
     Ok(())
 }

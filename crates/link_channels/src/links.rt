@@ -178,7 +178,7 @@ impl Links {
     }
 
     /// Serves links 0 to 3 in this order; whether that did anything. The faults are those of `serve`, and end it.
-    #[inline]
+    #[inline(always)]
     pub fn serve_all(&mut self, memory: &mut Memory, queue: &mut Queue) -> Result<bool, Fault>
         ensures answer { served result self.new queue.new memory.new ≡ serve_all self.old queue.old memory.old }
         ensures queue_unchanged { OnErr result (queue.new ≡ queue.old) }

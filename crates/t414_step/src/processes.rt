@@ -35,7 +35,7 @@ impl Cpu {
     }
 
     // startp
-    #[inline(always)]
+    #[inline]
     pub(crate) fn start_process(&mut self, memory: &mut Memory) -> Result<(), Fault>
         ensures { left result self.new memory.new ≡ row op.StartProcess self.old memory.old }
     {
@@ -47,7 +47,7 @@ impl Cpu {
     }
 
     // endp
-    #[inline(always)]
+    #[inline]
     pub(crate) fn end_process(&mut self, memory: &mut Memory) -> Result<(), Fault>
         ensures { left result self.new memory.new ≡ row op.EndProcess self.old memory.old }
     {
@@ -142,7 +142,7 @@ impl Cpu {
     }
 
     // savel
-    #[inline(always)]
+    #[inline]
     pub(crate) fn save_low(&mut self, memory: &mut Memory) -> Result<(), Fault>
         ensures { left result self.new memory.new ≡ row op.SaveLow self.old memory.old }
     {
@@ -153,7 +153,7 @@ impl Cpu {
     }
 
     // saveh
-    #[inline(always)]
+    #[inline]
     pub(crate) fn save_high(&mut self, memory: &mut Memory) -> Result<(), Fault>
         ensures { left result self.new memory.new ≡ row op.SaveHigh self.old memory.old }
     {
@@ -172,7 +172,7 @@ impl Cpu {
     }
 
     // altwt
-    #[inline(always)]
+    #[inline]
     pub(crate) fn alt_wait(&mut self, memory: &mut Memory) -> Result<(), Fault>
         ensures { left result self.new memory.new ≡ row op.AltWait self.old memory.old }
     {
