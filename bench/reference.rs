@@ -1,6 +1,6 @@
 //! The works of crates/bench_domain in plain Rust: the yardstick of events and tickets. It answers, tests, records and
-//! copies what a domain does, and proves nothing. It has only the functions of an instruction byte that the works run
-//! (pfix, nfix and j), and no plan: the domain of `bench_domain` is written down.
+//! copies what a domain does, and proves nothing. It has the functions and operations of an instruction byte that
+//! `reference.c` has, but those of channels, and no plan: the domain of `bench_domain` is written down.
 use std::collections::VecDeque;
 
 const NOT_PROCESS: u32 = 0x8000_0000;
@@ -69,6 +69,7 @@ impl End {
 enum Fault {
     Outside,
     Unknown(u32),
+    ErrorSet,
 }
 
 #[derive(Clone, Copy, PartialEq, Eq, Debug)]
@@ -154,23 +155,120 @@ impl Cpu {
         match byte >> 4 {
             0x0 => {
                 self.instruction = self.instruction.wrapping_add(operand);
-                if self.bytes == 1024 {
-                    set_word(memory, self.workspace.wrapping_sub(4), self.instruction)?;
-                    self.put(memory, self.workspace)?;
-                    self.running = false;
-                }
+                self.slice(memory)
+            }
+            0x1 => {
+                self.push(self.local(operand));
                 Ok(())
             }
             0x2 => {
                 self.operand = operand << 4;
                 Ok(())
             }
+            0x4 => {
+                self.push(operand);
+                Ok(())
+            }
             0x6 => {
                 self.operand = !operand << 4;
                 Ok(())
             }
+            0x7 => {
+                self.push(word(memory, self.local(operand))?);
+                Ok(())
+            }
+            0x8 => {
+                let (sum, overflows) = (self.a as i32).overflowing_add(operand as i32);
+                self.a = sum as u32;
+                if overflows {
+                    if self.halt_on_error {
+                        return Err(Fault::ErrorSet);
+                    }
+                    self.error = true;
+                }
+                Ok(())
+            }
+            0xa => {
+                if self.a == 0 {
+                    self.instruction = self.instruction.wrapping_add(operand);
+                } else {
+                    (self.a, self.b) = (self.b, self.c);
+                }
+                Ok(())
+            }
+            0xc => {
+                self.a = u32::from(self.a == operand);
+                Ok(())
+            }
+            0xd => {
+                set_word(memory, self.local(operand), self.a)?;
+                (self.a, self.b) = (self.b, self.c);
+                Ok(())
+            }
+            0xf => self.operate(memory, operand),
             _ => Err(Fault::Unknown(operand)),
         }
+    }
+
+    fn local(&self, words: u32) -> u32 {
+        self.workspace.wrapping_add(words.wrapping_mul(4))
+    }
+
+    fn push(&mut self, value: u32) {
+        (self.a, self.b, self.c) = (value, self.a, self.b);
+    }
+
+    fn binary(&mut self, value: u32) -> Result<(), Fault> {
+        (self.a, self.b) = (value, self.c);
+        Ok(())
+    }
+
+    fn operate(&mut self, memory: &mut [u8], code: u32) -> Result<(), Fault> {
+        let offset = self.a.wrapping_sub(NOT_PROCESS) as usize;
+        match code {
+            0x01 => {
+                self.a = u32::from(*memory.get(offset).ok_or(Fault::Outside)?);
+                Ok(())
+            }
+            0x02 => self.binary(self.a.wrapping_add(self.b)),
+            0x09 => self.binary(u32::from(self.b as i32 > self.a as i32)),
+            0x0d => {
+                set_word(memory, self.a.wrapping_sub(4), self.instruction.wrapping_add(self.b))?;
+                self.put(memory, self.a & !3)
+            }
+            0x21 => {
+                let left = word(memory, self.b.wrapping_add(4))?;
+                set_word(memory, self.b.wrapping_add(4), left.wrapping_sub(1))?;
+                if left as i32 <= 1 {
+                    return Ok(());
+                }
+                let index = word(memory, self.b)?;
+                set_word(memory, self.b, index.wrapping_add(1))?;
+                self.instruction = self.instruction.wrapping_sub(self.a);
+                self.slice(memory)
+            }
+            0x33 => self.binary(self.b ^ self.a),
+            0x3b => {
+                *memory.get_mut(offset).ok_or(Fault::Outside)? = self.b as u8;
+                self.a = self.c;
+                Ok(())
+            }
+            0x42 => {
+                self.push(NOT_PROCESS);
+                Ok(())
+            }
+            0x46 => self.binary(self.b & self.a),
+            _ => Err(Fault::Unknown(code)),
+        }
+    }
+
+    fn slice(&mut self, memory: &mut [u8]) -> Result<(), Fault> {
+        if self.bytes == 1024 {
+            set_word(memory, self.workspace.wrapping_sub(4), self.instruction)?;
+            self.put(memory, self.workspace)?;
+            self.running = false;
+        }
+        Ok(())
     }
 }
 
