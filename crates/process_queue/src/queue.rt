@@ -52,6 +52,7 @@ impl Queue {
     /// queue and memory are then unchanged.
     ///
     /// Source: Transputer instruction set handbook, run process.
+    #[inline(always)]
     #[tactic(auto, unfolding(crate::specs::Queue::after_put))]
     pub fn put(&mut self, memory: &mut Memory, workspace: u32) -> Result<(), Fault>
         ensures exact { changed result self.new memory.new ≡ after_put self.old memory.old workspace }
@@ -81,6 +82,7 @@ impl Queue {
     /// the queue is then unchanged.
     ///
     /// Source: Transputer instruction set handbook, processes.
+    #[inline(always)]
     #[tactic(auto, unfolding(crate::specs::Queue::after_take))]
     pub fn take(&mut self, memory: &Memory) -> Result<Option<u32>, Fault>
         ensures exact { taken result self.new ≡ after_take self.old memory.now }
