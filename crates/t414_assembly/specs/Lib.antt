@@ -1,0 +1,4 @@
+-- what only helps contracts
+pub mod Meaning
+pub mod Spelled
+pub mod Reach
