@@ -1,2 +1,6 @@
 pub mod Bytes
 pub mod Reaching
+pub mod Gaps
+pub mod Padding
+pub mod Pieces
+pub mod Growing

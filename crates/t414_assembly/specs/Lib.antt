@@ -2,3 +2,5 @@
 pub mod Meaning
 pub mod Spelled
 pub mod Reach
+pub mod Program
+pub mod Layout
