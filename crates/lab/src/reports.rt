@@ -1,5 +1,6 @@
 //! What goes to standard output.
 
+use crate::assembly::{assembled, disassembled};
 use crate::command_line::Asked;
 use crate::failure::Failure;
 use farm_replay::replay;
@@ -18,6 +19,8 @@ pub struct Report {
 pub fn report_of(alloc: Global, asked: &Asked, text: &[u8]) -> Result<Report, Failure> {
     let text = match asked {
         Asked::Boot(code, steps) => trace_boot(alloc, code.as_slice(), u64::from(*steps))?,
+        Asked::Assemble(wanted) => assembled(alloc, wanted, text)?,
+        Asked::Disassemble => disassembled(alloc, text)?,
         Asked::Trace => text_of(alloc, trace(alloc, text)?)?,
         _ => text_of(alloc, replay(alloc, text)?)?,
     };

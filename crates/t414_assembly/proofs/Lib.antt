@@ -4,3 +4,5 @@ pub mod Gaps
 pub mod Padding
 pub mod Pieces
 pub mod Growing
+pub mod Usual
+pub mod Nibbles

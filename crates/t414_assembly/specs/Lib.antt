@@ -2,5 +2,6 @@
 pub mod Meaning
 pub mod Spelled
 pub mod Reach
+pub mod Usual
 pub mod Program
 pub mod Layout

@@ -1,7 +1,8 @@
 //! The byte of a function and a nibble, and which functions are prefixes.
-ghost use Rattle.std.specs.Prelude.{◌≡◌, ◌<◌, ◌/◌, ◌%◌};
+ghost use Rattle.std.specs.Prelude.{◌≡◌, ◌<◌, ◌/◌, ◌%◌, ◌+◌, ◌*◌};
 ghost use Rattle.t414_decode.specs.Codes.{function_of};
 ghost use Rattle.t414_assembly.specs.Meaning.{goes_on};
+ghost use Rattle.t414_assembly.specs.Usual.{nibble_of};
 
 use t414_decode::Function;
 
@@ -12,14 +13,16 @@ pub fn byte_of(function: Function, nibble: u8) -> u8
     requires { nibble < 16 }
     ensures function { function_of (result / 16) ≡ function }
     ensures nibble { result % 16 ≡ nibble }
+    ensures byte { result ≡ nibble_of function * 16 + nibble }
 {
     code_of(function) * 16 + nibble
 }
 
 // The high nibble of a function.
-#[tactic(auto, unfolding(t414_decode::specs::Codes::function_of))]
+#[tactic(auto, unfolding(t414_decode::specs::Codes::function_of, crate::specs::Usual::nibble_of))]
 fn code_of(function: Function) -> u8
     ensures function { function_of result ≡ function }
+    ensures nibble { result ≡ nibble_of function }
     ensures most { result < 16 }
 {
     match function {

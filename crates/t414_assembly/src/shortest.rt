@@ -3,6 +3,7 @@ ghost use Rattle.std.specs.Prelude.{◌≡◌, ◌<◌, ◌≤◌, ◌-◌, ◌%
 ghost use Rattle.t414_decode.specs.Codes.{shifted};
 ghost use Rattle.t414_assembly.specs.Meaning.{read_from, goes_on};
 ghost use Rattle.t414_assembly.specs.Reach.{Reaches};
+ghost use Rattle.t414_assembly.specs.Usual.{prefix_bytes, prefixes_of, usual};
 ghost use Rattle.t414_assembly.specs.Spelled.{spelled, Means, IsShortest, IsByteOf, prefix_of};
 
 use crate::codes::{byte_of, is_prefix};
@@ -16,6 +17,7 @@ pub fn spell(function: Function, operand: u32) -> Spelling
     ensures means { goes_on function ≡ false → Means (spelled result) function operand }
     ensures shortest { goes_on function ≡ false → IsShortest (spelled result) function operand }
     ensures prefix { goes_on function ≡ true → IsByteOf function (operand % 16) (spelled result) }
+    ensures usual { spelled result ≡ usual function operand }
     ensures most { length (spelled result) ≤ 8 }
     ensures least { 0 < length (spelled result) }
 {
@@ -31,6 +33,7 @@ pub fn spell(function: Function, operand: u32) -> Spelling
 // The fewest prefixes that make an operand, but for its lowest nibble.
 fn prefixes_for(operand: u32) -> Spelling
     ensures operand { (rest : List ℕ) → read_from 0 (spelled result ++ rest) ≡ read_from (operand - operand % 16) rest }
+    ensures usual { spelled result ≡ prefixes_of operand }
     ensures fewest { (n : ℕ) → Reaches n operand → length (spelled result) ≤ n }
     ensures most { length (spelled result) ≤ 7 }
 {
@@ -47,6 +50,7 @@ fn prefixes_for(operand: u32) -> Spelling
 fn prefixes(value: u32, negative: bool) -> Spelling
     requires { value < 2 ^ 28 }
     ensures operand { (rest : List ℕ) → read_from 0 (spelled result ++ rest) ≡ read_from (shifted (prefix_of negative) value) rest }
+    ensures usual { (most : ℕ) → value < 16 ^ most → 0 < most → spelled result ≡ prefix_bytes most value negative }
     ensures enough { value < 16 ^ length (spelled result) }
     ensures fewest { (length (spelled result) ≡ 1) ⊎ (16 ^ (length (spelled result) - 1) ≤ value) }
     ensures some { 0 < length (spelled result) }
