@@ -1,5 +1,6 @@
 //! What the words of the command line ask.
 
+use crate::assembly::Wanted;
 use crate::failure::Failure;
 use clap::error::ErrorKind;
 use clap::{Arg, ArgAction, ArgMatches, Command, value_parser};
@@ -32,6 +33,10 @@ pub enum Asked<'a> {
     Trace,
     /// To boot a node with code, and to trace at most so many Steps.
     Boot(Vec<u8>, u32),
+    /// To assemble standard input.
+    Assemble(Wanted<'a>),
+    /// To disassemble standard input.
+    Disassemble,
     /// To compare files of rows with what they expect.
     Rows(Vec<&'a str>),
 }
@@ -86,6 +91,9 @@ fn command<'a>(alloc: Global) -> Result<Command<'a>, AllocError> {
     let rows = Command::new(alloc, "rows")
         .about("Compares the answers of worked rows with those that their files expect")
         .arg(files)?;
+    let disassemble = Command::new(alloc, "disassemble").about(
+        "Prints code as text: reads hexadecimal digits, and prints an instruction a line",
+    );
     Command::new(alloc, "lab")
         .about("A laboratory for the farm of T414 processors")
         .after_help(AFTER_HELP)
@@ -94,7 +102,28 @@ fn command<'a>(alloc: Global) -> Result<Command<'a>, AllocError> {
         .subcommand(plan)?
         .subcommand(draw)?
         .subcommand(trace)?
+        .subcommand(assemble(alloc)?)?
+        .subcommand(disassemble)?
         .subcommand(rows)
+}
+
+fn assemble<'a>(alloc: Global) -> Result<Command<'a>, AllocError> {
+    let listing = Arg::new(alloc, "listing")
+        .long("listing")
+        .help("Prints addresses and bytes beside the text")
+        .action(ArgAction::SetTrue);
+    let pokes = Arg::new(alloc, "pokes")
+        .long("pokes")
+        .value_name("HOST USER")
+        .help("Prints the lines of a script by which this user loads the code at this host")
+        .num_args(2)
+        .action(ArgAction::Append);
+    Command::new(alloc, "assemble")
+        .about(
+            "Prints a program as code in hexadecimal digits: reads its text, an instruction a line",
+        )
+        .arg(listing)?
+        .arg(pokes)
 }
 
 fn chosen<'a>(alloc: Global, matches: &ArgMatches<'a>) -> Result<Asked<'a>, Failure> {
@@ -102,6 +131,14 @@ fn chosen<'a>(alloc: Global, matches: &ArgMatches<'a>) -> Result<Asked<'a>, Fail
         Some(("plan", _)) => Ok(Asked::Plan),
         Some(("draw", _)) => Ok(Asked::Draw),
         Some(("trace", matches)) => traced(alloc, matches),
+        Some(("assemble", matches)) => Ok(Asked::Assemble(Wanted {
+            listing: matches.get_flag("listing"),
+            pokes: match matches.get_strs("pokes") {
+                Some([host, user, ..]) => Some((*host, *user)),
+                _ => None,
+            },
+        })),
+        Some(("disassemble", _)) => Ok(Asked::Disassemble),
         Some(("rows", matches)) => {
             let mut files = Vec::new(alloc);
             for file in matches.get_strs("file").unwrap_or(&[]) {

@@ -6,6 +6,7 @@ use plan_views::PlanRefusal;
 use script_text::{ReadFault, write_whole};
 use std::alloc::{AllocError, AllocFailed, Global};
 use std::io::{self, Write};
+use t414_assembly::TextFault;
 use thiserror::Error;
 
 /// Why the lab ends without its output, with the text for standard error.
@@ -27,6 +28,15 @@ pub enum Failure {
     /// A line asks nothing that there is.
     #[error("line {0}\n")]
     Line(u64),
+    /// A text is no program, or no digits.
+    #[error("{0}\n")]
+    Text(TextFault),
+    /// A boot can't take so many bytes of code.
+    #[error("the code has {0} bytes, and a boot takes 2 to 255\n")]
+    Length(usize),
+    /// So many bytes of code can't be poked.
+    #[error("the code has {0} bytes, and 1 to 65456 can be poked\n")]
+    Poked(usize),
     #[error("memory\n")]
     Memory,
     #[error("io\n")]
@@ -55,7 +65,7 @@ impl Failure {
         match self {
             Failure::Words(_) | Failure::Arguments | Failure::Code => 2,
             Failure::Plan(_) | Failure::RefusedPlan(_) => 3,
-            Failure::Line(_) => 4,
+            Failure::Line(_) | Failure::Text(_) | Failure::Length(_) | Failure::Poked(_) => 4,
             Failure::Memory => 5,
             Failure::Io => 6,
         }
@@ -130,6 +140,15 @@ impl From<BootTraceFault> for Failure {
         match fault {
             BootTraceFault::Length => Failure::Code,
             BootTraceFault::NoMemory => Failure::Memory,
+        }
+    }
+}
+
+impl From<TextFault> for Failure {
+    fn from(fault: TextFault) -> Failure {
+        match fault {
+            TextFault::NoMemory => Failure::Memory,
+            TextFault::Wrong(_, _) => Failure::Text(fault),
         }
     }
 }

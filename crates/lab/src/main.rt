@@ -1,6 +1,7 @@
 //! The lab: replays events on a farm, traces a node, and compares worked rows with their answers.
 #![tactic(auto)]
 
+mod assembly;
 mod command_line;
 mod failure;
 mod plans;

@@ -1,5 +1,6 @@
 //! What goes to standard output.
 
+use crate::assembly::{assembled, disassembled};
 use crate::command_line::Asked;
 use crate::failure::Failure;
 use farm_replay::{replay, replay_farm};
@@ -21,6 +22,8 @@ pub fn report_of(alloc: Global, asked: &Asked, text: &[u8]) -> Result<Report, Fa
         Asked::Boot(code, steps) => trace_boot(alloc, code.as_slice(), u64::from(*steps))?,
         Asked::Plan => table_of(alloc, &accepted(alloc, divide(text, b"---").0)?)?,
         Asked::Draw => drawn(alloc, text)?,
+        Asked::Assemble(wanted) => assembled(alloc, wanted, text)?,
+        Asked::Disassemble => disassembled(alloc, text)?,
         Asked::Trace => text_of(alloc, trace(alloc, text)?)?,
         _ => text_of(alloc, replay(alloc, text)?)?,
     };

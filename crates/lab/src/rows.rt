@@ -1,5 +1,6 @@
 //! Worked rows that stand in files, compared with the answers that they expect.
 
+use crate::assembly::try_programs;
 use crate::failure::Failure;
 use crate::plans::try_plans;
 use crate::reports::Report;
@@ -30,6 +31,8 @@ fn answers_in(alloc: Global, file: &str, text: &[u8]) -> Result<Vec<Answered>, F
         Ok(replay(alloc, text)?)
     } else if file.ends_with(".plans") {
         try_plans(alloc, text)
+    } else if file.ends_with(".assembly") {
+        try_programs(alloc, text)
     } else {
         Ok(trace(alloc, text)?)
     }

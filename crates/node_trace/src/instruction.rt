@@ -1,10 +1,10 @@
 // The instruction byte that a Step does.
 
-use crate::mnemonics::{function_name, operation_name};
 use bootstrap::Node;
 use link_channels::Links;
 use node_memory::{Fault, Memory};
 use std::alloc::AllocError;
+use t414_assembly::{function_name, operation_name};
 use t414_decode::{Function, decode, operation};
 use t414_step::Cpu;
 

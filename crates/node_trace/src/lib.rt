@@ -9,7 +9,6 @@ mod changes;
 mod codes;
 mod commands;
 mod instruction;
-mod mnemonics;
 mod packets;
 mod performing;
 mod settings;
@@ -19,5 +18,4 @@ mod trial;
 mod words;
 
 pub use crate::boot::{BootTraceFault, trace_boot};
-pub use crate::mnemonics::{function_name, operation_name};
 pub use crate::tracing::{TraceFault, trace};

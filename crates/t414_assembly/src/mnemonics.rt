@@ -1,4 +1,4 @@
-// The handbook's names of functions and operations.
+//! The handbook's names of functions and operations.
 
 use t414_decode::{ChannelOperation, Function, Operation, PlainOperation, decode, operation};
 
@@ -116,9 +116,11 @@ fn channel_name(operation: ChannelOperation) -> &'static str {
     }
 }
 
-/// The function of a name, as its high nibble, below 16.
-pub fn function_named(name: &str) -> Option<u8> {
-    (0..16u8).find(|nibble| function_name(decode(nibble << 4).0) == name)
+/// The function of a name.
+pub fn function_named(name: &str) -> Option<Function> {
+    (0..16u8)
+        .map(|nibble| decode(nibble << 4).0)
+        .find(|function| function_name(*function) == name)
 }
 
 /// The code of the operation of a name.

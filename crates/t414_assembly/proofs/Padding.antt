@@ -1,0 +1,32 @@
+-- What pfix 0 before an instruction changes: nothing.
+use Rattle.std.proofs.Common.{ℕ, ◌≡◌, ◌≤◌, ◌/◌, ◌++◌, List, [], Some, length, zero, suc, true, replicate, refl, sym, ap, ◌∙◌, append_assoc, append-nil}
+use Rattle.t414_decode.specs.Codes.{function_of, accumulated, shifted}
+use Rattle.t414_decode.specs.declared.instruction.Function.{Function}
+use Rattle.t414_decode.specs.declared.instruction.Function.TheVariants.{Prefix}
+use Rattle.t414_assembly.specs.Meaning.{read_from, goes_on}
+use Rattle.t414_assembly.specs.Spelled.{Means}
+use Rattle.t414_assembly.proofs.Bytes.{passes, taken_in}
+
+on : goes_on (function_of (0x20 / 16)) ≡ true
+unfolding function_of
+on = refl
+
+two : function_of (0x20 / 16) ≡ Prefix
+unfolding function_of
+two = refl
+
+stays : accumulated 0 0x20 ≡ 0
+stays = taken_in 0 0x20 0 (function_of (0x20 / 16)) refl refl refl ∙ ap (λ f. shifted f 0) two
+
+pub pad_reads : (pads : ℕ) (bytes : List ℕ) → read_from 0 (replicate pads 0x20 ++ bytes) ≡ read_from 0 bytes
+pad_reads zero bytes = refl
+pad_reads (suc pads) bytes = passes 0 0x20 (replicate pads 0x20 ++ bytes) on ∙ ap (λ o. read_from o (replicate pads 0x20 ++ bytes)) stays ∙ pad_reads pads bytes
+
+pub pad_means : (pads : ℕ) (bytes : List ℕ) (f : Function) (operand : ℕ) → Means bytes f operand → Means (replicate pads 0x20 ++ bytes) f operand
+pad_means pads bytes f operand means = λ rest.
+    ap (read_from 0) (append_assoc (replicate pads 0x20) bytes rest) ∙ pad_reads pads (bytes ++ rest) ∙ means rest
+
+-- the room of what is as short as can be
+pub no_pads : (short : List ℕ) (room : ℕ) (f : Function) (operand : ℕ) → Means short f operand
+    → ((others : List ℕ) → read_from 0 others ≡ Some (record { function = f; operand = operand; rest = [] }) → room ≤ length others) → room ≤ length short
+no_pads short room f operand means least = least short (ap (read_from 0) (sym (append-nil short)) ∙ means [])

@@ -1,0 +1,32 @@
+//! Instructions as text and as bytes: an assembler and a disassembler of the processor's code.
+#![tactic(auto)]
+
+mod assembling;
+mod codes;
+mod digits;
+mod disassembly;
+mod fault;
+mod layout;
+mod loading;
+mod mnemonics;
+mod parsing;
+mod printing;
+mod shortest;
+mod spelling;
+mod statement;
+mod token;
+mod writing;
+
+pub use assembling::{Assembly, assemble};
+pub use codes::{byte_of, is_prefix};
+pub use digits::{bytes_of_digits, code_as_text};
+pub use disassembly::{Instruction, disassemble};
+pub use fault::{Expected, Position, TextFault};
+pub use layout::{Image, LayoutFault, lay_out};
+pub use loading::{BOOTED, LOADED, loader};
+pub use mnemonics::{function_name, function_named, operation_name, operation_named};
+pub use printing::{hexadecimal, instructions_as_text, listing, pokes};
+pub use shortest::spell;
+pub use spelling::Spelling;
+pub use statement::{Operand, Statement};
+pub use writing::MOST_CODE;

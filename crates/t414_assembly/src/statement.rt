@@ -1,0 +1,31 @@
+//! What a program says, with its labels as places.
+
+use t414_decode::Function;
+
+/// What a word or the operand of an instruction is.
+///
+/// A place is the number of the statement before which it stands; the place behind the last statement is their number.
+#[derive(Clone, Copy, Debug, PartialEq, Eq)]
+pub enum Operand {
+    /// A word of 32 bits.
+    Number(u32),
+    /// The address of a place; in j, cj and call its distance from the next instruction.
+    Label(usize),
+    /// The address of the first place less that of the second.
+    Difference(usize, usize),
+}
+
+/// What stands in a program.
+#[derive(Clone, Copy, Debug, PartialEq, Eq)]
+pub enum Statement {
+    /// An instruction. A prefix by itself is one byte with the operand's lowest nibble.
+    Instruction(Function, Operand),
+    /// One byte.
+    Byte(u8),
+    /// Four bytes, the least significant first.
+    Word(Operand),
+    /// Zero bytes up to the next address that is a multiple of so many bytes.
+    Align(u32),
+    /// So many zero bytes.
+    Space(u32),
+}
