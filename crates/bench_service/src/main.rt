@@ -17,7 +17,7 @@ ghost use Rattle.token_queue.specs.Passes.{AreOf, AreItsPasses, HoldNone};
 
 mod users;
 
-use crate::users::{Guest, boot, send_each};
+use crate::users::{ActiveUser, boot, send_each};
 use domain_core::{Committed, Refusal};
 use farm_service::{Gate, Opened, Service, Token, UserPass, WorkerPass, work};
 use sample_plans::{Size, sized_plan};
@@ -63,26 +63,26 @@ fn opened<R: Wait>(rt: &R, alloc: Global, size: Size, workers: u8) -> Result<Ope
 }
 
 // A session for each pass.
-fn guests_of(
+fn active_users_of(
     alloc: Global,
     service: &Service,
     users: Vec<UserPass>,
-) -> Result<Vec<Guest<'_>>, AllocError> {
-    let mut guests = Vec::new(alloc);
+) -> Result<Vec<ActiveUser<'_>>, AllocError> {
+    let mut active_users = Vec::new(alloc);
     for pass in users {
-        guests.push(Guest {
+        active_users.push(ActiveUser {
             session: service.session(pass),
             answered: 0,
         })?;
     }
-    Ok(guests)
+    Ok(active_users)
 }
 
-// How many rounds of the guests were answered, all together.
-fn answered(guests: &[Guest<'_>]) -> u64 {
+// How many rounds of the users were answered, all together.
+fn answered(active_users: &[ActiveUser<'_>]) -> u64 {
     let mut all = 0_u64;
-    for guest in guests {
-        all = all.saturating_add(guest.answered);
+    for active_user in active_users {
+        all = all.saturating_add(active_user.answered);
     }
     all
 }
@@ -95,9 +95,9 @@ fn commands<R: Threads + Wait + Sync>(
     count: u64,
 ) -> Result<u64, AllocError> {
     let Opened { service, users, .. } = opened(rt, alloc, size, 1)?;
-    let mut guests = guests_of(alloc, &service, users)?;
-    send_each(rt, guests.as_mut_slice(), count);
-    Ok(answered(guests.as_slice()))
+    let mut active_users = active_users_of(alloc, &service, users)?;
+    send_each(rt, active_users.as_mut_slice(), count);
+    Ok(answered(active_users.as_slice()))
 }
 
 // Each worker works in a thread of his own; how many turns' nodes came home.
@@ -141,8 +141,8 @@ fn turns<R: Threads + Wait + Sync>(
         mut passes,
         ..
     } = opened(rt, alloc, size, workers)?;
-    for guest in &mut guests_of(alloc, &service, users)? {
-        if boot(rt, &mut guest.session, size).is_err() {
+    for active_user in &mut active_users_of(alloc, &service, users)? {
+        if boot(rt, &mut active_user.session, size).is_err() {
             return Err(AllocError);
         }
     }
@@ -176,15 +176,15 @@ fn surveys<R: Threads + Wait + Sync>(rt: &R, alloc: Global, count: u64) -> Resul
         operator,
         ..
     } = opened(rt, alloc, size, 1)?;
-    let mut guests = guests_of(alloc, &service, users)?;
-    send_each(rt, guests.as_mut_slice(), 1);
+    let mut active_users = active_users_of(alloc, &service, users)?;
+    send_each(rt, active_users.as_mut_slice(), 1);
     let service = &service;
     let (seen, ()) = thread::join(
         rt,
         move ||
             requires { IsItsOperator service.now operator }
         { survey_all(service, operator, count) },
-        move || send_each(rt, guests.as_mut_slice(), count),
+        move || send_each(rt, active_users.as_mut_slice(), count),
     );
     Ok(seen)
 }

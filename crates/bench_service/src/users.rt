@@ -15,7 +15,7 @@ const ROUNDS: u64 = 60;
 
 /// A user, and how many rounds of his were answered.
 #[derive(Drop)]
-pub struct Guest<'a> {
+pub struct ActiveUser<'a> {
     pub session: Session<'a>,
     pub answered: u64,
 }
@@ -30,17 +30,26 @@ fn send<R: Wait>(rt: &R, session: &mut Session<'_>, bytes: &[u8]) -> Result<(), 
 
 // Rounds of five configuration bytes: connects input 0 to output 0, and enquires it. Users of one domain
 // get into each other's messages, which are answered all the same.
-fn send_rounds<R: Wait>(rt: &R, guest: &mut Guest<'_>, count: u64) {
+fn send_rounds<R: Wait>(rt: &R, active_user: &mut ActiveUser<'_>, count: u64) {
     for _round in 0..count {
-        if send(rt, &mut guest.session, &[0, 0, 0, 2, 0]).is_ok() {
-            guest.answered = guest.answered.saturating_add(1);
+        if send(rt, &mut active_user.session, &[0, 0, 0, 2, 0]).is_ok() {
+            active_user.answered = active_user.answered.saturating_add(1);
         }
     }
 }
 
-/// Each guest does so many rounds of five configuration bytes, in a thread of his own.
-pub fn send_each<R: Threads + Wait + Sync>(rt: &R, guests: &mut [Guest<'_>], count: u64) {
-    thread::for_each_mut(rt, guests, 8, &|_, guest| send_rounds(rt, guest, count));
+/// Each user does so many rounds of five configuration bytes, in a thread of his own.
+pub fn send_each<R: Threads + Wait + Sync>(
+    rt: &R,
+    active_users: &mut [ActiveUser<'_>],
+    count: u64,
+) {
+    thread::for_each_mut(
+        rt,
+        active_users,
+        8,
+        &|_, active_user| send_rounds(rt, active_user, count),
+    );
 }
 
 /// Joins all nodes of a domain to its first host, and boots them with a loop.

@@ -208,16 +208,18 @@ pub fn round<R: Threads + Wait + Sync>(
         passes,
         operator,
     } = Service::open(rt, alloc, plan(alloc, size)?, load.workers).map_err(|_| AllocError)?;
-    let guests = users_of(alloc, &service, users, seed)?;
-    let (shift, (guests, changes)) = meet(rt, &service, passes, operator, guests, size, load);
+    let users_back = users_of(alloc, &service, users, seed)?;
+    let (shift, (users_back, changes)) = meet(
+        rt, &service, passes, operator, users_back, size, load,
+    );
     let Shift { passes, wanted } = shift;
     let mut answered = 0u64;
     let mut lacked = wanted;
     let mut users = Vec::new(alloc);
-    for guest in guests {
-        answered = answered.saturating_add(guest.answered);
-        lacked |= guest.wanted;
-        users.push(guest.session.end())?;
+    for user in users_back {
+        answered = answered.saturating_add(user.answered);
+        lacked |= user.wanted;
+        users.push(user.session.end())?;
     }
     if lacked {
         return Err(AllocError);

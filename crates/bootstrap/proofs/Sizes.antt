@@ -74,13 +74,13 @@ went s m ls k e = record { sized = record { size = e } }
 stopped : (fault : Fault) (m : List ℕ) (ls : FourLinks) (k : ℕ) → length m ≡ k → Leaves k ls (Stopped fault m)
 stopped fault m ls k e = record { sized = record { size = e } }
 
-o-if : (b : Bool) (x y : Outcome) (ls : FourLinks) (k : ℕ) → Leaves k ls x → Leaves k ls y → Leaves k ls (if b then x else y)
-o-if true x y ls k e f = e
-o-if false x y ls k e f = f
+leaves-if : (b : Bool) (x y : Outcome) (ls : FourLinks) (k : ℕ) → Leaves k ls x → Leaves k ls y → Leaves k ls (if b then x else y)
+leaves-if true x y ls k e f = e
+leaves-if false x y ls k e f = f
 
 o-error : (b : Bool) (s : Cpu) (m : List ℕ) (ls : FourLinks) (k : ℕ) → length m ≡ k → Leaves k ls (error_if b s m)
 o-error false s m ls k e = record { sized = record { size = e } }
-o-error true s m ls k e = o-if s.halt_on_error _ _ ls k (record { sized = record { size = e } }) (record { sized = record { size = e } })
+o-error true s m ls k e = leaves-if s.halt_on_error _ _ ls k (record { sized = record { size = e } }) (record { sized = record { size = e } })
 
 o-left : (r : Result (Unit {0}) Fault) (s : Cpu) (m : List ℕ) (ls : FourLinks) (k : ℕ) → length m ≡ k → Leaves k ls (left r s m)
 o-left (Ok u) s m ls k e = record { sized = record { size = e } }
@@ -145,10 +145,10 @@ module _ (words : WordKeepsTheSize) (bytes : ByteKeepsTheSize) (copies : CopyKee
   o-wait s m ls k e = o-store m _ _ _ ls k e (λ n f. went _ n ls k f)
 
   o-slice : (s : Cpu) (m : List ℕ) (ls : FourLinks) (k : ℕ) → length m ≡ k → Leaves k ls (slice s m)
-  o-slice s m ls k e = o-if (s.bytes == 1024) _ _ ls k (o-store m _ _ _ ls k e (λ n f. o-put s.workspace s n _ ls k f (λ t n f. went _ n ls k f))) (went s m ls k e)
+  o-slice s m ls k e = leaves-if (s.bytes == 1024) _ _ ls k (o-store m _ _ _ ls k e (λ n f. o-put s.workspace s n _ ls k f (λ t n f. went _ n ls k f))) (went s m ls k e)
 
   o-schedule : (d : ℕ) (s : Cpu) (m : List ℕ) (ls : FourLinks) (k : ℕ) → length m ≡ k → Leaves k ls (schedule d s m)
-  o-schedule d s m ls k e = o-if (d % 2 == 0) (Stopped HighPriority m) (put (aligned d) s m Went) ls k (stopped HighPriority m ls k e) (o-put (aligned d) s m Went ls k e (λ t n f. went t n ls k f))
+  o-schedule d s m ls k e = leaves-if (d % 2 == 0) (Stopped HighPriority m) (put (aligned d) s m Went) ls k (stopped HighPriority m ls k e) (o-put (aligned d) s m Went ls k e (λ t n f. went t n ls k f))
 
   -- the operations of the table, but for those on channels
   pub size-row : (operation : PlainOperation) (s : Cpu) (m : List ℕ) (ls : FourLinks) (k : ℕ) → length m ≡ k → Leaves k ls (row operation s m)
@@ -156,7 +156,7 @@ module _ (words : WordKeepsTheSize) (bytes : ByteKeepsTheSize) (copies : CopyKee
   size-row op.Reverse s m ls k e = went _ m ls k e
   size-row op.LoadByte s m ls k e = o-read _ _ _ ls k e (λ x. went _ m ls k e)
   size-row op.ByteSubscript s m ls k e = went _ m ls k e
-  size-row op.EndProcess s m ls k e = o-read (word_at m (s.a ⊕ 4)) m _ ls k e (λ count. o-if (count == 1) _ _ ls k (o-read (word_at m s.a) m _ ls k e (λ i. went (goto i (at_workspace s.a s)) m ls k e)) (o-store m (s.a ⊕ 4) (count ⊖ 1) (λ m. Went (leave s) m) ls k e (λ n f. went (leave s) n ls k f)))
+  size-row op.EndProcess s m ls k e = o-read (word_at m (s.a ⊕ 4)) m _ ls k e (λ count. leaves-if (count == 1) _ _ ls k (o-read (word_at m s.a) m _ ls k e (λ i. went (goto i (at_workspace s.a s)) m ls k e)) (o-store m (s.a ⊕ 4) (count ⊖ 1) (λ m. Went (leave s) m) ls k e (λ n f. went (leave s) n ls k f)))
   size-row op.Difference s m ls k e = went _ m ls k e
   size-row op.Add s m ls k e = o-error (sum_checked s.b s.a).1 (bin (sum_checked s.b s.a).0 s) m ls k e
   size-row op.GeneralCall s m ls k e = went _ m ls k e
@@ -170,20 +170,20 @@ module _ (words : WordKeepsTheSize) (bytes : ByteKeepsTheSize) (copies : CopyKee
   size-row op.StopProcess s m ls k e = o-wait s m ls k e
   size-row op.LongAdd s m ls k e = o-error (overflows (signed s.b +ℤ signed s.a +ℤ pos (carry s))) (un (s.b ⊕ s.a ⊕ carry s) s) m ls k e
   size-row op.StoreLowBack s m ls k e = went _ m ls k e
-  size-row op.StoreHighFront s m ls k e = o-if (s.a == not_process) _ _ ls k (went (drop s) m ls k e) (stopped HighPriority m ls k e)
+  size-row op.StoreHighFront s m ls k e = leaves-if (s.a == not_process) _ _ ls k (went (drop s) m ls k e) (stopped HighPriority m ls k e)
   size-row op.Normalise s m ls k e = went _ m ls k e
-  size-row op.LongDivide s m ls k e = o-if (nat_le s.a s.c) _ _ ls k (o-error true (record s { a = 0; b = 0 }) m ls k e) (went _ m ls k e)
+  size-row op.LongDivide s m ls k e = leaves-if (nat_le s.a s.c) _ _ ls k (o-error true (record s { a = 0; b = 0 }) m ls k e) (went _ m ls k e)
   size-row op.LoadPointerToInstruction s m ls k e = went _ m ls k e
   size-row op.StoreLowFront s m ls k e = went _ m ls k e
   size-row op.ExtendToDouble s m ls k e = went _ m ls k e
   size-row op.LoadPriority s m ls k e = went _ m ls k e
-  size-row op.Remainder s m ls k e = o-if (s.a == 0) _ _ ls k (o-error true (bin 0 s) m ls k e) (o-if (divides_past s) _ _ ls k (went _ m ls k e) (went _ m ls k e))
+  size-row op.Remainder s m ls k e = leaves-if (s.a == 0) _ _ ls k (o-error true (bin 0 s) m ls k e) (leaves-if (divides_past s) _ _ ls k (went _ m ls k e) (went _ m ls k e))
   size-row op.Return s m ls k e = o-read _ _ _ ls k e (λ x. went _ m ls k e)
-  size-row op.LoopEnd s m ls k e = o-read (word_at m (s.b ⊕ 4)) m _ ls k e (λ count. o-store m (s.b ⊕ 4) (count ⊖ 1) _ ls k e (λ n f. o-if (int_lt (pos 1) (signed count)) _ _ ls k (o-read (word_at n s.b) n _ ls k f (λ i. o-store n s.b (i ⊕ 1) _ ls k f (λ n f. o-slice (goto (s.instruction ⊖ s.a) s) n ls k f))) (went s n ls k f)))
+  size-row op.LoopEnd s m ls k e = o-read (word_at m (s.b ⊕ 4)) m _ ls k e (λ count. o-store m (s.b ⊕ 4) (count ⊖ 1) _ ls k e (λ n f. leaves-if (int_lt (pos 1) (signed count)) _ _ ls k (o-read (word_at n s.b) n _ ls k f (λ i. o-store n s.b (i ⊕ 1) _ ls k f (λ n f. o-slice (goto (s.instruction ⊖ s.a) s) n ls k f))) (went s n ls k f)))
   size-row op.TestError s m ls k e = went _ m ls k e
   size-row op.TestProcessorAnalysing s m ls k e = went _ m ls k e
-  size-row op.Divide s m ls k e = o-if (s.a == 0 || divides_past s) _ _ ls k (o-error true (bin 0 s) m ls k e) (went _ m ls k e)
-  size-row op.DisableSkip s m ls k e = o-if (s.b == 0) _ _ ls k (went (bin 0 s) m ls k e) (o-read (word_at m s.workspace) m _ ls k e (λ selected. o-if (selected == none_selected) _ _ ls k (o-store m s.workspace s.a (λ m. Went (bin 1 s) m) ls k e (λ n f. went (bin 1 s) n ls k f)) (went (bin 0 s) m ls k e)))
+  size-row op.Divide s m ls k e = leaves-if (s.a == 0 || divides_past s) _ _ ls k (o-error true (bin 0 s) m ls k e) (went _ m ls k e)
+  size-row op.DisableSkip s m ls k e = leaves-if (s.b == 0) _ _ ls k (went (bin 0 s) m ls k e) (o-read (word_at m s.workspace) m _ ls k e (λ selected. leaves-if (selected == none_selected) _ _ ls k (o-store m s.workspace s.a (λ m. Went (bin 1 s) m) ls k e (λ n f. went (bin 1 s) n ls k f)) (went (bin 0 s) m ls k e)))
   size-row op.LongMultiply s m ls k e = went _ m ls k e
   size-row op.Not s m ls k e = went _ m ls k e
   size-row op.ExclusiveOr s m ls k e = went _ m ls k e
@@ -202,20 +202,20 @@ module _ (words : WordKeepsTheSize) (bytes : ByteKeepsTheSize) (copies : CopyKee
   size-row op.ShiftLeft s m ls k e = went _ m ls k e
   size-row op.MinimumInteger s m ls k e = went _ m ls k e
   size-row op.AltStart s m ls k e = o-store m _ _ _ ls k e (λ n f. went _ n ls k f)
-  size-row op.AltWait s m ls k e = o-store m s.workspace none_selected _ ls k e (λ n f. o-read (word_at n (s.workspace ⊖ 12)) n _ ls k f (λ state. o-if (state == ready) _ _ ls k (went s n ls k f) (o-store n (s.workspace ⊖ 12) waiting (λ m. wait s m) ls k f (λ n f. o-wait s n ls k f))))
+  size-row op.AltWait s m ls k e = o-store m s.workspace none_selected _ ls k e (λ n f. o-read (word_at n (s.workspace ⊖ 12)) n _ ls k f (λ state. leaves-if (state == ready) _ _ ls k (went s n ls k f) (o-store n (s.workspace ⊖ 12) waiting (λ m. wait s m) ls k f (λ n f. o-wait s n ls k f))))
   size-row op.AltEnd s m ls k e = o-read _ _ _ ls k e (λ x. went _ m ls k e)
   size-row op.And s m ls k e = went _ m ls k e
-  size-row op.EnableSkip s m ls k e = o-if (s.a == 0) _ _ ls k (went s m ls k e) (o-store m (s.workspace ⊖ 12) ready (λ m. Went s m) ls k e (λ n f. went s n ls k f))
+  size-row op.EnableSkip s m ls k e = leaves-if (s.a == 0) _ _ ls k (went s m ls k e) (o-store m (s.workspace ⊖ 12) ready (λ m. Went s m) ls k e (λ n f. went s n ls k f))
   size-row op.MoveMessage s m ls k e = o-left (copied s.a m s.c s.b).0 s (copied s.a m s.c s.b).1 ls k (copies s.a m s.c s.b ∙ e)
   size-row op.Or s m ls k e = went _ m ls k e
   size-row op.CheckSingle s m ls k e = o-error (not (s.b == sign_of s.a)) (record s { b = s.c }) m ls k e
   size-row op.CheckCountFromOne s m ls k e = o-error (s.b == 0 || nat_lt s.a s.b) (drop s) m ls k e
   size-row op.LongDifference s m ls k e = went _ m ls k e
-  size-row op.StoreHighBack s m ls k e = o-if (s.a == not_process) _ _ ls k (went (drop s) m ls k e) (stopped HighPriority m ls k e)
+  size-row op.StoreHighBack s m ls k e = leaves-if (s.a == not_process) _ _ ls k (went (drop s) m ls k e) (stopped HighPriority m ls k e)
   size-row op.Sum s m ls k e = went _ m ls k e
   size-row op.Multiply s m ls k e = o-error (product_checked s.b s.a).1 (bin (product_checked s.b s.a).0 s) m ls k e
   size-row op.StoreTimer s m ls k e = went _ m ls k e
-  size-row op.StopOnError s m ls k e = o-if s.error _ _ ls k (o-wait s m ls k e) (went s m ls k e)
+  size-row op.StopOnError s m ls k e = leaves-if s.error _ _ ls k (o-wait s m ls k e) (went s m ls k e)
   size-row op.CheckWord s m ls k e = o-error (int_le (signed s.a) (signed s.b) || int_lt (signed s.b) (neg_ℤ (signed s.a))) (drop s) m ls k e
   size-row op.ClearHaltOnError s m ls k e = went _ m ls k e
   size-row op.SetHaltOnError s m ls k e = went _ m ls k e

@@ -152,7 +152,7 @@ found_below (first ∷ ports) q below found =
     ]
 
 pub few : (ports : List ℕ) → IsNumbering ports → length ports ≤ 32
-few ports h = length-le_from_distinct_below ports 32 (distinct ports h.one_to_one) (λ q. found_below ports q h.below)
+at-most-32-ports ports h = length-le_from_distinct_below ports 32 (distinct ports h.one_to_one) (λ q. found_below ports q h.below)
 
 -- ---- a numbering kept both ways
 
@@ -191,7 +191,7 @@ length-first ports count room h = length-take count ports ∙ omega arith
 -- there is room for one more
 pub room_for : (ports : List ℕ) (numbers : List (Option ℕ)) (count port : ℕ) → IsNumberTable ports numbers count → IsNumbering (take count ports ++ port ∷ []) → count < 32
 room_for ports numbers count port t h =
-    omega (arith, few _ h, length-append (take count ports) (port ∷ []), length-first ports count t.ports_room t.few)
+    omega (arith, at-most-32-ports _ h, length-append (take count ports) (port ∷ []), length-first ports count t.ports_room t.few)
 
 pub port_below : (ports : List ℕ) (port : ℕ) → IsNumbering (ports ++ port ∷ []) → port < 32
 port_below ports port h =

@@ -16,7 +16,7 @@ use Rattle.crossbar.specs.Row.{AreWordsOf, IsWordOf, switch_of, connection_at, i
 use Rattle.crossbar.specs.Plain.{Row, IsPlain, IsPlainRow, words_at, outputs_of}
 use Rattle.crossbar.proofs.Below.{same_switch}
 use Rattle.crossbar.proofs.Switching.{get-switch_of, contains-switch_of}
-use Rattle.crossbar.proofs.Numberings.{few, numbering_in}
+use Rattle.crossbar.proofs.Numberings.{at-most-32-ports, numbering_in}
 
 -- ---- a write
 
@@ -59,7 +59,7 @@ pub gathers_more : (words : List Word) (ranges : List (Option PortRange)) (ports
     → at ≡ n → from ≡ port → slice_get ports n ≡ Some port → Gathers words ports (slice_set own at (get_or words from d)) (n + 1)
 gathers_more words ranges ports own n at from port d g room ranges_are ports_is at_is from_is is =
     let numbering : IsNumbering ports = subst IsNumbering (sym ports_is) (numbering_in ranges ranges_are) in
-    let inside : n < 32 = omega (arith, few ports numbering, slice_get_within ports n port is) in
+    let inside : n < 32 = omega (arith, at-most-32-ports ports numbering, slice_get_within ports n port is) in
     let below : port < 32 = subst (λ (p : ℕ). p < 32) (get_or_from_slice_get ports n port port is) (numbering.below n port (slice_get_within ports n port is)) in
     let word = get_or words from d in
     record {
@@ -84,7 +84,7 @@ plain_row words ranges room h =
     let numbering = numbering_in ranges h.ranges_are in
     record {
       length_is = length-words_at words (ports_in ranges) (λ k d l. omega (arith, room, numbering.below k d l));
-      few = few (ports_in ranges) numbering;
+      few = at-most-32-ports (ports_in ranges) numbering;
       below = numbering.below;
       one_to_one = numbering.one_to_one;
       each = h.each;

@@ -18,5 +18,5 @@ pub mod Sizes
 pub mod Tables
 pub mod Tickets
 pub mod Unchanged
-pub mod Told
+pub mod AnswersInHistory
 pub mod Wired

@@ -79,8 +79,8 @@ passes_all : (s : Switch) (xs : List ℕ) (q : ℕ) → are_ready s (xs ++ q ∷
 passes_all s [] q ready = must_pass s q [] ready
 passes_all s (x ∷ xs) q ready = must_pass s x (xs ++ q ∷ []) ready
 
-both : (a b c : Bool) → c ≡ (a && b) → a ≡ false → c ≡ false
-both a b c is first = rw (is, first) refl
+false-and-false : (a b c : Bool) → c ≡ (a && b) → a ≡ false → c ≡ false
+false-and-false a b c is first = rw (is, first) refl
 
 all_two : (a b c : Bool) → c ≡ (a && b) → a ≡ true → b ≡ true → c ≡ true
 all_two a b c is one two = rw (is, one, two) refl
@@ -99,7 +99,7 @@ not_marked s before mask q xs none is = is ∙ ap (outcome s) (sym (append-nil x
 -- once one wasn't ready, the packet stays
 pub stays : (s : Switch) (before : Moved) (xs ys : List ℕ) → before ≡ Stayed → before ≡ outcome s xs → before ≡ outcome s (xs ++ ys)
 stays s before xs ys stayed is =
-    stayed ∙ sym (must_be_stayed s (xs ++ ys) (both (are_ready s xs) (are_ready s ys) (are_ready s (xs ++ ys)) (list_all-append (set.contains s.ready) xs ys) (unready s xs (sym is ∙ stayed))))
+    stayed ∙ sym (must_be_stayed s (xs ++ ys) (false-and-false (are_ready s xs) (are_ready s ys) (are_ready s (xs ++ ys)) (list_all-append (set.contains s.ready) xs ys) (unready s xs (sym is ∙ stayed))))
 
 -- a ready output takes its copy
 pub passes : (s : Switch) (before : Moved) (mask q : ℕ) (xs : List ℕ) → (bit_at mask q == 1) ≡ true → before ≢ Stayed → set.contains s.ready q ≡ true → before ≡ outcome s xs → Passed ≡ outcome s (xs ++ marked_in mask (q ∷ []))
@@ -182,9 +182,9 @@ gone_by s (x ∷ xs) Lost part device packet d is moves = absurd (never_lost (ar
 gone_by s xs Passed part device packet d is moves = refl
 
 -- one that is Lost or Passed takes the packet, and gives each driven output its copy
-pub gone : (part : PartData) (s : Switch) (d : DeviceStates) (port : ℕ) (device : Device) (packet : Packet) → device_at part port ≡ Some device → packet_waiting d device ≡ Some packet → has_moved (moved part s d port).1 ≡ true
+pub waiting-packet-has-moved : (part : PartData) (s : Switch) (d : DeviceStates) (port : ℕ) (device : Device) (packet : Packet) → device_at part port ≡ Some device → packet_waiting d device ≡ Some packet → has_moved (moved part s d port).1 ≡ true
     → copies_arrived part packet (driven part s port) (taken_from_device device d) ≡ (moved part s d port).0
-gone part s d port device packet joined some moves =
+waiting-packet-has-moved part s d port device packet joined some moves =
     gone_by s (driven part s port) (outcome s (driven part s port)) part device packet d refl (ap has_moved (sym (packet_waits part s d port device packet joined some)) ∙ moves) ∙ sym (whole part s d port device packet joined some)
   where
     whole : (part : PartData) (s : Switch) (d : DeviceStates) (port : ℕ) (device : Device) (packet : Packet) → device_at part port ≡ Some device → packet_waiting d device ≡ Some packet → (moved part s d port).0 ≡ moved_by (outcome s (driven part s port)) part device packet (driven part s port) d

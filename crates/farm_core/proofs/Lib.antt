@@ -1,14 +1,14 @@
-pub mod Setting
+pub mod OneOutputSet
 pub mod Messages
 pub mod Packets
 pub mod Steps
 pub mod Runs
-pub mod Making
+pub mod MadeOfDomains
 pub mod Merging
 pub mod Separation
 pub mod Plain
 pub mod Opened
-pub mod Told
+pub mod AnswersOfRuns
 pub mod Owners
 pub mod Wholes
 pub mod Plans

@@ -10,7 +10,7 @@ use Rattle.farm_core.specs.Places.{Place, AreSeparatePlaces}
 use Rattle.farm_core.specs.Whole.{physical_answers, whole_opening}
 use Rattle.farm_core.specs.Projection.{own}
 use Rattle.farm_core.specs.Merges.{journal_at, IsMerge, calls_in, replies_in, AreHistories, EachMergeIsARun, own_place, own_journal, EachMergeOfDomainsIsARun}
-use Rattle.farm_core.proofs.Making.{tidy_after, tidy_opening}
+use Rattle.farm_core.proofs.MadeOfDomains.{tidy_after, tidy_opening}
 use Rattle.farm_core.proofs.Runs.{own-here, own-there, own-map, told_pairs, own_told, told_domains, told_answers, each_domain_is_private}
 use Rattle.crossbar.specs.Laws.{SwitchLaws}
 

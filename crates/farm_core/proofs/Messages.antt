@@ -19,7 +19,7 @@ use Rattle.farm_core.specs.Places.{Place, AreApart}
 use Rattle.farm_core.specs.Messages.{readied, disconnected_ports, is_among, raised, raised_message, performed_in, after_item_in, reply_in}
 use Rattle.farm_core.specs.Projection.{own_switch, driver_at, ready_at, lowered_byte, lowered_config}
 use Rattle.farm_core.specs.Domains.{DrivesItself}
-use Rattle.farm_core.proofs.Setting.{SetsOutput, contains_at, at_contained, sets_connected, sets_disconnected, one_set, get-own_switch, contains-own_switch, same_own_switch, own_switch_sets, untouched, still_drives, number_in-none, keys_of, contains-readied, get-emptied, contains-emptied}
+use Rattle.farm_core.proofs.OneOutputSet.{SetsOutput, contains_at, at_contained, sets_connected, sets_disconnected, one_set, get-own_switch, contains-own_switch, same_own_switch, own_switch_sets, untouched, still_drives, number_in-none, keys_of, contains-readied, get-emptied, contains-emptied}
 
 pub port_at : (ports : List ℕ) (v : ℕ) → v < length ports → slice_get ports v ≡ Some (raised ports v)
 port_at ports v h = slice_get-get_or ports v 0 h

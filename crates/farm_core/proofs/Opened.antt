@@ -19,7 +19,7 @@ use Rattle.farm_core.specs.Domains.{IsMadeOf}
 use Rattle.farm_core.specs.Merges.{own_place}
 use Rattle.farm_core.specs.PlainFarm.{places_in, states_in, openings}
 use Rattle.farm_core.specs.Words.{IsUnused}
-use Rattle.farm_core.proofs.Making.{opening_is_made_of_openings}
+use Rattle.farm_core.proofs.MadeOfDomains.{opening_is_made_of_openings}
 use Rattle.farm_core.proofs.Merging.{there_is}
 
 -- ---- words of 0

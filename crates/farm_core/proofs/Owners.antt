@@ -15,8 +15,8 @@ use Rattle.farm_core.specs.Domains.{IsFree}
 use Rattle.farm_core.specs.Merges.{own_place}
 use Rattle.farm_core.specs.Messages.{raised}
 use Rattle.farm_core.specs.PlainFarm.{places_in, states_in, output_in, HasOutput, IsWordOfOwner, SaysEachWhole}
-use Rattle.farm_core.proofs.Setting.{at_contained, contains_at}
-use Rattle.farm_core.proofs.Making.{each_output_is_of_its_domain, raised-number}
+use Rattle.farm_core.proofs.OneOutputSet.{at_contained, contains_at}
+use Rattle.farm_core.proofs.MadeOfDomains.{each_output_is_of_its_domain, raised-number}
 use Rattle.farm_core.proofs.Merging.{domain_of}
 use Rattle.farm_core.proofs.Plain.{place_at, state_at, read_there}
 

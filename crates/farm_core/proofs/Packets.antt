@@ -22,7 +22,7 @@ use Rattle.farm_core.specs.Messages.{raised}
 use Rattle.farm_core.specs.Packets.{AllDevices, changed_at, driven_in, arrived_in, copied_in, moved_by_in, sent_in, moved_from_in, moved_in}
 use Rattle.farm_core.specs.Projection.{own_switch, driver_at, ready_at}
 use Rattle.farm_core.specs.Domains.{EachDrivesItself}
-use Rattle.farm_core.proofs.Setting.{contains_at, at_contained, get-own_switch, contains-own_switch, number_in-none}
+use Rattle.farm_core.proofs.OneOutputSet.{contains_at, at_contained, get-own_switch, contains-own_switch, number_in-none}
 use Rattle.farm_core.proofs.Messages.{port_at, never_both}
 
 -- ---- which device is joined to a port

@@ -16,7 +16,7 @@ use Rattle.farm_core.specs.Projection.{lowered_for}
 use Rattle.farm_core.specs.Domains.{IsMadeOf}
 use Rattle.farm_core.specs.Merges.{own_place}
 use Rattle.farm_core.specs.PlainFarm.{places_in, states_in, OthersStay, IsCalledAt, IsCallOfEachWhole, IsCommitted, IsCommittedAt, IsRestarted, IsRestartedAt}
-use Rattle.farm_core.proofs.Making.{get-set_same, get-set_other, each_call_is_private}
+use Rattle.farm_core.proofs.MadeOfDomains.{get-set_same, get-set_other, each_call_is_private}
 use Rattle.crossbar.specs.Laws.{SwitchLaws}
 
 -- ---- one domain for another

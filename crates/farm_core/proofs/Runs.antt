@@ -15,7 +15,7 @@ use Rattle.farm_core.specs.Places.{Place, AreSeparatePlaces}
 use Rattle.farm_core.specs.Whole.{Farm, opened_at, whole_next, physical_answers, whole_after, whole_opening}
 use Rattle.farm_core.specs.Projection.{own_switch, driver_at, ready_at, projected, lowered_answer, lowered_for, own}
 use Rattle.farm_core.specs.Laws.{EachDomainIsPrivate, EqualDomainsAreAnsweredAlike, EachIsToldPrivately}
-use Rattle.farm_core.proofs.Setting.{get-own_switch, contains-own_switch}
+use Rattle.farm_core.proofs.OneOutputSet.{get-own_switch, contains-own_switch}
 use Rattle.farm_core.specs.Domains.{EachDrivesItself}
 use Rattle.farm_core.proofs.Steps.{StepsAlone, steps_alone, other_stays, still_each_drives}
 

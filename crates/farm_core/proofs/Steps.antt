@@ -85,9 +85,9 @@ written-alike : (ports : List ℕ) (full : Bool) → lowered_reply ports (if ful
 written-alike ports true = refl
 written-alike ports false = refl
 
-acts : SwitchLaws → (plan : List Place) (farm : Farm) (domain : ℕ) (place : Place) (by : By) (event : Event) → AreSeparatePlaces plan → EachDrivesItself plan farm.switch → slice_get plan domain ≡ Some place
+call-is-private : SwitchLaws → (plan : List Place) (farm : Farm) (domain : ℕ) (place : Place) (by : By) (event : Event) → AreSeparatePlaces plan → EachDrivesItself plan farm.switch → slice_get plan domain ≡ Some place
     → names_own place.part by event ≡ true → ActsAlone place domain farm (acted_in plan place farm domain event) (acted place.part (projected place farm domain).machine event)
-acts laws plan farm domain place by (Config byte) separate own there named =
+call-is-private laws plan farm domain place by (Config byte) separate own there named =
     let is = separate.each domain place there in
     let bytes : List ℕ = farm.rests domain ++ byte ∷ [] in
     let c = configures-by laws place farm.switch bytes (item_of bytes) is (own domain place there) in
@@ -100,13 +100,13 @@ acts laws plan farm domain place by (Config byte) separate own there named =
       other_devices = λ d ne. refl;
       others = c.others;
     }
-acts laws plan farm domain place by (Write host byte) separate own there named =
+call-is-private laws plan farm domain place by (Write host byte) separate own there named =
     acts-on-own place farm domain (Write host byte) _ (written-alike place.ports (is_full (host_at (farm.devices domain) host).sending)) refl refl refl
-acts laws plan farm domain place by (Read host) separate own there named = acts-on-own place farm domain (Read host) _ refl refl refl refl
-acts laws plan farm domain place by (Reset node) separate own there named = acts-on-own place farm domain (Reset node) _ refl refl refl refl
-acts laws plan farm domain place by (Look node) separate own there named = acts-on-own place farm domain (Look node) _ refl refl refl refl
-acts laws plan farm domain place by (Step node) separate own there named = acts-on-own place farm domain (Step node) _ refl refl refl refl
-acts laws plan farm domain place by (Move port) separate own there named =
+call-is-private laws plan farm domain place by (Read host) separate own there named = acts-on-own place farm domain (Read host) _ refl refl refl refl
+call-is-private laws plan farm domain place by (Reset node) separate own there named = acts-on-own place farm domain (Reset node) _ refl refl refl refl
+call-is-private laws plan farm domain place by (Look node) separate own there named = acts-on-own place farm domain (Look node) _ refl refl refl refl
+call-is-private laws plan farm domain place by (Step node) separate own there named = acts-on-own place farm domain (Step node) _ refl refl refl refl
+call-is-private laws plan farm domain place by (Move port) separate own there named =
     let m = moves_alone laws plan farm.switch farm.devices domain place port separate own there (ltb-true port place.part.count named) in
     record {
       told = ap (λ (r : Moved). reply.Moved r) m.answer;
@@ -147,7 +147,7 @@ answers-alone : SwitchLaws → (plan : List Place) (farm : Farm) (domain : ℕ) 
     → StepsAlone place domain farm (answered_in plan place farm domain call.event, Ok (acted_in plan place farm domain call.event).1)
     (answered place.part (projected place farm domain) call.event, Ok (acted place.part (projected place farm domain).machine call.event).1)
 answers-alone laws plan farm domain place call separate own there named =
-    let a = acts laws plan farm domain place call.by call.event separate own there named in
+    let a = call-is-private laws plan farm domain place call.by call.event separate own there named in
     let counts = put-own domain (if is_recorded_in plan place farm domain call.event then farm.recorded domain + 1 else farm.recorded domain) farm.recorded
     ∙ ap (λ t. cond t (farm.recorded domain + 1) (farm.recorded domain)) (records laws plan farm domain place call.by call.event separate own there named) in
     record {

@@ -6,7 +6,7 @@ ghost use Rattle.farm_service.specs.Endings.{IsEndOf};
 
 use crate::NoMemory;
 use crate::closed::ClosedDomain;
-use crate::service::Lodging;
+use crate::service::SeatedDomain;
 use crate::waiting::wait;
 use crossbar::Word;
 use farm_core::laws::{
@@ -59,7 +59,7 @@ impl Room {
 }
 
 // The words of a domain.
-fn words_of(domain: &mut Lodging, room: WordRoom) -> Vec<Word>
+fn words_of(domain: &mut SeatedDomain, room: WordRoom) -> Vec<Word>
     ensures words { result.items ≡ domain.old.machine.switch.words }
     ensures same { domain.new ≡ domain.old }
 {
@@ -76,7 +76,7 @@ fn end_of<R: Wait>(
     rt: &R,
     plan: &AcceptedPlan,
     number: u8,
-    mut domain: Lodging,
+    mut domain: SeatedDomain,
     room: WordRoom,
 ) -> ClosedDomain
     ensures { IsEndOf plan.now number domain result }
@@ -97,7 +97,7 @@ fn end_of<R: Wait>(
 pub(crate) fn ends_of<R: Wait>(
     rt: &R,
     plan: &AcceptedPlan,
-    locks: Vec<Mutex<Lodging>>,
+    locks: Vec<Mutex<SeatedDomain>>,
     mut closed: Vec<ClosedDomain>,
     mut rooms: Vec<WordRoom>,
 ) -> Vec<ClosedDomain>

@@ -37,7 +37,7 @@ use switch_table::{DomainSeat, OperatorSeat, SwitchTable};
 use token_queue::{TokenQueue, WorkerPass};
 
 // A domain over its seat at the switch table.
-pub(crate) type Lodging = Domain<DomainSeat>;
+pub(crate) type SeatedDomain = Domain<DomainSeat>;
 
 /// The domains of a plan, each under a lock of its own, and the tokens of their nodes. Contracts see
 /// the plan, which queue of tokens this is, and which switch table.
@@ -48,7 +48,7 @@ pub(crate) type Lodging = Domain<DomainSeat>;
 #[derive(Drop)]
 pub struct Service {
     plan: AcceptedPlan,
-    domains: Vec<Mutex<Lodging>>,
+    domains: Vec<Mutex<SeatedDomain>>,
     table: SwitchTable,
     tokens: TokenQueue,
     stopped: AtomicBool,
@@ -74,7 +74,7 @@ fn is_recorded(reply: Reply) -> bool {
 }
 
 // Moves of the first ports of a domain, in order; whether a packet went.
-fn move_ports(domain: &mut Lodging, ports: u8) -> Result<bool, Refusal> {
+fn move_ports(domain: &mut SeatedDomain, ports: u8) -> Result<bool, Refusal> {
     let mut went = false;
     for port in 0..ports {
         went |= is_recorded(domain.apply(By::Farm, Event::Move(port))?);
@@ -83,13 +83,13 @@ fn move_ports(domain: &mut Lodging, ports: u8) -> Result<bool, Refusal> {
 }
 
 // Whether a Step of a node would be recorded, the limit aside.
-fn has_step(domain: &Lodging, node: u8) -> bool {
+fn has_step(domain: &SeatedDomain, node: u8) -> bool {
     usize::from(node) < domain.part().nodes().len() && !domain.node_is_quiet(node)
 }
 
 // Asks a domain that is the plan's of this number.
 fn ask(
-    domain: &mut Lodging,
+    domain: &mut SeatedDomain,
     plan: &AcceptedPlan,
     number: u8,
     by: By,
@@ -207,9 +207,9 @@ impl Service {
         if domain >= self.plan.domains() {
             return Err(Refusal::NoSuch);
         }
-        let mut lodging = self.domains[usize::from(domain)].lock(rt);
-        if lodging.fits(&self.plan, domain) {
-            ask(&mut lodging, &self.plan, domain, by, event)
+        let mut seated = self.domains[usize::from(domain)].lock(rt);
+        if seated.fits(&self.plan, domain) {
+            ask(&mut seated, &self.plan, domain, by, event)
         } else {
             wait(rt)
         }

@@ -1,1 +1,1 @@
-pub mod Work
+pub mod LinksWithWork

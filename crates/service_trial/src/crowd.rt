@@ -26,46 +26,46 @@ const TURNS: u64 = 400;
 
 // A user with his session, and what he was told.
 #[derive(Drop)]
-struct Guest<'a> {
+struct ActiveUser<'a> {
     session: Session<'a>,
     said: String,
     failed: bool,
 }
 
 // Begins a session for each pass.
-fn welcome(
+fn begin_sessions(
     alloc: Global,
     service: &Service,
     users: Vec<UserPass>,
-) -> Result<Vec<Guest<'_>>, AllocError> {
-    let mut guests = Vec::new(alloc);
+) -> Result<Vec<ActiveUser<'_>>, AllocError> {
+    let mut active_users = Vec::new(alloc);
     for pass in users {
-        guests.push(Guest {
+        active_users.push(ActiveUser {
             session: service.session(pass),
             said: String::new(alloc),
             failed: false,
         })?;
     }
-    Ok(guests)
+    Ok(active_users)
 }
 
-// Each guest acts in a thread of his own. Gives the guests back.
+// Each user acts in a thread of his own. Gives the users back.
 fn act_each<'a, R: Threads + Wait + Sync>(
     rt: &R,
-    mut guests: Vec<Guest<'a>>,
+    mut active_users: Vec<ActiveUser<'a>>,
     acts: &[Act],
-) -> Vec<Guest<'a>> {
+) -> Vec<ActiveUser<'a>> {
     thread::for_each_mut(
         rt,
-        guests.as_mut_slice(),
+        active_users.as_mut_slice(),
         16,
-        &|_, guest| {
-            if act_all(rt, &mut guest.session, acts, &mut guest.said).is_err() {
-                guest.failed = true;
+        &|_, active_user| {
+            if act_all(rt, &mut active_user.session, acts, &mut active_user.said).is_err() {
+                active_user.failed = true;
             }
         },
     );
-    guests
+    active_users
 }
 
 // What the workers came to, with their passes.
@@ -84,14 +84,14 @@ fn worked<R: Threads + Wait + Sync>(rt: &R, service: &Service, mut passes: Vec<W
     Shift { passes, ended }
 }
 
-// The guests begin while the workers work. Neither waits for the other, so that all is told alike where no thread can be
+// The users begin while the workers work. Neither waits for the other, so that all is told alike where no thread can be
 // started and the workers come last.
 fn meet<'a, R: Threads + Wait + Sync>(
     rt: &R,
     service: &Service,
     passes: Vec<WorkerPass>,
-    guests: Vec<Guest<'a>>,
-) -> (Shift, Vec<Guest<'a>>)
+    active_users: Vec<ActiveUser<'a>>,
+) -> (Shift, Vec<ActiveUser<'a>>)
     requires { AreItsPasses service.now.plan service.now.queue passes.items }
     ensures { AreItsPasses service.now.plan service.now.queue result.0.passes.items }
 {
@@ -101,21 +101,24 @@ fn meet<'a, R: Threads + Wait + Sync>(
             requires { AreItsPasses service.now.plan service.now.queue passes.items }
             ensures { AreItsPasses service.entry.now.plan service.entry.now.queue result.passes.items }
         { worked(rt, service, passes) },
-        move || act_each(rt, guests, &BEGINNING),
+        move || act_each(rt, active_users, &BEGINNING),
     )
 }
 
-// How many guests read 41 and nothing after it, whether one of them wanted memory, and their passes.
-fn part(alloc: Global, guests: Vec<Guest<'_>>) -> Result<(u8, bool, Vec<UserPass>), AllocError> {
+// How many users read 41 and nothing after it, whether one of them wanted memory, and their passes.
+fn part(
+    alloc: Global,
+    active_users: Vec<ActiveUser<'_>>,
+) -> Result<(u8, bool, Vec<UserPass>), AllocError> {
     let mut well = 0_u8;
     let mut wanted = false;
     let mut users = Vec::new(alloc);
-    for guest in guests {
-        let Guest {
+    for active_user in active_users {
+        let ActiveUser {
             session,
             said,
             failed,
-        } = guest;
+        } = active_user;
         wanted |= failed;
         if said.as_str() == " 41 none" {
             well = well.saturating_add(1);
@@ -151,11 +154,11 @@ fn met<R: Threads + Wait + Sync>(
         passes,
         operator,
     } = farm;
-    let guests = welcome(alloc, &service, users)?;
-    let (shift, guests) = meet(rt, &service, passes, guests);
+    let active_users = begin_sessions(alloc, &service, users)?;
+    let (shift, active_users) = meet(rt, &service, passes, active_users);
     let Shift { passes, ended } = shift;
-    let guests = act_each(rt, guests, &END);
-    let (well, wanted, users) = part(alloc, guests)?;
+    let active_users = act_each(rt, active_users, &END);
+    let (well, wanted, users) = part(alloc, active_users)?;
     let farm = Farm {
         service,
         passes,

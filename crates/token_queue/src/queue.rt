@@ -4,7 +4,7 @@ ghost use Rattle.std.specs.Prelude.{◌≡◌, ◌<◌, ◌≤◌, ◌+◌, ◌-
 ghost use Rattle.atomic_table.specs.Seated.{TableId};
 ghost use Rattle.crossbeam_queue.specs.Passes.{IsSamePass, IsPassOf, ruled_capacity};
 ghost use Rattle.token_queue.specs.Passes.{AreOf, AreItsPasses, HoldNone, absorbed, parts_of, outside_of};
-ghost use Rattle.token_queue.specs.Rules.{hand, hand_of, parted, weight};
+ghost use Rattle.token_queue.specs.Rules.{known_tokens, hand_of, parted, weight};
 ghost use Rattle.token_queue.specs.Tokens.{token, tokens_of, tokens_of_nodes, every_token, weigh, without, HasToken, AreTheOthers, HasEachOnce};
 
 use crate::rule::{GivesBack, Line, LinePass, OnePart, PutsAside, Takes};
@@ -62,7 +62,7 @@ fn put<R: Wait>(rt: &R, line: &Line, pass: &mut LinePass, token: Token)
     requires parts { 0 < (hand_of pass.old).parts }
     requires held { HasToken (hand_of pass.old).held token }
     ensures queue { IsSamePass pass.old pass.new }
-    ensures held { hand_of pass.new ≡ hand (hand_of pass.old).parts (without token (hand_of pass.old).held) (hand_of pass.old).outside }
+    ensures held { hand_of pass.new ≡ known_tokens (hand_of pass.old).parts (without token (hand_of pass.old).held) (hand_of pass.old).outside }
 {
     if line.push_as::<GivesBack, R>(rt, pass, token).is_err() {
         unreachable!()
@@ -97,7 +97,7 @@ fn nodes_of(plan: &AcceptedPlan, domain: u8) -> u8
 // Puts the tokens of a plan, in plan order.
 fn put_plan<R: Wait>(rt: &R, line: &Line, pass: &mut LinePass, plan: &AcceptedPlan)
     requires queue { IsPassOf line.now pass.old × (ruled_capacity line.now ≡ 128) }
-    requires all { hand_of pass.old ≡ hand 9 every_token [] }
+    requires all { hand_of pass.old ≡ known_tokens 9 every_token [] }
     ensures queue { IsSamePass pass.old pass.new }
     ensures parts { (hand_of pass.new).parts ≡ 9 }
     ensures outside { (hand_of pass.new).outside ≡ [] }
@@ -114,7 +114,7 @@ fn put_aside(line: &Line, mut whole: LinePass) -> LinePass
     requires queue { IsPassOf line.now whole }
     requires parts { 1 < (hand_of whole).parts }
     ensures queue { IsPassOf line.now result }
-    ensures hand { hand_of result ≡ hand (hand_of whole).parts [] ((hand_of whole).held ++ (hand_of whole).outside) }
+    ensures known_tokens { hand_of result ≡ known_tokens (hand_of whole).parts [] ((hand_of whole).held ++ (hand_of whole).outside) }
 {
     let mut pass = line.another::<PutsAside>(&mut whole);
     line.absorb::<OnePart>(&mut pass, whole);

@@ -6,7 +6,7 @@ use crossbeam_queue::{Pass, RuledArrayQueue};
 use std::collections::LinkedList;
 
 /// What a pass knows. It stands in contracts alone, and no value of it is made.
-pub struct Hand {
+pub struct KnownTokens {
     /// Its parts of the right to know the whole. All passes have nine together.
     pub parts: u64,
     /// The tokens that it holds.
@@ -19,28 +19,28 @@ pub struct Hand {
 /// all.
 pub struct OnceInAll;
 
-impl Protocol<Token, Hand> for OnceInAll {
+impl Protocol<Token, KnownTokens> for OnceInAll {
     ghost use Rattle.std.specs.Prelude.{[]};
-    ghost use Rattle.token_queue.specs.Rules.{hand, AreOnceInAll};
+    ghost use Rattle.token_queue.specs.Rules.{known_tokens, AreOnceInAll};
     ghost use Rattle.token_queue.specs.Tokens.{every_token};
 
     ghost holds = { AreOnceInAll };
 
-    ghost first = { hand 9 every_token [] };
+    ghost first = { known_tokens 9 every_token [] };
 }
 
 /// A pop puts the token into the view. One that finds none leaves the view, and who has all parts
 /// then knows that the queue is empty.
 pub struct Takes;
 
-impl Outcome<Token, Hand> for Takes {
+impl Outcome<Token, KnownTokens> for Takes {
     ghost use Rattle.std.specs.Prelude.{◌≡◌, ◌≤◌, ◌∷◌, length};
-    ghost use Rattle.token_queue.specs.Rules.{hand};
+    ghost use Rattle.token_queue.specs.Rules.{known_tokens};
 
-    ghost then = { λ v x w. (w ≡ hand v.parts (x ∷ v.held) v.outside) × (length w.held ≤ 128) };
+    ghost then = { λ v x w. (w ≡ known_tokens v.parts (x ∷ v.held) v.outside) × (length w.held ≤ 128) };
 }
 
-impl Lesson<Token, Hand> for Takes {
+impl Lesson<Token, KnownTokens> for Takes {
     ghost use Rattle.token_queue.specs.Rules.{KnowsAll};
 
     ghost fact = { KnowsAll };
@@ -49,15 +49,15 @@ impl Lesson<Token, Hand> for Takes {
 /// A push takes the token out of the view. Who holds a token knows that the queue has room.
 pub struct GivesBack;
 
-impl Outcome<Token, Hand> for GivesBack {
+impl Outcome<Token, KnownTokens> for GivesBack {
     ghost use Rattle.std.specs.Prelude.{◌≡◌};
-    ghost use Rattle.token_queue.specs.Rules.{hand};
+    ghost use Rattle.token_queue.specs.Rules.{known_tokens};
     ghost use Rattle.token_queue.specs.Tokens.{without};
 
-    ghost then = { λ v x w. w ≡ hand v.parts (without x v.held) v.outside };
+    ghost then = { λ v x w. w ≡ known_tokens v.parts (without x v.held) v.outside };
 }
 
-impl Lesson<Token, Hand> for GivesBack {
+impl Lesson<Token, KnownTokens> for GivesBack {
     ghost use Rattle.std.specs.Prelude.{◌<◌, length};
 
     ghost fact = { λ v items. 0 < length v.held → length items < 128 };
@@ -66,36 +66,36 @@ impl Lesson<Token, Hand> for GivesBack {
 /// A worker's pass, cut off and taken back.
 pub struct OnePart;
 
-impl Split<Hand> for OnePart {
+impl Split<KnownTokens> for OnePart {
     ghost use Rattle.std.specs.Prelude.{[], ◌-◌};
-    ghost use Rattle.token_queue.specs.Rules.{hand};
+    ghost use Rattle.token_queue.specs.Rules.{known_tokens};
 
-    ghost left = { λ v. hand (v.parts - 1) v.held v.outside };
+    ghost left = { λ v. known_tokens (v.parts - 1) v.held v.outside };
 
-    ghost right = { λ v. hand 1 [] [] };
+    ghost right = { λ v. known_tokens 1 [] [] };
 }
 
-impl Join<Hand> for OnePart {
+impl Join<KnownTokens> for OnePart {
     ghost use Rattle.std.specs.Prelude.{[], ◌+◌, ◌++◌};
-    ghost use Rattle.token_queue.specs.Rules.{hand};
+    ghost use Rattle.token_queue.specs.Rules.{known_tokens};
 
-    ghost both = { λ v w. hand (v.parts + w.parts) (v.held ++ w.held) (v.outside ++ w.outside) };
+    ghost both = { λ v w. known_tokens (v.parts + w.parts) (v.held ++ w.held) (v.outside ++ w.outside) };
 
-    ghost spent = { hand 0 [] [] };
+    ghost spent = { known_tokens 0 [] [] };
 }
 
 /// What the first pass still holds, once the plan's tokens are in the queue, is put aside.
 pub struct PutsAside;
 
-impl Split<Hand> for PutsAside {
+impl Split<KnownTokens> for PutsAside {
     ghost use Rattle.std.specs.Prelude.{[], ◌-◌, ◌++◌};
-    ghost use Rattle.token_queue.specs.Rules.{hand};
+    ghost use Rattle.token_queue.specs.Rules.{known_tokens};
 
-    ghost left = { λ v. hand (v.parts - 1) [] (v.held ++ v.outside) };
+    ghost left = { λ v. known_tokens (v.parts - 1) [] (v.held ++ v.outside) };
 
-    ghost right = { λ v. hand 1 [] [] };
+    ghost right = { λ v. known_tokens 1 [] [] };
 }
 
-pub type Line = RuledArrayQueue<Token, Hand, OnceInAll>;
+pub type Line = RuledArrayQueue<Token, KnownTokens, OnceInAll>;
 
-pub type LinePass = Pass<Token, Hand>;
+pub type LinePass = Pass<Token, KnownTokens>;

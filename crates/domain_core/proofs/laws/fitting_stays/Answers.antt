@@ -1,4 +1,4 @@
-use Rattle.domain_core.proofs.Told as told
+use Rattle.domain_core.proofs.AnswersInHistory as told
 use Rattle.domain_core.proofs.laws.fitting_stays.Goals as goal
 
 pub returns : goal.returns

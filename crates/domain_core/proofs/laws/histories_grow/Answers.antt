@@ -1,5 +1,5 @@
 use Rattle.domain_core.proofs.Histories.{longer}
-use Rattle.domain_core.proofs.Told.{next_is_an_answer}
+use Rattle.domain_core.proofs.AnswersInHistory.{next_is_an_answer}
 use Rattle.domain_core.proofs.laws.histories_grow.Goals as goal
 
 pub returns : goal.returns

@@ -3,7 +3,7 @@ use Rattle.domain_core.specs.declared.event.Refusal.TheVariants.{NoMemory}
 use Rattle.domain_core.specs.PrivateFarm.{Answer}
 use Rattle.farm_core.specs.Places.{places_of}
 use Rattle.farm_core.specs.Run.{calls_asked}
-use Rattle.farm_core.proofs.Told.{IsToldSoFar, told_nothing, told_next, but_for_memory}
+use Rattle.farm_core.proofs.AnswersOfRuns.{IsToldSoFar, told_nothing, told_next, but_for_memory}
 use Rattle.farm_core.proofs.calls.answers_to.Goals as goal
 
 pub loop-domain-init : goal.loop-domain-init

@@ -1,7 +1,7 @@
 use Rattle.std.proofs.Common.{drop}
 use Rattle.farm_core.specs.Places.{places_of}
 use Rattle.farm_core.specs.Run.{calls_asked}
-use Rattle.farm_core.proofs.Told.{IsToldSoFar}
+use Rattle.farm_core.proofs.AnswersOfRuns.{IsToldSoFar}
 use Rattle.farm_core.proofs.calls.answers_to.Given as goal
 
 abbrev pub invariant-loop-domain : goal.invariant-loop-domain

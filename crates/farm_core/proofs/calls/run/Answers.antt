@@ -5,7 +5,7 @@ use Rattle.farm_core.specs.Laws.{answers_among}
 use Rattle.farm_core.specs.Run.{calls_asked, NobodyElsewhere}
 use Rattle.farm_core.proofs.Separation.{numbered_domains_are_separate}
 use Rattle.farm_core.proofs.Runs.{each_is_told_privately}
-use Rattle.farm_core.proofs.Told.{one_answer_each, nobody_elsewhere}
+use Rattle.farm_core.proofs.AnswersOfRuns.{one_answer_each, nobody_elsewhere}
 use Rattle.farm_core.proofs.calls.run.Goals as goal
 
 pub returns-in-Ok-clause-private : goal.returns-in-Ok-clause-private

@@ -1,4 +1,4 @@
-use Rattle.farm_core.proofs.Making.{opening_is_made_of_openings, each_call_is_private, no_domain_no_change}
+use Rattle.farm_core.proofs.MadeOfDomains.{opening_is_made_of_openings, each_call_is_private, no_domain_no_change}
 use Rattle.farm_core.proofs.laws.each_call_is_private.Goals as goal
 
 pub returns-clause-opening : goal.returns-clause-opening

@@ -1,4 +1,4 @@
-use Rattle.farm_core.proofs.Making as making
+use Rattle.farm_core.proofs.MadeOfDomains as making
 use Rattle.farm_core.proofs.laws.each_output_is_of_its_domain.Goals as goal
 
 pub returns : goal.returns

@@ -1,4 +1,4 @@
-use Rattle.farm_core.proofs.Making as making
+use Rattle.farm_core.proofs.MadeOfDomains as making
 use Rattle.farm_core.proofs.laws.runs_add_up.Goals as goal
 
 pub returns : goal.returns

@@ -1,4 +1,4 @@
-use Rattle.link_channels.proofs.Work.{acts-serve_all, quiet-links}
+use Rattle.link_channels.proofs.LinksWithWork.{acts-serve_all, quiet-links}
 use Rattle.link_channels.proofs.laws.services_act_on_work.Goals as goal
 
 pub returns-clause-acts : goal.returns-clause-acts

@@ -1,6 +1,6 @@
 use Rattle.std.proofs.Common.{◌≡◌, false, sym}
 use Rattle.link_channels.specs.Links.{any_has_work}
-use Rattle.link_channels.proofs.Work.{quiet-links, has_acted-serve_all}
+use Rattle.link_channels.proofs.LinksWithWork.{quiet-links, has_acted-serve_all}
 use Rattle.link_channels.proofs.links.Links.serve_all.Goals as goal
 
 pub returns-then-not-self-clause-answer : goal.returns-then-not-self-clause-answer

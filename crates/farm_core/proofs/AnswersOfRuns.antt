@@ -17,7 +17,7 @@ use Rattle.farm_core.specs.Domains.{IsMadeOf}
 use Rattle.farm_core.specs.Laws.{caller_answers_from, caller_answers, answers_among}
 use Rattle.farm_core.specs.PlainFarm.{places_in, states_in, IsCallOfEachWhole}
 use Rattle.farm_core.specs.Run.{calls_asked, NobodyElsewhere}
-use Rattle.farm_core.proofs.Making.{no_domain_no_change}
+use Rattle.farm_core.proofs.MadeOfDomains.{no_domain_no_change}
 use Rattle.farm_core.proofs.Runs.{own-here, own-there, told_pairs, told_domains, told_answers, zip-parts}
 
 -- ---- call by call

@@ -16,11 +16,11 @@ use Rattle.farm_core.specs.Projection.{own_switch, driver_at, ready_at}
 use Rattle.farm_core.specs.Domains.{DrivesItself}
 
 -- what the order of numbers says of two that are equal, and of two that aren't
-tied : (q k : ℕ) → q ≡ k → eq_by_cmp nat_cmp q k ≡ true
-tied q k e = unsigned_tied q k ∙ eq-eqb q k e
+eq-by-cmp-of-equal : (q k : ℕ) → q ≡ k → eq_by_cmp nat_cmp q k ≡ true
+eq-by-cmp-of-equal q k e = unsigned_tied q k ∙ eq-eqb q k e
 
-untied : (q k : ℕ) → (q ≡ k → ⊥) → eq_by_cmp nat_cmp q k ≡ false
-untied q k ne = unsigned_tied q k ∙ ne_eqb q k ne
+eq-by-cmp-of-unequal : (q k : ℕ) → (q ≡ k → ⊥) → eq_by_cmp nat_cmp q k ≡ false
+eq-by-cmp-of-unequal q k ne = unsigned_tied q k ∙ ne_eqb q k ne
 
 -- the output has this driver and isn't ready, and all others are as before
 pub record SetsOutput (old new : Switch) (output : ℕ) (input : Option ℕ) : Type 0 where
@@ -84,32 +84,32 @@ own_switch_sets laws ports old new output port input one at h = record {
 }
   where
     drivers : (q : ℕ) (found : Option ℕ) → slice_get ports q ≡ found → driver_at ports new found ≡ cond (eq_by_cmp nat_cmp q output) (option_and_then (number_in ports) input) (driver_at ports old found)
-    drivers q None e = sym (cond-false _ _ _ (untied q output (λ is. none-some port (sym e ∙ ap (slice_get ports) is ∙ at))))
+    drivers q None e = sym (cond-false _ _ _ (eq-by-cmp-of-unequal q output (λ is. none-some port (sym e ∙ ap (slice_get ports) is ∙ at))))
     drivers q (Some p) e =
         elim (cases_eq q output) [
           | inl is ↦
               let same : p ≡ port = same_Some _ _ (sym e ∙ ap (slice_get ports) is ∙ at) in
-              ap (option_and_then (number_in ports)) (h.pairs p ∙ cond-true _ _ _ (tied p port same)) ∙ sym (cond-true _ _ _ (tied q output is))
+              ap (option_and_then (number_in ports)) (h.pairs p ∙ cond-true _ _ _ (eq-by-cmp-of-equal p port same)) ∙ sym (cond-true _ _ _ (eq-by-cmp-of-equal q output is))
           | inr ne ↦
-              ap (option_and_then (number_in ports)) (h.pairs p ∙ cond-false _ _ _ (untied p port (λ same. ne (one q output p e (at ∙ ap (λ (x : ℕ). Some x) (sym same))))))
-              ∙ sym (cond-false _ _ _ (untied q output ne))
+              ap (option_and_then (number_in ports)) (h.pairs p ∙ cond-false _ _ _ (eq-by-cmp-of-unequal p port (λ same. ne (one q output p e (at ∙ ap (λ (x : ℕ). Some x) (sym same))))))
+              ∙ sym (cond-false _ _ _ (eq-by-cmp-of-unequal q output ne))
         ]
 
     readies : (q : ℕ) (found : Option ℕ) → slice_get ports q ≡ found → ready_at new found ≡ (not (eq_by_cmp nat_cmp q output) && ready_at old found)
-    readies q None e = sym (ap (λ t. not t && false) (untied q output (λ is. none-some port (sym e ∙ ap (slice_get ports) is ∙ at))))
+    readies q None e = sym (ap (λ t. not t && false) (eq-by-cmp-of-unequal q output (λ is. none-some port (sym e ∙ ap (slice_get ports) is ∙ at))))
     readies q (Some p) e =
         elim (cases_eq q output) [
           | inl is ↦
               let same : p ≡ port = same_Some _ _ (sym e ∙ ap (slice_get ports) is ∙ at) in
-              h.ready p ∙ ap (λ t. not t && set.contains old.ready p) (tied p port same ∙ sym (tied q output is))
+              h.ready p ∙ ap (λ t. not t && set.contains old.ready p) (eq-by-cmp-of-equal p port same ∙ sym (eq-by-cmp-of-equal q output is))
           | inr ne ↦
-              h.ready p ∙ ap (λ t. not t && set.contains old.ready p) (untied p port (λ same. ne (one q output p e (at ∙ ap (λ (x : ℕ). Some x) (sym same)))) ∙ sym (untied q output ne))
+              h.ready p ∙ ap (λ t. not t && set.contains old.ready p) (eq-by-cmp-of-unequal p port (λ same. ne (one q output p e (at ∙ ap (λ (x : ℕ). Some x) (sym same)))) ∙ sym (eq-by-cmp-of-unequal q output ne))
         ]
 
 -- an output of no such port was set: they see nothing of it
 pub untouched : SwitchLaws → (ports : List ℕ) (old new : Switch) (port : ℕ) (input : Option ℕ) → ((v : ℕ) → slice_get ports v ≡ Some port → ⊥) → SetsOutput old new port input → own_switch ports new ≡ own_switch ports old
 untouched laws ports old new port input out h =
-    same_own_switch laws ports old new (λ v p at. h.pairs p ∙ cond-false _ _ _ (untied p port (other v p at))) (λ v p at. h.ready p ∙ ap (λ t. not t && set.contains old.ready p) (untied p port (other v p at)))
+    same_own_switch laws ports old new (λ v p at. h.pairs p ∙ cond-false _ _ _ (eq-by-cmp-of-unequal p port (other v p at))) (λ v p at. h.ready p ∙ ap (λ t. not t && set.contains old.ready p) (eq-by-cmp-of-unequal p port (other v p at)))
   where
     other : (v p : ℕ) → slice_get ports v ≡ Some p → p ≡ port → ⊥
     other v p at same = out v (at ∙ ap (λ (x : ℕ). Some x) same)
@@ -119,8 +119,8 @@ pub still_drives : (ports : List ℕ) (old new : Switch) (port : ℕ) (input : O
     → ((from : ℕ) → Contains ports port → input ≡ Some from → Contains ports from) → DrivesItself ports new
 still_drives ports old new port input own h own_input p from at is =
     elim (cases_eq p port) [
-      | inl same ↦ own_input from (subst (Contains ports) same at) (sym (h.pairs p ∙ cond-true _ _ _ (tied p port same)) ∙ is)
-      | inr ne ↦ own p from at (sym (h.pairs p ∙ cond-false _ _ _ (untied p port ne)) ∙ is)
+      | inl same ↦ own_input from (subst (Contains ports) same at) (sym (h.pairs p ∙ cond-true _ _ _ (eq-by-cmp-of-equal p port same)) ∙ is)
+      | inr ne ↦ own p from at (sym (h.pairs p ∙ cond-false _ _ _ (eq-by-cmp-of-unequal p port ne)) ∙ is)
     ]
 
 -- ---- all outputs of a domain
@@ -141,32 +141,32 @@ chosen false true false = refl
 chosen false false true = refl
 chosen false false false = refl
 
-masked : (a b : Bool) → (a && not b) ≡ cond b false a
-masked true true = refl
-masked true false = refl
-masked false true = refl
-masked false false = refl
+and-not-is-cond : (a b : Bool) → (a && not b) ≡ cond b false a
+and-not-is-cond true true = refl
+and-not-is-cond true false = refl
+and-not-is-cond false true = refl
+and-not-is-cond false false = refl
 
-hidden : {X : Type 0} (b : Bool) (x : Option X) → cond (not b) x None ≡ cond b None x
-hidden true x = refl
-hidden false x = refl
+cond-of-not : {X : Type 0} (b : Bool) (x : Option X) → cond (not b) x None ≡ cond b None x
+cond-of-not true x = refl
+cond-of-not false x = refl
 
-alike : (p : ℕ → Bool) (q x : ℕ) → nat_cmp q x ≡ Equal → p x ≡ p q
-alike p q x e = ap p (sym (map.nat_cmp-IsAntisymmetric q x e))
+same-at-equal : (p : ℕ → Bool) (q x : ℕ) → nat_cmp q x ≡ Equal → p x ≡ p q
+same-at-equal p q x e = ap p (sym (map.nat_cmp-IsAntisymmetric q x e))
 
 pub keys_of : (s : Switch) (q : ℕ) → set.contains (all_ready s).ready q ≡ is_some (map.get s.pairs q)
 keys_of s q = set.contains-from_list nat_cmp_total (map.keys s.pairs) q ∙ sym (map.contains_key-keys s.pairs q)
 
 pub contains-readied : (ports : List ℕ) (s : Switch) (p : ℕ) → set.contains (readied ports s).ready p ≡ cond (is_among ports p) (is_some (map.get s.pairs p)) (set.contains s.ready p)
 contains-readied ports s p =
-    let away = set.contains-retain s.ready (λ port. not (is_among ports port)) p (λ x e. alike (λ port. not (is_among ports port)) p x e) in
-    let kept = set.contains-retain (all_ready s).ready (is_among ports) p (λ x e. alike (is_among ports) p x e) in
+    let away = set.contains-retain s.ready (λ port. not (is_among ports port)) p (λ x e. same-at-equal (λ port. not (is_among ports port)) p x e) in
+    let kept = set.contains-retain (all_ready s).ready (is_among ports) p (λ x e. same-at-equal (is_among ports) p x e) in
     set.contains-union nat_cmp_total _ _ p ∙ (λ i. away i || kept i) ∙ ap (λ t. (set.contains s.ready p && not (is_among ports p)) || (t && is_among ports p)) (keys_of s p)
     ∙ chosen (set.contains s.ready p) (is_among ports p) (is_some (map.get s.pairs p))
 
 pub get-emptied : (ports : List ℕ) (s : Switch) (p : ℕ) → map.get (disconnected_ports ports s).pairs p ≡ cond (is_among ports p) None (map.get s.pairs p)
-get-emptied ports s p = map.get-retain_keys s.pairs (λ port. not (is_among ports port)) p (λ x e. alike (λ port. not (is_among ports port)) p x e) ∙ hidden (is_among ports p) _
+get-emptied ports s p = map.get-retain_keys s.pairs (λ port. not (is_among ports port)) p (λ x e. same-at-equal (λ port. not (is_among ports port)) p x e) ∙ cond-of-not (is_among ports p) _
 
 pub contains-emptied : (ports : List ℕ) (s : Switch) (p : ℕ) → set.contains (disconnected_ports ports s).ready p ≡ cond (is_among ports p) false (set.contains s.ready p)
 contains-emptied ports s p =
-    set.contains-retain s.ready (λ port. not (is_among ports port)) p (λ x e. alike (λ port. not (is_among ports port)) p x e) ∙ masked (set.contains s.ready p) (is_among ports p)
+    set.contains-retain s.ready (λ port. not (is_among ports port)) p (λ x e. same-at-equal (λ port. not (is_among ports port)) p x e) ∙ and-not-is-cond (set.contains s.ready p) (is_among ports p)

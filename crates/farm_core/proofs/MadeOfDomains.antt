@@ -19,7 +19,7 @@ use Rattle.farm_core.specs.Whole.{Farm, next_in, whole_next, whole_after, whole_
 use Rattle.farm_core.specs.Projection.{own_switch, driver_at, ready_at, projected, lowered_for}
 use Rattle.farm_core.specs.Domains.{DrivesItself, EachDrivesItself, IsFree, Output, output_of, disconnected_output, OpeningIsMadeOfOpenings, EachCallIsPrivate, NoDomainNoChange, EachOutputIsOfItsDomain}
 use Rattle.farm_core.specs.Laws.{RunsAddUp}
-use Rattle.farm_core.proofs.Setting.{contains_at, at_contained, get-own_switch, contains-own_switch}
+use Rattle.farm_core.proofs.OneOutputSet.{contains_at, at_contained, get-own_switch, contains-own_switch}
 use Rattle.farm_core.proofs.Messages.{port_at}
 use Rattle.farm_core.proofs.Steps.{StepsAlone, steps_alone, other_stays, still_each_drives}
 use Rattle.farm_core.proofs.Runs.{opening_drives, opens_alone}
