@@ -4,8 +4,8 @@ use crate::failure::Failure;
 use script_text::{Answered, owned, split_expected, split_line};
 use std::alloc::Global;
 use t414_assembly::{
-    BOOTED, LOADED, MOST_CODE, assemble, bytes_of_digits, code_as_text, hexadecimal, listing, loader,
-    pokes,
+    BOOTED, LOADED, MOST_CODE, assemble, bytes_of_digits, code_as_text, hexadecimal, listing,
+    loader, pokes,
 };
 
 /// How assembled code is printed.
@@ -21,7 +21,11 @@ pub struct Wanted<'a> {
 ///
 /// `Length` if a boot can't take the code and neither a listing nor a script is asked for.
 pub fn assembled(alloc: Global, wanted: &Wanted, text: &[u8]) -> Result<String, Failure> {
-    let origin = if wanted.pokes.is_some() { LOADED } else { BOOTED };
+    let origin = if wanted.pokes.is_some() {
+        LOADED
+    } else {
+        BOOTED
+    };
     let made = assemble(alloc, origin, text)?;
     let code = made.image.bytes.as_slice();
     if wanted.listing {

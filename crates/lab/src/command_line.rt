@@ -66,7 +66,7 @@ fn command<'a>(alloc: Global) -> Result<Command<'a>, AllocError> {
     let files = Arg::new(alloc, "file")
         .value_name("FILE")
         .help(
-            "Files of rows: plans if the name ends with .plans, for replay if it ends with .replay, and else for trace",
+            "Files of rows: plans if the name ends with .plans, programs if it ends with .assembly, for replay if it ends with .replay, and else for trace",
         )
         .required(true)
         .num_args(1..)
@@ -74,8 +74,9 @@ fn command<'a>(alloc: Global) -> Result<Command<'a>, AllocError> {
     let rows = Command::new(alloc, "rows")
         .about("Compares the answers of worked rows with those that their files expect")
         .arg(files)?;
-    let disassemble = Command::new(alloc, "disassemble")
-        .about("Prints code as text: reads hexadecimal digits, and prints an instruction a line");
+    let disassemble = Command::new(alloc, "disassemble").about(
+        "Prints code as text: reads hexadecimal digits, and prints an instruction a line",
+    );
     Command::new(alloc, "lab")
         .about("A laboratory for the farm of T414 processors")
         .subcommand_required(true)
@@ -98,7 +99,9 @@ fn assemble<'a>(alloc: Global) -> Result<Command<'a>, AllocError> {
         .num_args(2)
         .action(ArgAction::Append);
     Command::new(alloc, "assemble")
-        .about("Prints a program as code in hexadecimal digits: reads its text, an instruction a line")
+        .about(
+            "Prints a program as code in hexadecimal digits: reads its text, an instruction a line",
+        )
         .arg(listing)?
         .arg(pokes)
 }

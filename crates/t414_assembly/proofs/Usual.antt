@@ -37,10 +37,10 @@ pub positive_of : (operand : ℕ) → 16 ≤ operand → operand < 2 ^ 31 → pr
 unfolding prefixes_of
 positive_of operand ge lt =
     sym (ap (λ t. cond t [] (cond (nat_lt operand (2 ^ 31)) (prefix_bytes 7 (operand / 16) false) (prefix_bytes 7 ((2 ^ 32 - 1 - operand) / 16) true))) (less_false operand 16 ge)
-      ∙ ap (λ t. cond t (prefix_bytes 7 (operand / 16) false) (prefix_bytes 7 ((2 ^ 32 - 1 - operand) / 16) true)) (less_true operand (2 ^ 31) lt))
+    ∙ ap (λ t. cond t (prefix_bytes 7 (operand / 16) false) (prefix_bytes 7 ((2 ^ 32 - 1 - operand) / 16) true)) (less_true operand (2 ^ 31) lt))
 
 pub negative_of : (operand : ℕ) → 2 ^ 31 ≤ operand → prefix_bytes 7 ((2 ^ 32 - 1 - operand) / 16) true ≡ prefixes_of operand
 unfolding prefixes_of
 negative_of operand ge =
     sym (ap (λ t. cond t [] (cond (nat_lt operand (2 ^ 31)) (prefix_bytes 7 (operand / 16) false) (prefix_bytes 7 ((2 ^ 32 - 1 - operand) / 16) true))) (less_false operand 16 (omega arith))
-      ∙ ap (λ t. cond t (prefix_bytes 7 (operand / 16) false) (prefix_bytes 7 ((2 ^ 32 - 1 - operand) / 16) true)) (less_false operand (2 ^ 31) ge))
+    ∙ ap (λ t. cond t (prefix_bytes 7 (operand / 16) false) (prefix_bytes 7 ((2 ^ 32 - 1 - operand) / 16) true)) (less_false operand (2 ^ 31) ge))

@@ -4,7 +4,9 @@ use crate::codes::is_prefix;
 use crate::fault::Expected;
 use crate::mnemonics::{function_named, operation_named};
 use crate::statement::{Operand, Statement};
-use crate::token::{Read, Wrong, after_blanks, character_of, is_at_end, name_of, number_of, refuse};
+use crate::token::{
+    Read, Wrong, after_blanks, character_of, is_at_end, name_of, number_of, refuse,
+};
 use crate::writing::MOST_CODE;
 use std::alloc::{AllocError, AllocFailed, Global};
 use t414_decode::Function;
@@ -155,7 +157,11 @@ impl<'a> Reader<'a> {
         Ok(())
     }
 
-    fn read_instruction<'b>(&mut self, function: Function, text: &'b [u8]) -> Result<&'b [u8], Stop> {
+    fn read_instruction<'b>(
+        &mut self,
+        function: Function,
+        text: &'b [u8],
+    ) -> Result<&'b [u8], Stop> {
         let (operand, rest) = if is_prefix(function) {
             nibble_of(text)?
         } else {

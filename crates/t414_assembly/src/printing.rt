@@ -74,7 +74,11 @@ fn list_line(
     }
     listed.push_str("\n")?;
     let mut address = address;
-    for row in bytes.get(BYTES_A_LINE..).unwrap_or(&[]).chunks(BYTES_A_LINE) {
+    for row in bytes
+        .get(BYTES_A_LINE..)
+        .unwrap_or(&[])
+        .chunks(BYTES_A_LINE)
+    {
         address = address.saturating_add(BYTES_A_LINE as u64);
         write!(listed, "{address:08x}  ")?;
         list_bytes(listed, row)?;

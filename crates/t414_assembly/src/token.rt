@@ -24,10 +24,7 @@ pub fn refuse<'a, T>(expected: Expected, text: &'a [u8]) -> Read<'a, T> {
 
 /// A text without the blanks and tabs before it.
 pub fn after_blanks(text: &[u8]) -> &[u8] {
-    match text
-        .iter()
-        .position(|byte| !matches!(*byte, b' ' | b'\t'))
-    {
+    match text.iter().position(|byte| !matches!(*byte, b' ' | b'\t')) {
         Some(start) => &text[start..],
         None => &[],
     }
@@ -52,9 +49,7 @@ fn name_length(text: &[u8]) -> usize
     ensures { result ≤ length text.now }
 {
     text.iter()
-        .position(
-            |byte| !matches!(*byte, b'a'..=b'z' | b'A'..=b'Z' | b'0'..=b'9' | b'_' | b'.'),
-        )
+        .position(|byte| !matches!(*byte, b'a'..=b'z' | b'A'..=b'Z' | b'0'..=b'9' | b'_' | b'.'))
         .unwrap_or(text.len())
 }
 
@@ -79,7 +74,14 @@ fn decimal_of(text: &[u8], negative: bool) -> Read<'_, i64> {
     if digits.is_empty() || value > most {
         return refuse(Expected::Number, text);
     }
-    Ok((if negative { value.saturating_neg() } else { value }, rest))
+    Ok((
+        if negative {
+            value.saturating_neg()
+        } else {
+            value
+        },
+        rest,
+    ))
 }
 
 fn digits_length(text: &[u8]) -> usize
@@ -164,7 +166,9 @@ fn code_of(text: &[u8]) -> Read<'_, u8> {
     };
     match after.split_first() {
         Some((low, rest)) if high.is_ascii_hexdigit() && low.is_ascii_hexdigit() => {
-            let value = digit_value(*high).saturating_mul(16).saturating_add(digit_value(*low));
+            let value = digit_value(*high)
+                .saturating_mul(16)
+                .saturating_add(digit_value(*low));
             Ok((u8::try_from(value).unwrap_or(0), rest))
         }
         _ => refuse(Expected::Character, text),

@@ -30,7 +30,8 @@ returns-clause-usual t c = λ most small some.
     let byte : c.byte_of.result ≡ byte_with (prefix_of c.args.negative) c.args.value = c.byte_of.ensures.byte ∙ ap (λ f. nibble_of f * 16 + c.args.value % 16) function in
     c.push.ensures
     ∙ more_prefixes most c.args.value c.byte_of.result c.args.negative (spelled c.if-value-lt16.spelling) small some
-        (elim c.if-value-lt16.branch [
-            then-value-lt16 w ↦ inl (w.if-value-lt16.true, ap spelled w.spelling-is ∙ w.empty-spelling.ensures)
-          | else-value-lt16 w ↦ inr (w.if-value-lt16.false, λ m less more. ap spelled w.spelling-is ∙ w.prefixes-spelling.ensures.usual m less more) ])
-        byte
+    (elim c.if-value-lt16.branch [
+      | then-value-lt16 w ↦ inl (w.if-value-lt16.true, ap spelled w.spelling-is ∙ w.empty-spelling.ensures)
+      | else-value-lt16 w ↦ inr (w.if-value-lt16.false, λ m less more. ap spelled w.spelling-is ∙ w.prefixes-spelling.ensures.usual m less more)
+    ])
+    byte
