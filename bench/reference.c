@@ -60,6 +60,40 @@ static inline void push(Cpu *s, uint32_t value) { s->c = s->b; s->b = s->a; s->a
 static inline void binary(Cpu *s, uint32_t value) { s->a = value; s->b = s->c; }
 static inline void drop(Cpu *s) { s->a = s->b; s->b = s->c; }
 
+// the two ends of the memory that the links and the event channel have
+#define FIRST_SOFT 0x80000024u
+
+// a process waits at a soft channel
+static int wait_there(Cpu *s, uint32_t channel, uint32_t pointer) {
+    if (store(channel, s->workspace | 1) || store(s->workspace - 12, pointer)) return 1;
+    if (store(s->workspace - 4, s->instruction)) return 1;
+    s->running = 0;
+    return 0;
+}
+
+static int copy_up(uint32_t from, uint32_t to, uint32_t count) {
+    for (uint32_t i = 0; i < count; i++) {
+        uint8_t *source = byte_at(from + i), *target = byte_at(to + i);
+        if (!source || !target) return 1;
+        *target = *source;
+    }
+    return 0;
+}
+
+// a message of a soft channel; there are no alternatives, and processes of high priority are faults
+static int meet(Cpu *s, int gives, uint32_t channel, uint32_t pointer, uint32_t count) {
+    uint32_t other, there;
+    if (channel - NOT_PROCESS < FIRST_SOFT - NOT_PROCESS) return 5;
+    if (load(channel, &other)) return 1;
+    if (other == NOT_PROCESS) return wait_there(s, channel, pointer);
+    if (!(other & 1)) return 4;
+    other &= ~3u;
+    if (load(other - 12, &there)) return 1;
+    if (copy_up(gives ? pointer : there, gives ? there : pointer, count)) return 1;
+    if (store(channel, NOT_PROCESS)) return 1;
+    return put(s, other);
+}
+
 static int operate(Cpu *s, uint32_t code) {
     uint8_t *byte;
     uint32_t word;
@@ -69,6 +103,10 @@ static int operate(Cpu *s, uint32_t code) {
         s->a = *byte;
         return 0;
     case 0x02: binary(s, s->a + s->b); return 0;
+    case 0x07: return meet(s, 0, s->b, s->c, s->a);
+    case 0x09: binary(s, (int32_t)s->b > (int32_t)s->a); return 0;
+    case 0x0d: return store(s->a - 4, s->instruction + s->b) || put(s, s->a & ~3u);
+    case 0x0f: return store(s->workspace, s->a) || meet(s, 1, s->b, s->workspace, 4);
     case 0x21:
         if (load(s->b + 4, &word) || store(s->b + 4, word - 1)) return 1;
         if ((int32_t)word <= 1) return 0;
@@ -81,6 +119,7 @@ static int operate(Cpu *s, uint32_t code) {
         *byte = (uint8_t)s->b;
         s->a = s->c;
         return 0;
+    case 0x42: push(s, NOT_PROCESS); return 0;
     case 0x46: binary(s, s->b & s->a); return 0;
     default: return 2;
     }
@@ -113,6 +152,7 @@ static int do_byte(Cpu *s) {
         if (s->a == 0) s->instruction += k;
         else drop(s);
         return 0;
+    case 0xc: s->a = s->a == k; return 0;
     case 0xd:
         if (store(s->workspace + 4 * k, s->a)) return 1;
         drop(s);
@@ -144,6 +184,12 @@ static const uint8_t MEMORY[] = {0x23, 0x10, 0xd0, 0x40, 0x70, 0x23, 0xfb, 0x70,
 static const uint8_t LEND[] = {0x40, 0xd2, 0x27, 0x2f, 0x2f, 0x2f, 0x2f, 0x2f, 0x2f, 0x4f, 0xd3, 0x71, 0x81, 0xd1,
     0x12, 0x47, 0x22, 0xf1};
 
+static const uint8_t CHANNEL[] = {0x24, 0xf2, 0xd5, 0x48, 0x24, 0x10, 0xfd, 0x71, 0x81, 0xd1, 0x15, 0x71, 0xff,
+    0x60, 0x08, 0x11, 0x63, 0x15, 0x44, 0xf7, 0x60, 0x09};
+static const uint8_t SIEVE[] = {0x28, 0x10, 0xd3, 0x40, 0xd1, 0x42, 0xd0, 0x70, 0x70, 0xf2, 0xd2, 0x41, 0x73, 0x72,
+    0xf2, 0x23, 0xfb, 0x72, 0x70, 0xf2, 0xd2, 0x24, 0x20, 0x40, 0x72, 0xf9, 0xc0, 0x61, 0xae, 0x70, 0x81, 0xd0, 0x22,
+    0x40, 0x70, 0xf9, 0xc0, 0x61, 0xa0, 0x71, 0x81, 0xd1, 0x62, 0x09};
+
 static void run(const char *name, const uint8_t *code, size_t length, uint32_t count) {
     size = 4096;
     memory = calloc(1, size);
@@ -163,5 +209,7 @@ int main(int argc, char **argv) {
     if (!only || !strcmp(only, "arithmetic")) run("arithmetic", ARITHMETIC, sizeof ARITHMETIC, count);
     if (!only || !strcmp(only, "memory")) run("memory", MEMORY, sizeof MEMORY, count);
     if (!only || !strcmp(only, "lend")) run("lend", LEND, sizeof LEND, count);
+    if (!only || !strcmp(only, "channel")) run("channel", CHANNEL, sizeof CHANNEL, count);
+    if (!only || !strcmp(only, "sieve")) run("sieve", SIEVE, sizeof SIEVE, count);
     return 0;
 }

@@ -15,13 +15,12 @@ ghost use Rattle.std.specs.Prelude.{◌≡◌, ◌≤◌, IfOk};
 ghost use Rattle.farm_service.specs.Services.{IsItsOperator};
 ghost use Rattle.token_queue.specs.Passes.{AreOf, AreItsPasses, HoldNone};
 
-mod plans;
 mod users;
 
-use crate::plans::{Size, plan_of};
 use crate::users::{Guest, boot, send_each};
 use domain_core::{Committed, Refusal};
 use farm_service::{Gate, Opened, Service, Token, UserPass, WorkerPass, work};
+use sample_plans::{Size, sized_plan};
 use std::alloc::{AllocError, Global};
 use std::sync::Wait;
 use std::sync::atomic::{AtomicU64, Ordering};
@@ -31,6 +30,9 @@ use switch_table::OperatorSeat;
 
 /// A turn's Steps.
 const QUANTUM: u64 = 256;
+
+/// The most events of a journal.
+const MOST_EVENTS: u64 = 1 << 40;
 
 // Counts the turns whose node came home.
 #[derive(Drop)]
@@ -54,7 +56,7 @@ fn opened<R: Wait>(rt: &R, alloc: Global, size: Size, workers: u8) -> Result<Ope
     ensures passes { IfOk result (λ o. AreItsPasses o.service.plan o.service.queue o.passes.items) }
     ensures operator { IfOk result (λ o. IsItsOperator o.service o.operator) }
 {
-    let Ok(plan) = plan_of(alloc, size) else {
+    let Ok(plan) = sized_plan(alloc, size) else {
         return Err(AllocError);
     };
     Service::open(rt, alloc, plan, workers).map_err(|_| AllocError)
@@ -166,6 +168,7 @@ fn surveys<R: Threads + Wait + Sync>(rt: &R, alloc: Global, count: u64) -> Resul
         domains: 1,
         nodes: 1,
         users: 1,
+        limit: MOST_EVENTS,
     };
     let Opened {
         service,
@@ -213,6 +216,7 @@ fn main(rt: HostRuntime) -> io::Result<()> {
                 domains,
                 nodes: 1,
                 users,
+                limit: MOST_EVENTS,
             };
             let done = commands(&rt, alloc, size, count).map_err(failed)?;
             println!(rt; "{name}: {done}")?;
@@ -226,6 +230,7 @@ fn main(rt: HostRuntime) -> io::Result<()> {
                     domains,
                     nodes: each,
                     users: 1,
+                    limit: MOST_EVENTS,
                 };
                 let done = turns(&rt, alloc, size, number, count).map_err(failed)?;
                 match wanted {

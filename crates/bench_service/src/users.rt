@@ -1,8 +1,8 @@
 //! Users who send configuration bytes and boot nodes.
 
-use crate::plans::Size;
 use domain_core::Refusal;
 use farm_service::Session;
+use sample_plans::Size;
 use std::sync::Wait;
 use std::thread;
 use std::thread::Threads;

@@ -1,5 +1,6 @@
 //! Steps the processor through loops of instruction bytes, so that their rates can be measured: `COUNT [LOOP]`, where
-//! LOOP is `arithmetic`, `memory` or `lend`; without it all three run. Links are served before each byte.
+//! LOOP is `arithmetic`, `memory`, `lend`, `channel` or `sieve`; without it all five run. Links are served before each
+//! byte.
 #![tactic(auto)]
 
 use link_channels::Links;
@@ -36,6 +37,33 @@ static LEND: [u8; 18] = [
     0x27, 0x2f, 0x2f, 0x2f, 0x2f, 0x2f, 0x2f, 0x4f, 0xd3, // ldc 7FFFFFFF; stl 3
     0x71, 0x81, 0xd1, // ldl 1; adc 1; stl 1
     0x12, 0x47, 0x22, 0xf1, // ldlp 2; ldc 7; lend back to ldl 1
+];
+
+/// Two processes: the one counts and sends each number as a word through a soft channel, and the other takes it.
+static CHANNEL: [u8; 22] = [
+    0x24, 0xf2, 0xd5, // mint; stl 5, the channel
+    0x48, 0x24, 0x10, 0xfd, // ldc 8; ldlp 64; startp
+    0x71, 0x81, 0xd1, // ldl 1; adc 1; stl 1
+    0x15, 0x71, 0xff, // ldlp 5; ldl 1; outword
+    0x60, 0x08, // j to ldl 1
+    0x11, 0x63, 0x15, 0x44, 0xf7, // ldlp 1; ldlp -59; ldc 4; in
+    0x60, 0x09, // j to ldlp 1
+];
+
+/// Marks the multiples of 2 to 31 in 1,024 bytes, again and again.
+static SIEVE: [u8; 44] = [
+    0x28, 0x10, 0xd3, 0x40, 0xd1, // ldlp 128; stl 3; ldc 0; stl 1
+    0x42, 0xd0, // ldc 2; stl 0
+    0x70, 0x70, 0xf2, 0xd2, // ldl 0; ldl 0; bsub; stl 2
+    0x41, 0x73, 0x72, 0xf2, 0x23, 0xfb, // ldc 1; ldl 3; ldl 2; bsub; sb
+    0x72, 0x70, 0xf2, 0xd2, // ldl 2; ldl 0; bsub; stl 2
+    0x24, 0x20, 0x40, 0x72, 0xf9, 0xc0, // ldc 1024; ldl 2; gt; eqc 0
+    0x61, 0xae, // cj to ldc 1
+    0x70, 0x81, 0xd0, // ldl 0; adc 1; stl 0
+    0x22, 0x40, 0x70, 0xf9, 0xc0, // ldc 32; ldl 0; gt; eqc 0
+    0x61, 0xa0, // cj to ldl 0
+    0x71, 0x81, 0xd1, // ldl 1; adc 1; stl 1
+    0x62, 0x09, // j to ldc 2
 ];
 
 // The registers before the first byte of a loop.
@@ -75,30 +103,40 @@ fn burst(cpu: &mut Cpu, memory: &mut Memory, links: &mut Links, limit: u32) -> u
     limit
 }
 
+// Runs a loop for so many steps, and prints what came of it.
+fn run(rt: &HostRuntime, name: &str, code: &[u8], count: u32) -> io::Result<()> {
+    let mut memory = Memory::new(rt.alloc(), 4096)?;
+    if place(&mut memory, code).is_err() {
+        return Ok(());
+    }
+    let mut cpu = opened();
+    let mut links = Links::new();
+    let done = burst(&mut cpu, &mut memory, &mut links, count);
+    let word = memory.word(0x8000_0204).unwrap_or(0);
+    println!(rt; "{name}: {done} bytes, word {word}")
+}
+
 fn main(rt: HostRuntime) -> io::Result<()> {
     let words: Vec<String> = env::args(&rt)?.collect(rt.alloc())?;
     let count = words
         .get(1)
         .and_then(|word| word.parse::<u32>().ok())
         .unwrap_or(1000);
-    let loops: [(&str, &[u8]); 3] = [
-        ("arithmetic", &ARITHMETIC),
-        ("memory", &MEMORY),
-        ("lend", &LEND),
-    ];
-    for (name, code) in loops {
-        if words.get(2).is_some_and(|word| word.as_str() != name) {
-            continue;
-        }
-        let mut memory = Memory::new(rt.alloc(), 4096)?;
-        if place(&mut memory, code).is_err() {
-            continue;
-        }
-        let mut cpu = opened();
-        let mut links = Links::new();
-        let done = burst(&mut cpu, &mut memory, &mut links, count);
-        let word = memory.word(0x8000_0204).unwrap_or(0);
-        println!(rt; "{name}: {done} bytes, word {word}")?;
+    let runs = |name: &str| words.get(2).is_none_or(|word| word.as_str() == name);
+    if runs("arithmetic") {
+        run(&rt, "arithmetic", &ARITHMETIC, count)?;
+    }
+    if runs("memory") {
+        run(&rt, "memory", &MEMORY, count)?;
+    }
+    if runs("lend") {
+        run(&rt, "lend", &LEND, count)?;
+    }
+    if runs("channel") {
+        run(&rt, "channel", &CHANNEL, count)?;
+    }
+    if runs("sieve") {
+        run(&rt, "sieve", &SIEVE, count)?;
     }
     Ok(())
 }

@@ -40,8 +40,7 @@ fn load<O: Outputs>(outputs: &mut O, output: u8) -> u64 {
 fn wire<O: Outputs>(outputs: &mut O, input: u8, output: u8) {
     let count = outputs.count();
     if input < count && output < count {
-        let port = outputs.physical(input);
-        connect(outputs, port, output);
+        connect(outputs, input, output);
     }
 }
 

@@ -6,7 +6,7 @@ use Rattle.process_queue.specs.Queue.{after_take}
 use Rattle.link_channels.specs.declared.link.FourLinks.{FourLinks}
 use Rattle.link_channels.specs.declared.number.LinkNumber.{LinkNumber}
 use Rattle.link_channels.specs.Links.{at, any_has_work}
-use Rattle.link_channels.proofs.Work.{quiet-links}
+use Rattle.link_channels.specs.Laws.{ServiceLeavesTheRest}
 use Rattle.t414_step.specs.declared.cpu.Cpu.{Cpu}
 use Rattle.t414_step.specs.declared.stepping.Stepped.{Stepped}
 use Rattle.t414_step.specs.declared.stepping.Stepped.TheVariants as code
@@ -14,7 +14,7 @@ use Rattle.t414_step.specs.Answers.{is_idle, tells_idle}
 use Rattle.t414_step.specs.Registers.{has_nothing_to_do}
 use Rattle.t414_step.specs.Step.{Broke, Idle, Ran}
 use Rattle.t414_step.specs.Step.{step, StepAnswer}
-use Rattle.t414_step.proofs.Idle.{tells_idle-step}
+use Rattle.t414_step.specs.Laws.{IdleWhereItRests}
 use Rattle.bootstrap.specs.Step.{node_step, step_by_state, ran, fed, controlled, offered, answer_continued, has_halted, is_step_recorded, is_quiet}
 use Rattle.bootstrap.specs.declared.node.Node.{Node}
 use Rattle.bootstrap.specs.declared.state.State.{State}
@@ -42,20 +42,20 @@ is_idle-ran (Idle s ls m) = refl
 is_idle-ran (Broke fault ls m) = refl
 
 -- a node that runs is quiet exactly where nothing waits for it
-pub quiet-runs : (n : Node) (s : Cpu) → n.state ≡ Runs s → is_quiet n ≡ has_nothing_to_do s n.links
+pub quiet-runs : IdleWhereItRests → (n : Node) (s : Cpu) → n.state ≡ Runs s → is_quiet n ≡ has_nothing_to_do s n.links
 unfolding node_step
-quiet-runs n s e =
-    rw e (not-not (is_idle (ran (step s n.links n.memory)).1) ∙ (is_idle-ran (step s n.links n.memory) ∙ tells_idle-step s n.links n.memory))
+quiet-runs idle n s e =
+    rw e (not-not (is_idle (ran (step s n.links n.memory)).1) ∙ (is_idle-ran (step s n.links n.memory) ∙ idle s n.links n.memory))
 
 -- a processor with nothing to do stays as it is
-idle-step : (s : Cpu) (ls : FourLinks) (m : List ℕ) → s.running ≡ false → (s.queue.front == not_process) ≡ true → any_has_work ls ≡ false → step s ls m ≡ Idle s ls m
+idle-step : ServiceLeavesTheRest → (s : Cpu) (ls : FourLinks) (m : List ℕ) → s.running ≡ false → (s.queue.front == not_process) ≡ true → any_has_work ls ≡ false → step s ls m ≡ Idle s ls m
 unfolding step after_take
-idle-step s ls m r f w = rw (quiet-links ls s.queue m w, r, f) refl
+idle-step rests s ls m r f w = rw (rests ls s.queue m w, r, f) refl
 
-pub resting-step : (s : Cpu) (ls : FourLinks) (m : List ℕ) → has_nothing_to_do s ls ≡ true → step s ls m ≡ Idle s ls m
-resting-step s ls m e =
+pub resting-step : ServiceLeavesTheRest → (s : Cpu) (ls : FourLinks) (m : List ℕ) → has_nothing_to_do s ls ≡ true → step s ls m ≡ Idle s ls m
+resting-step rests s ls m e =
     let none : (not s.running && (s.queue.front == not_process)) ≡ true = and-left (not s.running && (s.queue.front == not_process)) (not (any_has_work ls)) e in
-    idle-step s ls m
+    idle-step rests s ls m
     (not-true s.running (and-left (not s.running) (s.queue.front == not_process) none))
     (and-right (not s.running) (s.queue.front == not_process) none)
     (not-true (any_has_work ls) (and-right (not s.running && (s.queue.front == not_process)) (not (any_has_work ls)) e))
@@ -80,21 +80,21 @@ if-busy false x y e f = f
 abbrev node-of : List ℕ → FourLinks → State → Node
 node-of m ls st = record { memory = m; links = ls; state = st }
 
-unchanged : (st : State) (ls : FourLinks) (m : List ℕ) → is_quiet (node-of m ls st) ≡ true → (node_step (node-of m ls st)).0 ≡ node-of m ls st
+unchanged : IdleWhereItRests → ServiceLeavesTheRest → (st : State) (ls : FourLinks) (m : List ℕ) → is_quiet (node-of m ls st) ≡ true → (node_step (node-of m ls st)).0 ≡ node-of m ls st
 unfolding node_step
-unchanged WantsControl ls m q =
+unchanged idle rests WantsControl ls m q =
     controlled-idle (offered ls) (node-of m ls WantsControl) (sym (not-not (is_idle (controlled (offered ls) (node-of m ls WantsControl)).1)) ∙ q)
-unchanged (Takes link task) ls m q =
+unchanged idle rests (Takes link task) ls m q =
     fed-idle (at link ls).end.input.buffer _ (node-of m ls (Takes link task)) (sym (not-not (is_idle (step_by_state (Takes link task) (node-of m ls (Takes link task))).1)) ∙ q)
-unchanged (Answers link left word) ls m q =
+unchanged idle rests (Answers link left word) ls m q =
     if-idle (not (at link ls).end.output.acknowledged) (node-of m ls (Answers link left word)) _ (if-busy (left == 0) _ _ refl refl) (sym (not-not (is_idle (answer_continued link left word (node-of m ls (Answers link left word))).1)) ∙ q)
-unchanged (Runs s) ls m q =
-    rw (resting-step s ls m (sym (quiet-runs (node-of m ls (Runs s)) s refl) ∙ q)) refl
-unchanged (Halted fault) ls m q = refl
+unchanged idle rests (Runs s) ls m q =
+    rw (resting-step rests s ls m (sym (quiet-runs idle (node-of m ls (Runs s)) s refl) ∙ q)) refl
+unchanged idle rests (Halted fault) ls m q = refl
 
 -- a Step that would not be recorded changes nothing
-pub quiet-step : (n : Node) → is_quiet n ≡ true → (node_step n).0 ≡ n
-quiet-step n q = unchanged n.state n.links n.memory q
+pub quiet-step : IdleWhereItRests → ServiceLeavesTheRest → (n : Node) → is_quiet n ≡ true → (node_step n).0 ≡ n
+quiet-step idle rests n q = unchanged idle rests n.state n.links n.memory q
 
 ran-faults : (a : StepAnswer) (fault : Fault) → (ran a).1 ≡ code.Fault fault → (ran a).0.state ≡ Halted fault
 ran-faults (Ran s ls m) fault e = cc

@@ -2,10 +2,12 @@
 use Rattle.std.proofs.Common.{◌≡◌, ℕ, zero, suc, ◌+◌, ◌-◌, ◌<◌, ◌≤◌, Bool, true, false, not, List, Option, Some, None, refl, ◌∙◌, ap, sym, subst, arith}
 use Rattle.node_memory.specs.declared.fault.Fault.{Fault}
 use Rattle.link_channels.specs.declared.link.FourLinks.{FourLinks}
+use Rattle.link_channels.specs.Laws.{ServiceLeavesTheRest}
 use Rattle.t414_step.specs.declared.cpu.Cpu.{Cpu}
 use Rattle.t414_step.specs.declared.stepping.Stepped.{Stepped}
 use Rattle.t414_step.specs.declared.stepping.Stepped.TheVariants as code
 use Rattle.t414_step.specs.Answers.{is_idle}
+use Rattle.t414_step.specs.Laws.{IdleWhereItRests}
 use Rattle.t414_step.specs.Registers.{has_nothing_to_do}
 use Rattle.t414_step.specs.Step.{Broke, Idle, Ran}
 use Rattle.t414_step.specs.Step.{step}
@@ -32,8 +34,8 @@ broke-step fault s ls ks m n e = sym (ap ran e)
 same-idle : (s t : Cpu) (ls ks : FourLinks) (m n : List ℕ) → Idle t ks n ≡ Idle s ls m → running s ls m ≡ running t ks n
 same-idle s t ls ks m n e = cc
 
-pub idle-stays : (s t : Cpu) (ls ks : FourLinks) (m n : List ℕ) → Idle t ks n ≡ step s ls m → true ≡ has_nothing_to_do s ls → running s ls m ≡ running t ks n
-idle-stays s t ls ks m n e r = same-idle s t ls ks m n (e ∙ resting-step s ls m (sym r))
+pub idle-stays : ServiceLeavesTheRest → (s t : Cpu) (ls ks : FourLinks) (m n : List ℕ) → Idle t ks n ≡ step s ls m → true ≡ has_nothing_to_do s ls → running s ls m ≡ running t ks n
+idle-stays rests s t ls ks m n e r = same-idle s t ls ks m n (e ∙ resting-step rests s ls m (sym r))
 
 -- a Step that answers so is recorded
 recorded-by : (n : Node) (answer : Stepped) → has_halted n.state ≡ false → (node_step n).1 ≡ answer → is_idle answer ≡ false → is_step_recorded n ≡ true
@@ -48,8 +50,8 @@ runs-more x y k s ls m answer after e busy =
     )
 
 -- a processor with nothing to do makes its node quiet
-pub quiet-running : (s : Cpu) (ls : FourLinks) (m : List ℕ) → true ≡ has_nothing_to_do s ls → is_quiet (running s ls m) ≡ true
-quiet-running s ls m r = quiet-runs (running s ls m) s refl ∙ sym r
+pub quiet-running : IdleWhereItRests → (s : Cpu) (ls : FourLinks) (m : List ℕ) → true ≡ has_nothing_to_do s ls → is_quiet (running s ls m) ≡ true
+quiet-running idle s ls m r = quiet-runs idle (running s ls m) s refl ∙ sym r
 
 later-some : (k : ℕ) (y : Node) (before : Option Stepped) → 0 < k → later_or (last_answer k y) before ≡ last_answer k y
 later-some zero y before some = absurd (omega arith)

@@ -5,9 +5,9 @@ ghost use Rattle.bootstrap.specs.Steps.{IsBurst, running, left_by, state_after};
 
 use crate::node::Node;
 use crate::state::State;
-use link_channels::Links;
+use link_channels::{Links, services_act_on_work};
 use node_memory::Memory;
-use t414_step::{Cpu, Stepped, step};
+use t414_step::{Cpu, Stepped, idle_where_it_rests, step};
 
 /// What a burst of Steps came to.
 #[derive(Clone, Copy, Debug, PartialEq, Eq)]
@@ -19,9 +19,12 @@ pub struct Burst {
 }
 
 // The Steps of a node that runs, up to the nth or to the first that would not be recorded.
+#[inline(always)]
 fn run(cpu: &mut Cpu, memory: &mut Memory, links: &mut Links, n: u64) -> Burst
     ensures burst { IsBurst n (running cpu.old links.old memory.old) result (left_by result.last cpu.new links.new memory.new) }
 {
+    idle_where_it_rests();
+    services_act_on_work();
     let mut last = None;
     for steps in 0..n {
         match step(cpu, memory, links) {
@@ -56,10 +59,11 @@ impl Node {
     {
         let mut last = None;
         for steps in 0..n {
-            if let State::Runs(cpu) = &mut self.state {
-                // All that is left to do is done by the processor, which never boots again.
-                let ran = run(cpu, &mut self.memory, &mut self.links, n - steps);
-                let state = state_after(ran.last, *cpu);
+            if let State::Runs(cpu) = self.state {
+                // All that is left to do is done by the processor, which never boots again. Its registers are locals.
+                let mut cpu = cpu;
+                let ran = run(&mut cpu, &mut self.memory, &mut self.links, n - steps);
+                let state = state_after(ran.last, cpu);
                 self.state = state;
                 return Burst {
                     steps: steps + ran.steps,

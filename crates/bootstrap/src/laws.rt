@@ -2,10 +2,17 @@
 
 ghost use Rattle.bootstrap.specs.Laws.{QuietStepChangesNothing, FaultHalts, BusyStepIsRecorded, RecordedStepRan, StepsAddUp, LastAnswersAddUp, StepKeepsTheSize, StepsKeepTheSize};
 
+use link_channels::services_act_on_work;
+use node_memory::{copies_stop_at_the_edge, written_bytes_are_read, written_words_are_read};
+use t414_step::idle_where_it_rests;
+
 /// A Step that would not be recorded leaves the node as it is.
 pub fn quiet_step_changes_nothing()
     ensures law { QuietStepChangesNothing }
-{}
+{
+    idle_where_it_rests();
+    services_act_on_work();
+}
 
 /// A Step that answers a fault leaves a node that has halted by it.
 pub fn fault_halts()
@@ -29,4 +36,8 @@ pub fn steps_add_up()
 pub fn steps_keep_the_size()
     ensures one { StepKeepsTheSize }
     ensures several { StepsKeepTheSize }
-{}
+{
+    written_words_are_read();
+    written_bytes_are_read();
+    copies_stop_at_the_edge();
+}

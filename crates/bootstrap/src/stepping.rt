@@ -5,7 +5,7 @@ ghost use Rattle.std.specs.Prelude.{◌≡◌};
 use crate::node::Node;
 use crate::state::{State, Task};
 use process_queue::NOT_PROCESS;
-use t414_step::{Stepped, step};
+use t414_step::{Stepped, idle_where_it_rests, step};
 
 impl Node {
     ghost use Rattle.bootstrap.specs.Step.{node_step, is_quiet};
@@ -63,6 +63,7 @@ impl Node {
     pub fn quiet(&self) -> bool
         ensures answer { result ≡ is_quiet self.now }
     {
+        idle_where_it_rests();
         match &self.state {
             State::WantsControl => self.offered().is_none(),
             State::Takes { link, .. } => self.links.at(*link).end.input.buffer.is_none(),

@@ -1,5 +1,7 @@
 pub mod Below
-pub mod Words
-pub mod Switching
+mod Counting
+mod Lowering
 pub mod Numberings
 pub mod PlainRows
+pub mod Switching
+pub mod Words

@@ -4,6 +4,8 @@ pub mod Switch
 pub mod Ranges
 pub mod Row
 -- what only helps contracts
+pub mod Kept
+pub mod Laws
 pub mod Numbers
 pub mod Fits
 pub mod Plain

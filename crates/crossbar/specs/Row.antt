@@ -1,6 +1,8 @@
 -- The outputs of a domain: their physical ports and their words, in the order of their virtual numbers.
 use Rattle.std.specs.Prelude.{◌≡◌, ℕ, zero, suc, ◌<◌, ◌≤◌, Bool, true, false, List, [], ◌∷◌, length, Option, Some, None, if◌then◌else◌, ◌==◌, slice_get, All, Contains}
 use Rattle.std.specs.Option.{option_map, option_and_then}
+use Rattle.std.specs.FinMap as map
+use Rattle.std.specs.FinSet as set
 use Rattle.crossbar.specs.declared.word.Word.{Word}
 use Rattle.crossbar.specs.declared.word.Connection.{Connection}
 use Rattle.crossbar.specs.Word.{connection_of, IsProper, word_after}
@@ -49,6 +51,17 @@ switch_of words = record {
   pairs = map_below (length words) (λ v. input_of (connection_at words v));
   ready = set_below (length words) (λ v. is_ready (connection_at words v));
 }
+
+-- a switch with its inputs by the numbers that they have among these ports
+abbrev pub lowered : List ℕ → Switch → Switch
+lowered ports s = record {
+  pairs = map_below (length ports) (λ v. option_and_then (number_in ports) (map.get s.pairs v));
+  ready = set_below (length ports) (λ v. set.contains s.ready v);
+}
+
+-- the private switch that the words of these ports stand for
+abbrev pub private_at : List ℕ → List Word → Switch
+private_at ports words = lowered ports (switch_of words)
 
 -- the words once this is set at an output
 abbrev pub words_after : List Word → ℕ → Option Connection → List Word

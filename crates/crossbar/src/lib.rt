@@ -3,6 +3,7 @@
 //! pairs (output, input) and a set of ready outputs.
 #![tactic(auto)]
 
+pub mod laws;
 mod numbering;
 mod operations;
 mod outputs;
@@ -11,7 +12,10 @@ mod range;
 mod word;
 
 pub use numbering::Numbering;
-pub use operations::{clear, connect, disconnect, driven_by, enquire, make_ready};
+pub use operations::{
+    clear, connect, connect_both, disconnect, disconnect_both, driven_by, enquire, is_ready,
+    make_ready,
+};
 pub use outputs::Outputs;
 pub use plain::PlainOutputs;
 pub use range::{MOST_RANGES, PORTS, PortRange};

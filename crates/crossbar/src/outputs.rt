@@ -41,6 +41,7 @@ pub trait Outputs {
 
     /// Stores the word of an output: one that says something else than the word there, and is at
     /// least as new.
+    // Seven clauses: the number's bound, what a seat of a shared table may store, and what a read gives then.
     fn write(&mut self, number: u8, word: Word)
         requires number { number < length (ports self.old) }
         requires word { IsWordOf (ports self.old) word }

@@ -15,7 +15,8 @@ use Rattle.domain_core.specs.declared.event.Moved.TheVariants.{Nothing, Lost, St
 use Rattle.domain_core.specs.Devices.{DeviceStates, HasDevice, device_at, packet_waiting, taken_from_device, arrived_at_device}
 use Rattle.domain_core.specs.Moves.{driven, are_ready, copies_arrived, outcome, moved_by, sent, moved_from, moved}
 use Rattle.domain_core.specs.Machine.{has_moved}
-use Rattle.domain_core.specs.MachineValue.{MachineValue, IsOfPart, AreJoined, Marks, marked_in}
+use Rattle.domain_core.specs.MachineValue.{MachineValue, IsOfPart, AreJoined}
+use Rattle.domain_core.specs.Routes.{Marks, marked_in}
 use Rattle.domain_core.proofs.Joined.{joined_holds}
 
 -- ---- marks

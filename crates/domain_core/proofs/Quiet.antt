@@ -5,7 +5,7 @@ use Rattle.bootstrap.specs.Step.{is_step_recorded, is_quiet}
 use Rattle.domain_core.specs.Devices.{DeviceStates, node_at, AreQuiet}
 use Rattle.domain_core.specs.Domain.{IsQuiet}
 use Rattle.domain_core.specs.Machine.{is_recorded}
-use Rattle.domain_core.specs.Machine.{Machine, has_moved}
+use Rattle.domain_core.specs.Machine.{has_moved}
 use Rattle.domain_core.specs.Moves.{moved}
 use Rattle.domain_core.specs.declared.event.Moved.{Moved}
 use Rattle.virtual_switch.specs.SwitchValue.{private_of}

@@ -42,7 +42,7 @@ then_large d e f one two = record { memories = two.memories ∙ one.memories; ho
 pub large_with_node : (d : DeviceStates) (number : ℕ) (n : Node) → length n.memory ≡ length (node_at d number).memory → AreAsLarge d (with_node number n d)
 large_with_node d number n same = record { memories = same_sizes d.nodes number n (opened_node 0) same; hosts = refl }
 
-large_taken : (d : DeviceStates) (device : Device) → AreAsLarge d (taken_from_device device d)
+pub large_taken : (d : DeviceStates) (device : Device) → AreAsLarge d (taken_from_device device d)
 large_taken d (Host number) = record { memories = refl; hosts = length-set d.hosts number _ }
 large_taken d (Link number link) = large_with_node d number _ refl
 

@@ -1,10 +1,16 @@
 -- Switch words that stay.
-use Rattle.std.proofs.Common.{List}
+use Rattle.std.proofs.Common.{List, refl}
 use Rattle.std.specs.List.{AllZip}
 use Rattle.crossbar.specs.declared.word.Word.{Word}
+use Rattle.crossbar.specs.Laws.{UnchangedCountsNothing}
 use Rattle.crossbar.specs.Word.{CountsChange}
-use Rattle.crossbar.proofs.Words as words
+use Rattle.virtual_switch.specs.Each.{KeepsPorts}
+use Rattle.virtual_switch.specs.SwitchValue.{SwitchValue}
 
 -- words that stay keep their counts
-pub each_counts_itself : (xs : List Word) → AllZip CountsChange xs xs
-each_counts_itself xs = words.each_counts_itself xs
+pub counts_itself : UnchangedCountsNothing → (words : List Word) → AllZip CountsChange words words
+counts_itself unchanged words = unchanged words
+
+-- and a switch that stays its ports too
+pub keeps_itself : UnchangedCountsNothing → (s : SwitchValue) → KeepsPorts s s
+keeps_itself unchanged s = record { ports = refl; counts = unchanged s.words }

@@ -1,5 +1,7 @@
 -- A domain: a machine and the journal of what it answered. What holds of every domain.
-use Rattle.std.specs.Prelude.{ℕ, List, [], ◌∷◌, length, ◌≡◌, ◌<◌, ◌≤◌, ◌^◌, Ok, Err, false, if◌then◌else◌, slice_get, Some}
+use Rattle.std.specs.Prelude.{ℕ, ◌+◌, List, [], ◌∷◌, ◌++◌, length, OnErr, ◌≡◌, ◌<◌, ◌≤◌, ◌^◌, Ok, Err, false, if◌then◌else◌, slice_get, Some}
+use Rattle.std.specs.List.{AllZip}
+use Rattle.crossbar.specs.Word.{CountsChange}
 use Rattle.plan_checker.specs.Data.{DomainData}
 use Rattle.plan_checker.specs.Part.{PartData, part_of, physical_ports}
 use Rattle.domain_core.specs.declared.event.Event.TheVariants.{Step, Move}
@@ -7,7 +9,7 @@ use Rattle.domain_core.specs.declared.event.Refusal.TheVariants.{NoSuch, Journal
 use Rattle.domain_core.specs.declared.journal.Entry.{Entry}
 use Rattle.domain_core.specs.Machine.{Machine, is_recorded}
 use Rattle.domain_core.specs.MachineValue.{MachineValue, machine_of}
-use Rattle.domain_core.specs.PrivateFarm.{State, Answer, Call}
+use Rattle.domain_core.specs.PrivateFarm.{State, Answer, Call, next}
 use Rattle.domain_core.specs.Journal.{AnsweredCall, expanded, IsHistory}
 
 -- what contracts see of a domain
@@ -38,10 +40,27 @@ UnlessNoMemory (Err NoSuch) P = P
 UnlessNoMemory (Err JournalFull) P = P
 UnlessNoMemory (Err NoMemory) P = Unit {0}
 
+-- the domain answers as a farm does that holds it alone, with the same refusal if that refuses, becomes what it would become alone, and its journal
+-- gains what is recorded
+pub record IsCalled (call : Call) (told : Answer) (old new : DomainValue) : Type 0 where
+  pub answer : UnlessNoMemory told (told ≡ (next old.machine.part (state_of old) call).1)
+  pub state : UnlessNoMemory told (state_of new ≡ (next old.machine.part (state_of old) call).0)
+  pub refused : OnErr (next old.machine.part (state_of old) call).1 (told ≡ (next old.machine.part (state_of old) call).1)
+  pub journal : expanded new.journal ≡ expanded old.journal ++ gained old.machine.part (state_of old) call told
+  pub counts : AllZip CountsChange old.machine.switch.words new.machine.switch.words
+
+-- so many events more would pass the limit
+abbrev pub IsPastLimit : DomainValue → ℕ → Type 0
+IsPastLimit d count = d.machine.part.limit < length (expanded d.journal) + count
+
+-- no Move would be recorded
+abbrev pub PortsAreQuiet : PartData → Machine → Type 0
+PortsAreQuiet part m = (port : ℕ) → port < part.count → is_recorded part m (Move port) ≡ false
+
 -- no Step and no Move would be recorded
 pub record IsQuiet (part : PartData) (m : Machine) : Type 0 where
   pub nodes : (node : ℕ) → node < length part.nodes → is_recorded part m (Step node) ≡ false
-  pub ports : (port : ℕ) → port < part.count → is_recorded part m (Move port) ≡ false
+  pub ports : PortsAreQuiet part m
 
 -- the domain has the part and the ports of this domain of a plan
 pub record Fits (plan : List DomainData) (number : ℕ) (d : DomainValue) : Type 0 where

@@ -15,3 +15,4 @@ pub mod Peek
 pub mod Laws
 -- what only helps contracts
 pub mod Numbers
+pub mod Routes

@@ -1,6 +1,5 @@
 -- What contracts see of a machine: its part, its switch, and its nodes and hosts; and what it stands for.
-use Rattle.std.specs.Prelude.{◌≡◌, ◌<◌, ◌≤◌, ◌==◌, ℕ, List, length, map, filter, Option, None, Bool, if◌then◌else◌, slice_index_or}
-use Rattle.std.specs.Int.{bit_at}
+use Rattle.std.specs.Prelude.{◌≡◌, ◌<◌, ◌≤◌, ℕ, List, length, map, Option, None, slice_index_or}
 use Rattle.plan_checker.specs.Part.{PartData}
 use Rattle.virtual_switch.specs.SwitchValue.{SwitchValue, private_of}
 use Rattle.domain_core.specs.declared.device.Device.{Device}
@@ -39,11 +38,3 @@ IsIn part (Reset node) = node < length part.nodes
 IsIn part (Look node) = node < length part.nodes
 IsIn part (Step node) = node < length part.nodes
 IsIn part (Move port) = port < part.count
-
--- the outputs whose bits are set in a mask
-abbrev pub marked_in : ℕ → List ℕ → List ℕ
-marked_in mask outputs = filter (λ q. bit_at mask q == 1) outputs
-
--- the bits of a mask are set exactly if a test holds
-abbrev pub Marks : ℕ → (ℕ → Bool) → Type 0
-Marks mask test = (q : ℕ) → bit_at mask q ≡ (if test q then 1 else 0)

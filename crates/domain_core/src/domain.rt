@@ -1,5 +1,5 @@
 //! A domain: its machine, with the journal of what it answered.
-ghost use Rattle.std.specs.Prelude.{◌≡◌, ◌≢◌, ◌<◌, ◌+◌, ◌++◌, [], None, Some, Ok, Err, length, IfOk, OnErr, IsTrue, ◌↔◌, slice_get, true, not};
+ghost use Rattle.std.specs.Prelude.{◌≡◌, ◌≢◌, ◌<◌, ◌+◌, [], None, Some, Ok, Err, length, IfOk, OnErr, IsTrue, ◌↔◌, slice_get, true, not};
 ghost use Rattle.std.specs.List.{AllZip};
 ghost use Rattle.crossbar.specs.Row.{switch_of, AreWordsOf, number_in};
 ghost use Rattle.crossbar.specs.Switch.{cleared};
@@ -9,9 +9,9 @@ ghost use Rattle.domain_core.specs.declared.event.Event.{Event as SpecEvent};
 ghost use Rattle.domain_core.specs.declared.event.Refusal.TheVariants.{NoSuch, JournalFull};
 ghost use Rattle.domain_core.specs.Machine.{is_recorded};
 ghost use Rattle.domain_core.specs.MachineValue.{machine_of};
-ghost use Rattle.domain_core.specs.PrivateFarm.{next, opening};
+ghost use Rattle.domain_core.specs.PrivateFarm.{opening};
 ghost use Rattle.domain_core.specs.Journal.{expanded};
-ghost use Rattle.domain_core.specs.Domain.{state_of, IsMeant, gained, Fits, IsQuiet, UnlessNoMemory};
+ghost use Rattle.domain_core.specs.Domain.{state_of, IsMeant, IsCalled, IsPastLimit, Fits, IsQuiet};
 ghost use Rattle.domain_core.specs.Ticket.{IsHome, Commits, fresh_ticket};
 
 use crate::NoMemory;
@@ -19,6 +19,7 @@ use crate::event::{By, Event, Refusal, Reply};
 use crate::journal::{Entry, note, note_ticket};
 use crate::machine::{Acted, Machine};
 use crate::ticket::Ticket;
+use crossbar::laws::rows_are_words_of_ports;
 use crossbar::{Numbering, Outputs, Word};
 use plan_checker::{AcceptedPlan, Part};
 use std::alloc::Global;
@@ -102,17 +103,14 @@ impl<O: Outputs + Drop> Domain<O> {
     /// `NoSuch` where there is no such user, host, node or port, or the host isn't the user's; else
     /// `JournalFull` where the recorded events number the limit; else `NoMemory` where the journal
     /// can't grow. After a refusal nothing has changed.
-    #[tactic(auto, using(crate::proofs::Unchanged::each_counts_itself))]
+    #[tactic(auto, using(crate::proofs::Unchanged::counts_itself))]
     pub fn apply(&mut self, by: By, event: Event) -> Result<Reply, Refusal>
-        ensures answer { UnlessNoMemory result (result ≡ (next self.old.machine.part (state_of self.old) (record { by = by; event = event })).1) }
-        ensures state { UnlessNoMemory result (state_of self.new ≡ (next self.old.machine.part (state_of self.old) (record { by = by; event = event })).0) }
-        ensures refused { let alone = (next self.old.machine.part (state_of self.old) (record { by = by; event = event })).1 in OnErr alone (result ≡ alone) }
-        ensures journal { expanded self.new.journal ≡ expanded self.old.journal ++ gained self.old.machine.part (state_of self.old) (record { by = by; event = event }) result }
+        ensures called { IsCalled (record { by = by; event = event }) result self.old self.new }
         ensures err { OnErr result (self.new ≡ self.old) }
         ensures part { self.new.machine.part ≡ self.old.machine.part }
         ensures ports { self.new.machine.switch.ports ≡ self.old.machine.switch.ports }
-        ensures counts { AllZip CountsChange self.old.machine.switch.words self.new.machine.switch.words }
     {
+        rows_are_words_of_ports();
         if !self.machine.has(by, event) {
             return Err(Refusal::NoSuch);
         }
@@ -236,7 +234,7 @@ impl<O: Outputs + Drop> Domain<O> {
     /// grow. In each of these nothing has changed.
     pub fn commit(&mut self, ticket: Ticket) -> Result<Committed, Refusal>
         ensures stale { (result ≡ Ok Stale) ↔ ¬ IsHome self.old ticket }
-        ensures full { (result ≡ Err JournalFull) ↔ (IsHome self.old ticket × (self.old.machine.part.limit < length (expanded self.old.journal) + ticket.steps)) }
+        ensures full { (result ≡ Err JournalFull) ↔ (IsHome self.old ticket × IsPastLimit self.old ticket.steps) }
         ensures no_such { result ≢ Err NoSuch }
         ensures done { result ≡ Ok Done → Commits self.old ticket self.new }
         ensures same { result ≢ Ok Done → self.new ≡ self.old }

@@ -10,6 +10,7 @@ mod host;
 mod journal;
 pub mod laws;
 mod machine;
+mod moves;
 mod table;
 mod ticket;
 
@@ -20,4 +21,5 @@ pub use host::{Host, QUEUE_BYTES};
 pub use journal::Entry;
 pub use laws::peek_answers_the_word;
 pub use std::alloc::AllocError as NoMemory;
+pub use table::device_at;
 pub use ticket::{MOST_STEPS, Ticket};

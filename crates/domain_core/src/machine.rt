@@ -2,28 +2,27 @@
 ghost use Rattle.std.specs.Prelude.{◌≡◌, ◌<◌, ◌≤◌, ◌==◌, ◌↔◌, IsTrue, true, false, not, length, IfOk, Some, slice_get, ℕ, List, [], ◌∷◌, ◌++◌};
 ghost use Rattle.std.specs.Option.{option_copied};
 ghost use Rattle.domain_core.specs.declared.event.Event.{Event as SpecEvent};
-ghost use Rattle.domain_core.specs.Domain.{IsQuiet};
-ghost use Rattle.std.specs.Int.{bit_at};
-ghost use Rattle.std.specs.List.{AllZip, range_with_len};
+ghost use Rattle.domain_core.specs.Domain.{IsQuiet, PortsAreQuiet};
 ghost use Rattle.crossbar.specs.Row.{switch_of, AreWordsOf, number_in};
-ghost use Rattle.crossbar.specs.Switch.{cleared, drives};
-ghost use Rattle.crossbar.specs.Word.{CountsChange};
+ghost use Rattle.crossbar.specs.Switch.{cleared};
+ghost use Rattle.virtual_switch.specs.Each.{KeepsPorts};
 ghost use Rattle.virtual_switch.specs.SwitchValue.{private_of};
 ghost use Rattle.domain_core.specs.Devices.{memories, node_at, with_node};
-ghost use Rattle.domain_core.specs.Moves.{moved, outcome, copies_arrived, driven};
-ghost use Rattle.domain_core.specs.Machine.{acted, is_recorded, has_moved, fresh_machine};
-ghost use Rattle.domain_core.specs.MachineValue.{machine_of, IsIn, AreJoined, Marks, marked_in};
+ghost use Rattle.domain_core.specs.Moves.{moved};
+ghost use Rattle.domain_core.specs.Machine.{acted, is_recorded, fresh_machine};
+ghost use Rattle.domain_core.specs.MachineValue.{machine_of, IsIn};
+ghost use Rattle.domain_core.specs.Routes.{route_answer, route_leaves, HasItsDevice};
 ghost use Rattle.domain_core.specs.PrivateFarm.{is_there, is_known, owns};
 
 use crate::NoMemory;
-use crate::device::Device;
 use crate::devices::Devices;
 use crate::event::{By, Event, Moved, Reply};
+use crate::moves::{Fate, Route, copy_to, fate_of, has_moved};
 use crate::table::{DeviceTable, table_of};
 use crate::ticket::Ticket;
 use bootstrap::Node;
+use crossbar::laws::rows_are_words_of_ports;
 use crossbar::{Numbering, Outputs, Word};
-use os_link::Packet;
 use plan_checker::Part;
 use std::alloc::Global;
 use std::marker::Model;
@@ -34,13 +33,6 @@ use virtual_switch::VirtualSwitch;
 pub(crate) struct Acted {
     pub reply: Reply,
     pub recorded: bool,
-}
-
-/// What a Move comes to, and the outputs that its port drives, as a mask: bit q is virtual output q.
-#[derive(Clone, Copy)]
-struct Route {
-    moved: Moved,
-    outputs: u32,
 }
 
 /// A domain's switch, nodes and hosts, with its part and the device of each port.
@@ -60,92 +52,6 @@ impl<O: Outputs> Model for Machine<O> {
     ghost view = { λ m. record { part = m.part; switch = m.switch; devices = m.devices } };
 
     ghost invariant = { λ m. IsOfPart (record { part = m.part; switch = m.switch; devices = m.devices }) × AreJoined m.part m.table };
-}
-
-// Whether bit `output` of a mask is set.
-fn is_marked(outputs: u32, output: u8) -> bool
-    requires { output < 32 }
-    ensures { result ≡ (bit_at outputs output == 1) }
-{
-    outputs >> output & 1 == 1
-}
-
-// What becomes of a packet with one output more, by what became of it with those before.
-#[tactic(auto, using(crate::proofs::Outcomes::not_marked, crate::proofs::Outcomes::stays, crate::proofs::Outcomes::passes, crate::proofs::Outcomes::must_stay))]
-fn outcome_with<O: Outputs>(
-    before: Moved,
-    switch: &mut VirtualSwitch<O>,
-    outputs: u32,
-    output: u8,
-) -> Moved
-    requires few { length switch.old.ports ≤ 32 }
-    requires there { output < length switch.old.ports }
-    ensures answer { (xs : List ℕ) → before ≡ outcome (private_of switch.old) xs → result ≡ outcome (private_of switch.old) (xs ++ marked_in outputs (output ∷ [])) }
-    ensures same { switch.new ≡ switch.old }
-{
-    if !is_marked(outputs, output) {
-        return before;
-    }
-    if has_stayed(before) {
-        return before;
-    }
-    if switch.ready(output) {
-        Moved::Passed
-    } else {
-        Moved::Stayed
-    }
-}
-
-// What becomes of a packet whose port drives these outputs.
-fn outcome<O: Outputs>(switch: &mut VirtualSwitch<O>, outputs: u32) -> Moved
-    requires { length switch.old.ports ≤ 32 }
-    ensures answer { result ≡ outcome (private_of switch.old) (marked_in outputs (range_with_len 0 (length switch.old.ports))) }
-    ensures same { switch.new ≡ switch.old }
-{
-    let mut moved = Moved::Lost;
-    for output in 0..switch.count() {
-        moved = outcome_with(moved, switch, outputs, output);
-    }
-    moved
-}
-
-// A packet arrives at the device of an output, if the output is one of these.
-fn copy_at(
-    devices: &mut Devices,
-    part: &Part,
-    table: &DeviceTable,
-    outputs: u32,
-    output: u8,
-    packet: Packet,
-)
-    requires few { part.now.count ≤ 32 }
-    requires there { output < part.now.count }
-    requires joined { AreJoined part.now table.now }
-    requires nodes { length devices.old.nodes ≡ length part.now.nodes }
-    requires hosts { length devices.old.hosts ≡ length part.now.hosts }
-    ensures state { devices.new ≡ copies_arrived part.now packet (marked_in outputs (output ∷ [])) devices.old }
-    ensures nodes { length devices.new.nodes ≡ length devices.old.nodes }
-    ensures hosts { length devices.new.hosts ≡ length devices.old.hosts }
-{
-    if !is_marked(outputs, output) {
-        return;
-    }
-    if let Some(device) = table[usize::from(output)] {
-        devices.deliver(device, packet);
-    }
-}
-
-// A packet arrives at the devices of these outputs, in rising order.
-fn copy_to(devices: &mut Devices, part: &Part, table: &DeviceTable, outputs: u32, packet: Packet)
-    requires few { part.now.count ≤ 32 }
-    requires joined { AreJoined part.now table.now }
-    requires nodes { length devices.old.nodes ≡ length part.now.nodes }
-    requires hosts { length devices.old.hosts ≡ length part.now.hosts }
-    ensures { devices.new ≡ copies_arrived part.now packet (marked_in outputs (range_with_len 0 part.now.count)) devices.old }
-{
-    for output in 0..part.count() {
-        copy_at(devices, part, table, outputs, output, packet);
-    }
 }
 
 impl<O: Outputs + Drop> Machine<O> {
@@ -172,8 +78,7 @@ impl<O: Outputs + Drop> Machine<O> {
     pub(crate) fn clear(&mut self)
         ensures state { machine_of self.new ≡ fresh_machine self.old.part }
         ensures part { self.new.part ≡ self.old.part }
-        ensures ports { self.new.switch.ports ≡ self.old.switch.ports }
-        ensures counts { AllZip CountsChange self.old.switch.words self.new.switch.words }
+        ensures kept { KeepsPorts self.old.switch self.new.switch }
     {
         self.switch.clear();
         self.devices.clear();
@@ -241,17 +146,17 @@ impl<O: Outputs + Drop> Machine<O> {
     }
 
     /// Does an event, and answers it.
-    #[tactic(auto, using(crate::proofs::Unchanged::each_counts_itself))]
+    #[tactic(auto, using(crate::proofs::Unchanged::keeps_itself))]
     pub(crate) fn act(&mut self, event: Event) -> Acted
         requires { IsIn self.old.part event }
         ensures reply { result.reply ≡ (acted self.old.part (machine_of self.old) event).1 }
         ensures recorded { result.recorded ≡ is_recorded self.old.part (machine_of self.old) event }
         ensures state { machine_of self.new ≡ (acted self.old.part (machine_of self.old) event).0 }
         ensures part { self.new.part ≡ self.old.part }
-        ensures ports { self.new.switch.ports ≡ self.old.switch.ports }
-        ensures counts { AllZip CountsChange self.old.switch.words self.new.switch.words }
+        ensures kept { KeepsPorts self.old.switch self.new.switch }
     {
         bootstrap::steps_keep_the_size();
+        rows_are_words_of_ports();
         let mut recorded = true;
         let reply = match event {
             Event::Config(byte) => Reply::Config(self.switch.feed(byte)),
@@ -291,12 +196,11 @@ impl<O: Outputs + Drop> Machine<O> {
 
     // Whether no Move would be recorded.
     fn ports_are_quiet(&mut self) -> bool
-        ensures quiet { IsTrue result ↔ ((port : ℕ) → port < self.old.part.count → is_recorded self.old.part (machine_of self.old) (SpecEvent.Move port) ≡ false) }
+        ensures quiet { IsTrue result ↔ PortsAreQuiet self.old.part (machine_of self.old) }
         ensures same { self.new ≡ self.old }
     {
         for port in 0..self.part.count() {
-            let Route { moved, outputs: _ } = self.route(port);
-            if has_moved(moved) {
+            if has_moved(self.route(port).answer()) {
                 return false;
             }
         }
@@ -362,27 +266,29 @@ impl<O: Outputs + Drop> Machine<O> {
         self.devices.put_node(number, node);
     }
 
-    // What a Move of a port would come to, and the outputs that the port drives.
+    // What a Move of a port would do.
     fn route(&mut self, port: u8) -> Route
         requires { port < self.old.part.count }
-        ensures moved { result.moved ≡ (moved self.old.part (private_of self.old.switch) self.old.devices port).1 }
-        ensures outputs { has_moved result.moved ≡ true → marked_in result.outputs (range_with_len 0 self.old.part.count) ≡ driven self.old.part (private_of self.old.switch) port }
+        ensures answer { route_answer result ≡ (moved self.old.part (private_of self.old.switch) self.old.devices port).1 }
+        ensures leaves { route_leaves self.old.part result self.old.devices ≡ (moved self.old.part (private_of self.old.switch) self.old.devices port).0 }
+        ensures device { HasItsDevice self.old.devices result }
         ensures same { self.new ≡ self.old }
     {
-        let nothing = Route {
-            moved: Moved::Nothing,
-            outputs: 0,
-        };
         let Some(device) = self.table[usize::from(port)] else {
-            return nothing;
+            return Route::Nothing;
         };
-        let Some(_packet) = self.devices.waiting(device) else {
-            return nothing;
+        let Some(packet) = self.devices.waiting(device) else {
+            return Route::Nothing;
         };
         let outputs = self.switch.drives(port);
-        Route {
-            moved: outcome(&mut self.switch, outputs),
-            outputs,
+        match fate_of(&mut self.switch, outputs) {
+            Fate::Lost => Route::Lost(device),
+            Fate::Stayed => Route::Stayed,
+            Fate::Passed => Route::Passed {
+                device,
+                packet,
+                outputs,
+            },
         }
     }
 
@@ -394,33 +300,19 @@ impl<O: Outputs + Drop> Machine<O> {
         ensures switch { self.new.switch ≡ self.old.switch }
         ensures part { self.new.part ≡ self.old.part }
     {
-        let Route { moved, outputs } = self.route(port);
-        if !has_moved(moved) {
-            return moved;
-        }
-        if let Some(device) = self.table[usize::from(port)] {
-            if let Some(packet) = self.devices.waiting(device) {
+        let route = self.route(port);
+        match route {
+            Route::Nothing | Route::Stayed => {}
+            Route::Lost(device) => self.devices.take(device),
+            Route::Passed {
+                device,
+                packet,
+                outputs,
+            } => {
                 self.devices.take(device);
                 copy_to(&mut self.devices, &self.part, &self.table, outputs, packet);
             }
         }
-        moved
-    }
-}
-
-// Whether an output that isn't ready was met.
-fn has_stayed(moved: Moved) -> bool
-    ensures { IsTrue result ↔ (moved ≡ Moved.Stayed) }
-{
-    moved == Moved::Stayed
-}
-
-// Whether a Move that comes to this has changed something.
-fn has_moved(moved: Moved) -> bool
-    ensures { result ≡ has_moved moved }
-{
-    match moved {
-        Moved::Nothing | Moved::Stayed => false,
-        Moved::Lost | Moved::Passed => true,
+        route.answer()
     }
 }

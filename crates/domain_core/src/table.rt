@@ -22,8 +22,8 @@ pub(crate) fn table_of(part: &Part) -> DeviceTable
     table
 }
 
-// The device at a port.
-fn device_at(part: &Part, port: u8) -> Option<Device>
+/// The device that is joined to a virtual port of a domain with this part, if there is one.
+pub fn device_at(part: &Part, port: u8) -> Option<Device>
     ensures { result ≡ device_at part.now port }
 {
     match host_at_port(part.hosts(), port) {

@@ -12,6 +12,7 @@ use Rattle.farm_core.specs.Projection.{own}
 use Rattle.farm_core.specs.Merges.{journal_at, IsMerge, calls_in, replies_in, AreHistories, EachMergeIsARun, own_place, own_journal, EachMergeOfDomainsIsARun}
 use Rattle.farm_core.proofs.Making.{tidy_after, tidy_opening}
 use Rattle.farm_core.proofs.Runs.{own-here, own-there, own-map, told_pairs, own_told, told_domains, told_answers, each_domain_is_private}
+use Rattle.crossbar.specs.Laws.{SwitchLaws}
 
 -- ---- a list is known by the order of its domains and by each domain's own
 
@@ -85,10 +86,10 @@ history plan journals states domain place are there =
     let s = there_is states domain (omega (arith, inside, are.state_each)) in
     (journal.0, s.0, journal.1, s.1, are.each domain place journal.0 s.0 there journal.1 s.1)
 
-own_replies : (plan : List Place) (journals : List (List AnsweredCall)) (states : List State) (merge : List (ℕ × AnsweredCall)) (domain : ℕ) (found : Option Place) → slice_get plan domain ≡ found
+own_replies : SwitchLaws → (plan : List Place) (journals : List (List AnsweredCall)) (states : List State) (merge : List (ℕ × AnsweredCall)) (domain : ℕ) (found : Option Place) → slice_get plan domain ≡ found
     → AreSeparatePlaces plan → AreHistories plan journals states → IsMerge journals merge
     → own domain (told_pairs plan (physical_answers plan (whole_opening plan) (calls_in merge))) ≡ own domain (stored merge)
-own_replies plan journals states merge domain None at separate are is =
+own_replies laws plan journals states merge domain None at separate are is =
     let out : length plan ≤ domain =
     elim (slice_get_cases plan domain).1 [
       | inl some ↦ let e = sym at ∙ some.2 in absurd (none-some some.0 e)
@@ -98,29 +99,29 @@ own_replies plan journals states merge domain None at separate are is =
     let asked : own domain (calls_in merge) ≡ [] = own_calls domain merge ∙ ap calls_of none in
     none_own domain (calls_in merge) _ (sym (told_domains plan (whole_opening plan) (calls_in merge))) asked
     ∙ sym (own_stored domain merge ∙ ap replies_of none)
-own_replies plan journals states merge domain (Some place) at separate are is =
+own_replies laws plan journals states merge domain (Some place) at separate are is =
     let h = history plan journals states domain place are at in
     let has : own domain merge ≡ h.0 = is domain ∙ ap journal_at h.2 in
-    own_told plan (calls_in merge) domain place separate at
+    own_told laws plan (calls_in merge) domain place separate at
     ∙ ap (answers place.part (opening place.part)) (own_calls domain merge ∙ ap calls_of has)
     ∙ h.4.replies ∙ sym (own_stored domain merge ∙ ap replies_of has)
 
-pub each_merge_is_a_run : EachMergeIsARun
-each_merge_is_a_run plan journals states merge separate are is = record {
+pub each_merge_is_a_run : SwitchLaws → EachMergeIsARun
+each_merge_is_a_run laws plan journals states merge separate are is = record {
   replies =
       let heard = physical_answers plan (whole_opening plan) (calls_in merge) in
       sym (told_answers plan heard)
       ∙ ap (map (λ t. t.1))
-      (same-list (told_pairs plan heard) (stored merge) (told_domains plan (whole_opening plan) (calls_in merge) ∙ call_domains merge) (λ d. own_replies plan journals states merge d (slice_get plan d) refl separate are is))
+      (same-list (told_pairs plan heard) (stored merge) (told_domains plan (whole_opening plan) (calls_in merge) ∙ call_domains merge) (λ d. own_replies laws plan journals states merge d (slice_get plan d) refl separate are is))
       ∙ stored_replies merge;
   ends =
-      let tidy = tidy_after plan (whole_opening plan) (calls_in merge) separate (tidy_opening plan) in
+      let tidy = tidy_after laws plan (whole_opening plan) (calls_in merge) separate (tidy_opening plan) in
       record {
         state_each = are.state_each;
         each = λ domain place s there at.
             let h = history plan journals states domain place are there in
             let has : own domain merge ≡ h.0 = is domain ∙ ap journal_at h.2 in
-            (each_domain_is_private plan (calls_in merge) domain place separate there).state
+            (each_domain_is_private laws plan (calls_in merge) domain place separate there).state
             ∙ ap (after place.part (opening place.part)) (own_calls domain merge ∙ ap calls_of has)
             ∙ (are.each domain place h.0 s there h.2 at).state;
         within = tidy.within;
@@ -153,6 +154,6 @@ are_histories domains meant = record {
       subst (λ (p : Place). IsHistory p.part journal s) d.2 (subst (λ x. IsHistory d.0.machine.part journal x) same_s (subst (λ h. IsHistory d.0.machine.part h (state_of d.0)) same_j is.history));
 }
 
-pub each_merge_of_domains_is_a_run : EachMergeOfDomainsIsARun
-each_merge_of_domains_is_a_run domains merge separate meant is =
-    each_merge_is_a_run (map own_place domains) (map own_journal domains) (map state_of domains) merge separate (are_histories domains meant) is
+pub each_merge_of_domains_is_a_run : SwitchLaws → EachMergeOfDomainsIsARun
+each_merge_of_domains_is_a_run laws domains merge separate meant is =
+    each_merge_is_a_run laws (map own_place domains) (map own_journal domains) (map state_of domains) merge separate (are_histories domains meant) is

@@ -12,10 +12,9 @@ use Rattle.c004_commands.specs.Grammar.{Item, Command, Stray}
 use Rattle.crossbar.specs.Switch.{Switch, connected, disconnected, all_ready, cleared}
 use Rattle.crossbar.specs.Ranges.{IsOneToOne}
 use Rattle.crossbar.specs.Row.{number_in}
-use Rattle.crossbar.proofs.Below.{same_switch}
+use Rattle.crossbar.specs.Laws.{SwitchLaws}
 use Rattle.virtual_switch.specs.declared.reply.ConfigReply.TheVariants.{Answer}
 use Rattle.virtual_switch.specs.PrivateSwitch.{ports_named, are_below, answer_byte, performed, answer_to, after_item, reply_to}
-use Rattle.crossbar.proofs.Numberings.{number_in-port, number_in-some}
 use Rattle.farm_core.specs.Places.{Place, AreApart}
 use Rattle.farm_core.specs.Messages.{readied, disconnected_ports, is_among, raised, raised_message, performed_in, after_item_in, reply_in}
 use Rattle.farm_core.specs.Projection.{own_switch, driver_at, ready_at, lowered_byte, lowered_config}
@@ -33,29 +32,29 @@ two_below n a b h = let parts = and_parts _ _ h in (ltb-true a n parts.0, one_be
 
 -- ---- the domain's own message
 
-pub own_connected : (ports : List ℕ) (s : Switch) (input output : ℕ) → IsOneToOne ports → input < length ports → output < length ports
+pub own_connected : SwitchLaws → (ports : List ℕ) (s : Switch) (input output : ℕ) → IsOneToOne ports → input < length ports → output < length ports
     → own_switch ports (connected s (raised ports input) (raised ports output)) ≡ connected (own_switch ports s) input output
-own_connected ports s input output one i o =
-    let seen = own_switch_sets ports s _ output (raised ports output) (Some (raised ports input)) one (port_at ports output o) (sets_connected s (raised ports input) (raised ports output)) in
-    one_set (own_switch ports s) _ _ output (Some input)
-    (subst (SetsOutput (own_switch ports s) (own_switch ports (connected s (raised ports input) (raised ports output))) output) (number_in-port ports input (raised ports input) one (port_at ports input i)) seen)
+own_connected laws ports s input output one i o =
+    let seen = own_switch_sets laws ports s _ output (raised ports output) (Some (raised ports input)) one (port_at ports output o) (sets_connected s (raised ports input) (raised ports output)) in
+    one_set laws (own_switch ports s) _ _ output (Some input)
+    (subst (SetsOutput (own_switch ports s) (own_switch ports (connected s (raised ports input) (raised ports output))) output) (laws.number ports input (raised ports input) one (port_at ports input i)) seen)
     (sets_connected (own_switch ports s) input output)
 
-pub own_disconnected : (ports : List ℕ) (s : Switch) (output : ℕ) → IsOneToOne ports → output < length ports
+pub own_disconnected : SwitchLaws → (ports : List ℕ) (s : Switch) (output : ℕ) → IsOneToOne ports → output < length ports
     → own_switch ports (disconnected s (raised ports output)) ≡ disconnected (own_switch ports s) output
-own_disconnected ports s output one o =
-    one_set (own_switch ports s) _ _ output None
-    (own_switch_sets ports s _ output (raised ports output) None one (port_at ports output o) (sets_disconnected s (raised ports output)))
+own_disconnected laws ports s output one o =
+    one_set laws (own_switch ports s) _ _ output None
+    (own_switch_sets laws ports s _ output (raised ports output) None one (port_at ports output o) (sets_disconnected s (raised ports output)))
     (sets_disconnected (own_switch ports s) output)
 
-known_driver : (ports : List ℕ) (found : Option ℕ) → ((input : ℕ) → found ≡ Some input → (w : ℕ) × (slice_get ports w ≡ Some input)) → is_some found ≡ is_some (option_and_then (number_in ports) found)
-known_driver ports None own = refl
-known_driver ports (Some input) own = let at = own input refl in sym (number_in-some ports input at.0 at.1)
+known_driver : SwitchLaws → (ports : List ℕ) (found : Option ℕ) → ((input : ℕ) → found ≡ Some input → (w : ℕ) × (slice_get ports w ≡ Some input)) → is_some found ≡ is_some (option_and_then (number_in ports) found)
+known_driver laws ports None own = refl
+known_driver laws ports (Some input) own = let at = own input refl in sym (laws.numbered ports input at.0 at.1)
 
-own_readied : (ports : List ℕ) (s : Switch) → DrivesItself ports s → own_switch ports (readied ports s) ≡ all_ready (own_switch ports s)
-own_readied ports s own =
-    same_switch _ _ (λ q. get-own_switch ports (readied ports s) q ∙ drivers (slice_get ports q) ∙ sym (get-own_switch ports s q)) (λ q.
-    contains-own_switch ports (readied ports s) q ∙ readies q (slice_get ports q) refl ∙ ap is_some (sym (get-own_switch ports s q)) ∙ sym (keys_of (own_switch ports s) q))
+own_readied : SwitchLaws → (ports : List ℕ) (s : Switch) → DrivesItself ports s → own_switch ports (readied ports s) ≡ all_ready (own_switch ports s)
+own_readied laws ports s own =
+    laws.same _ _ (λ q. get-own_switch laws ports (readied ports s) q ∙ drivers (slice_get ports q) ∙ sym (get-own_switch laws ports s q)) (λ q.
+    contains-own_switch laws ports (readied ports s) q ∙ readies q (slice_get ports q) refl ∙ ap is_some (sym (get-own_switch laws ports s q)) ∙ sym (keys_of (own_switch ports s) q))
   where
     drivers : (found : Option ℕ) → driver_at ports (readied ports s) found ≡ driver_at ports s found
     drivers None = refl
@@ -64,79 +63,79 @@ own_readied ports s own =
     readies : (q : ℕ) (found : Option ℕ) → slice_get ports q ≡ found → ready_at (readied ports s) found ≡ is_some (driver_at ports s found)
     readies q None e = refl
     readies q (Some port) e =
-        contains-readied ports s port ∙ cond-true _ _ _ (number_in-some ports port q e) ∙ known_driver ports (map.get s.pairs port) (λ input is. at_contained ports input (own port input (contains_at ports q port e) is))
+        contains-readied ports s port ∙ cond-true _ _ _ (laws.numbered ports port q e) ∙ known_driver laws ports (map.get s.pairs port) (λ input is. at_contained ports input (own port input (contains_at ports q port e) is))
 
-own_emptied : (ports : List ℕ) (s : Switch) → own_switch ports (disconnected_ports ports s) ≡ cleared
-own_emptied ports s =
-    same_switch _ _ (λ q. get-own_switch ports (disconnected_ports ports s) q ∙ drivers q (slice_get ports q) refl ∙ sym (map.get-empty nat_cmp q)) (λ q.
-    contains-own_switch ports (disconnected_ports ports s) q ∙ readies q (slice_get ports q) refl ∙ sym (set.contains-empty nat_cmp q))
+own_emptied : SwitchLaws → (ports : List ℕ) (s : Switch) → own_switch ports (disconnected_ports ports s) ≡ cleared
+own_emptied laws ports s =
+    laws.same _ _ (λ q. get-own_switch laws ports (disconnected_ports ports s) q ∙ drivers q (slice_get ports q) refl ∙ sym (map.get-empty nat_cmp q)) (λ q.
+    contains-own_switch laws ports (disconnected_ports ports s) q ∙ readies q (slice_get ports q) refl ∙ sym (set.contains-empty nat_cmp q))
   where
     drivers : (q : ℕ) (found : Option ℕ) → slice_get ports q ≡ found → driver_at ports (disconnected_ports ports s) found ≡ None
     drivers q None e = refl
-    drivers q (Some port) e = ap (option_and_then (number_in ports)) (get-emptied ports s port ∙ cond-true _ _ _ (number_in-some ports port q e))
+    drivers q (Some port) e = ap (option_and_then (number_in ports)) (get-emptied ports s port ∙ cond-true _ _ _ (laws.numbered ports port q e))
 
     readies : (q : ℕ) (found : Option ℕ) → slice_get ports q ≡ found → ready_at (disconnected_ports ports s) found ≡ false
     readies q None e = refl
-    readies q (Some port) e = contains-emptied ports s port ∙ cond-true _ _ _ (number_in-some ports port q e)
+    readies q (Some port) e = contains-emptied ports s port ∙ cond-true _ _ _ (laws.numbered ports port q e)
 
-own_performed : (ports : List ℕ) (s : Switch) (message : Message) → IsOneToOne ports → DrivesItself ports s → are_below (length ports) (ports_named message) ≡ true
+own_performed : SwitchLaws → (ports : List ℕ) (s : Switch) (message : Message) → IsOneToOne ports → DrivesItself ports s → are_below (length ports) (ports_named message) ≡ true
     → own_switch ports (performed_in ports s message) ≡ performed (own_switch ports s) message
-own_performed ports s (Connect input output) one own below = let h = two_below _ input output below in own_connected ports s input output one h.0 h.1
-own_performed ports s (ConnectBoth first second) one own below =
+own_performed laws ports s (Connect input output) one own below = let h = two_below _ input output below in own_connected laws ports s input output one h.0 h.1
+own_performed laws ports s (ConnectBoth first second) one own below =
     let h = two_below _ first second below in
-    own_connected ports (connected s (raised ports first) (raised ports second)) second first one h.1 h.0
-    ∙ ap (λ s. connected s second first) (own_connected ports s first second one h.0 h.1)
-own_performed ports s (Enquire output) one own below = refl
-own_performed ports s MakeReady one own below = own_readied ports s own
-own_performed ports s Clear one own below = own_emptied ports s
-own_performed ports s (Disconnect output) one own below = own_disconnected ports s output one (one_below _ output below)
-own_performed ports s (DisconnectBoth first second) one own below =
+    own_connected laws ports (connected s (raised ports first) (raised ports second)) second first one h.1 h.0
+    ∙ ap (λ s. connected s second first) (own_connected laws ports s first second one h.0 h.1)
+own_performed laws ports s (Enquire output) one own below = refl
+own_performed laws ports s MakeReady one own below = own_readied laws ports s own
+own_performed laws ports s Clear one own below = own_emptied laws ports s
+own_performed laws ports s (Disconnect output) one own below = own_disconnected laws ports s output one (one_below _ output below)
+own_performed laws ports s (DisconnectBoth first second) one own below =
     let h = two_below _ first second below in
-    own_disconnected ports (disconnected s (raised ports first)) second one h.1
-    ∙ ap (λ s. disconnected s second) (own_disconnected ports s first one h.0)
+    own_disconnected laws ports (disconnected s (raised ports first)) second one h.1
+    ∙ ap (λ s. disconnected s second) (own_disconnected laws ports s first one h.0)
 
 as_answered : (byte : ℕ) (found : Option ℕ) → is_some found ≡ true → lowered_byte byte found ≡ answer_byte found
 as_answered byte None none = absurd cc
 as_answered byte (Some input) some = refl
 
-lowered_enquiry : (ports : List ℕ) (found : Option ℕ) → ((input : ℕ) → found ≡ Some input → (w : ℕ) × (slice_get ports w ≡ Some input))
+lowered_enquiry : SwitchLaws → (ports : List ℕ) (found : Option ℕ) → ((input : ℕ) → found ≡ Some input → (w : ℕ) × (slice_get ports w ≡ Some input))
     → (if answer_byte found == 0 then 0 else lowered_byte (answer_byte found) (number_in ports (answer_byte found - 128))) ≡ answer_byte (option_and_then (number_in ports) found)
-lowered_enquiry ports None own = refl
-lowered_enquiry ports (Some input) own =
+lowered_enquiry laws ports None own = refl
+lowered_enquiry laws ports (Some input) own =
     let some : (128 + input == 0) ≡ false = ne_eqb _ _ (λ e. omega arith) in
     let back : 128 + input - 128 ≡ input = omega arith in
     let at = own input refl in
-    rw some (ap (λ n. lowered_byte (128 + input) (number_in ports n)) back ∙ as_answered (128 + input) (number_in ports input) (number_in-some ports input at.0 at.1))
+    rw some (ap (λ n. lowered_byte (128 + input) (number_in ports n)) back ∙ as_answered (128 + input) (number_in ports input) (laws.numbered ports input at.0 at.1))
 
-own_answer : (ports : List ℕ) (s : Switch) (message : Message) → DrivesItself ports s → are_below (length ports) (ports_named message) ≡ true
+own_answer : SwitchLaws → (ports : List ℕ) (s : Switch) (message : Message) → DrivesItself ports s → are_below (length ports) (ports_named message) ≡ true
     → lowered_config ports (answer_to s (raised_message ports message)) ≡ answer_to (own_switch ports s) message
-own_answer ports s (Connect input output) own below = refl
-own_answer ports s (ConnectBoth first second) own below = refl
-own_answer ports s (Enquire output) own below =
+own_answer laws ports s (Connect input output) own below = refl
+own_answer laws ports s (ConnectBoth first second) own below = refl
+own_answer laws ports s (Enquire output) own below =
     let at = port_at ports output (one_below _ output below) in
     ap (λ (byte : ℕ). Answer byte) (
-    lowered_enquiry ports (map.get s.pairs (raised ports output)) (λ input is. at_contained ports input (own (raised ports output) input (contains_at ports output (raised ports output) at) is))
-    ∙ ap answer_byte (sym (get-own_switch ports s output ∙ ap (driver_at ports s) at)))
-own_answer ports s MakeReady own below = refl
-own_answer ports s Clear own below = refl
-own_answer ports s (Disconnect output) own below = refl
-own_answer ports s (DisconnectBoth first second) own below = refl
+    lowered_enquiry laws ports (map.get s.pairs (raised ports output)) (λ input is. at_contained ports input (own (raised ports output) input (contains_at ports output (raised ports output) at) is))
+    ∙ ap answer_byte (sym (get-own_switch laws ports s output ∙ ap (driver_at ports s) at)))
+own_answer laws ports s MakeReady own below = refl
+own_answer laws ports s Clear own below = refl
+own_answer laws ports s (Disconnect output) own below = refl
+own_answer laws ports s (DisconnectBoth first second) own below = refl
 
-pub own_item : (place : Place) (s : Switch) (item : Item) → IsOneToOne place.ports → length place.ports ≡ place.part.count → DrivesItself place.ports s
+pub own_item : SwitchLaws → (place : Place) (s : Switch) (item : Item) → IsOneToOne place.ports → length place.ports ≡ place.part.count → DrivesItself place.ports s
     → own_switch place.ports (after_item_in place s item) ≡ after_item place.part.count (own_switch place.ports s) item
-own_item place s (Stray byte) one count own = refl
-own_item place s (Command message) one count own =
+own_item laws place s (Stray byte) one count own = refl
+own_item laws place s (Command message) one count own =
     elim (cases_Bool (are_below place.part.count (ports_named message))) [
-      | inl below ↦ rw below (own_performed place.ports s message one own (ap (λ n. are_below n (ports_named message)) count ∙ below))
+      | inl below ↦ rw below (own_performed laws place.ports s message one own (ap (λ n. are_below n (ports_named message)) count ∙ below))
       | inr not_below ↦ rw not_below refl
     ]
 
-pub own_reply : (place : Place) (s : Switch) (item : Item) → length place.ports ≡ place.part.count → DrivesItself place.ports s
+pub own_reply : SwitchLaws → (place : Place) (s : Switch) (item : Item) → length place.ports ≡ place.part.count → DrivesItself place.ports s
     → lowered_config place.ports (reply_in place s item) ≡ reply_to place.part.count (own_switch place.ports s) item
-own_reply place s (Stray byte) count own = refl
-own_reply place s (Command message) count own =
+own_reply laws place s (Stray byte) count own = refl
+own_reply laws place s (Command message) count own =
     elim (cases_Bool (are_below place.part.count (ports_named message))) [
-      | inl below ↦ rw below (own_answer place.ports s message own (ap (λ n. are_below n (ports_named message)) count ∙ below))
+      | inl below ↦ rw below (own_answer laws place.ports s message own (ap (λ n. are_below n (ports_named message)) count ∙ below))
       | inr not_below ↦ rw not_below refl
     ]
 
@@ -148,47 +147,47 @@ never_both ports others v w port apart at there = apart port (contains_at ports 
 not_theirs : (ports others : List ℕ) (v : ℕ) → AreApart ports others → v < length ports → (w : ℕ) → slice_get others w ≡ Some (raised ports v) → ⊥
 not_theirs ports others v apart h w at = never_both ports others v w (raised ports v) apart (port_at ports v h) at
 
-other_readied : (ports others : List ℕ) (s : Switch) → AreApart ports others → own_switch others (readied ports s) ≡ own_switch others s
-other_readied ports others s apart =
-    same_own_switch others s (readied ports s) (λ v port at. refl) (λ v port at.
+other_readied : SwitchLaws → (ports others : List ℕ) (s : Switch) → AreApart ports others → own_switch others (readied ports s) ≡ own_switch others s
+other_readied laws ports others s apart =
+    same_own_switch laws others s (readied ports s) (λ v port at. refl) (λ v port at.
     contains-readied ports s port ∙ cond-false _ _ _ (ap is_some (number_in-none ports port (λ w is. never_both ports others w v port apart is at))))
 
-other_emptied : (ports others : List ℕ) (s : Switch) → AreApart ports others → own_switch others (disconnected_ports ports s) ≡ own_switch others s
-other_emptied ports others s apart =
-    same_own_switch others s (disconnected_ports ports s) (λ v port at.
+other_emptied : SwitchLaws → (ports others : List ℕ) (s : Switch) → AreApart ports others → own_switch others (disconnected_ports ports s) ≡ own_switch others s
+other_emptied laws ports others s apart =
+    same_own_switch laws others s (disconnected_ports ports s) (λ v port at.
     get-emptied ports s port ∙ cond-false _ _ _ (ap is_some (number_in-none ports port (λ w is. never_both ports others w v port apart is at)))) (λ v port at.
     contains-emptied ports s port ∙ cond-false _ _ _ (ap is_some (number_in-none ports port (λ w is. never_both ports others w v port apart is at))))
 
-other_connected : (ports others : List ℕ) (s : Switch) (input output : ℕ) → AreApart ports others → output < length ports
+other_connected : SwitchLaws → (ports others : List ℕ) (s : Switch) (input output : ℕ) → AreApart ports others → output < length ports
     → own_switch others (connected s (raised ports input) (raised ports output)) ≡ own_switch others s
-other_connected ports others s input output apart o =
-    untouched others s _ (raised ports output) (Some (raised ports input)) (not_theirs ports others output apart o) (sets_connected s (raised ports input) (raised ports output))
+other_connected laws ports others s input output apart o =
+    untouched laws others s _ (raised ports output) (Some (raised ports input)) (not_theirs ports others output apart o) (sets_connected s (raised ports input) (raised ports output))
 
-other_disconnected : (ports others : List ℕ) (s : Switch) (output : ℕ) → AreApart ports others → output < length ports
+other_disconnected : SwitchLaws → (ports others : List ℕ) (s : Switch) (output : ℕ) → AreApart ports others → output < length ports
     → own_switch others (disconnected s (raised ports output)) ≡ own_switch others s
-other_disconnected ports others s output apart o =
-    untouched others s _ (raised ports output) None (not_theirs ports others output apart o) (sets_disconnected s (raised ports output))
+other_disconnected laws ports others s output apart o =
+    untouched laws others s _ (raised ports output) None (not_theirs ports others output apart o) (sets_disconnected s (raised ports output))
 
-other_performed : (ports others : List ℕ) (s : Switch) (message : Message) → AreApart ports others → are_below (length ports) (ports_named message) ≡ true
+other_performed : SwitchLaws → (ports others : List ℕ) (s : Switch) (message : Message) → AreApart ports others → are_below (length ports) (ports_named message) ≡ true
     → own_switch others (performed_in ports s message) ≡ own_switch others s
-other_performed ports others s (Connect input output) apart below = other_connected ports others s input output apart (two_below _ input output below).1
-other_performed ports others s (ConnectBoth first second) apart below =
+other_performed laws ports others s (Connect input output) apart below = other_connected laws ports others s input output apart (two_below _ input output below).1
+other_performed laws ports others s (ConnectBoth first second) apart below =
     let h = two_below _ first second below in
-    other_connected ports others (connected s (raised ports first) (raised ports second)) second first apart h.0 ∙ other_connected ports others s first second apart h.1
-other_performed ports others s (Enquire output) apart below = refl
-other_performed ports others s MakeReady apart below = other_readied ports others s apart
-other_performed ports others s Clear apart below = other_emptied ports others s apart
-other_performed ports others s (Disconnect output) apart below = other_disconnected ports others s output apart (one_below _ output below)
-other_performed ports others s (DisconnectBoth first second) apart below =
+    other_connected laws ports others (connected s (raised ports first) (raised ports second)) second first apart h.0 ∙ other_connected laws ports others s first second apart h.1
+other_performed laws ports others s (Enquire output) apart below = refl
+other_performed laws ports others s MakeReady apart below = other_readied laws ports others s apart
+other_performed laws ports others s Clear apart below = other_emptied laws ports others s apart
+other_performed laws ports others s (Disconnect output) apart below = other_disconnected laws ports others s output apart (one_below _ output below)
+other_performed laws ports others s (DisconnectBoth first second) apart below =
     let h = two_below _ first second below in
-    other_disconnected ports others (disconnected s (raised ports first)) second apart h.1 ∙ other_disconnected ports others s first apart h.0
+    other_disconnected laws ports others (disconnected s (raised ports first)) second apart h.1 ∙ other_disconnected laws ports others s first apart h.0
 
-pub other_item : (place : Place) (others : List ℕ) (s : Switch) (item : Item) → length place.ports ≡ place.part.count → AreApart place.ports others
+pub other_item : SwitchLaws → (place : Place) (others : List ℕ) (s : Switch) (item : Item) → length place.ports ≡ place.part.count → AreApart place.ports others
     → own_switch others (after_item_in place s item) ≡ own_switch others s
-other_item place others s (Stray byte) count apart = refl
-other_item place others s (Command message) count apart =
+other_item laws place others s (Stray byte) count apart = refl
+other_item laws place others s (Command message) count apart =
     elim (cases_Bool (are_below place.part.count (ports_named message))) [
-      | inl below ↦ rw below (other_performed place.ports others s message apart (ap (λ n. are_below n (ports_named message)) count ∙ below))
+      | inl below ↦ rw below (other_performed laws place.ports others s message apart (ap (λ n. are_below n (ports_named message)) count ∙ below))
       | inr not_below ↦ rw not_below refl
     ]
 

@@ -6,6 +6,7 @@ use Rattle.crossbar.specs.declared.word.Word.{Word}
 use Rattle.crossbar.specs.Plain.{Row, outputs_of, words_at}
 use Rattle.crossbar.specs.Ranges.{ports_in}
 use Rattle.crossbar.specs.declared.range.PortRange.{PortRange}
+use Rattle.crossbar.specs.Laws.{SwitchLaws}
 use Rattle.std.proofs.lemmas.List.{take_more, map-append}
 use Rattle.std.proofs.lemmas.List.Elements.{All-push, All-cons, All-nil}
 use Rattle.plan_checker.specs.Data.{DomainData}
@@ -72,5 +73,5 @@ opened_more plan i domains d within before place state journal unused =
     subst (λ opened. AreOpened opened (domains ++ d ∷ [])) (sym (take_more plan i x.0 within))
     (one_more (take i plan) of domains d before (subst (λ found. IfSome found (λ o. own_place d ≡ place_of o)) at place) (subst (λ found. IfSome found (λ o. state_of d ≡ opening (part_of o))) at state) journal unused)
 
-pub opened_is_whole : (plan : List DomainData) (domains : List DomainValue) → states_in domains ≡ openings (places_of plan) → IsMadeOf (places_of plan) (whole_opening (places_of plan)) (states_in domains)
-opened_is_whole plan domains states = subst (IsMadeOf (places_of plan) (whole_opening (places_of plan))) (sym states) (opening_is_made_of_openings (places_of plan))
+pub opened_is_whole : SwitchLaws → (plan : List DomainData) (domains : List DomainValue) → states_in domains ≡ openings (places_of plan) → IsMadeOf (places_of plan) (whole_opening (places_of plan)) (states_in domains)
+opened_is_whole laws plan domains states = subst (IsMadeOf (places_of plan) (whole_opening (places_of plan))) (sym states) (opening_is_made_of_openings laws (places_of plan))

@@ -1,19 +1,14 @@
 -- Whose an output is, and what the word of its owner says of it.
-use Rattle.std.proofs.Common.{◌≡◌, inl, inr, ℕ, ◌+◌, ◌<◌, ◌≤◌, Option, Some, None, List, length, get_or, slice_get, slice_set, is_some, option_map, ◌&&◌, Contains, refl, sym, ap, ◌∙◌, subst, arith}
-use Rattle.std.proofs.lemmas.Bool.{true≢false, cases_eq, lt-ltb}
+use Rattle.std.proofs.Common.{◌≡◌, inl, inr, ℕ, ◌+◌, ◌<◌, ◌≤◌, Option, Some, None, List, length, get_or, slice_get, slice_set, is_some, option_map, Contains, refl, sym, ap, ◌∙◌, subst, arith}
+use Rattle.std.proofs.lemmas.Bool.{true≢false, cases_eq}
 use Rattle.std.proofs.lemmas.Option.{same_Some, none-some, slice_get_within, get_or_from_slice_get}
 use Rattle.std.proofs.lemmas.List.{set-get_or}
-use Rattle.std.specs.Option.{option_and_then}
 use Rattle.std.specs.FinMap as fin
-use Rattle.std.specs.FinSet as set
 use Rattle.crossbar.specs.declared.word.Word.{Word}
 use Rattle.crossbar.specs.declared.word.Connection.{Connection}
 use Rattle.crossbar.specs.Word.{connection_of}
-use Rattle.crossbar.specs.Row.{AreWordsOf, InputIsIn, number_in, switch_of, input_of, is_ready}
-use Rattle.crossbar.proofs.Numberings.{number_in-get, number_in-some}
-use Rattle.crossbar.proofs.Switching.{enquired, contains-switch_of, word_within}
-use Rattle.virtual_switch.specs.SwitchValue.{lowered}
-use Rattle.virtual_switch.proofs.Lowering.{driver-lowered, contains-lowered}
+use Rattle.crossbar.specs.Row.{AreWordsOf, IsWordOf, InputIsIn, number_in, private_at, input_of}
+use Rattle.crossbar.specs.Laws.{SwitchLaws}
 use Rattle.domain_core.specs.Domain.{DomainValue, state_of}
 use Rattle.farm_core.specs.Places.{Place, AreSeparatePlaces}
 use Rattle.farm_core.specs.Domains.{IsFree}
@@ -39,19 +34,19 @@ one_not_owner_more domains count output d before at none k e below there =
       | inr ne ↦ before k e (omega arith) there
     ]
 
-pub free_of_all : (domains : List DomainValue) (count output : ℕ) → length domains ≤ count → AreNotOwners domains count output → IsFree (places_in domains) output
-free_of_all domains count output all none domain place at has =
+pub free_of_all : SwitchLaws → (domains : List DomainValue) (count output : ℕ) → length domains ≤ count → AreNotOwners domains count output → IsFree (places_in domains) output
+free_of_all laws domains count output all none domain place at has =
     let d = domain_of own_place domains domain place at in
     let inside = at_contained place.ports output has in
     let port : slice_get d.0.machine.switch.ports inside.0 ≡ Some output = ap (λ (p : Place). slice_get p.ports inside.0) d.2 ∙ inside.1 in
     let within : domain < length domains = slice_get_within domains domain d.0 d.1 in
-    let found = number_in-some d.0.machine.switch.ports output inside.0 port in
+    let found = laws.numbered d.0.machine.switch.ports output inside.0 port in
     let missing : number_in d.0.machine.switch.ports output ≡ None = none domain d.0 (omega arith) d.1 in
     true≢false (sym found ∙ ap is_some missing)
 
-pub has_output : (domains : List DomainValue) (index : ℕ) (d : DomainValue) (number output : ℕ) → slice_get domains index ≡ Some d → number_in d.machine.switch.ports output ≡ Some number
+pub has_output : SwitchLaws → (domains : List DomainValue) (index : ℕ) (d : DomainValue) (number output : ℕ) → slice_get domains index ≡ Some d → number_in d.machine.switch.ports output ≡ Some number
     → HasOutput (slice_get domains index) number output
-has_output domains index d number output at is = subst (λ found. HasOutput found number output) (sym at) (number_in-get d.machine.switch.ports output number is)
+has_output laws domains index d number output at is = subst (λ found. HasOutput found number output) (sym at) (laws.found d.machine.switch.ports output number is)
 
 -- the domain that has the output
 pub owner_of : (found : Option DomainValue) (number output : ℕ) → HasOutput found number output → (d : DomainValue) × (found ≡ Some d) × (slice_get d.machine.switch.ports number ≡ Some output)
@@ -99,32 +94,30 @@ word_of_owner domains index d number output word separate at is has other v e th
 
 -- ---- what a word says
 
-driver_is : (ports : List ℕ) (words : List Word) (number : ℕ) (word : Word) → AreWordsOf ports words → number < length ports → slice_get words number ≡ Some word
-    → option_map (raised ports) (fin.get (lowered ports (switch_of words)).pairs number) ≡ input_of (connection_of word)
-driver_is ports words number word row within has =
-    let is = driver-lowered ports (switch_of words) number within ∙ ap (option_and_then (number_in ports)) (enquired words number word has) in
-    ap (option_map (raised ports)) is
-    ∙ sym (raised-number ports (input_of (connection_of word)) row.one_to_one (inside (connection_of word) (word_within ports words number word row has).within))
+-- a word of a row is proper, and its input is one of the ports
+pub word_within : (ports : List ℕ) (words : List Word) (output : ℕ) (word : Word) → AreWordsOf ports words → slice_get words output ≡ Some word → IsWordOf ports word
+word_within ports words output word row is =
+    subst (IsWordOf ports) (get_or_from_slice_get words output word word is) (row.each output word (slice_get_within words output word is))
+
+driver_is : SwitchLaws → (ports : List ℕ) (words : List Word) (number : ℕ) (word : Word) → AreWordsOf ports words → number < length ports → slice_get words number ≡ Some word
+    → option_map (raised ports) (fin.get (private_at ports words).pairs number) ≡ input_of (connection_of word)
+driver_is laws ports words number word row within has =
+    ap (option_map (raised ports)) (laws.driver ports words number word within has)
+    ∙ sym (raised-number laws ports (input_of (connection_of word)) row.one_to_one (inside (connection_of word) (word_within ports words number word row has).within))
   where
     inside : (found : Option Connection) → InputIsIn ports found → (input : ℕ) → input_of found ≡ Some input → Contains ports input
     inside None in' input is = absurd (none-some input is)
     inside (Some connection) in' input is = subst (Contains ports) (same_Some _ _ is) in'
 
-readiness_is : (ports : List ℕ) (words : List Word) (number : ℕ) (word : Word) → number < length ports → slice_get words number ≡ Some word
-    → set.contains (lowered ports (switch_of words)).ready number ≡ is_ready (connection_of word)
-readiness_is ports words number word within has =
-    contains-lowered ports (switch_of words) number ∙ ap (λ t. t && set.contains (switch_of words).ready number) (lt-ltb _ _ within)
-    ∙ contains-switch_of words number ∙ ap (λ found. is_ready (option_and_then connection_of found)) has
-
-pub word_says : (domains : List DomainValue) (index : ℕ) (d : DomainValue) (number output : ℕ) (word : Word) → AreSeparatePlaces (places_in domains) → slice_get domains index ≡ Some d
+pub word_says : SwitchLaws → (domains : List DomainValue) (index : ℕ) (d : DomainValue) (number output : ℕ) (word : Word) → AreSeparatePlaces (places_in domains) → slice_get domains index ≡ Some d
     → slice_get d.machine.switch.ports number ≡ Some output → slice_get d.machine.switch.words number ≡ Some word → AreWordsOf d.machine.switch.ports d.machine.switch.words
     → SaysEachWhole domains output word
-word_says domains index d number output word separate at is has row farm made =
+word_says laws domains index d number output word separate at is has row farm made =
     let ports = d.machine.switch.ports in
     let words = d.machine.switch.words in
     let within = slice_get_within ports number output is in
-    each_output_is_of_its_domain (places_in domains) farm (states_in domains) index (own_place d) (state_of d) number output separate made (place_at domains index d at) (state_at domains index d at) is
-    ∙ (λ i. record { driver = driver_is ports words number word row within has i; ready = readiness_is ports words number word within has i })
+    each_output_is_of_its_domain laws (places_in domains) farm (states_in domains) index (own_place d) (state_of d) number output separate made (place_at domains index d at) (state_at domains index d at) is
+    ∙ (λ i. record { driver = driver_is laws ports words number word row within has i; ready = laws.readiness ports words number word within has i })
 
 pub nothing_says : (domains : List DomainValue) (output : ℕ) (word : Word) → IsFree (places_in domains) output → word ≡ record { bits = 0 } → SaysEachWhole domains output word
 nothing_says domains output word free is farm made = made.free output free ∙ ap output_in (sym is)

@@ -10,7 +10,7 @@ use Rattle.os_link.specs.declared.latch.Packet.{Packet}
 use Rattle.crossbar.specs.Switch.{Switch, drives, names}
 use Rattle.crossbar.specs.Ranges.{IsOneToOne}
 use Rattle.crossbar.specs.Row.{number_in}
-use Rattle.crossbar.proofs.Numberings.{number_in-port}
+use Rattle.crossbar.specs.Laws.{SwitchLaws}
 use Rattle.plan_checker.specs.Part.{PartData}
 use Rattle.domain_core.specs.declared.device.Device.{Device}
 use Rattle.domain_core.specs.declared.event.Moved.{Moved}
@@ -38,23 +38,23 @@ device-nowhere : (first : ℕ) (plan : List Place) (port : ℕ) → ((e : ℕ) (
 device-nowhere first [] port out = refl
 device-nowhere first (place ∷ plan) port out = rw (number_in-none place.ports port (λ w at. out 0 place w refl at)) (device-nowhere (first + 1) plan port (λ e. out (suc e)))
 
-device-at : (first : ℕ) (plan : List Place) (d : ℕ) (place : Place) (v port number : ℕ) → slice_get plan d ≡ Some place → IsOneToOne place.ports → slice_get place.ports v ≡ Some port
+device-at : SwitchLaws → (first : ℕ) (plan : List Place) (d : ℕ) (place : Place) (v port number : ℕ) → slice_get plan d ≡ Some place → IsOneToOne place.ports → slice_get place.ports v ≡ Some port
     → IsOnlyAt plan d port → number ≡ first + d → device_from first plan port ≡ joined_to number (device_at place.part v)
-device-at first [] d place v port number there one at only is = absurd (none-some place there)
-device-at first (head ∷ plan) zero place v port number there one at only is =
+device-at laws first [] d place v port number there one at only is = absurd (none-some place there)
+device-at laws first (head ∷ plan) zero place v port number there one at only is =
     let same : place ≡ head = sym (same_Some _ _ there) in
     let first_is : number ≡ first = omega arith in
-    ap (λ n. device_or first head n (device_from (first + 1) plan port)) (number_in-port head.ports v port (subst (λ (p : Place). IsOneToOne p.ports) same one) (subst (λ (p : Place). slice_get p.ports v ≡ Some port) same at))
+    ap (λ n. device_or first head n (device_from (first + 1) plan port)) (laws.number head.ports v port (subst (λ (p : Place). IsOneToOne p.ports) same one) (subst (λ (p : Place). slice_get p.ports v ≡ Some port) same at))
     ∙ (λ i. joined_to (sym first_is i) (device_at (sym same i).part v))
-device-at first (head ∷ plan) (suc d) place v port number there one at only is =
+device-at laws first (head ∷ plan) (suc d) place v port number there one at only is =
     let out : number_in head.ports port ≡ None = number_in-none head.ports port (λ w. only 0 head w (λ e. omega arith) refl) in
     ap (λ n. device_or first head n (device_from (first + 1) plan port)) out
-    ∙ device-at (first + 1) plan d place v port number there one at (λ e other w ne. only (suc e) other w (λ same. ne (omega arith))) (omega arith)
+    ∙ device-at laws (first + 1) plan d place v port number there one at (λ e other w ne. only (suc e) other w (λ same. ne (omega arith))) (omega arith)
 
-pub device_own : (plan : List Place) (domain : ℕ) (place : Place) (v port : ℕ) → AreSeparatePlaces plan → slice_get plan domain ≡ Some place → slice_get place.ports v ≡ Some port
+pub device_own : SwitchLaws → (plan : List Place) (domain : ℕ) (place : Place) (v port : ℕ) → AreSeparatePlaces plan → slice_get plan domain ≡ Some place → slice_get place.ports v ≡ Some port
     → device_in plan port ≡ joined_to domain (device_at place.part v)
-device_own plan domain place v port separate there at =
-    device-at 0 plan domain place v port domain there (separate.each domain place there).ports.one_to_one at (only_at plan domain place v port separate there at) (omega arith)
+device_own laws plan domain place v port separate there at =
+    device-at laws 0 plan domain place v port domain there (separate.each domain place there).ports.one_to_one at (only_at plan domain place v port separate there at) (omega arith)
 
 -- ---- which outputs a port drives
 
@@ -116,17 +116,17 @@ same-test a b c d to from =
       | inr ne ↦ ne_eqb a b ne ∙ sym (ne_eqb c d (λ e. ne (from e)))
     ]
 
-driven-alike : (ports : List ℕ) (found : Option ℕ) (w port : ℕ) → IsOneToOne ports → slice_get ports w ≡ Some port → ((input : ℕ) → found ≡ Some input → (u : ℕ) × (slice_get ports u ≡ Some input))
+driven-alike : SwitchLaws → (ports : List ℕ) (found : Option ℕ) (w port : ℕ) → IsOneToOne ports → slice_get ports w ≡ Some port → ((input : ℕ) → found ≡ Some input → (u : ℕ) × (slice_get ports u ≡ Some input))
     → names found port ≡ names (option_and_then (number_in ports) found) w
-driven-alike ports None w port one at own = refl
-driven-alike ports (Some input) w port one at own =
+driven-alike laws ports None w port one at own = refl
+driven-alike laws ports (Some input) w port one at own =
     let u = own input refl in
     same-test input port u.0 w (λ e. one u.0 w port (u.1 ∙ ap (λ (x : ℕ). Some x) e) at) (λ e. same_Some _ _ (sym u.1 ∙ ap (slice_get ports) e ∙ at))
-    ∙ ap (λ n. names n w) (sym (number_in-port ports u.0 input one u.1))
+    ∙ ap (λ n. names n w) (sym (laws.number ports u.0 input one u.1))
 
-pub driven_own : (plan : List Place) (s : Switch) (domain : ℕ) (place : Place) (w port : ℕ) → AreSeparatePlaces plan → EachDrivesItself plan s → slice_get plan domain ≡ Some place → slice_get place.ports w ≡ Some port
+pub driven_own : SwitchLaws → (plan : List Place) (s : Switch) (domain : ℕ) (place : Place) (w port : ℕ) → AreSeparatePlaces plan → EachDrivesItself plan s → slice_get plan domain ≡ Some place → slice_get place.ports w ≡ Some port
     → driven_in plan s port ≡ map (raised place.ports) (driven place.part (own_switch place.ports s) w)
-driven_own plan s domain place w port separate own there at =
+driven_own laws plan s domain place w port separate own there at =
     let is = separate.each domain place there in
     filter-only (drives s port) plan domain place there (λ e other v output ne here is_output.
     not-driven (fin.get s.pairs output) port (λ driven.
@@ -135,8 +135,8 @@ driven_own plan s domain place w port separate own there at =
     let from : 0 + v ≡ v = omega arith in
     let inside = slice_get_within place.ports v output is_output in (
       ap (raised place.ports) from ∙ same_Some _ _ (sym (port_at place.ports v inside) ∙ is_output),
-      driven-alike place.ports (fin.get s.pairs output) w port is.ports.one_to_one at (λ input driven. at_contained place.ports input (own domain place there output input (contains_at place.ports v output is_output) driven))
-          ∙ ap (λ n. names n w) (sym (get-own_switch place.ports s v ∙ ap (driver_at place.ports s) is_output))
+      driven-alike laws place.ports (fin.get s.pairs output) w port is.ports.one_to_one at (λ input driven. at_contained place.ports input (own domain place there output input (contains_at place.ports v output is_output) driven))
+          ∙ ap (λ n. names n w) (sym (get-own_switch laws place.ports s v ∙ ap (driver_at place.ports s) is_output))
           ∙ ap (drives (own_switch place.ports s) w) (sym from),
     ))
     ∙ ap (λ n. map (raised place.ports) (filter (drives (own_switch place.ports s) w) (range_with_len 0 n))) is.count
@@ -160,15 +160,15 @@ below-filtered p a (suc n) most h =
 pub driven-below : (part : PartData) (s : Switch) (input : ℕ) → AreBelow part.count (driven part s input)
 driven-below part s input = below-filtered (drives s input) 0 part.count part.count (omega arith)
 
-ready_alike : (ports : List ℕ) (s : Switch) (outputs : List ℕ) → AreBelow (length ports) outputs → are_ready s (map (raised ports) outputs) ≡ are_ready (own_switch ports s) outputs
-ready_alike ports s [] below = refl
-ready_alike ports s (output ∷ outputs) below =
-    let head = contains-own_switch ports s output ∙ ap (ready_at s) (port_at ports output below.0) in
-    λ i. sym head i && ready_alike ports s outputs below.1 i
+ready_alike : SwitchLaws → (ports : List ℕ) (s : Switch) (outputs : List ℕ) → AreBelow (length ports) outputs → are_ready s (map (raised ports) outputs) ≡ are_ready (own_switch ports s) outputs
+ready_alike laws ports s [] below = refl
+ready_alike laws ports s (output ∷ outputs) below =
+    let head = contains-own_switch laws ports s output ∙ ap (ready_at s) (port_at ports output below.0) in
+    λ i. sym head i && ready_alike laws ports s outputs below.1 i
 
-pub outcome_alike : (ports : List ℕ) (s : Switch) (outputs : List ℕ) → AreBelow (length ports) outputs → outcome s (map (raised ports) outputs) ≡ outcome (own_switch ports s) outputs
-outcome_alike ports s [] below = refl
-outcome_alike ports s (output ∷ outputs) below = ap (λ t. cond t Passed Stayed) (ready_alike ports s (output ∷ outputs) below)
+pub outcome_alike : SwitchLaws → (ports : List ℕ) (s : Switch) (outputs : List ℕ) → AreBelow (length ports) outputs → outcome s (map (raised ports) outputs) ≡ outcome (own_switch ports s) outputs
+outcome_alike laws ports s [] below = refl
+outcome_alike laws ports s (output ∷ outputs) below = ap (λ t. cond t Passed Stayed) (ready_alike laws ports s (output ∷ outputs) below)
 
 -- ---- the devices of all domains
 
@@ -231,13 +231,13 @@ pub record MovesAlone (domain : ℕ) (all : AllDevices) (whole : AllDevices × M
   pub answer : whole.1 ≡ alone.1
   pub devices : Changes domain all whole.0 alone.0
 
-sends : (plan : List Place) (s : Switch) (domain : ℕ) (place : Place) (outputs : List ℕ) (device : Device) (packet : Option Packet) (all : AllDevices) → HasDevices plan domain place
+sends : SwitchLaws → (plan : List Place) (s : Switch) (domain : ℕ) (place : Place) (outputs : List ℕ) (device : Device) (packet : Option Packet) (all : AllDevices) → HasDevices plan domain place
     → AreBelow (length place.ports) outputs
     → MovesAlone domain all (sent_in plan s all (map (raised place.ports) outputs) (record { domain = domain; device = device }) packet)
     (sent place.part (own_switch place.ports s) (all domain) outputs device packet)
-sends plan s domain place outputs device None all has below = record { answer = refl; devices = unchanged domain all }
-sends plan s domain place outputs device (Some packet) all has below =
-    let same = outcome_alike place.ports s outputs below in
+sends laws plan s domain place outputs device None all has below = record { answer = refl; devices = unchanged domain all }
+sends laws plan s domain place outputs device (Some packet) all has below =
+    let same = outcome_alike laws place.ports s outputs below in
     record {
       answer = same;
       devices =
@@ -246,22 +246,22 @@ sends plan s domain place outputs device (Some packet) all has below =
           (moves_by (outcome (own_switch place.ports s) outputs) plan domain place device packet outputs all has below);
     }
 
-moves_from : (plan : List Place) (s : Switch) (domain : ℕ) (place : Place) (outputs : List ℕ) (device : Option Device) (all : AllDevices) → HasDevices plan domain place
+moves_from : SwitchLaws → (plan : List Place) (s : Switch) (domain : ℕ) (place : Place) (outputs : List ℕ) (device : Option Device) (all : AllDevices) → HasDevices plan domain place
     → AreBelow (length place.ports) outputs
     → MovesAlone domain all (moved_from_in plan s all (map (raised place.ports) outputs) (joined_to domain device))
     (moved_from place.part (own_switch place.ports s) (all domain) outputs device)
-moves_from plan s domain place outputs None all has below = record { answer = refl; devices = unchanged domain all }
-moves_from plan s domain place outputs (Some device) all has below = sends plan s domain place outputs device (packet_waiting (all domain) device) all has below
+moves_from laws plan s domain place outputs None all has below = record { answer = refl; devices = unchanged domain all }
+moves_from laws plan s domain place outputs (Some device) all has below = sends laws plan s domain place outputs device (packet_waiting (all domain) device) all has below
 
-pub moves_alone : (plan : List Place) (s : Switch) (all : AllDevices) (domain : ℕ) (place : Place) (port : ℕ) → AreSeparatePlaces plan → EachDrivesItself plan s → slice_get plan domain ≡ Some place
+pub moves_alone : SwitchLaws → (plan : List Place) (s : Switch) (all : AllDevices) (domain : ℕ) (place : Place) (port : ℕ) → AreSeparatePlaces plan → EachDrivesItself plan s → slice_get plan domain ≡ Some place
     → port < place.part.count → MovesAlone domain all (moved_in plan s all (raised place.ports port)) (moved place.part (own_switch place.ports s) (all domain) port)
-moves_alone plan s all domain place port separate own there inside =
+moves_alone laws plan s all domain place port separate own there inside =
     let is = separate.each domain place there in
     let outputs = driven place.part (own_switch place.ports s) port in
-    let has : HasDevices plan domain place = λ v below. device_own plan domain place v (raised place.ports v) separate there (port_at place.ports v below) in
+    let has : HasDevices plan domain place = λ v below. device_own laws plan domain place v (raised place.ports v) separate there (port_at place.ports v below) in
     let below : AreBelow (length place.ports) outputs = subst (λ n. AreBelow n outputs) (sym is.count) (driven-below place.part (own_switch place.ports s) port) in
     let within : port < length place.ports = omega (arith, is.count) in
     subst (λ driven_outputs. MovesAlone domain all (moved_from_in plan s all driven_outputs (device_in plan (raised place.ports port))) (moved place.part (own_switch place.ports s) (all domain) port))
-    (sym (driven_own plan s domain place port (raised place.ports port) separate own there (port_at place.ports port within)))
+    (sym (driven_own laws plan s domain place port (raised place.ports port) separate own there (port_at place.ports port within)))
     (subst (λ found. MovesAlone domain all (moved_from_in plan s all (map (raised place.ports) outputs) found) (moved place.part (own_switch place.ports s) (all domain) port))
-    (sym (has port within)) (moves_from plan s domain place outputs (device_at place.part port) all has below))
+    (sym (has port within)) (moves_from laws plan s domain place outputs (device_at place.part port) all has below))

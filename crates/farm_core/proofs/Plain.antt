@@ -9,14 +9,15 @@ use Rattle.domain_core.specs.declared.event.Refusal.{Refusal}
 use Rattle.domain_core.specs.declared.event.Refusal.TheVariants.{NoSuch, JournalFull, NoMemory}
 use Rattle.domain_core.specs.Ticket.{TicketValue}
 use Rattle.domain_core.specs.PrivateFarm.{Answer, Call, next}
-use Rattle.domain_core.specs.Domain.{DomainValue, state_of, UnlessNoMemory}
+use Rattle.domain_core.specs.Domain.{DomainValue, state_of, UnlessNoMemory, IsCalled}
 use Rattle.farm_core.specs.Places.{AreSeparatePlaces}
 use Rattle.farm_core.specs.Whole.{whole_next}
 use Rattle.farm_core.specs.Projection.{lowered_for}
 use Rattle.farm_core.specs.Domains.{IsMadeOf}
 use Rattle.farm_core.specs.Merges.{own_place}
-use Rattle.farm_core.specs.PlainFarm.{places_in, states_in, OthersStay, IsCalled, IsCalledAt, IsCallOfEachWhole, IsCommitted, IsCommittedAt, IsRestarted, IsRestartedAt}
+use Rattle.farm_core.specs.PlainFarm.{places_in, states_in, OthersStay, IsCalledAt, IsCallOfEachWhole, IsCommitted, IsCommittedAt, IsRestarted, IsRestartedAt}
 use Rattle.farm_core.proofs.Making.{get-set_same, get-set_other, each_call_is_private}
+use Rattle.crossbar.specs.Laws.{SwitchLaws}
 
 -- ---- one domain for another
 
@@ -66,12 +67,12 @@ unless_no_memory (Err NoSuch) make p q = make p q
 unless_no_memory (Err JournalFull) make p q = make p q
 unless_no_memory (Err NoMemory) make p q = tt
 
-whole_call : (domains later : List DomainValue) (domain : ℕ) (old new : DomainValue) (call : Call) (told : Answer) → Replaces domains later domain old new → AreSeparatePlaces (places_in domains)
+whole_call : SwitchLaws → (domains later : List DomainValue) (domain : ℕ) (old new : DomainValue) (call : Call) (told : Answer) → Replaces domains later domain old new → AreSeparatePlaces (places_in domains)
     → told ≡ (next old.machine.part (state_of old) call).1 → state_of new ≡ (next old.machine.part (state_of old) call).0 → IsCallOfEachWhole domain call told domains later
-whole_call domains later domain old new call told is separate answer state farm made =
+whole_call laws domains later domain old new call told is separate answer state farm made =
     let plan = places_in domains in
     let place = place_at domains domain old is.there in
-    let one = each_call_is_private plan farm (states_in domains) domain call (own_place old) (state_of old) separate made place (state_at domains domain old is.there) in
+    let one = each_call_is_private laws plan farm (states_in domains) domain call (own_place old) (state_of old) separate made place (state_at domains domain old is.there) in
     let after = (whole_next plan farm (domain, call)).0 in
     let states : states_in later ≡ slice_set (states_in domains) domain (next old.machine.part (state_of old) call).0 =
     ap states_in is.later_is ∙ map-set state_of domains domain new ∙ ap (slice_set (states_in domains) domain) state in
@@ -80,10 +81,10 @@ whole_call domains later domain old new call told is separate answer state farm 
       made = subst (λ p. IsMadeOf p after (states_in later)) (sym (places_stay domains later domain old new is)) (subst (IsMadeOf plan after) (sym states) one.made);
     }
 
-pub call_of_each_whole : (domains later : List DomainValue) (domain : ℕ) (old new : DomainValue) (call : Call) (told : Answer) → Replaces domains later domain old new → AreSeparatePlaces (places_in domains)
+pub call_of_each_whole : SwitchLaws → (domains later : List DomainValue) (domain : ℕ) (old new : DomainValue) (call : Call) (told : Answer) → Replaces domains later domain old new → AreSeparatePlaces (places_in domains)
     → IsCalled call told old new → UnlessNoMemory told (IsCallOfEachWhole domain call told domains later)
-call_of_each_whole domains later domain old new call told is separate called =
-    unless_no_memory told (λ answer state. whole_call domains later domain old new call told is separate answer state) called.answer called.state
+call_of_each_whole laws domains later domain old new call told is separate called =
+    unless_no_memory told (λ answer state. whole_call laws domains later domain old new call told is separate answer state) called.answer called.state
 
 -- ---- a ticket
 

@@ -9,7 +9,7 @@ use Rattle.std.specs.Ordering.{nat_cmp}
 use Rattle.std.specs.Option.{option_and_then}
 use Rattle.crossbar.specs.Row.{number_in}
 use Rattle.crossbar.specs.Switch.{cleared}
-use Rattle.crossbar.proofs.Below.{same_switch}
+use Rattle.crossbar.specs.Laws.{SwitchLaws}
 use Rattle.domain_core.specs.PrivateFarm.{Call, Answer, next, answers, after, opening}
 use Rattle.farm_core.specs.Places.{Place, AreSeparatePlaces}
 use Rattle.farm_core.specs.Whole.{Farm, opened_at, whole_next, physical_answers, whole_after, whole_opening}
@@ -65,17 +65,17 @@ other-call plan farm call calls domain place ne stays rest =
       state = rest.state ∙ ap (λ s. after place.part s (own domain calls)) stays ∙ sym (ap (after place.part (projected place farm domain)) asked);
     }
 
-runs-alone : (plan : List Place) (farm : Farm) (calls : List (ℕ × Call)) (domain : ℕ) (place : Place) → AreSeparatePlaces plan → EachDrivesItself plan farm.switch → slice_get plan domain ≡ Some place
+runs-alone : SwitchLaws → (plan : List Place) (farm : Farm) (calls : List (ℕ × Call)) (domain : ℕ) (place : Place) → AreSeparatePlaces plan → EachDrivesItself plan farm.switch → slice_get plan domain ≡ Some place
     → RunsAlone plan farm calls domain place
-runs-alone plan farm [] domain place separate own there = record { told = refl; state = refl }
-runs-alone plan farm (call ∷ calls) domain place separate own there =
-    let rest = runs-alone plan (whole_next plan farm call).0 calls domain place separate (still_each_drives plan farm call separate own) there in
+runs-alone laws plan farm [] domain place separate own there = record { told = refl; state = refl }
+runs-alone laws plan farm (call ∷ calls) domain place separate own there =
+    let rest = runs-alone laws plan (whole_next plan farm call).0 calls domain place separate (still_each_drives laws plan farm call separate own) there in
     elim (cases_eq call.0 domain) [
       | inl same ↦
           own-call plan farm call calls domain place same
           (subst (λ d. StepsAlone place d farm (whole_next plan farm call) (next place.part (projected place farm d) call.1)) same
-          (steps_alone plan farm call.0 place call.1 separate own (ap (slice_get plan) same ∙ there))) rest
-      | inr ne ↦ other-call plan farm call calls domain place ne (other_stays plan farm call.0 call.1 domain place separate own there (λ e. ne (sym e))) rest
+          (steps_alone laws plan farm call.0 place call.1 separate own (ap (slice_get plan) same ∙ there))) rest
+      | inr ne ↦ other-call plan farm call calls domain place ne (other_stays laws plan farm call.0 call.1 domain place separate own there (λ e. ne (sym e))) rest
     ]
 
 -- ---- from the opening
@@ -83,10 +83,10 @@ runs-alone plan farm (call ∷ calls) domain place separate own there =
 pub opening_drives : (plan : List Place) → EachDrivesItself plan (whole_opening plan).switch
 opening_drives plan domain place there port input at driven = absurd (none-some input (sym (fin.get-empty nat_cmp port) ∙ driven))
 
-own_cleared : (ports : List ℕ) → own_switch ports cleared ≡ cleared
-own_cleared ports =
-    same_switch _ _ (λ q. get-own_switch ports cleared q ∙ driver (slice_get ports q) ∙ sym (fin.get-empty nat_cmp q)) (λ q.
-    contains-own_switch ports cleared q ∙ ready (slice_get ports q) ∙ sym (set.contains-empty nat_cmp q))
+own_cleared : SwitchLaws → (ports : List ℕ) → own_switch ports cleared ≡ cleared
+own_cleared laws ports =
+    laws.same _ _ (λ q. get-own_switch laws ports cleared q ∙ driver (slice_get ports q) ∙ sym (fin.get-empty nat_cmp q)) (λ q.
+    contains-own_switch laws ports cleared q ∙ ready (slice_get ports q) ∙ sym (set.contains-empty nat_cmp q))
   where
     driver : (found : Option ℕ) → driver_at ports cleared found ≡ None
     driver None = refl
@@ -96,30 +96,30 @@ own_cleared ports =
     ready None = refl
     ready (Some port) = set.contains-empty nat_cmp port
 
-pub opens_alone : (plan : List Place) (domain : ℕ) (place : Place) → slice_get plan domain ≡ Some place → projected place (whole_opening plan) domain ≡ opening place.part
-opens_alone plan domain place there =
+pub opens_alone : SwitchLaws → (plan : List Place) (domain : ℕ) (place : Place) → slice_get plan domain ≡ Some place → projected place (whole_opening plan) domain ≡ opening place.part
+opens_alone laws plan domain place there =
     let devices = ap opened_at there in
-    λ i. record { machine = record { switch = own_cleared place.ports i; rest = []; devices = devices i }; recorded = 0 }
+    λ i. record { machine = record { switch = own_cleared laws place.ports i; rest = []; devices = devices i }; recorded = 0 }
 
 -- after each list of calls every domain's outputs are driven from inside it
-drives_after : (plan : List Place) (farm : Farm) (calls : List (ℕ × Call)) → AreSeparatePlaces plan → EachDrivesItself plan farm.switch → EachDrivesItself plan (whole_after plan farm calls).switch
-drives_after plan farm [] separate own = own
-drives_after plan farm (call ∷ calls) separate own = drives_after plan (whole_next plan farm call).0 calls separate (still_each_drives plan farm call separate own)
+drives_after : SwitchLaws → (plan : List Place) (farm : Farm) (calls : List (ℕ × Call)) → AreSeparatePlaces plan → EachDrivesItself plan farm.switch → EachDrivesItself plan (whole_after plan farm calls).switch
+drives_after laws plan farm [] separate own = own
+drives_after laws plan farm (call ∷ calls) separate own = drives_after laws plan (whole_next plan farm call).0 calls separate (still_each_drives laws plan farm call separate own)
 
-pub each_domain_is_private : EachDomainIsPrivate
-each_domain_is_private plan calls domain place separate there =
-    let run = runs-alone plan (whole_opening plan) calls domain place separate (opening_drives plan) there in
-    let opens = opens_alone plan domain place there in
+pub each_domain_is_private : SwitchLaws → EachDomainIsPrivate
+each_domain_is_private laws plan calls domain place separate there =
+    let run = runs-alone laws plan (whole_opening plan) calls domain place separate (opening_drives plan) there in
+    let opens = opens_alone laws plan domain place there in
     record {
       told = run.told ∙ ap (λ s. answers place.part s (own domain calls)) opens;
       state = run.state ∙ ap (λ s. after place.part s (own domain calls)) opens;
-      inside = drives_after plan (whole_opening plan) calls separate (opening_drives plan) domain place there;
+      inside = drives_after laws plan (whole_opening plan) calls separate (opening_drives plan) domain place there;
     }
 
-pub equal_domains_are_answered_alike : EqualDomainsAreAnsweredAlike
-equal_domains_are_answered_alike plan other_plan calls other_calls domain other place there separate other_separate at other_at parts asked =
-    (each_domain_is_private plan calls domain place separate at).told ∙ (λ i. answers (parts i) (opening (parts i)) (asked i))
-    ∙ sym (each_domain_is_private other_plan other_calls other there other_separate other_at).told
+pub equal_domains_are_answered_alike : SwitchLaws → EqualDomainsAreAnsweredAlike
+equal_domains_are_answered_alike laws plan other_plan calls other_calls domain other place there separate other_separate at other_at parts asked =
+    (each_domain_is_private laws plan calls domain place separate at).told ∙ (λ i. answers (parts i) (opening (parts i)) (asked i))
+    ∙ sym (each_domain_is_private laws other_plan other_calls other there other_separate other_at).told
 
 -- ---- what all callers are told
 
@@ -140,12 +140,12 @@ own-map {X} {Y} make domain (x ∷ xs) =
 abbrev pub told_pairs : List Place → List (ℕ × Answer) → List (ℕ × Answer)
 told_pairs plan heard = map (λ t. (t.0, lowered_for (slice_get plan t.0) t.1)) heard
 
-pub own_told : (plan : List Place) (calls : List (ℕ × Call)) (domain : ℕ) (place : Place) → AreSeparatePlaces plan → slice_get plan domain ≡ Some place
+pub own_told : SwitchLaws → (plan : List Place) (calls : List (ℕ × Call)) (domain : ℕ) (place : Place) → AreSeparatePlaces plan → slice_get plan domain ≡ Some place
     → own domain (told_pairs plan (physical_answers plan (whole_opening plan) calls)) ≡ answers place.part (opening place.part) (own domain calls)
-own_told plan calls domain place separate there =
+own_told laws plan calls domain place separate there =
     own-map (λ d answer. lowered_for (slice_get plan d) answer) domain (physical_answers plan (whole_opening plan) calls)
     ∙ ap (λ found. map (lowered_for found) (own domain (physical_answers plan (whole_opening plan) calls))) there
-    ∙ (each_domain_is_private plan calls domain place separate there).told
+    ∙ (each_domain_is_private laws plan calls domain place separate there).told
 
 pub told_domains : (plan : List Place) (farm : Farm) (calls : List (ℕ × Call)) → map (λ t. t.0) (told_pairs plan (physical_answers plan farm calls)) ≡ map (λ c. c.0) calls
 told_domains plan farm [] = refl
@@ -159,8 +159,8 @@ pub zip-parts : {X : Type 0} (xs : List (ℕ × X)) → zip (map (λ x. x.0) xs)
 zip-parts [] = refl
 zip-parts (x ∷ xs) = ap (λ rest. x ∷ rest) (zip-parts xs)
 
-pub each_is_told_privately : EachIsToldPrivately
-each_is_told_privately plan calls domain place separate there =
+pub each_is_told_privately : SwitchLaws → EachIsToldPrivately
+each_is_told_privately laws plan calls domain place separate there =
     let heard = physical_answers plan (whole_opening plan) calls in
     (λ i. own domain (zip (sym (told_domains plan (whole_opening plan) calls) i) (sym (told_answers plan heard) i)))
-    ∙ ap (own domain) (zip-parts (told_pairs plan heard)) ∙ own_told plan calls domain place separate there
+    ∙ ap (own domain) (zip-parts (told_pairs plan heard)) ∙ own_told laws plan calls domain place separate there

@@ -1,19 +1,26 @@
 -- One output set in the switch of a whole farm, and what a domain sees of it.
 use Rattle.std.proofs.Common.{◌≡◌, inl, inr, ℕ, suc, Bool, true, false, cond, ◌&&◌, ◌||◌, not, Option, Some, None, List, [], ◌∷◌, length, slice_get, is_some, Contains, refl, sym, ap, ◌∙◌, subst, nat_cmp, ◌==◌, Equal}
-use Rattle.std.proofs.lemmas.Bool.{cases_eq, cases_lt, ne_eqb, lt-ltb, le-ltb, cond-true, cond-false}
+use Rattle.std.proofs.lemmas.Bool.{cases_eq, cases_lt, eq-eqb, ne_eqb, lt-ltb, le-ltb, cond-true, cond-false}
 use Rattle.std.proofs.lemmas.Option.{same_Some, none-some, slice_get_past, slice_get_within, get_or_from_slice_get, slice_get-get_or}
 use Rattle.std.specs.Option.{option_map, option_and_then}
 use Rattle.std.specs.Ordering.{eq_by_cmp}
-use Rattle.std.specs.Cmp.{nat_cmp_total}
+use Rattle.std.specs.Cmp.{nat_cmp_total, unsigned_tied}
 use Rattle.std.specs.FinMap as map
 use Rattle.std.specs.FinSet as set
 use Rattle.crossbar.specs.Switch.{Switch, connected, disconnected, all_ready}
 use Rattle.crossbar.specs.Ranges.{IsOneToOne}
 use Rattle.crossbar.specs.Row.{number_in}
-use Rattle.crossbar.proofs.Below.{get-map_below, contains-set_below, same_switch, tied, untied}
+use Rattle.crossbar.specs.Laws.{SwitchLaws}
 use Rattle.farm_core.specs.Messages.{readied, disconnected_ports, is_among}
 use Rattle.farm_core.specs.Projection.{own_switch, driver_at, ready_at}
 use Rattle.farm_core.specs.Domains.{DrivesItself}
+
+-- what the order of numbers says of two that are equal, and of two that aren't
+tied : (q k : ℕ) → q ≡ k → eq_by_cmp nat_cmp q k ≡ true
+tied q k e = unsigned_tied q k ∙ eq-eqb q k e
+
+untied : (q k : ℕ) → (q ≡ k → ⊥) → eq_by_cmp nat_cmp q k ≡ false
+untied q k ne = unsigned_tied q k ∙ ne_eqb q k ne
 
 -- the output has this driver and isn't ready, and all others are as before
 pub record SetsOutput (old new : Switch) (output : ℕ) (input : Option ℕ) : Type 0 where
@@ -26,8 +33,8 @@ sets_connected s input output = record { pairs = λ q. map.get-insert nat_cmp_to
 pub sets_disconnected : (s : Switch) (output : ℕ) → SetsOutput s (disconnected s output) output None
 sets_disconnected s output = record { pairs = λ q. map.get-remove nat_cmp_total s.pairs output q; ready = λ q. set.contains-remove nat_cmp_total s.ready output q }
 
-pub one_set : (old a b : Switch) (output : ℕ) (input : Option ℕ) → SetsOutput old a output input → SetsOutput old b output input → a ≡ b
-one_set old a b output input h k = same_switch a b (λ q. h.pairs q ∙ sym (k.pairs q)) (λ q. h.ready q ∙ sym (k.ready q))
+pub one_set : SwitchLaws → (old a b : Switch) (output : ℕ) (input : Option ℕ) → SetsOutput old a output input → SetsOutput old b output input → a ≡ b
+one_set laws old a b output input h k = laws.same a b (λ q. h.pairs q ∙ sym (k.pairs q)) (λ q. h.ready q ∙ sym (k.ready q))
 
 -- a port of a list has a number there, and a number of it a port
 pub contains_at : (ports : List ℕ) (v port : ℕ) → slice_get ports v ≡ Some port → Contains ports port
@@ -38,27 +45,27 @@ at_contained ports port is = (is.0, slice_get-get_or ports is.0 port is.1 ∙ ap
 
 -- ---- what a domain sees of a switch
 
-pub get-own_switch : (ports : List ℕ) (s : Switch) (v : ℕ) → map.get (own_switch ports s).pairs v ≡ driver_at ports s (slice_get ports v)
-get-own_switch ports s v =
-    let here = get-map_below (length ports) (λ w. driver_at ports s (slice_get ports w)) v in
+pub get-own_switch : SwitchLaws → (ports : List ℕ) (s : Switch) (v : ℕ) → map.get (own_switch ports s).pairs v ≡ driver_at ports s (slice_get ports v)
+get-own_switch laws ports s v =
+    let here = laws.pairs (length ports) (λ w. driver_at ports s (slice_get ports w)) v in
     elim (cases_lt v (length ports)) [
       | inl lt ↦ here ∙ cond-true _ _ _ (lt-ltb _ _ lt)
       | inr ge ↦ here ∙ cond-false _ _ _ (le-ltb _ _ ge) ∙ sym (ap (driver_at ports s) (slice_get_past ports v ge))
     ]
 
-pub contains-own_switch : (ports : List ℕ) (s : Switch) (v : ℕ) → set.contains (own_switch ports s).ready v ≡ ready_at s (slice_get ports v)
-contains-own_switch ports s v =
-    let here = contains-set_below (length ports) (λ w. ready_at s (slice_get ports w)) v in
+pub contains-own_switch : SwitchLaws → (ports : List ℕ) (s : Switch) (v : ℕ) → set.contains (own_switch ports s).ready v ≡ ready_at s (slice_get ports v)
+contains-own_switch laws ports s v =
+    let here = laws.ready (length ports) (λ w. ready_at s (slice_get ports w)) v in
     elim (cases_lt v (length ports)) [
       | inl lt ↦ here ∙ ap (λ t. t && ready_at s (slice_get ports v)) (lt-ltb _ _ lt)
       | inr ge ↦ here ∙ ap (λ t. t && ready_at s (slice_get ports v)) (le-ltb _ _ ge) ∙ sym (ap (ready_at s) (slice_get_past ports v ge))
     ]
 
 -- two switches of which the ports see the same
-pub same_own_switch : (ports : List ℕ) (old new : Switch) → ((v port : ℕ) → slice_get ports v ≡ Some port → map.get new.pairs port ≡ map.get old.pairs port)
+pub same_own_switch : SwitchLaws → (ports : List ℕ) (old new : Switch) → ((v port : ℕ) → slice_get ports v ≡ Some port → map.get new.pairs port ≡ map.get old.pairs port)
     → ((v port : ℕ) → slice_get ports v ≡ Some port → set.contains new.ready port ≡ set.contains old.ready port) → own_switch ports new ≡ own_switch ports old
-same_own_switch ports old new pairs ready =
-    same_switch _ _ (λ q. get-own_switch ports new q ∙ drivers q (slice_get ports q) refl ∙ sym (get-own_switch ports old q)) (λ q. contains-own_switch ports new q ∙ readies q (slice_get ports q) refl ∙ sym (contains-own_switch ports old q))
+same_own_switch laws ports old new pairs ready =
+    laws.same _ _ (λ q. get-own_switch laws ports new q ∙ drivers q (slice_get ports q) refl ∙ sym (get-own_switch laws ports old q)) (λ q. contains-own_switch laws ports new q ∙ readies q (slice_get ports q) refl ∙ sym (contains-own_switch laws ports old q))
   where
     drivers : (q : ℕ) (found : Option ℕ) → slice_get ports q ≡ found → driver_at ports new found ≡ driver_at ports old found
     drivers q None e = refl
@@ -69,11 +76,11 @@ same_own_switch ports old new pairs ready =
     readies q (Some port) e = ready q port e
 
 -- an output of the ports was set: so it was in what they see
-pub own_switch_sets : (ports : List ℕ) (old new : Switch) (output port : ℕ) (input : Option ℕ) → IsOneToOne ports → slice_get ports output ≡ Some port → SetsOutput old new port input
+pub own_switch_sets : SwitchLaws → (ports : List ℕ) (old new : Switch) (output port : ℕ) (input : Option ℕ) → IsOneToOne ports → slice_get ports output ≡ Some port → SetsOutput old new port input
     → SetsOutput (own_switch ports old) (own_switch ports new) output (option_and_then (number_in ports) input)
-own_switch_sets ports old new output port input one at h = record {
-  pairs = λ q. get-own_switch ports new q ∙ drivers q (slice_get ports q) refl ∙ ap (cond (eq_by_cmp nat_cmp q output) (option_and_then (number_in ports) input)) (sym (get-own_switch ports old q));
-  ready = λ q. contains-own_switch ports new q ∙ readies q (slice_get ports q) refl ∙ ap (λ t. not (eq_by_cmp nat_cmp q output) && t) (sym (contains-own_switch ports old q));
+own_switch_sets laws ports old new output port input one at h = record {
+  pairs = λ q. get-own_switch laws ports new q ∙ drivers q (slice_get ports q) refl ∙ ap (cond (eq_by_cmp nat_cmp q output) (option_and_then (number_in ports) input)) (sym (get-own_switch laws ports old q));
+  ready = λ q. contains-own_switch laws ports new q ∙ readies q (slice_get ports q) refl ∙ ap (λ t. not (eq_by_cmp nat_cmp q output) && t) (sym (contains-own_switch laws ports old q));
 }
   where
     drivers : (q : ℕ) (found : Option ℕ) → slice_get ports q ≡ found → driver_at ports new found ≡ cond (eq_by_cmp nat_cmp q output) (option_and_then (number_in ports) input) (driver_at ports old found)
@@ -100,9 +107,9 @@ own_switch_sets ports old new output port input one at h = record {
         ]
 
 -- an output of no such port was set: they see nothing of it
-pub untouched : (ports : List ℕ) (old new : Switch) (port : ℕ) (input : Option ℕ) → ((v : ℕ) → slice_get ports v ≡ Some port → ⊥) → SetsOutput old new port input → own_switch ports new ≡ own_switch ports old
-untouched ports old new port input out h =
-    same_own_switch ports old new (λ v p at. h.pairs p ∙ cond-false _ _ _ (untied p port (other v p at))) (λ v p at. h.ready p ∙ ap (λ t. not t && set.contains old.ready p) (untied p port (other v p at)))
+pub untouched : SwitchLaws → (ports : List ℕ) (old new : Switch) (port : ℕ) (input : Option ℕ) → ((v : ℕ) → slice_get ports v ≡ Some port → ⊥) → SetsOutput old new port input → own_switch ports new ≡ own_switch ports old
+untouched laws ports old new port input out h =
+    same_own_switch laws ports old new (λ v p at. h.pairs p ∙ cond-false _ _ _ (untied p port (other v p at))) (λ v p at. h.ready p ∙ ap (λ t. not t && set.contains old.ready p) (untied p port (other v p at)))
   where
     other : (v p : ℕ) → slice_get ports v ≡ Some p → p ≡ port → ⊥
     other v p at same = out v (at ∙ ap (λ (x : ℕ). Some x) same)

@@ -6,6 +6,7 @@ use Rattle.c004_commands.specs.Grammar.{Item, item_of}
 use Rattle.virtual_switch.specs.declared.reply.ConfigReply.{ConfigReply}
 use Rattle.virtual_switch.specs.PrivateSwitch.{Configured, configured_by}
 use Rattle.crossbar.specs.Switch.{Switch}
+use Rattle.crossbar.specs.Laws.{SwitchLaws}
 use Rattle.domain_core.specs.declared.event.By.{By}
 use Rattle.domain_core.specs.declared.event.Event.{Event}
 use Rattle.domain_core.specs.declared.event.Event.TheVariants.{Config, Write, Read, Reset, Look, Step, Move}
@@ -41,15 +42,15 @@ record ConfiguresAlone (place : Place) (s : Switch) (whole alone : Configured) :
   left : whole.rest ≡ alone.rest
   others : LeavesOthers place.ports s whole.switch
 
-configures-by : (place : Place) (s : Switch) (bytes : List ℕ) (found : Option Item) → IsPlace place → DrivesItself place.ports s
+configures-by : SwitchLaws → (place : Place) (s : Switch) (bytes : List ℕ) (found : Option Item) → IsPlace place → DrivesItself place.ports s
     → ConfiguresAlone place s (configured_by_in place s bytes found) (configured_by place.part.count (own_switch place.ports s) bytes found)
-configures-by place s bytes None is own = record { told = refl; seen = refl; left = refl; others = same-switch place.ports s }
-configures-by place s bytes (Some item) is own = record {
-  told = own_reply place s item is.count own;
-  seen = own_item place s item is.ports.one_to_one is.count own;
+configures-by laws place s bytes None is own = record { told = refl; seen = refl; left = refl; others = same-switch place.ports s }
+configures-by laws place s bytes (Some item) is own = record {
+  told = own_reply laws place s item is.count own;
+  seen = own_item laws place s item is.ports.one_to_one is.count own;
   left = refl;
   others = record {
-    apart = λ others apart. other_item place others s item is.count apart;
+    apart = λ others apart. other_item laws place others s item is.count apart;
     drives = λ others beside drives. drives_item place others s item is.count beside drives;
   };
 }
@@ -84,12 +85,12 @@ written-alike : (ports : List ℕ) (full : Bool) → lowered_reply ports (if ful
 written-alike ports true = refl
 written-alike ports false = refl
 
-acts : (plan : List Place) (farm : Farm) (domain : ℕ) (place : Place) (by : By) (event : Event) → AreSeparatePlaces plan → EachDrivesItself plan farm.switch → slice_get plan domain ≡ Some place
+acts : SwitchLaws → (plan : List Place) (farm : Farm) (domain : ℕ) (place : Place) (by : By) (event : Event) → AreSeparatePlaces plan → EachDrivesItself plan farm.switch → slice_get plan domain ≡ Some place
     → names_own place.part by event ≡ true → ActsAlone place domain farm (acted_in plan place farm domain event) (acted place.part (projected place farm domain).machine event)
-acts plan farm domain place by (Config byte) separate own there named =
+acts laws plan farm domain place by (Config byte) separate own there named =
     let is = separate.each domain place there in
     let bytes : List ℕ = farm.rests domain ++ byte ∷ [] in
-    let c = configures-by place farm.switch bytes (item_of bytes) is (own domain place there) in
+    let c = configures-by laws place farm.switch bytes (item_of bytes) is (own domain place there) in
     record {
       told = ap (λ (r : ConfigReply). reply.Config r) c.told;
       seen = c.seen;
@@ -99,14 +100,14 @@ acts plan farm domain place by (Config byte) separate own there named =
       other_devices = λ d ne. refl;
       others = c.others;
     }
-acts plan farm domain place by (Write host byte) separate own there named =
+acts laws plan farm domain place by (Write host byte) separate own there named =
     acts-on-own place farm domain (Write host byte) _ (written-alike place.ports (is_full (host_at (farm.devices domain) host).sending)) refl refl refl
-acts plan farm domain place by (Read host) separate own there named = acts-on-own place farm domain (Read host) _ refl refl refl refl
-acts plan farm domain place by (Reset node) separate own there named = acts-on-own place farm domain (Reset node) _ refl refl refl refl
-acts plan farm domain place by (Look node) separate own there named = acts-on-own place farm domain (Look node) _ refl refl refl refl
-acts plan farm domain place by (Step node) separate own there named = acts-on-own place farm domain (Step node) _ refl refl refl refl
-acts plan farm domain place by (Move port) separate own there named =
-    let m = moves_alone plan farm.switch farm.devices domain place port separate own there (ltb-true port place.part.count named) in
+acts laws plan farm domain place by (Read host) separate own there named = acts-on-own place farm domain (Read host) _ refl refl refl refl
+acts laws plan farm domain place by (Reset node) separate own there named = acts-on-own place farm domain (Reset node) _ refl refl refl refl
+acts laws plan farm domain place by (Look node) separate own there named = acts-on-own place farm domain (Look node) _ refl refl refl refl
+acts laws plan farm domain place by (Step node) separate own there named = acts-on-own place farm domain (Step node) _ refl refl refl refl
+acts laws plan farm domain place by (Move port) separate own there named =
+    let m = moves_alone laws plan farm.switch farm.devices domain place port separate own there (ltb-true port place.part.count named) in
     record {
       told = ap (λ (r : Moved). reply.Moved r) m.answer;
       seen = refl;
@@ -117,16 +118,16 @@ acts plan farm domain place by (Move port) separate own there named =
       others = same-switch place.ports farm.switch;
     }
 
-records : (plan : List Place) (farm : Farm) (domain : ℕ) (place : Place) (by : By) (event : Event) → AreSeparatePlaces plan → EachDrivesItself plan farm.switch → slice_get plan domain ≡ Some place
+records : SwitchLaws → (plan : List Place) (farm : Farm) (domain : ℕ) (place : Place) (by : By) (event : Event) → AreSeparatePlaces plan → EachDrivesItself plan farm.switch → slice_get plan domain ≡ Some place
     → names_own place.part by event ≡ true → is_recorded_in plan place farm domain event ≡ is_recorded place.part (projected place farm domain).machine event
-records plan farm domain place by (Config byte) separate own there named = refl
-records plan farm domain place by (Write host byte) separate own there named = refl
-records plan farm domain place by (Read host) separate own there named = refl
-records plan farm domain place by (Reset node) separate own there named = refl
-records plan farm domain place by (Look node) separate own there named = refl
-records plan farm domain place by (Step node) separate own there named = refl
-records plan farm domain place by (Move port) separate own there named =
-    ap has_moved (moves_alone plan farm.switch farm.devices domain place port separate own there (ltb-true port place.part.count named)).answer
+records laws plan farm domain place by (Config byte) separate own there named = refl
+records laws plan farm domain place by (Write host byte) separate own there named = refl
+records laws plan farm domain place by (Read host) separate own there named = refl
+records laws plan farm domain place by (Reset node) separate own there named = refl
+records laws plan farm domain place by (Look node) separate own there named = refl
+records laws plan farm domain place by (Step node) separate own there named = refl
+records laws plan farm domain place by (Move port) separate own there named =
+    ap has_moved (moves_alone laws plan farm.switch farm.devices domain place port separate own there (ltb-true port place.part.count named)).answer
 
 -- ---- a call
 
@@ -141,14 +142,14 @@ pub record StepsAlone (place : Place) (domain : ℕ) (old : Farm) (whole : Farm 
 refused : (place : Place) (domain : ℕ) (farm : Farm) (whole alone : Answer) → lowered_answer place whole ≡ alone → StepsAlone place domain farm (farm, whole) (projected place farm domain, alone)
 refused place domain farm whole alone told = record { answer = told; state = refl; others = λ d other ne apart. refl; unseen = λ ports apart. refl; drives = λ ports beside own. own }
 
-answers-alone : (plan : List Place) (farm : Farm) (domain : ℕ) (place : Place) (call : Call) → AreSeparatePlaces plan → EachDrivesItself plan farm.switch → slice_get plan domain ≡ Some place
+answers-alone : SwitchLaws → (plan : List Place) (farm : Farm) (domain : ℕ) (place : Place) (call : Call) → AreSeparatePlaces plan → EachDrivesItself plan farm.switch → slice_get plan domain ≡ Some place
     → names_own place.part call.by call.event ≡ true
     → StepsAlone place domain farm (answered_in plan place farm domain call.event, Ok (acted_in plan place farm domain call.event).1)
     (answered place.part (projected place farm domain) call.event, Ok (acted place.part (projected place farm domain).machine call.event).1)
-answers-alone plan farm domain place call separate own there named =
-    let a = acts plan farm domain place call.by call.event separate own there named in
+answers-alone laws plan farm domain place call separate own there named =
+    let a = acts laws plan farm domain place call.by call.event separate own there named in
     let counts = put-own domain (if is_recorded_in plan place farm domain call.event then farm.recorded domain + 1 else farm.recorded domain) farm.recorded
-    ∙ ap (λ t. cond t (farm.recorded domain + 1) (farm.recorded domain)) (records plan farm domain place call.by call.event separate own there named) in
+    ∙ ap (λ t. cond t (farm.recorded domain + 1) (farm.recorded domain)) (records laws plan farm domain place call.by call.event separate own there named) in
     record {
       answer = ap (λ (r : Reply). Ok r) a.told;
       state = λ i. record { machine = record { switch = a.seen i; rest = a.rest i; devices = a.devices i }; recorded = counts i };
@@ -160,41 +161,41 @@ answers-alone plan farm domain place call separate own there named =
       drives = a.others.drives;
     }
 
-steps-by : (plan : List Place) (farm : Farm) (domain : ℕ) (place : Place) (call : Call) → AreSeparatePlaces plan → EachDrivesItself plan farm.switch → slice_get plan domain ≡ Some place
+steps-by : SwitchLaws → (plan : List Place) (farm : Farm) (domain : ℕ) (place : Place) (call : Call) → AreSeparatePlaces plan → EachDrivesItself plan farm.switch → slice_get plan domain ≡ Some place
     → (named full : Bool) → is_there place.part call ≡ named
     → StepsAlone place domain farm (if named then (if full then (farm, Err JournalFull) else (answered_in plan place farm domain call.event, Ok (acted_in plan place farm domain call.event).1)) else (farm, Err NoSuch))
     (if named then (if full then (projected place farm domain, Err JournalFull) else (answered place.part (projected place farm domain) call.event, Ok (acted place.part (projected place farm domain).machine call.event).1))
     else (projected place farm domain, Err NoSuch))
-steps-by plan farm domain place call separate own there false full is = refused place domain farm (Err NoSuch) _ refl
-steps-by plan farm domain place call separate own there true true is = refused place domain farm (Err JournalFull) _ refl
-steps-by plan farm domain place call separate own there true false is = answers-alone plan farm domain place call separate own there (and_parts _ _ is).1
+steps-by laws plan farm domain place call separate own there false full is = refused place domain farm (Err NoSuch) _ refl
+steps-by laws plan farm domain place call separate own there true true is = refused place domain farm (Err JournalFull) _ refl
+steps-by laws plan farm domain place call separate own there true false is = answers-alone laws plan farm domain place call separate own there (and_parts _ _ is).1
 
-pub steps_alone : (plan : List Place) (farm : Farm) (domain : ℕ) (place : Place) (call : Call) → AreSeparatePlaces plan → EachDrivesItself plan farm.switch → slice_get plan domain ≡ Some place
+pub steps_alone : SwitchLaws → (plan : List Place) (farm : Farm) (domain : ℕ) (place : Place) (call : Call) → AreSeparatePlaces plan → EachDrivesItself plan farm.switch → slice_get plan domain ≡ Some place
     → StepsAlone place domain farm (whole_next plan farm (domain, call)) (next place.part (projected place farm domain) call)
-steps_alone plan farm domain place call separate own there =
+steps_alone laws plan farm domain place call separate own there =
     subst (λ found. StepsAlone place domain farm (next_in plan farm domain call found) (next place.part (projected place farm domain) call)) (sym there)
-    (steps-by plan farm domain place call separate own there (is_there place.part call) (farm.recorded domain == place.part.limit) refl)
+    (steps-by laws plan farm domain place call separate own there (is_there place.part call) (farm.recorded domain == place.part.limit) refl)
 
 -- ---- what stays
 
 -- another domain's call is not seen
-other-by : (plan : List Place) (farm : Farm) (caller : ℕ) (call : Call) (d : ℕ) (place : Place) (found : Option Place) → slice_get plan caller ≡ found → AreSeparatePlaces plan → EachDrivesItself plan farm.switch
+other-by : SwitchLaws → (plan : List Place) (farm : Farm) (caller : ℕ) (call : Call) (d : ℕ) (place : Place) (found : Option Place) → slice_get plan caller ≡ found → AreSeparatePlaces plan → EachDrivesItself plan farm.switch
     → slice_get plan d ≡ Some place → d ≢ caller → projected place (next_in plan farm caller call found).0 d ≡ projected place farm d
-other-by plan farm caller call d place None at separate own there ne = refl
-other-by plan farm caller call d place (Some from) at separate own there ne =
-    let step = steps_alone plan farm caller from call separate own at in
+other-by laws plan farm caller call d place None at separate own there ne = refl
+other-by laws plan farm caller call d place (Some from) at separate own there ne =
+    let step = steps_alone laws plan farm caller from call separate own at in
     ap (λ (found : Option Place). projected place (next_in plan farm caller call found).0 d) (sym at)
     ∙ step.others d place ne (separate.apart caller d from place (λ e. ne (sym e)) at there)
 
-pub other_stays : (plan : List Place) (farm : Farm) (caller : ℕ) (call : Call) (d : ℕ) (place : Place) → AreSeparatePlaces plan → EachDrivesItself plan farm.switch → slice_get plan d ≡ Some place → d ≢ caller
+pub other_stays : SwitchLaws → (plan : List Place) (farm : Farm) (caller : ℕ) (call : Call) (d : ℕ) (place : Place) → AreSeparatePlaces plan → EachDrivesItself plan farm.switch → slice_get plan d ≡ Some place → d ≢ caller
     → projected place (whole_next plan farm (caller, call)).0 d ≡ projected place farm d
-other_stays plan farm caller call d place separate own there ne = other-by plan farm caller call d place (slice_get plan caller) refl separate own there ne
+other_stays laws plan farm caller call d place separate own there ne = other-by laws plan farm caller call d place (slice_get plan caller) refl separate own there ne
 
-drives-by : (plan : List Place) (farm : Farm) (caller : ℕ) (call : Call) (found : Option Place) → slice_get plan caller ≡ found → AreSeparatePlaces plan → EachDrivesItself plan farm.switch
+drives-by : SwitchLaws → (plan : List Place) (farm : Farm) (caller : ℕ) (call : Call) (found : Option Place) → slice_get plan caller ≡ found → AreSeparatePlaces plan → EachDrivesItself plan farm.switch
     → EachDrivesItself plan (next_in plan farm caller call found).0.switch
-drives-by plan farm caller call None at separate own = own
-drives-by plan farm caller call (Some from) at separate own =
-    let step = steps_alone plan farm caller from call separate own at in
+drives-by laws plan farm caller call None at separate own = own
+drives-by laws plan farm caller call (Some from) at separate own =
+    let step = steps_alone laws plan farm caller from call separate own at in
     λ d place there.
     let beside : Beside from.ports place.ports =
     elim (cases_eq caller d) [
@@ -203,5 +204,5 @@ drives-by plan farm caller call (Some from) at separate own =
     ] in
     subst (λ (found : Option Place). DrivesItself place.ports (next_in plan farm caller call found).0.switch) at (step.drives place.ports beside (own d place there))
 
-pub still_each_drives : (plan : List Place) (farm : Farm) (call : ℕ × Call) → AreSeparatePlaces plan → EachDrivesItself plan farm.switch → EachDrivesItself plan (whole_next plan farm call).0.switch
-still_each_drives plan farm call separate own = drives-by plan farm call.0 call.1 (slice_get plan call.0) refl separate own
+pub still_each_drives : SwitchLaws → (plan : List Place) (farm : Farm) (call : ℕ × Call) → AreSeparatePlaces plan → EachDrivesItself plan farm.switch → EachDrivesItself plan (whole_next plan farm call).0.switch
+still_each_drives laws plan farm call separate own = drives-by laws plan farm call.0 call.1 (slice_get plan call.0) refl separate own

@@ -17,6 +17,7 @@ use Rattle.farm_core.proofs.Runs.{own-here, own-there}
 use Rattle.farm_core.proofs.Merging.{there_is, each_merge_of_domains_is_a_run}
 use Rattle.farm_core.proofs.Plain.{place_at}
 use Rattle.farm_core.proofs.Owners.{word_says}
+use Rattle.crossbar.specs.Laws.{SwitchLaws}
 
 -- ---- one journal after another
 
@@ -61,11 +62,11 @@ own_of_joined domain number (suc k) (journal ∷ journals) is =
 joined_merges : (journals : List (List AnsweredCall)) → IsMerge journals (joined_from 0 journals)
 joined_merges journals domain = own_of_joined domain 0 domain journals (omega arith)
 
-pub have_a_whole : (domains : List DomainValue) → AreSeparatePlaces (places_in domains) → All IsMeant domains → HaveAWhole domains
-have_a_whole domains separate meant = record {
+pub have_a_whole : SwitchLaws → (domains : List DomainValue) → AreSeparatePlaces (places_in domains) → All IsMeant domains → HaveAWhole domains
+have_a_whole laws domains separate meant = record {
   merge = joined_from 0 (map own_journal domains);
   merges = joined_merges (map own_journal domains);
-  run = each_merge_of_domains_is_a_run domains (joined_from 0 (map own_journal domains)) separate meant (joined_merges (map own_journal domains));
+  run = each_merge_of_domains_is_a_run laws domains (joined_from 0 (map own_journal domains)) separate meant (joined_merges (map own_journal domains));
 }
 
 -- ---- what the words say
@@ -73,13 +74,13 @@ have_a_whole domains separate meant = record {
 all_at : (P : DomainValue → Type 0) (domains : List DomainValue) (number : ℕ) (d : DomainValue) → All P domains → slice_get domains number ≡ Some d → P d
 all_at P domains number d all at = subst P (get_or_from_slice_get domains number d d at) (all number d (slice_get_within domains number d at))
 
-pub each_whole_is_as_words_say : EachWholeIsAsWordsSay
-each_whole_is_as_words_say domains farm separate rows made domain number output d word at port has =
-    word_says domains domain d number output word separate at port has (all_at HasRow domains domain d rows at) farm made
+pub each_whole_is_as_words_say : SwitchLaws → EachWholeIsAsWordsSay
+each_whole_is_as_words_say laws domains farm separate rows made domain number output d word at port has =
+    word_says laws domains domain d number output word separate at port has (all_at HasRow domains domain d rows at) farm made
 
-pub each_merge_ends_as_words_say : EachMergeEndsAsWordsSay
-each_merge_ends_as_words_say domains merge separate meant rows is =
-    each_whole_is_as_words_say domains _ separate rows (each_merge_of_domains_is_a_run domains merge separate meant is).ends
+pub each_merge_ends_as_words_say : SwitchLaws → EachMergeEndsAsWordsSay
+each_merge_ends_as_words_say laws domains merge separate meant rows is =
+    each_whole_is_as_words_say laws domains _ separate rows (each_merge_of_domains_is_a_run laws domains merge separate meant is).ends
 
 -- ---- domains that fit a plan
 

@@ -1,5 +1,5 @@
 -- What contracts see of a farm on one thread: its domains in the order of the plan, each with its journal.
-use Rattle.std.specs.Prelude.{◌≡◌, ◌≢◌, ◌↔◌, ◌<◌, ◌+◌, ◌++◌, ℕ, List, [], length, map, Option, Some, None, Result, Ok, Err, OnErr, slice_get}
+use Rattle.std.specs.Prelude.{◌≡◌, ◌≢◌, ◌↔◌, ◌<◌, ◌+◌, ℕ, List, [], length, map, Option, Some, None, Result, Ok, Err, slice_get}
 use Rattle.std.specs.List.{AllZip}
 use Rattle.std.specs.Option.{option_map, option_and_then}
 use Rattle.crossbar.specs.declared.word.Word.{Word}
@@ -12,8 +12,8 @@ use Rattle.domain_core.specs.declared.domain.Committed.TheVariants.{Done, Stale}
 use Rattle.domain_core.specs.declared.event.Refusal.{Refusal}
 use Rattle.domain_core.specs.declared.event.Refusal.TheVariants.{NoSuch, JournalFull}
 use Rattle.domain_core.specs.declared.journal.Entry.{Entry}
-use Rattle.domain_core.specs.PrivateFarm.{State, Answer, Call, next, opening}
-use Rattle.domain_core.specs.Domain.{DomainValue, state_of, gained, Fits, UnlessNoMemory}
+use Rattle.domain_core.specs.PrivateFarm.{State, Answer, Call, opening}
+use Rattle.domain_core.specs.Domain.{DomainValue, state_of, Fits, IsCalled}
 use Rattle.domain_core.specs.Journal.{expanded}
 use Rattle.domain_core.specs.Ticket.{TicketValue, IsHome, Commits}
 use Rattle.farm_core.specs.Places.{Place}
@@ -43,15 +43,6 @@ abbrev pub OthersStay : ℕ → List DomainValue → List DomainValue → Type 0
 OthersStay domain old new = (other : ℕ) → other ≢ domain → slice_get new other ≡ slice_get old other
 
 -- ---- a call
-
--- the domain answers as a farm does that holds it alone, with the same refusal if that refuses, becomes what it would become alone, and its journal
--- gains what is recorded
-pub record IsCalled (call : Call) (told : Answer) (old new : DomainValue) : Type 0 where
-  pub answer : UnlessNoMemory told (told ≡ (next old.machine.part (state_of old) call).1)
-  pub state : UnlessNoMemory told (state_of new ≡ (next old.machine.part (state_of old) call).0)
-  pub refused : OnErr (next old.machine.part (state_of old) call).1 (told ≡ (next old.machine.part (state_of old) call).1)
-  pub journal : expanded new.journal ≡ expanded old.journal ++ gained old.machine.part (state_of old) call told
-  pub counts : AllZip CountsChange old.machine.switch.words new.machine.switch.words
 
 -- the same of a domain that may not be there
 abbrev pub IsCalledAt : Call → Answer → Option DomainValue → Option DomainValue → Type 0

@@ -6,6 +6,7 @@ ghost use Rattle.farm_core.specs.Laws.{caller_answers};
 ghost use Rattle.farm_core.specs.Run.{calls_asked, EachToldAlone, NobodyElsewhere};
 
 use crate::farm::PlainFarm;
+use crossbar::laws::switches_say_their_words;
 use domain_core::{By, Event, NoMemory, Refusal, Reply};
 use plan_checker::AcceptedPlan;
 use std::alloc::Global;
@@ -57,6 +58,7 @@ pub fn run(
     ensures one_each { IfOk result (λ told. length told.items ≡ length calls.now) }
     ensures err { IfErr result (λ refusal. refusal ≡ WantOfMemory) }
 {
+    switches_say_their_words();
     plan.separate();
     match answers_to(alloc, plan, calls) {
         Ok(told) => Ok(told),

@@ -16,6 +16,7 @@ ghost use Rattle.farm_core.specs.Merges.{own_place};
 ghost use Rattle.farm_core.specs.PlainFarm.{places_in, states_in, openings, OthersStay, IsCalledAt, IsCallOfEachWhole, node_in, IsCommittedAt, word_in, journal_in, recorded_in, HasOutput, IsWordOfOwner, SaysEachWhole, IsRestartedAt, FitsAt};
 ghost use Rattle.farm_core.specs.Words.{HasRow, IsUnused, HaveAWhole};
 
+use crossbar::laws::switches_say_their_words;
 use crossbar::{PlainOutputs, Word};
 use domain_core::{By, Committed, Domain, Entry, Event, NoMemory, Refusal, Reply, Ticket};
 use plan_checker::AcceptedPlan;
@@ -102,6 +103,7 @@ impl PlainFarm {
         ensures journals { IfOk result (λ farm. All (λ d. d.journal ≡ []) farm) }
         ensures words { IfOk result (λ farm. All IsUnused farm) }
     {
+        switches_say_their_words();
         plan.separate();
         let domains = open_domains(alloc, plan)?;
         Ok(PlainFarm { domains })
@@ -118,6 +120,7 @@ impl PlainFarm {
         ensures rows { All HasRow self.now }
         ensures whole { HaveAWhole self.now }
     {
+        switches_say_their_words();
         for domain in &self.domains {
             domain.meant();
         }
@@ -156,6 +159,7 @@ impl PlainFarm {
         ensures places { places_in self.new ≡ places_in self.old }
         ensures err { OnErr result (self.new ≡ self.old) }
     {
+        switches_say_their_words();
         let Some(domain) = self.domains.get_mut(usize::from(domain)) else {
             return Err(Refusal::NoSuch);
         };
@@ -241,6 +245,7 @@ impl PlainFarm {
         ensures whole { SaysEachWhole self.old output result }
         ensures same { self.new ≡ self.old }
     {
+        switches_say_their_words();
         let Some((domain, number)) = self.owner(output) else {
             return Word::UNUSED;
         };
@@ -252,6 +257,7 @@ impl PlainFarm {
         ensures owned { IfSome result (λ owner. HasOutput (slice_get self.now owner.0) owner.1 output) }
         ensures free { result ≡ None → IsFree (places_in self.now) output }
     {
+        switches_say_their_words();
         for (index, domain) in self.domains.iter().enumerate() {
             if let Some(number) = domain.virtual_of(output) {
                 return Some((index, number));

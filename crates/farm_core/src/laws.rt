@@ -6,6 +6,8 @@ ghost use Rattle.farm_core.specs.Laws.{EachDomainOfAPlanIsPrivate, EachOfAPlanIs
 ghost use Rattle.farm_core.specs.Merges.{EachMergeIsARun, EachMergeOfDomainsIsARun};
 ghost use Rattle.farm_core.specs.Words.{EachWholeIsAsWordsSay, EachMergeEndsAsWordsSay, FittingDomainsHaveItsPlaces};
 
+use crossbar::laws::switches_say_their_words;
+
 /// The places of a plan whose domains are numbered and share no port are separate.
 pub fn numbered_domains_are_separate()
     ensures law { NumberedDomainsAreSeparate }
@@ -18,12 +20,16 @@ pub fn each_call_is_private()
     ensures opening { OpeningIsMadeOfOpenings }
     ensures call { EachCallIsPrivate }
     ensures elsewhere { NoDomainNoChange }
-{}
+{
+    switches_say_their_words();
+}
 
 /// A physical output of the whole farm is driven and ready just as its domain, alone, says of its virtual number.
 pub fn each_output_is_of_its_domain()
     ensures law { EachOutputIsOfItsDomain }
-{}
+{
+    switches_say_their_words();
+}
 
 /// Later calls go on from the farm that the earlier ones left.
 pub fn runs_add_up()
@@ -36,20 +42,26 @@ pub fn runs_add_up()
 pub fn each_domain_is_private()
     ensures private { EachDomainIsPrivate }
     ensures told { EachIsToldPrivately }
-{}
+{
+    switches_say_their_words();
+}
 
 /// Two domains with equal parts and equal calls of their own are answered alike, each in its own farm, wherever their
 /// ports lie, whoever their neighbours are and whatever these call.
 pub fn equal_domains_are_answered_alike()
     ensures law { EqualDomainsAreAnsweredAlike }
-{}
+{
+    switches_say_their_words();
+}
 
 /// The whole farm, from its opening, answers the calls of every merge of its domains' journals by the stored replies,
 /// and ends made of the states to which the journals lead; so for the domains themselves, each with its own journal.
 pub fn each_merge_is_a_run()
     ensures journals { EachMergeIsARun }
     ensures domains { EachMergeOfDomainsIsARun }
-{}
+{
+    switches_say_their_words();
+}
 
 /// Under every plan that breaks none of the checker's rules each domain is answered as in a farm that holds it alone, and
 /// two farms that agree on a domain answer it alike.
@@ -58,6 +70,7 @@ pub fn each_domain_of_a_plan_is_private()
     ensures told { EachOfAPlanIsToldPrivately }
     ensures alike { EqualDomainsOfPlansAreAnsweredAlike }
 {
+    switches_say_their_words();
     plan_checker::laws::faultless_plans_are_separate();
 }
 
@@ -66,7 +79,9 @@ pub fn each_domain_of_a_plan_is_private()
 pub fn each_word_is_of_its_output()
     ensures whole { EachWholeIsAsWordsSay }
     ensures merge { EachMergeEndsAsWordsSay }
-{}
+{
+    switches_say_their_words();
+}
 
 /// Domains that fit a plan, each at its number, have its places.
 pub fn fitting_domains_have_its_places()

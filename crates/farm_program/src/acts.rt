@@ -46,6 +46,7 @@ pub fn result_of<R: Wait>(
         Command::Collect { host } => collected(rt, alloc, session, *host),
         Command::Reset { node } => match session.reset(rt, *node)? {
             Reply::Reset => Ok(String::from_str(alloc, "ok")?),
+            // A reset is answered by `Reset` alone. Another reply would be shown as it is.
             reply => shown(alloc, reply),
         },
         Command::Look { node } => {
@@ -139,6 +140,7 @@ fn peeked<R: Wait>(
     for place in &mut bytes {
         match session.read(rt, host)? {
             Reply::Read(Some(byte)) => *place = byte,
+            // A read is answered by `Read` alone, so no byte has come.
             _ => return Ok(String::from_str(alloc, "-")?),
         }
     }
@@ -157,6 +159,7 @@ fn collected<R: Wait>(
     for _ in 0..u64::MAX {
         match session.read(rt, host)? {
             Reply::Read(Some(byte)) => write!(text, "{byte:02x}")?,
+            // A read is answered by `Read` alone, so no byte is left.
             _ => break,
         }
     }

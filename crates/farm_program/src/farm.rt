@@ -121,6 +121,7 @@ pub fn texts_on<R: Threads + Wait + Sync>(
         wanted |= visitor.wanted;
         let Visitor { pass, text, .. } = visitor;
         texts.push(text)?;
+        // His session has ended, and gave his pass back.
         if let Some(pass) = pass {
             ended.push(pass)?;
         }

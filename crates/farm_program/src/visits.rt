@@ -53,6 +53,8 @@ pub fn visit<R: Wait>(
     lines: &[Line],
     visitor: &mut Visitor,
 ) {
+    // He has his pass: `Service::open` gives one for each user of the plan, in the order of the visitors. The field is
+    // empty only while his session runs.
     let Some(pass) = visitor.pass.take() else {
         return;
     };

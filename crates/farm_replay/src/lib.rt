@@ -9,4 +9,4 @@ mod played;
 mod texts;
 
 pub use fault::ReplayFault;
-pub use texts::replay;
+pub use texts::{ReplayedFarm, replay, replay_farm};

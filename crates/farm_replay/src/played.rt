@@ -4,14 +4,11 @@ ghost use Rattle.std.specs.Prelude.{◌↔◌, ◌<◌, IsTrue, length};
 use crate::asked::{Asked, OfDomain};
 use crate::folded::Folded;
 use answer_text::{write_entry, write_refusal, write_reply};
-use crossbar::Word;
+use crossbar::{PORTS, Word};
 use domain_core::{By, Committed, Event, NoMemory, Refusal, Ticket};
 use farm_core::PlainFarm;
 use plan_checker::AcceptedPlan;
 use std::alloc::Global;
-
-/// How many physical outputs the switch has.
-const OUTPUTS: u8 = 32;
 
 /// A farm, and the tickets that it gave, each until it is spent.
 #[derive(Drop)]
@@ -46,7 +43,7 @@ impl Played {
                 Ok(())
             }
             Asked::Words => {
-                self.words(&mut text)?;
+                self.write_words(&mut text)?;
                 Ok(())
             }
             Asked::OfDomain(domain, OfDomain::Events(by, events)) => {
@@ -227,7 +224,7 @@ impl Played {
             ticket.burst(quantum);
             let _ = self.farm.commit(domain, ticket)?;
         }
-        for port in 0..OUTPUTS {
+        for port in 0..PORTS {
             match self.farm.apply(domain, By::Farm, Event::Move(port)) {
                 Err(Refusal::NoSuch) => break,
                 Err(refusal) => return Err(refusal),
@@ -237,11 +234,19 @@ impl Played {
         Ok(())
     }
 
+    /// The words of the physical outputs.
+    pub fn words(&mut self) -> [Word; PORTS as usize] {
+        let mut words = [Word::UNUSED; PORTS as usize];
+        for output in 0..PORTS {
+            words[usize::from(output)] = self.farm.word(output);
+        }
+        words
+    }
+
     // Each physical output whose word isn't 0, with its word.
-    fn words(&mut self, text: &mut String) -> Result<(), NoMemory> {
-        for output in 0..OUTPUTS {
-            let word = self.farm.word(output);
-            if word != Word::UNUSED {
+    fn write_words(&mut self, text: &mut String) -> Result<(), NoMemory> {
+        for (output, word) in self.words().iter().enumerate() {
+            if *word != Word::UNUSED {
                 if !text.is_empty() {
                     text.push_str(" ")?;
                 }

@@ -5,6 +5,7 @@ use crate::fault::ReplayFault;
 use crate::folded::Folded;
 use crate::lines::{Unread, asked_in};
 use crate::played::Played;
+use crossbar::{PORTS, Word};
 use domain_core::NoMemory;
 use plan_checker::{AcceptedPlan, check, read_plan};
 use script_text::{Answered, divide, is_passed_over, owned, split_expected, split_line};
@@ -33,6 +34,15 @@ struct Script {
     lines: Vec<Line>,
 }
 
+/// A farm after the lines of its text.
+#[derive(Drop)]
+pub struct ReplayedFarm {
+    /// The plan that it stands under.
+    pub plan: AcceptedPlan,
+    /// The switch words of the 32 physical outputs.
+    pub words: [Word; PORTS as usize],
+}
+
 /// Replays a text: for each of its farms, which stand between lines `===`, a plan, a line `---`, and lines that ask. All
 /// is read before any line asks; then each line has its answer, in order.
 ///
@@ -42,9 +52,20 @@ pub fn replay(alloc: Global, text: &[u8]) -> Result<Vec<Answered>, ReplayFault> 
     let scripts = scripts_of(alloc, text)?;
     let mut answers = Vec::new(alloc);
     for script in scripts {
-        play(alloc, script, &mut answers)?;
+        let _ = play(alloc, script, &mut answers)?;
     }
     Ok(answers)
+}
+
+/// Replays a text as `replay` does, and gives its last farm as its lines left it.
+pub fn replay_farm(alloc: Global, text: &[u8]) -> Result<Option<ReplayedFarm>, ReplayFault> {
+    let scripts = scripts_of(alloc, text)?;
+    let mut answers = Vec::new(alloc);
+    let mut last = None;
+    for script in scripts {
+        last = Some(play(alloc, script, &mut answers)?);
+    }
+    Ok(last)
 }
 
 fn scripts_of(alloc: Global, text: &[u8]) -> Result<Vec<Script>, ReplayFault> {
@@ -104,7 +125,12 @@ fn line_of(alloc: Global, line: &[u8], number: u64) -> Result<Line, Unread> {
     })
 }
 
-fn play(alloc: Global, script: Script, answers: &mut Vec<Answered>) -> Result<(), NoMemory> {
+// Asks the farm of a script its lines, and gives it as they left it.
+fn play(
+    alloc: Global,
+    script: Script,
+    answers: &mut Vec<Answered>,
+) -> Result<ReplayedFarm, NoMemory> {
     let Script { plan, lines } = script;
     let mut played = Played::open(alloc, &plan)?;
     for line in lines {
@@ -123,7 +149,8 @@ fn play(alloc: Global, script: Script, answers: &mut Vec<Answered>) -> Result<()
             expected,
         })?;
     }
-    Ok(())
+    let words = played.words();
+    Ok(ReplayedFarm { plan, words })
 }
 
 // The answers of a line that asks so often.

@@ -7,6 +7,7 @@ mod closing;
 mod crew;
 mod lists;
 mod opening;
+mod out;
 mod pass;
 mod service;
 mod session;

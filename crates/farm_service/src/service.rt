@@ -22,6 +22,7 @@ use crate::closed::{Closed, NotClosed};
 use crate::closing::{Room, ends_of};
 use crate::lists::are_listed;
 use crate::opening::{Opened, open_domains, open_users};
+use crate::out::OutNodes;
 use crate::pass::UserPass;
 use crate::waiting::wait;
 use crossbar::Word;
@@ -51,6 +52,8 @@ pub struct Service {
     table: SwitchTable,
     tokens: TokenQueue,
     stopped: AtomicBool,
+    // Which nodes a thread has out. Nobody relies on it: it spares bursts that would be stale.
+    out: OutNodes,
 }
 
 impl Model for Service {
@@ -68,6 +71,15 @@ impl Model for Service {
 // Whether a Move is recorded: where a packet went.
 fn is_recorded(reply: Reply) -> bool {
     matches!(reply, Reply::Moved(Moved::Passed | Moved::Lost))
+}
+
+// Moves of the first ports of a domain, in order; whether a packet went.
+fn move_ports(domain: &mut Lodging, ports: u8) -> Result<bool, Refusal> {
+    let mut went = false;
+    for port in 0..ports {
+        went |= is_recorded(domain.apply(By::Farm, Event::Move(port))?);
+    }
+    Ok(went)
 }
 
 // Whether a Step of a node would be recorded, the limit aside.
@@ -116,6 +128,7 @@ impl Service {
         let (table, seats, operator) = SwitchTable::open(alloc, &plan)?;
         let domains = open_domains(alloc, &plan, seats)?;
         let users = open_users(alloc, &plan)?;
+        let out = OutNodes::none(alloc)?;
         let (tokens, passes) = TokenQueue::open(rt, alloc, &plan, workers)?;
         Ok(Opened {
             service: Service {
@@ -124,6 +137,7 @@ impl Service {
                 table,
                 tokens,
                 stopped: AtomicBool::new(false),
+                out,
             },
             passes,
             users,
@@ -252,32 +266,41 @@ impl Service {
         }
     }
 
-    // One Move under the domain's lock.
-    fn move_port<R: Wait>(&self, rt: &R, domain: u8, port: u8) -> Result<Reply, Refusal> {
+    // Moves of all ports of a domain, in order, in one hold of its lock; whether a packet went.
+    pub(crate) fn move_all<R: Wait>(&self, rt: &R, domain: u8) -> Result<bool, Refusal> {
         match self.domains.get(usize::from(domain)) {
-            Some(lock) => lock.lock(rt).apply(By::Farm, Event::Move(port)),
+            Some(lock) => move_ports(&mut lock.lock(rt), self.ports(domain)),
             None => Err(Refusal::NoSuch),
         }
     }
 
-    // Moves of all ports of a domain, in order; whether a packet went.
-    pub(crate) fn move_all<R: Wait>(&self, rt: &R, domain: u8) -> Result<bool, Refusal> {
-        let mut went = false;
-        for port in 0..self.ports(domain) {
-            went |= is_recorded(self.move_port(rt, domain, port)?);
-        }
-        Ok(went)
+    // The nodes that threads have out.
+    pub(crate) fn out(&self) -> &OutNodes {
+        &self.out
     }
 
-    // A burst outside the lock of each node of a domain that has a Step to do, and then the Moves. A
-    // stale ticket is passed over.
+    // A burst of a node outside the lock, if it has a Step to do. A stale ticket is passed over.
+    fn burst<R: Wait>(&self, rt: &R, domain: u8, node: u8, quantum: u64) -> Result<(), Refusal> {
+        if self.has_step(rt, domain, node)? {
+            let mut ticket = self.checkout(rt, domain, node)?;
+            ticket.burst(quantum);
+            self.commit(rt, ticket)?;
+        }
+        Ok(())
+    }
+
+    // A burst of each node of a domain that has a Step to do, and then the Moves. A node that a worker
+    // has out does its Steps there: they are waited for.
     pub(crate) fn round<R: Wait>(&self, rt: &R, domain: u8, quantum: u64) -> Result<(), Refusal> {
         for node in 0..self.nodes(domain) {
-            if self.has_step(rt, domain, node)? {
-                let mut ticket = self.checkout(rt, domain, node)?;
-                ticket.burst(quantum);
-                self.commit(rt, ticket)?;
+            if self.out.takes(domain, node) {
+                let done = self.burst(rt, domain, node, quantum);
+                self.out.gives_back(domain, node);
+                done?;
             }
+        }
+        for node in 0..self.nodes(domain) {
+            self.out.wait_for(rt, domain, node);
         }
         self.move_all(rt, domain)?;
         Ok(())
@@ -321,6 +344,7 @@ impl Service {
             table: _,
             tokens,
             stopped: _,
+            out: _,
         } = self;
         let Room {
             domains: closed,

@@ -64,8 +64,25 @@ fn burst<R: Wait, G: Gate>(
     Ok(stepped)
 }
 
+// A burst of a node that nobody else has out; whether it did a Step.
+fn burst_alone<R: Wait, G: Gate>(
+    rt: &R,
+    service: &Service,
+    token: Token,
+    gate: &G,
+    quantum: u64,
+) -> Result<bool, Refusal> {
+    if !service.out().takes(token.domain, token.node) {
+        return Ok(false);
+    }
+    let stepped = burst(rt, service, token, gate, quantum);
+    service.out().gives_back(token.domain, token.node);
+    stepped
+}
+
 // A burst of a node, and then the Moves of its domain, whatever became of the ticket; whether there was
-// anything to do. Where nobody watches, a node that has no Step to do isn't copied.
+// anything to do. Where nobody watches, a node that has no Step to do isn't copied, and one that a user
+// has out is left to him.
 fn step<R: Wait, G: Gate>(
     rt: &R,
     service: &Service,
@@ -73,15 +90,15 @@ fn step<R: Wait, G: Gate>(
     gate: &G,
     quantum: u64,
 ) -> Result<bool, Refusal> {
-    if !gate.watches() {
-        if service.is_quiet(rt, token.domain)? {
-            return Ok(false);
-        }
-        if !service.has_step(rt, token.domain, token.node)? {
-            return service.move_all(rt, token.domain);
-        }
+    if gate.watches() {
+        let stepped = burst(rt, service, token, gate, quantum)?;
+        let moved = service.move_all(rt, token.domain)?;
+        return Ok(stepped || moved);
     }
-    let stepped = burst(rt, service, token, gate, quantum)?;
+    if !service.has_step(rt, token.domain, token.node)? {
+        return service.move_all(rt, token.domain);
+    }
+    let stepped = burst_alone(rt, service, token, gate, quantum)?;
     let moved = service.move_all(rt, token.domain)?;
     Ok(stepped || moved)
 }

@@ -11,6 +11,13 @@ use std::convert::AsStr;
 /// How many Steps are traced unless the words say it.
 const USUAL_STEPS: u32 = 1000;
 
+/// What stands below the help.
+const AFTER_HELP: &str = "\
+Example:
+  lab plan < examples/two-users.farm
+
+Each subcommand tells by --help what it reads. docs/LAB.md has them all.";
+
 /// What the words ask.
 #[derive(Drop)]
 pub enum Asked<'a> {
@@ -18,6 +25,10 @@ pub enum Asked<'a> {
     Help(String),
     /// To replay standard input on farms.
     Replay,
+    /// To show the plan on standard input.
+    Plan,
+    /// To draw the switch of the farm that standard input leaves.
+    Draw,
     /// To trace what standard input asks of a node.
     Trace,
     /// To boot a node with code, and to trace at most so many Steps.
@@ -63,6 +74,12 @@ fn command<'a>(alloc: Global) -> Result<Command<'a>, AllocError> {
         .about("Traces a node alone: reads lines that set it and let it do Steps")
         .arg(code)?
         .arg(steps)?;
+    let plan = Command::new(alloc, "plan").about(
+        "Shows the domains, users, ports and devices of a plan, or where and why it is refused",
+    );
+    let draw = Command::new(alloc, "draw").about(
+        "Draws the switch in SVG after the events of a text as replay reads it",
+    );
     let files = Arg::new(alloc, "file")
         .value_name("FILE")
         .help(
@@ -79,8 +96,11 @@ fn command<'a>(alloc: Global) -> Result<Command<'a>, AllocError> {
     );
     Command::new(alloc, "lab")
         .about("A laboratory for the farm of T414 processors")
+        .after_help(AFTER_HELP)
         .subcommand_required(true)
         .subcommand(replay)?
+        .subcommand(plan)?
+        .subcommand(draw)?
         .subcommand(trace)?
         .subcommand(assemble(alloc)?)?
         .subcommand(disassemble)?
@@ -108,6 +128,8 @@ fn assemble<'a>(alloc: Global) -> Result<Command<'a>, AllocError> {
 
 fn chosen<'a>(alloc: Global, matches: &ArgMatches<'a>) -> Result<Asked<'a>, Failure> {
     match matches.subcommand() {
+        Some(("plan", _)) => Ok(Asked::Plan),
+        Some(("draw", _)) => Ok(Asked::Draw),
         Some(("trace", matches)) => traced(alloc, matches),
         Some(("assemble", matches)) => Ok(Asked::Assemble(Wanted {
             listing: matches.get_flag("listing"),

@@ -2,6 +2,7 @@
 
 use farm_replay::ReplayFault;
 use node_trace::{BootTraceFault, TraceFault};
+use plan_views::PlanRefusal;
 use script_text::{ReadFault, write_whole};
 use std::alloc::{AllocError, AllocFailed, Global};
 use std::io::{self, Write};
@@ -21,6 +22,9 @@ pub enum Failure {
     /// A plan is refused, with the number of its fault.
     #[error("plan: {0}\n")]
     Plan(u8),
+    /// A plan is refused, with the place and the reason.
+    #[error("{0}\n")]
+    RefusedPlan(PlanRefusal),
     /// A line asks nothing that there is.
     #[error("line {0}\n")]
     Line(u64),
@@ -60,7 +64,7 @@ impl Failure {
     fn status(&self) -> u8 {
         match self {
             Failure::Words(_) | Failure::Arguments | Failure::Code => 2,
-            Failure::Plan(_) => 3,
+            Failure::Plan(_) | Failure::RefusedPlan(_) => 3,
             Failure::Line(_) | Failure::Text(_) | Failure::Length(_) | Failure::Poked(_) => 4,
             Failure::Memory => 5,
             Failure::Io => 6,
@@ -109,6 +113,15 @@ impl From<ReplayFault> for Failure {
             ReplayFault::Plan(number) => Failure::Plan(number),
             ReplayFault::Line(number) => Failure::Line(number),
             ReplayFault::NoMemory => Failure::Memory,
+        }
+    }
+}
+
+impl From<PlanRefusal> for Failure {
+    fn from(refusal: PlanRefusal) -> Failure {
+        match refusal {
+            PlanRefusal::NoMemory => Failure::Memory,
+            refusal => Failure::RefusedPlan(refusal),
         }
     }
 }

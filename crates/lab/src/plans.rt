@@ -1,7 +1,7 @@
 //! Plans that stand in files, each with what the checker is to answer.
 
 use crate::failure::Failure;
-use plan_checker::{PlanFault, check, read_plan};
+use plan_views::{PlanRefusal, accepted};
 use script_text::{Answered, split_line};
 use std::alloc::{AllocError, Global};
 
@@ -13,8 +13,8 @@ struct Block<'a> {
     text: String,
 }
 
-/// Tries each plan of a text. A plan stands below a heading `=== EXPECTED`, where `accepted` or the number of its fault
-/// is expected; ` - ` and why may follow. Below `=== base EXPECTED` stands a plan of which the next are changes: each
+/// Tries each plan of a text. A plan stands below a heading `=== EXPECTED`, where `accepted`, the number of its fault or
+/// the line of its refusal, which begins with `plan: `, is expected; ` - ` and why may follow. Below `=== base EXPECTED` stands a plan of which the next are changes: each
 /// `replace: OLD` has a line `with: NEW` after it, and OLD stands exactly once in the plan so far; empty lines are
 /// passed over. What stands below `=== # ...` or before the first heading is a remark.
 ///
@@ -35,7 +35,7 @@ pub fn try_plans(alloc: Global, text: &[u8]) -> Result<Vec<Answered>, Failure> {
         answers.push(Answered {
             line: block.number,
             asked: String::from_str(alloc, why)?,
-            answer: answer_of(alloc, plan.as_str())?,
+            answer: answer_of(alloc, plan.as_str(), expected.starts_with("plan: "))?,
             expected: Some(String::from_str(alloc, base_expected.unwrap_or(expected))?),
         })?;
         if base_expected.is_some() {
@@ -124,15 +124,15 @@ fn changed(alloc: Global, plan: &str, old: &str, new: &str) -> Result<Option<Str
     }
 }
 
-// What the checker answers: `accepted`, or the number of the plan's fault.
-fn answer_of(alloc: Global, plan: &str) -> Result<String, Failure> {
-    let fault = match read_plan(alloc, plan.as_bytes()) {
-        Ok(plan) => check(alloc, plan).err(),
-        Err(fault) => Some(fault),
-    };
-    match fault {
-        None => Ok(String::from_str(alloc, "accepted")?),
-        Some(PlanFault::NoMemory) => Err(Failure::Memory),
-        Some(fault) => Ok(format!(in alloc; "{}", fault.number())?),
+// What the checker answers: `accepted`, or the number of the plan's fault, or, if that is asked, the line that says where
+// and why the plan is refused.
+fn answer_of(alloc: Global, plan: &str, tells_why: bool) -> Result<String, Failure> {
+    match accepted(alloc, plan.as_bytes()) {
+        Ok(_) => Ok(String::from_str(alloc, "accepted")?),
+        Err(PlanRefusal::NoMemory) => Err(Failure::Memory),
+        Err(PlanRefusal::Refused { fault, .. }) if !tells_why => {
+            Ok(format!(in alloc; "{}", fault.number())?)
+        }
+        Err(refusal) => Ok(format!(in alloc; "{refusal}")?),
     }
 }

@@ -3,9 +3,10 @@
 use crate::assembly::{assembled, disassembled};
 use crate::command_line::Asked;
 use crate::failure::Failure;
-use farm_replay::replay;
+use farm_replay::{replay, replay_farm};
 use node_trace::{trace, trace_boot};
-use script_text::Answered;
+use plan_views::{accepted, draw, table_of};
+use script_text::{Answered, divide};
 use std::alloc::Global;
 
 /// A text for standard output, and the status of the process.
@@ -19,12 +20,22 @@ pub struct Report {
 pub fn report_of(alloc: Global, asked: &Asked, text: &[u8]) -> Result<Report, Failure> {
     let text = match asked {
         Asked::Boot(code, steps) => trace_boot(alloc, code.as_slice(), u64::from(*steps))?,
+        Asked::Plan => table_of(alloc, &accepted(alloc, divide(text, b"---").0)?)?,
+        Asked::Draw => drawn(alloc, text)?,
         Asked::Assemble(wanted) => assembled(alloc, wanted, text)?,
         Asked::Disassemble => disassembled(alloc, text)?,
         Asked::Trace => text_of(alloc, trace(alloc, text)?)?,
         _ => text_of(alloc, replay(alloc, text)?)?,
     };
     Ok(Report { text, status: 0 })
+}
+
+// The switch of the last farm of a text.
+fn drawn(alloc: Global, text: &[u8]) -> Result<String, Failure> {
+    match replay_farm(alloc, text)? {
+        Some(farm) => Ok(draw(alloc, &farm.plan, farm.words.as_slice())?),
+        None => Ok(String::new(alloc)),
+    }
 }
 
 fn text_of(alloc: Global, answers: Vec<Answered>) -> Result<String, Failure> {

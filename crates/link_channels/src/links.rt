@@ -168,16 +168,17 @@ impl Links {
         ensures answer { served result self.new queue.new memory.new ≡ serve number self.old queue.old memory.old }
         ensures queue_unchanged { OnErr result (queue.new ≡ queue.old) }
     {
-        let before = *queue;
-        let acted = self.links.serve(memory, queue, number);
+        let mut after = *queue;
+        let acted = self.links.serve(memory, &mut after, number);
         self.has_work = self.links.any_has_work();
-        if acted.is_err() {
-            *queue = before;
+        if acted.is_ok() {
+            *queue = after;
         }
         acted
     }
 
     /// Serves links 0 to 3 in this order; whether that did anything. The faults are those of `serve`, and end it.
+    #[inline(always)]
     pub fn serve_all(&mut self, memory: &mut Memory, queue: &mut Queue) -> Result<bool, Fault>
         ensures answer { served result self.new queue.new memory.new ≡ serve_all self.old queue.old memory.old }
         ensures queue_unchanged { OnErr result (queue.new ≡ queue.old) }
@@ -187,11 +188,12 @@ impl Links {
         if !self.has_work {
             return Ok(false);
         }
-        let before = *queue;
-        let acted = self.links.serve_all(memory, queue);
+        // The links get a copy of the queue, so that no address of the caller's registers is taken.
+        let mut after = *queue;
+        let acted = self.links.serve_all(memory, &mut after);
         self.has_work = self.links.any_has_work();
-        if acted.is_err() {
-            *queue = before;
+        if acted.is_ok() {
+            *queue = after;
         }
         acted
     }

@@ -1,3 +1,4 @@
 pub mod Copies
 pub mod Edge
+pub mod Parts
 pub mod Writes

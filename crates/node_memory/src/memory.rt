@@ -1,7 +1,7 @@
 //! Bytes from the most negative address upwards, and words of four bytes among them.
 
-ghost use Rattle.std.specs.Prelude.{◌≡◌, ◌↔◌, IfOk, IsTrue, OnErr, length, replicate};
-ghost use Rattle.node_memory.specs.Bytes.{IsMemorySize, byte_at, word_at, with_byte, with_word, stored, copied};
+ghost use Rattle.std.specs.Prelude.{◌≡◌, ◌+◌, ◌≤◌, ◌↔◌, IfOk, IsTrue, OnErr, length, replicate};
+ghost use Rattle.node_memory.specs.Bytes.{IsMemorySize, byte_at, word_at, with_byte, with_word, with_word_from, stored, copied};
 
 use crate::fault::Fault;
 use std::alloc::{AllocError as NoMemory, Global};
@@ -17,6 +17,19 @@ pub fn is_memory_size(size: usize) -> bool
     ensures answer { IsTrue result ↔ IsMemorySize size }
 {
     2048 <= size && size <= 65536 && size % 4 == 0
+}
+
+// Puts a word's four bytes from an index on. They are the bytes of one part, so that one store writes them.
+#[inline]
+fn put_word(bytes: &mut [u8], first: usize, word: u32)
+    requires { first + 4 ≤ length bytes.old }
+    ensures { bytes.new ≡ with_word_from bytes.old first word }
+{
+    let part = &mut bytes[first..first + 4];
+    part[0] = (word % 0x100) as u8;
+    part[1] = ((word >> 8) % 0x100) as u8;
+    part[2] = ((word >> 16) % 0x100) as u8;
+    part[3] = (word >> 24) as u8;
 }
 
 /// A node's memory: its bytes from `MEMORY_START` upwards.
@@ -124,11 +137,7 @@ impl Memory {
         let offset = address.wrapping_sub(MEMORY_START) as usize;
         if offset < self.bytes.len() {
             let first = offset - offset % 4;
-            let bytes = self.bytes.as_mut_slice();
-            bytes[first] = (word % 0x100) as u8;
-            bytes[first + 1] = ((word >> 8) % 0x100) as u8;
-            bytes[first + 2] = ((word >> 16) % 0x100) as u8;
-            bytes[first + 3] = (word >> 24) as u8;
+            put_word(self.bytes.as_mut_slice(), first, word);
             Ok(())
         } else {
             Err(Fault::OutsideMemory)
@@ -167,7 +176,7 @@ impl Memory {
         ensures { IfOk result (λ memory. memory ≡ self.now) }
     {
         Ok(Memory {
-            bytes: self.bytes.clone()?,
+            bytes: Vec::from_slice(*self.bytes.allocator(), self.bytes.as_slice())?,
         })
     }
 

@@ -12,7 +12,7 @@ mod plan;
 mod ports;
 mod read;
 mod row;
-mod rules;
+pub mod rules;
 mod smallest;
 mod values;
 mod version;

@@ -4,7 +4,8 @@ ghost use Rattle.plan_checker.specs.Separate.{IsRange, IsFrom, Lies, HasWiredLin
 
 use crate::plan::{DomainPlan, NodePlan, RangePlan, UserPlan};
 
-fn is_name(name: &str) -> bool
+/// Whether a name has the permitted form.
+pub fn is_name(name: &str) -> bool
     ensures { IsTrue result ↔ IsName name.now }
 {
     (1..=32).contains(&name.len())
@@ -21,7 +22,8 @@ pub fn has_names(domain: &DomainPlan) -> bool
     domain.users.iter().all(|user| is_name(user.name.as_str()))
 }
 
-fn is_range(range: &RangePlan) -> bool
+/// Whether a range is one of physical ports.
+pub fn is_range(range: &RangePlan) -> bool
     ensures { IsTrue result ↔ IsRange range.now }
 {
     0 <= range.first && range.first <= range.last && range.last <= 31
@@ -55,7 +57,8 @@ pub fn has_node_count(domain: &DomainPlan) -> bool
     (1..=8).contains(&domain.nodes.len())
 }
 
-fn is_memory_size(bytes: i64) -> bool
+/// Whether a memory of so many bytes is permitted.
+pub fn is_memory_size(bytes: i64) -> bool
     ensures { IsTrue result ↔ IsPlannedMemory bytes }
 {
     2048 <= bytes && bytes <= 65536 && bytes % 4 == 0
@@ -75,7 +78,8 @@ pub fn is_wired(link: i64) -> bool
     link != -1
 }
 
-fn has_wired_link(node: &NodePlan) -> bool
+/// Whether a node has a wired link.
+pub fn has_wired_link(node: &NodePlan) -> bool
     ensures { IsTrue result ↔ HasWiredLink node.now }
 {
     node.links.iter().any(|link| is_wired(*link))

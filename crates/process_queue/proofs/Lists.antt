@@ -1,8 +1,8 @@
 -- Putting and taking, on the list that waits.
-use Rattle.std.proofs.Common.{◌≡◌, ◌≢◌, ℕ, ◌/◌, ◌^◌, ◌<◌, List, [], ◌∷◌, ◌++◌, Option, Some, None, Result, Ok, Err, refl, arith, ◌∙◌, ap, sym}
+use Rattle.std.proofs.Common.{◌≡◌, ◌≢◌, ℕ, ◌/◌, ◌^◌, ◌<◌, Bool, true, false, cond, List, [], ◌∷◌, ◌++◌, Option, Some, None, Result, Ok, Err, refl, arith, ◌∙◌, ap, sym}
 use Rattle.std.proofs.lemmas.Bool.Decides.{nat_tests}
-use Rattle.node_memory.specs.Bytes.{word_at, with_word}
-use Rattle.node_memory.proofs.Writes.{word_at-with_word_same, word_at-with_word_other, word_at-unwritten, with_word-unread, word_at-fault}
+use Rattle.node_memory.specs.Bytes.{word_at, with_word, word_from, word_offset, holds_word}
+use Rattle.node_memory.specs.Laws.{WordIsRead, OtherWordsStay, WriteFaultsAsRead}
 use Rattle.process_queue.specs.declared.queue.Queue.{Queue}
 use Rattle.node_memory.specs.Marks.{not_process}
 use Rattle.process_queue.specs.Queue.{link_of, after_put, Changed, Kept, linked, after_take, Took, Stayed, followed}
@@ -25,15 +25,15 @@ last_is m v [] back ws linked = rw linked ws.0
 last_is m v (u ∷ us) back ws linked = last_is m u us back ws.1.1 linked.1
 
 -- a write of the last link word lengthens the list
-linked-put : (m n : List ℕ) (v : ℕ) (vs : List ℕ) (back w : ℕ) → AreWorkspaces (v ∷ vs) → w < 2 ^ 32 → with_word m (link_of back) w ≡ Ok n → IsLinked m v vs back → IsLinked n v (vs ++ w ∷ []) w
-linked-put m n v [] back w ws fits write linked =
-    (word_at-with_word_same m n (link_of v) w fits (rw (← linked) write), refl)
-linked-put m n v (u ∷ us) back w ws fits write linked = (
-  word_at-with_word_other m n (link_of back) (link_of v) w
+linked-put : WordIsRead → OtherWordsStay → (m n : List ℕ) (v : ℕ) (vs : List ℕ) (back w : ℕ) → AreWorkspaces (v ∷ vs) → w < 2 ^ 32 → with_word m (link_of back) w ≡ Ok n → IsLinked m v vs back → IsLinked n v (vs ++ w ∷ []) w
+linked-put read stay m n v [] back w ws fits write linked =
+    (read m n (link_of v) w fits (rw (← linked) write), refl)
+linked-put read stay m n v (u ∷ us) back w ws fits write linked = (
+  stay m n (link_of back) (link_of v) w
       (apart_links back v (last_is m u us back ws.1.1 linked.1) ws.0 (λ e. last_differs m v u us back ws.1.0 linked.1 (sym e)))
       write
       ∙ linked.0,
-  linked-put m n u us back w ws.1.1 fits write linked.1,
+  linked-put read stay m n u us back w ws.1.1 fits write linked.1,
 )
 
 absent-put : (v : ℕ) (vs : List ℕ) (w : ℕ) → IsAbsent v vs → v ≢ w → IsAbsent v (vs ++ w ∷ [])
@@ -44,6 +44,15 @@ workspaces-put : (vs : List ℕ) (w : ℕ) → AreWorkspaces vs → IsWorkspace 
 workspaces-put [] w ws p a = (p, (tt, tt))
 workspaces-put (v ∷ vs) w ws p a =
     (ws.0, (absent-put v vs w ws.1.0 (λ e. a.0 (sym e)), workspaces-put vs w ws.1.1 p a.1))
+
+-- a read has one fault
+cond-fault : (b : Bool) (x : ℕ) (f : Fault) → cond b (Ok x) (Err OutsideMemory) ≡ Err f → f ≡ OutsideMemory
+cond-fault true x f h = cc
+cond-fault false x f h = cc
+
+word_at-fault : (m : List ℕ) (a : ℕ) (f : Fault) → word_at m a ≡ Err f → f ≡ OutsideMemory
+unfolding word_at
+word_at-fault m a f h = cond-fault (holds_word m a) (word_from m (word_offset a)) f h
 
 -- what comes of a put
 put_empty : (q : Queue) (m : List ℕ) (w : ℕ) → q.front ≡ not_process → after_put q m w ≡ Changed (record { front = w; back = w }) m
@@ -63,31 +72,31 @@ linked-kept (Ok k) q r s m n f e = cc
 linked-kept (Err fault) q r s m n f e = cc
 
 -- a put that is done found the last link word in memory, if there is one
-pub put-inside : (q r : Queue) (m n : List ℕ) (w : ℕ) → after_put q m w ≡ Changed r n → q.front ≢ not_process → word_at m (link_of q.back) ≡ Err OutsideMemory → ⊥
-put-inside q r m n w e ne outside =
+pub put-inside : WriteFaultsAsRead → (q r : Queue) (m n : List ℕ) (w : ℕ) → after_put q m w ≡ Changed r n → q.front ≢ not_process → word_at m (link_of q.back) ≡ Err OutsideMemory → ⊥
+put-inside faults q r m n w e ne outside =
     let done = linked-changed _ _ _ _ _ _ (sym (put_more q m w ne) ∙ e) in
-    let fault = with_word-unread m (link_of q.back) w OutsideMemory outside in
+    let fault = (faults m (link_of q.back) w OutsideMemory).1 outside in
     let ok = done.0 in
     cc
 
 -- one that is not done found it outside
-pub put-outside : (q r : Queue) (m n : List ℕ) (w : ℕ) (f : Fault) → after_put q m w ≡ Kept f r n → (f ≡ OutsideMemory) × (q.front ≢ not_process) × (word_at m (link_of q.back) ≡ Err OutsideMemory)
-put-outside q r m n w f e =
+pub put-outside : WriteFaultsAsRead → (q r : Queue) (m n : List ℕ) (w : ℕ) (f : Fault) → after_put q m w ≡ Kept f r n → (f ≡ OutsideMemory) × (q.front ≢ not_process) × (word_at m (link_of q.back) ≡ Err OutsideMemory)
+put-outside faults q r m n w f e =
     let ne : q.front ≢ not_process = λ h. (let p = put_empty q m w h in cc) in
     let fault = linked-kept _ _ _ _ _ _ _ (sym (put_more q m w ne) ∙ e) in
-    let unread = word_at-unwritten m (link_of q.back) w f fault in
+    let unread = (faults m (link_of q.back) w f).0 fault in
     let same = word_at-fault m (link_of q.back) f unread in
     (same, ne, rw (← same) unread)
 
 -- a new workspace goes to the end of the list
-pub stands-put : (ws : List ℕ) (q r : Queue) (m n : List ℕ) (w : ℕ) → after_put q m w ≡ Changed r n → Stands m q ws → IsWorkspace w → IsAbsent w ws → Stands n r (ws ++ w ∷ [])
-stands-put [] q r m n w e stands p a =
+pub stands-put : WordIsRead → OtherWordsStay → (ws : List ℕ) (q r : Queue) (m n : List ℕ) (w : ℕ) → after_put q m w ≡ Changed r n → Stands m q ws → IsWorkspace w → IsAbsent w ws → Stands n r (ws ++ w ∷ [])
+stands-put read stay [] q r m n w e stands p a =
     let f = sym (put_empty q m w stands) ∙ e in
     let g : r ≡ record { front = w; back = w } = cc in
     rw g (refl, (refl, (p, (tt, tt))))
-stands-put (v ∷ vs) q r m n w e stands p a =
+stands-put read stay (v ∷ vs) q r m n w e stands p a =
     let f = linked-changed _ _ _ _ _ _ (sym (put_more q m w (rw stands.0 stands.1.1.0.process)) ∙ e) in
-    rw f.1 (stands.0, (linked-put m n v vs q.back w stands.1.1 p.fits f.0 stands.1.0, workspaces-put (v ∷ vs) w stands.1.1 p a))
+    rw f.1 (stands.0, (linked-put read stay m n v vs q.back w stands.1.1 p.fits f.0 stands.1.0, workspaces-put (v ∷ vs) w stands.1.1 p a))
 
 -- what comes of a take
 take_empty : (q : Queue) (m : List ℕ) → q.front ≡ not_process → after_take q m ≡ Took None q

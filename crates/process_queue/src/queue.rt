@@ -3,7 +3,7 @@
 ghost use Rattle.std.specs.Prelude.{◌≡◌, ◌≢◌, ◌↔◌, ◌++◌, ◌∷◌, [], List, ℕ, OnOk, OnErr};
 ghost use Rattle.node_memory.specs.declared.fault.Fault.TheVariants.{OutsideMemory};
 
-use node_memory::{Fault, Memory};
+use node_memory::{Fault, Memory, written_words_are_read};
 
 /// The word that stands for no process, MinInt.
 ///
@@ -52,6 +52,7 @@ impl Queue {
     /// queue and memory are then unchanged.
     ///
     /// Source: Transputer instruction set handbook, run process.
+    #[inline(always)]
     #[tactic(auto, unfolding(crate::specs::Queue::after_put))]
     pub fn put(&mut self, memory: &mut Memory, workspace: u32) -> Result<(), Fault>
         ensures exact { changed result self.new memory.new ≡ after_put self.old memory.old workspace }
@@ -65,6 +66,7 @@ impl Queue {
         ensures queue_unchanged { OnErr result (self.new ≡ self.old) }
         ensures memory_unchanged { OnErr result (memory.new ≡ memory.old) }
     {
+        written_words_are_read();
         if self.front == NOT_PROCESS {
             self.front = workspace;
         } else {
@@ -80,6 +82,7 @@ impl Queue {
     /// the queue is then unchanged.
     ///
     /// Source: Transputer instruction set handbook, processes.
+    #[inline(always)]
     #[tactic(auto, unfolding(crate::specs::Queue::after_take))]
     pub fn take(&mut self, memory: &Memory) -> Result<Option<u32>, Fault>
         ensures exact { taken result self.new ≡ after_take self.old memory.now }

@@ -1,7 +1,10 @@
 //! Plans of which tests and measurements open domains and farms.
 #![tactic(auto)]
 
+mod sized;
+
 use plan_checker::{AcceptedPlan, PlanFault, check, read_plan};
+pub use sized::{Size, sized_plan};
 use std::alloc::Global;
 
 /// Ann has ports 0 to 7, bob ports 8 to 15.

@@ -6,9 +6,9 @@ ghost use Rattle.token_queue.specs.Passes.{AreItsPasses};
 use crate::acts::{Act, QUANTUM, act_all};
 use crate::farm::{Farm, close, open};
 use crate::many::sixteen_domains;
-use crate::replay::is_same_again;
 use crate::rows::SAYS_41;
 use farm_service::{Closed, NoGate, NoMemory, Service, Session, UserPass, WorkerPass, work_all};
+use journal_replay::{OneByOne, compare};
 use sample_plans::plan_of;
 use std::alloc::{AllocError, Global};
 use std::sync::Wait;
@@ -131,7 +131,8 @@ fn tell_closed(alloc: Global, text: &str, closed: Closed) -> Result<String, Allo
     let Ok(plan) = plan_of(alloc, text) else {
         return Err(AllocError);
     };
-    let alike = is_same_again(alloc, &plan, domains.as_slice())?;
+    let again = compare(alloc, &plan, domains.as_slice(), &mut OneByOne)?;
+    let alike = again.wrong == 0;
     let count = domains.len();
     let left = tokens.len();
     format!(in alloc; "{count} domains, {left} tokens, done again alike: {alike}")

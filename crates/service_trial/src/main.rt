@@ -10,7 +10,6 @@ mod crowd;
 mod farm;
 mod gates;
 mod many;
-mod replay;
 mod rows;
 mod together;
 

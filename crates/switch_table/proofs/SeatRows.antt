@@ -10,8 +10,7 @@ use Rattle.crossbar.specs.declared.word.Word.{Word}
 use Rattle.crossbar.specs.Ranges.{IsNumbering}
 use Rattle.crossbar.specs.Row.{AreWordsOf, IsWordOf, switch_of}
 use Rattle.crossbar.specs.Switch.{cleared}
-use Rattle.crossbar.proofs.Numberings.{few}
-use Rattle.crossbar.proofs.PlainRows.{set_row, unused_switch}
+use Rattle.crossbar.specs.Laws.{NumberingsAreFew, RowTakesAWord, UnusedIsCleared}
 use Rattle.switch_table.specs.declared.view.View.{View}
 use Rattle.switch_table.specs.Rule.{word_of, bits_of, words_of, with_view_word, StoresAlone}
 use Rattle.switch_table.specs.SeatStates.{SeatState, IsSeated}
@@ -30,8 +29,8 @@ length-clear : (n : ℕ) → length (replicate n (word_of 0)) ≡ n
 length-clear zero = refl
 length-clear (suc n) = ap suc (length-clear n)
 
-unused_row : (ports : List ℕ) → IsNumbering ports → AreWordsOf ports (clear_words ports)
-unused_row ports h = record {
+unused_row : NumberingsAreFew → (ports : List ℕ) → IsNumbering ports → AreWordsOf ports (clear_words ports)
+unused_row few ports h = record {
   length_is = length-clear (length ports);
   few = few ports h;
   below = h.below;
@@ -44,15 +43,15 @@ first_held [] ports is = absurd (none-some ports is)
 first_held (d ∷ held) ports is = ap (λ (p : List ℕ). p ∷ []) (same_Some d ports is)
 
 -- a seat that was just dealt
-pub dealt : (board seat : TableId) (view : View) (me : Me (Unit {0}) View) (ports : List ℕ) → seat ≡ board → seat.words ≡ 32 → view.words ≡ replicate 32 0 → slice_get view.held 0 ≡ Some ports → IsNumbering ports
+pub dealt : NumberingsAreFew → (board seat : TableId) (view : View) (me : Me (Unit {0}) View) (ports : List ℕ) → seat ≡ board → seat.words ≡ 32 → view.words ≡ replicate 32 0 → slice_get view.held 0 ≡ Some ports → IsNumbering ports
     → me.0 ≡ record view { held = take 1 view.held } → me.1 ≡ [] → IsSeated board seat me ports
-dealt board seat view me ports here wide clear next numbering is no_slot = record {
+dealt few board seat view me ports here wide clear next numbering is no_slot = record {
   here = here;
   wide = wide;
   view_wide = ap (λ (v : View). length v.words) is ∙ ap length clear;
   holds_its_domain = ap (λ (v : View). v.held) is ∙ first_held view.held ports next;
   takes_no_slot = no_slot;
-  row = subst (AreWordsOf ports) (sym (clear_row me.0 ports (ap (λ (v : View). v.words) is ∙ clear))) (unused_row ports numbering);
+  row = subst (AreWordsOf ports) (sym (clear_row me.0 ports (ap (λ (v : View). v.words) is ∙ clear))) (unused_row few ports numbering);
 }
 
 map-set : (xs : List ℕ) (i x : ℕ) → map word_of (set xs i x) ≡ set (map word_of xs) i (word_of x)
@@ -78,9 +77,9 @@ words_set view ports number port bits row wide low is =
     ∙ map-set (bits_of view ports) number bits
 
 -- and what the seat is stays
-pub written_seat : (board seat next : TableId) (me now : Me (Unit {0}) View) (ports : List ℕ) (number port bits : ℕ) → IsSeated board seat me ports → IsWordOf ports (word_of bits) → port < 32 → slice_get ports number ≡ Some port → next ≡ seat
+pub written_seat : RowTakesAWord → (board seat next : TableId) (me now : Me (Unit {0}) View) (ports : List ℕ) (number port bits : ℕ) → IsSeated board seat me ports → IsWordOf ports (word_of bits) → port < 32 → slice_get ports number ≡ Some port → next ≡ seat
     → now ≡ (with_view_word me.0 port bits, me.1) → IsSeated board next now ports
-written_seat board seat next me now ports number port bits s proper low is same then = record {
+written_seat set_row board seat next me now ports number port bits s proper low is same then = record {
   here = same ∙ s.here;
   wide = ap (λ (t : TableId). t.words) same ∙ s.wide;
   view_wide = ap (λ (m : Me (Unit {0}) View). length m.0.words) then ∙ length-set me.0.words port bits ∙ s.view_wide;
@@ -114,5 +113,5 @@ found_word view ports number port at found seen s same view_is ports_is is at_is
     ∙ word_at view ports number port is ∙ ap (λ (w : ℕ). Some (word_of w)) (ap (slice_index view.words) (sym at_is) ∙ sym found_is)
 
 -- and nothing is connected in them
-pub cleared_seats : (seats : List SeatState) → All (λ s. seat_words s ≡ clear_words s.ports) seats → All (λ s. switch_of (seat_words s) ≡ cleared) seats
-cleared_seats seats clear k d inside = ap switch_of (clear k d inside) ∙ unused_switch (length (get_or seats k d).ports)
+pub cleared_seats : UnusedIsCleared → (seats : List SeatState) → All (λ s. seat_words s ≡ clear_words s.ports) seats → All (λ s. switch_of (seat_words s) ≡ cleared) seats
+cleared_seats unused seats clear k d inside = ap switch_of (clear k d inside) ∙ unused (length (get_or seats k d).ports)

@@ -1,5 +1,5 @@
 -- What each seat of the switch table knows, and the rule that every step keeps.
-use Rattle.std.specs.Prelude.{◌≡◌, ℕ, List, map, length, replicate, Some, slice_get, slice_index, slice_set, Contains}
+use Rattle.std.specs.Prelude.{◌≡◌, ℕ, List, [], map, length, replicate, drop, Some, slice_get, slice_index, slice_set, Contains}
 use mathlib.Core.Option.{some}
 use lib.ListN.{get_elem?}
 use Rattle.atomic_table.specs.Table.{State, Me, Step}
@@ -50,6 +50,14 @@ pub record IsRuled {S : Type 0} (domains : List (List ℕ)) (s : State S View) :
 -- a view that holds these domains, with all words 0
 abbrev pub opening_view : List (List ℕ) → List (List ℕ) → View
 opening_view domains held = record { domains = domains; held = held; words = replicate 32 0 }
+
+-- who holds every domain at the opening, and takes no slot
+abbrev pub dealer_of : List (List ℕ) → Me (Unit {0}) View
+dealer_of domains = (opening_view domains domains, [])
+
+-- and once the first domain that he holds is dealt
+abbrev pub dealt_view : View → View
+dealt_view view = record view { held = drop 1 view.held }
 
 -- the view with another word at an output
 abbrev pub with_view_word : View → ℕ → ℕ → View

@@ -1,12 +1,13 @@
 //! A domain's seat at the switch table.
-ghost use Rattle.std.specs.Prelude.{◌≡◌, ℕ, List, [], ◌∷◌, length, replicate, drop, Some, slice_get, IfOk};
+ghost use Rattle.std.specs.Prelude.{◌≡◌, ℕ, List, [], ◌∷◌, length, replicate, Some, slice_get, IfOk};
 ghost use Rattle.std.specs.Arc.{arc_value};
 ghost use Rattle.crossbar.specs.Ranges.{IsNumbering};
-ghost use Rattle.switch_table.specs.Rule.{words_of};
+ghost use Rattle.switch_table.specs.Rule.{words_of, dealt_view};
 ghost use Rattle.switch_table.specs.Seats.{seat_words};
 
 use crate::NoMemory;
 use crate::board::{Board, BoardSeat, Deals, Reads, Writes};
+use crossbar::laws::rows_are_words_of_ports;
 use crossbar::{Numbering, Outputs, Word};
 use std::marker::Model;
 use std::sync::Arc;
@@ -33,6 +34,7 @@ impl Model for DomainSeat {
 
 impl DomainSeat {
     /// Cuts the first domain off what the dealer holds.
+    // Eight clauses: the dealer's seat is known by six facts, of which each is met by another, and both seats change.
     pub(crate) fn deal(
         board: &Arc<Board>,
         dealer: &mut BoardSeat,
@@ -45,8 +47,9 @@ impl DomainSeat {
         requires next { slice_get dealer.old.me.0.held 0 ≡ Some numbering }
         requires numbering { IsNumbering numbering }
         ensures seat { IfOk result (λ s. (s.ports ≡ numbering) × (s.table ≡ dealer.old.table_id) × (s.view.words ≡ dealer.old.me.0.words)) }
-        ensures rest { IfOk result (λ _. (dealer.new.table_id ≡ dealer.old.table_id) × (dealer.new.me ≡ (record dealer.old.me.0 { held = drop 1 dealer.old.me.0.held }, dealer.old.me.1))) }
+        ensures rest { IfOk result (λ _. (dealer.new.table_id ≡ dealer.old.table_id) × (dealer.new.me ≡ (dealt_view dealer.old.me.0, dealer.old.me.1))) }
     {
+        rows_are_words_of_ports();
         let board = Arc::try_clone(board)?;
         let seat = board.shared.split_seat::<Deals>(dealer);
         Ok(DomainSeat {
@@ -96,6 +99,7 @@ impl Outputs for DomainSeat {
 
     /// One atomic store.
     fn write(&mut self, number: u8, word: Word) {
+        rows_are_words_of_ports();
         let port = self.numbering.physical(number);
         let board = &self.board;
         board

@@ -1,13 +1,14 @@
 //! The switch table, and the operator's seat.
 ghost use Rattle.std.specs.Prelude.{◌≡◌, [], length, IfOk};
 ghost use Rattle.switch_table.specs.Domains.{domains_of};
-ghost use Rattle.switch_table.specs.Rule.{opening_view};
+ghost use Rattle.switch_table.specs.Rule.{dealer_of};
 ghost use Rattle.std.specs.Arc.{arc_value};
 
 use crate::NoMemory;
 use crate::board::{Board, BoardSeat, Surveys};
 use crate::domain::DomainSeat;
 use atomic_table::Table;
+use crossbar::laws::rows_are_words_of_ports;
 use crossbar::{Numbering, Word};
 use plan_checker::AcceptedPlan;
 use std::alloc::Global;
@@ -31,7 +32,7 @@ pub struct OperatorSeat {
 
 /// The words of a plan's outputs, all 0, and the seat that holds every domain.
 fn board_of(alloc: Global, plan: &AcceptedPlan) -> Result<(Arc<Board>, BoardSeat), NoMemory>
-    ensures { IfOk result (λ o. (o.1.table_id ≡ (arc_value o.0).shared.table_id) × (o.1.table_id.words ≡ 32) × (o.1.me ≡ (opening_view (domains_of plan.now) (domains_of plan.now), []))) }
+    ensures { IfOk result (λ o. (o.1.table_id ≡ (arc_value o.0).shared.table_id) × (o.1.table_id.words ≡ 32) × (o.1.me ≡ dealer_of (domains_of plan.now))) }
 {
     plan.separate();
     let (table, dealer): (Board, BoardSeat) = Table::of_words(alloc, &[0; 32], plan)?;
@@ -49,6 +50,7 @@ impl SwitchTable {
 
     /// A table with all words 0, one seat for each domain of the plan, in its order and with its
     /// numbering, and the operator's, who has seen 0 everywhere. `NoMemory` leaves nothing behind.
+    // Six clauses: four of the seats, and two of the operator's.
     pub fn open(
         alloc: Global,
         plan: &AcceptedPlan,
@@ -60,6 +62,7 @@ impl SwitchTable {
         ensures operator { IfOk result (λ o. (surveyed_table o.2 ≡ table_of o.0) × (surveyed_domains o.2 ≡ domains_of plan.now)) }
         ensures seen { IfOk result (λ o. seen_words o.2 ≡ replicate 32 0) }
     {
+        rows_are_words_of_ports();
         plan.separate();
         let domains = plan.domains();
         let mut seats = Vec::with_capacity(alloc, usize::from(domains))?;

@@ -9,7 +9,7 @@ use crate::instruction::{ChannelOperation, Function, Operation, PlainOperation};
 /// The function of an instruction byte, its high nibble, and the low nibble, below 16.
 ///
 /// Source: Transputer instruction set handbook, direct functions.
-#[inline]
+#[inline(always)]
 #[tactic(auto, unfolding(crate::specs::Codes::function_of))]
 pub fn decode(byte: u8) -> (Function, u8)
     ensures function { result.0 ≡ function_of (byte / 16) }
@@ -39,7 +39,7 @@ pub fn decode(byte: u8) -> (Function, u8)
 /// The operation of a code, `None` where the table has none.
 ///
 /// Source: Transputer instruction set handbook, operations.
-#[inline]
+#[inline(always)]
 #[tactic(auto, unfolding(crate::specs::Codes::operation_of))]
 pub fn operation(code: u32) -> Option<Operation>
     ensures { result ≡ operation_of code }

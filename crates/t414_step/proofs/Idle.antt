@@ -10,7 +10,7 @@ use Rattle.link_channels.specs.declared.link.FourLinks.{FourLinks}
 use Rattle.link_channels.specs.Links.{any_has_work}
 use Rattle.link_channels.specs.Reply.{Reply, Gave, Halted, acts}
 use Rattle.link_channels.specs.Service.{serve_all}
-use Rattle.link_channels.proofs.Work.{quiet-links, acts-serve_all}
+use Rattle.link_channels.specs.Laws.{ServiceActsOnWork, ServiceLeavesTheRest}
 use Rattle.t414_step.specs.declared.cpu.Cpu.{Cpu}
 use Rattle.t414_step.specs.declared.stepping.Stepped.{Stepped}
 use Rattle.t414_step.specs.declared.stepping.Stepped.TheVariants as code
@@ -80,16 +80,16 @@ unserved s ls m =
     idle-if s.running (byte_answer (upon ls (byte_done s m))) (going_on (resumption s m) false ls m) (s.queue.front == not_process)
     (no-byte (upon ls (byte_done s m))) (looked (s.queue.front == not_process) s ls m refl)
 
-rests-by : (work : Bool) (s : Cpu) (ls : FourLinks) (m : List ℕ) → any_has_work ls ≡ work → tells_idle (step s ls m) ≡ has_nothing_to_do s ls
+rests-by : ServiceActsOnWork → ServiceLeavesTheRest → (work : Bool) (s : Cpu) (ls : FourLinks) (m : List ℕ) → any_has_work ls ≡ work → tells_idle (step s ls m) ≡ has_nothing_to_do s ls
 unfolding step
-rests-by true s ls m e =
-    let busy : tells_idle (after_service (serve_all ls s.queue m) s) ≡ false = acted-on (serve_all ls s.queue m) s (acts-serve_all ls s.queue m ∙ e) in
+rests-by acts_on rests true s ls m e =
+    let busy : tells_idle (after_service (serve_all ls s.queue m) s) ≡ false = acted-on (serve_all ls s.queue m) s (acts_on ls s.queue m ∙ e) in
     rw (busy, e) (sym (and-false (not s.running) (s.queue.front == not_process)))
-rests-by false s ls m e =
-    rw (quiet-links ls s.queue m e, unserved s ls m, e) (sym (and-true (not s.running) (s.queue.front == not_process)))
+rests-by acts_on rests false s ls m e =
+    rw (rests ls s.queue m e, unserved s ls m, e) (sym (and-true (not s.running) (s.queue.front == not_process)))
 
-pub tells_idle-step : (s : Cpu) (ls : FourLinks) (m : List ℕ) → tells_idle (step s ls m) ≡ has_nothing_to_do s ls
-tells_idle-step s ls m = rests-by _ s ls m refl
+pub tells_idle-step : ServiceActsOnWork → ServiceLeavesTheRest → (s : Cpu) (ls : FourLinks) (m : List ℕ) → tells_idle (step s ls m) ≡ has_nothing_to_do s ls
+tells_idle-step acts_on rests s ls m = rests-by acts_on rests _ s ls m refl
 
 tells_idle-answered : (r : Stepped) (s : Cpu) (ls : FourLinks) (m : List ℕ) → is_idle r ≡ tells_idle (step_answer_of r s ls m)
 tells_idle-answered code.Ran s ls m = refl
@@ -97,5 +97,5 @@ tells_idle-answered code.Idle s ls m = refl
 tells_idle-answered (code.Fault fault) s ls m = refl
 
 -- so the code's answer tells whether there was
-pub is_idle-step : (r : Stepped) (s t : Cpu) (ls ks : FourLinks) (m n : List ℕ) → step_answer_of r t ks n ≡ step s ls m → is_idle r ≡ has_nothing_to_do s ls
-is_idle-step r s t ls ks m n e = tells_idle-answered r t ks n ∙ (ap tells_idle e ∙ tells_idle-step s ls m)
+pub is_idle-step : ServiceActsOnWork → ServiceLeavesTheRest → (r : Stepped) (s t : Cpu) (ls ks : FourLinks) (m n : List ℕ) → step_answer_of r t ks n ≡ step s ls m → is_idle r ≡ has_nothing_to_do s ls
+is_idle-step acts_on rests r s t ls ks m n e = tells_idle-answered r t ks n ∙ (ap tells_idle e ∙ tells_idle-step acts_on rests s ls m)

@@ -12,7 +12,7 @@ impl Cpu {
     ghost use Rattle.t414_step.specs.Rows.{row};
 
     // rev
-    #[inline]
+    #[inline(always)]
     pub(crate) fn reverse(&mut self)
         ensures { (m : List ℕ) → Went self.new m ≡ row op.Reverse self.old m }
     {
@@ -22,7 +22,7 @@ impl Cpu {
     }
 
     // bsub
-    #[inline]
+    #[inline(always)]
     pub(crate) fn byte_subscript(&mut self)
         ensures { (m : List ℕ) → Went self.new m ≡ row op.ByteSubscript self.old m }
     {
@@ -30,7 +30,7 @@ impl Cpu {
     }
 
     // diff
-    #[inline]
+    #[inline(always)]
     pub(crate) fn difference(&mut self)
         ensures { (m : List ℕ) → Went self.new m ≡ row op.Difference self.old m }
     {
@@ -38,7 +38,7 @@ impl Cpu {
     }
 
     // add
-    #[inline]
+    #[inline(always)]
     pub(crate) fn add(&mut self) -> Result<(), Fault>
         ensures { (m : List ℕ) → left result self.new m ≡ row op.Add self.old m }
     {
@@ -48,7 +48,7 @@ impl Cpu {
     }
 
     // prod
-    #[inline]
+    #[inline(always)]
     pub(crate) fn product(&mut self)
         ensures { (m : List ℕ) → Went self.new m ≡ row op.Product self.old m }
     {
@@ -56,7 +56,7 @@ impl Cpu {
     }
 
     // gt
-    #[inline]
+    #[inline(always)]
     pub(crate) fn greater_than(&mut self)
         ensures { (m : List ℕ) → Went self.new m ≡ row op.GreaterThan self.old m }
     {
@@ -64,7 +64,7 @@ impl Cpu {
     }
 
     // wsub
-    #[inline]
+    #[inline(always)]
     pub(crate) fn word_subscript(&mut self)
         ensures { (m : List ℕ) → Went self.new m ≡ row op.WordSubscript self.old m }
     {
@@ -72,7 +72,7 @@ impl Cpu {
     }
 
     // sub
-    #[inline]
+    #[inline(always)]
     pub(crate) fn subtract(&mut self) -> Result<(), Fault>
         ensures { (m : List ℕ) → left result self.new m ≡ row op.Subtract self.old m }
     {
@@ -82,7 +82,7 @@ impl Cpu {
     }
 
     // sum
-    #[inline]
+    #[inline(always)]
     pub(crate) fn sum(&mut self)
         ensures { (m : List ℕ) → Went self.new m ≡ row op.Sum self.old m }
     {
@@ -90,7 +90,7 @@ impl Cpu {
     }
 
     // mul
-    #[inline]
+    #[inline(always)]
     pub(crate) fn multiply(&mut self) -> Result<(), Fault>
         ensures { (m : List ℕ) → left result self.new m ≡ row op.Multiply self.old m }
     {
@@ -116,7 +116,7 @@ impl Cpu {
     }
 
     // mint
-    #[inline]
+    #[inline(always)]
     pub(crate) fn minimum_integer(&mut self)
         ensures { (m : List ℕ) → Went self.new m ≡ row op.MinimumInteger self.old m }
     {

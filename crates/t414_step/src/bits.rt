@@ -11,7 +11,7 @@ impl Cpu {
     ghost use Rattle.t414_step.specs.Rows.{row};
 
     // and
-    #[inline]
+    #[inline(always)]
     pub(crate) fn and(&mut self)
         ensures { (m : List ℕ) → Went self.new m ≡ row op.And self.old m }
     {
@@ -19,7 +19,7 @@ impl Cpu {
     }
 
     // or
-    #[inline]
+    #[inline(always)]
     pub(crate) fn or(&mut self)
         ensures { (m : List ℕ) → Went self.new m ≡ row op.Or self.old m }
     {
@@ -27,7 +27,7 @@ impl Cpu {
     }
 
     // xor
-    #[inline]
+    #[inline(always)]
     pub(crate) fn exclusive_or(&mut self)
         ensures { (m : List ℕ) → Went self.new m ≡ row op.ExclusiveOr self.old m }
     {
@@ -35,7 +35,7 @@ impl Cpu {
     }
 
     // not
-    #[inline]
+    #[inline(always)]
     pub(crate) fn not(&mut self)
         ensures { (m : List ℕ) → Went self.new m ≡ row op.Not self.old m }
     {
@@ -43,7 +43,7 @@ impl Cpu {
     }
 
     // shl
-    #[inline]
+    #[inline(always)]
     pub(crate) fn shift_left(&mut self)
         ensures { (m : List ℕ) → Went self.new m ≡ row op.ShiftLeft self.old m }
     {
@@ -51,7 +51,7 @@ impl Cpu {
     }
 
     // shr
-    #[inline]
+    #[inline(always)]
     pub(crate) fn shift_right(&mut self)
         ensures { (m : List ℕ) → Went self.new m ≡ row op.ShiftRight self.old m }
     {

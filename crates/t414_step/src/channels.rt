@@ -47,7 +47,10 @@ impl Cpu {
             pointer: self.c,
         };
         let process = self.process();
-        let turn = process.input(memory, links, &mut self.queue, transfer)?;
+        // A call gets a copy of the queue, so that no address of the registers is taken.
+        let mut queue = self.queue;
+        let turn = process.input(memory, links, &mut queue, transfer)?;
+        self.queue = queue;
         self.take_turn(turn);
         Ok(())
     }
@@ -67,7 +70,9 @@ impl Cpu {
             pointer: self.c,
         };
         let process = self.process();
-        let turn = process.output(memory, links, &mut self.queue, transfer)?;
+        let mut queue = self.queue;
+        let turn = process.output(memory, links, &mut queue, transfer)?;
+        self.queue = queue;
         self.take_turn(turn);
         Ok(())
     }
@@ -83,7 +88,9 @@ impl Cpu {
             pointer: self.workspace,
         };
         let process = self.process();
-        let turn = process.output(memory, links, &mut self.queue, transfer)?;
+        let mut queue = self.queue;
+        let turn = process.output(memory, links, &mut queue, transfer)?;
+        self.queue = queue;
         self.take_turn(turn);
         Ok(())
     }

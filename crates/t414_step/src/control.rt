@@ -22,7 +22,7 @@ impl Cpu {
     }
 
     // ret
-    #[inline]
+    #[inline(always)]
     pub(crate) fn return_from_call(&mut self, memory: &Memory) -> Result<(), Fault>
         ensures { left result self.new memory.now ≡ row op.Return self.old memory.now }
     {
@@ -32,7 +32,7 @@ impl Cpu {
     }
 
     // lend
-    #[inline]
+    #[inline(always)]
     pub(crate) fn loop_end(&mut self, memory: &mut Memory) -> Result<(), Fault>
         ensures { left result self.new memory.new ≡ row op.LoopEnd self.old memory.old }
     {

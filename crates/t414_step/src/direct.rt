@@ -12,7 +12,7 @@ impl Cpu {
     ghost use Rattle.t414_step.specs.Rows.{direct, error_if, save, slice};
 
     // The error flag is set where the test holds.
-    #[inline]
+    #[inline(always)]
     pub(crate) fn raise_if(&mut self, raised: bool) -> Result<(), Fault>
         ensures { (m : List ℕ) → left result self.new m ≡ error_if raised self.old m }
     {
@@ -26,7 +26,7 @@ impl Cpu {
     }
 
     // Keeps the next instruction below the workspace.
-    #[inline]
+    #[inline(always)]
     pub(crate) fn save(&self, memory: &mut Memory) -> Result<(), Fault>
         ensures { left result self.now memory.new ≡ save self.now memory.old (Went self.now) }
     {
@@ -34,7 +34,7 @@ impl Cpu {
     }
 
     // Goes to the end of the queue where the process has had its bytes.
-    #[inline]
+    #[inline(always)]
     pub(crate) fn slice(&mut self, memory: &mut Memory) -> Result<(), Fault>
         ensures { left result self.new memory.new ≡ slice self.old memory.old }
     {
@@ -48,7 +48,7 @@ impl Cpu {
     }
 
     // j
-    #[inline]
+    #[inline(always)]
     pub(crate) fn jump(&mut self, memory: &mut Memory, operand: u32) -> Result<(), Fault>
         ensures { left result self.new memory.new ≡ direct function.Jump operand self.old memory.old }
     {
@@ -57,7 +57,7 @@ impl Cpu {
     }
 
     // ldlp
-    #[inline]
+    #[inline(always)]
     pub(crate) fn load_local_pointer(&mut self, operand: u32)
         ensures { (m : List ℕ) → Went self.new m ≡ direct function.LoadLocalPointer operand self.old m }
     {
@@ -65,7 +65,7 @@ impl Cpu {
     }
 
     // ldl
-    #[inline]
+    #[inline(always)]
     pub(crate) fn load_local(&mut self, memory: &Memory, operand: u32) -> Result<(), Fault>
         ensures { left result self.new memory.now ≡ direct function.LoadLocal operand self.old memory.now }
     {
@@ -75,7 +75,7 @@ impl Cpu {
     }
 
     // stl
-    #[inline]
+    #[inline(always)]
     pub(crate) fn store_local(&mut self, memory: &mut Memory, operand: u32) -> Result<(), Fault>
         ensures { left result self.new memory.new ≡ direct function.StoreLocal operand self.old memory.old }
     {
@@ -85,7 +85,7 @@ impl Cpu {
     }
 
     // adc
-    #[inline]
+    #[inline(always)]
     pub(crate) fn add_constant(&mut self, operand: u32) -> Result<(), Fault>
         ensures { (m : List ℕ) → left result self.new m ≡ direct function.AddConstant operand self.old m }
     {
@@ -95,7 +95,7 @@ impl Cpu {
     }
 
     // call
-    #[inline]
+    #[inline(always)]
     pub(crate) fn call(&mut self, memory: &mut Memory, operand: u32) -> Result<(), Fault>
         ensures { left result self.new memory.new ≡ direct function.Call operand self.old memory.old }
     {
@@ -111,7 +111,7 @@ impl Cpu {
     }
 
     // cj
-    #[inline]
+    #[inline(always)]
     pub(crate) fn conditional_jump(&mut self, operand: u32)
         ensures { (m : List ℕ) → Went self.new m ≡ direct function.ConditionalJump operand self.old m }
     {
@@ -123,7 +123,7 @@ impl Cpu {
     }
 
     // pfix
-    #[inline]
+    #[inline(always)]
     pub(crate) fn prefix(&mut self, operand: u32)
         ensures { (m : List ℕ) → Went self.new m ≡ direct function.Prefix operand self.old m }
     {
@@ -131,7 +131,7 @@ impl Cpu {
     }
 
     // nfix
-    #[inline]
+    #[inline(always)]
     pub(crate) fn negative_prefix(&mut self, operand: u32)
         ensures { (m : List ℕ) → Went self.new m ≡ direct function.NegativePrefix operand self.old m }
     {
@@ -139,7 +139,7 @@ impl Cpu {
     }
 
     // ldnl
-    #[inline]
+    #[inline(always)]
     pub(crate) fn load_non_local(&mut self, memory: &Memory, operand: u32) -> Result<(), Fault>
         ensures { left result self.new memory.now ≡ direct function.LoadNonLocal operand self.old memory.now }
     {
@@ -148,7 +148,7 @@ impl Cpu {
     }
 
     // ldc
-    #[inline]
+    #[inline(always)]
     pub(crate) fn load_constant(&mut self, operand: u32)
         ensures { (m : List ℕ) → Went self.new m ≡ direct function.LoadConstant operand self.old m }
     {
@@ -156,7 +156,7 @@ impl Cpu {
     }
 
     // ldnlp
-    #[inline]
+    #[inline(always)]
     pub(crate) fn load_non_local_pointer(&mut self, operand: u32)
         ensures { (m : List ℕ) → Went self.new m ≡ direct function.LoadNonLocalPointer operand self.old m }
     {
@@ -164,7 +164,7 @@ impl Cpu {
     }
 
     // ajw
-    #[inline]
+    #[inline(always)]
     pub(crate) fn adjust_workspace(&mut self, operand: u32)
         ensures { (m : List ℕ) → Went self.new m ≡ direct function.AdjustWorkspace operand self.old m }
     {
@@ -172,7 +172,7 @@ impl Cpu {
     }
 
     // eqc
-    #[inline]
+    #[inline(always)]
     pub(crate) fn equals_constant(&mut self, operand: u32)
         ensures { (m : List ℕ) → Went self.new m ≡ direct function.EqualsConstant operand self.old m }
     {
@@ -180,7 +180,7 @@ impl Cpu {
     }
 
     // stnl
-    #[inline]
+    #[inline(always)]
     pub(crate) fn store_non_local(&mut self, memory: &mut Memory, operand: u32) -> Result<(), Fault>
         ensures { left result self.new memory.new ≡ direct function.StoreNonLocal operand self.old memory.old }
     {

@@ -22,9 +22,9 @@ impl Cpu {
     ghost use Rattle.t414_step.specs.Rows.{row, operate, direct};
     ghost use Rattle.t414_step.specs.Step.{byte_done};
 
-    // One operation on registers and memory.
-    #[inline]
-    fn perform(&mut self, memory: &mut Memory, operation: PlainOperation) -> Result<(), Fault>
+    // One operation on registers and memory, apart from the loops of steps.
+    #[inline(never)]
+    fn perform_apart(&mut self, memory: &mut Memory, operation: PlainOperation) -> Result<(), Fault>
         ensures answer { left result self.new memory.new ≡ row operation self.old memory.old }
     {
         match operation {
@@ -98,7 +98,46 @@ impl Cpu {
         }
     }
 
+    // One operation on registers and memory. The frequent ones stand in the loop of steps; the others get a copy of the
+    // registers, so that the loop keeps its own where no address is taken.
+    #[inline(always)]
+    fn perform(&mut self, memory: &mut Memory, operation: PlainOperation) -> Result<(), Fault>
+        ensures answer { left result self.new memory.new ≡ row operation self.old memory.old }
+    {
+        match operation {
+            PlainOperation::Reverse => done!(self.reverse()),
+            PlainOperation::LoadByte => self.load_byte(memory),
+            PlainOperation::ByteSubscript => done!(self.byte_subscript()),
+            PlainOperation::Difference => done!(self.difference()),
+            PlainOperation::Add => self.add(),
+            PlainOperation::Product => done!(self.product()),
+            PlainOperation::GreaterThan => done!(self.greater_than()),
+            PlainOperation::WordSubscript => done!(self.word_subscript()),
+            PlainOperation::Subtract => self.subtract(),
+            PlainOperation::Return => self.return_from_call(memory),
+            PlainOperation::LoopEnd => self.loop_end(memory),
+            PlainOperation::Not => done!(self.not()),
+            PlainOperation::ExclusiveOr => done!(self.exclusive_or()),
+            PlainOperation::StoreByte => self.store_byte(memory),
+            PlainOperation::ShiftRight => done!(self.shift_right()),
+            PlainOperation::ShiftLeft => done!(self.shift_left()),
+            PlainOperation::MinimumInteger => done!(self.minimum_integer()),
+            PlainOperation::And => done!(self.and()),
+            PlainOperation::Or => done!(self.or()),
+            PlainOperation::Sum => done!(self.sum()),
+            PlainOperation::Multiply => self.multiply(),
+            PlainOperation::CheckSubscriptFromZero => self.check_subscript_from_zero(),
+            _ => {
+                let mut copy = *self;
+                let done = copy.perform_apart(memory, operation);
+                *self = copy;
+                done
+            }
+        }
+    }
+
     // One operation on a channel.
+    #[inline(never)]
     fn talk(
         &mut self,
         memory: &mut Memory,
@@ -119,19 +158,24 @@ impl Cpu {
     }
 
     // The operation of a code.
-    #[inline]
+    #[inline(always)]
     fn operate(&mut self, memory: &mut Memory, links: &mut Links, code: u32) -> Result<(), Fault>
         ensures answer { finished result self.new links.new memory.new ≡ upon links.old (operate (operation_of code) code self.old memory.old) }
     {
         match operation(code) {
             Some(Operation::Plain(operation)) => self.perform(memory, operation),
-            Some(Operation::Channel(operation)) => self.talk(memory, links, operation),
+            Some(Operation::Channel(operation)) => {
+                let mut copy = *self;
+                let done = copy.talk(memory, links, operation);
+                *self = copy;
+                done
+            }
             None => Err(Fault::UnknownOperation(code)),
         }
     }
 
     // One function of an operand.
-    #[inline]
+    #[inline(always)]
     fn apply(
         &mut self,
         memory: &mut Memory,
@@ -161,8 +205,8 @@ impl Cpu {
         }
     }
 
-    // One instruction byte.
-    #[inline]
+    // One instruction byte. It stands in the loop of each caller, so that its address is nowhere taken.
+    #[inline(always)]
     #[tactic(auto, unfolding(crate::specs::Step::byte_done))]
     pub(crate) fn do_byte(&mut self, memory: &mut Memory, links: &mut Links) -> Result<(), Fault>
         ensures answer { finished result self.new links.new memory.new ≡ upon links.old (byte_done self.old memory.old) }

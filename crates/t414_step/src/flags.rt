@@ -61,7 +61,7 @@ impl Cpu {
     }
 
     // csub0
-    #[inline]
+    #[inline(always)]
     pub(crate) fn check_subscript_from_zero(&mut self) -> Result<(), Fault>
         ensures { (m : List ℕ) → left result self.new m ≡ row op.CheckSubscriptFromZero self.old m }
     {

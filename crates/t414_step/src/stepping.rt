@@ -6,7 +6,7 @@ ghost use Rattle.t414_step.specs.Registers.{has_nothing_to_do};
 ghost use Rattle.t414_step.specs.Step.{resuming, resumption, step};
 
 use crate::cpu::Cpu;
-use link_channels::Links;
+use link_channels::{Links, services_act_on_work};
 use node_memory::{Fault, Memory};
 
 /// What one step came to.
@@ -22,6 +22,7 @@ pub enum Stepped {
 
 impl Cpu {
     // Takes a process from the queue; whether there was one.
+    #[inline(always)]
     fn resume(&mut self, memory: &Memory) -> Result<bool, Fault>
         ensures answer { resuming result self.new ≡ resumption self.old memory.now }
     {
@@ -42,7 +43,7 @@ impl Cpu {
 }
 
 // One step, whose answer alone is told.
-#[inline]
+#[inline(always)]
 #[tactic(auto, unfolding(crate::specs::Step::step))]
 fn advance(cpu: &mut Cpu, memory: &mut Memory, links: &mut Links) -> Stepped
     ensures answer { step_answer_of result cpu.new links.new memory.new ≡ step cpu.old links.old memory.old }
@@ -73,11 +74,13 @@ fn advance(cpu: &mut Cpu, memory: &mut Memory, links: &mut Links) -> Stepped
 /// has them.
 ///
 /// Source: Transputer instruction set handbook, and Reference Manual, links; the order and the slices are our choice.
-#[inline]
+// It stands in each caller's loop, so that a local `Cpu` is kept in registers.
+#[inline(always)]
 pub fn step(cpu: &mut Cpu, memory: &mut Memory, links: &mut Links) -> Stepped
     ensures answer { step_answer_of result cpu.new links.new memory.new ≡ step cpu.old links.old memory.old }
     // It is idle exactly where there is no current process, none in the queue, and no link that has work.
     ensures idle { is_idle result ≡ has_nothing_to_do cpu.old links.old }
 {
+    services_act_on_work();
     advance(cpu, memory, links)
 }

@@ -12,7 +12,7 @@ impl Cpu {
     ghost use Rattle.t414_step.specs.Rows.{row};
 
     // lb
-    #[inline]
+    #[inline(always)]
     pub(crate) fn load_byte(&mut self, memory: &Memory) -> Result<(), Fault>
         ensures { left result self.new memory.now ≡ row op.LoadByte self.old memory.now }
     {
@@ -21,7 +21,7 @@ impl Cpu {
     }
 
     // sb
-    #[inline]
+    #[inline(always)]
     pub(crate) fn store_byte(&mut self, memory: &mut Memory) -> Result<(), Fault>
         ensures { left result self.new memory.new ≡ row op.StoreByte self.old memory.old }
     {

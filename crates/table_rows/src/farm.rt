@@ -3,6 +3,7 @@ ghost use Rattle.std.specs.Prelude.{◌≡◌, IfOk};
 ghost use Rattle.switch_table.specs.Seats.{surveyed_table, table_of};
 
 use crossbar::clear;
+use crossbar::laws::rows_are_words_of_ports;
 use plan_checker::PlanFault;
 use sample_plans::{ANN_AND_BOB, plan_of};
 use std::alloc::Global;
@@ -41,6 +42,7 @@ pub fn both_switches(
 
 /// A switch to which nothing was said. Clearing a seat that never stored stores nothing.
 fn switch_over(mut seat: DomainSeat) -> Switch {
+    rows_are_words_of_ports();
     clear(&mut seat);
     VirtualSwitch::new(seat)
 }

@@ -3,8 +3,8 @@
 ghost use Rattle.std.specs.Prelude.{◌≡◌, ◌<◌, ◌≤◌, ◌+◌, ◌-◌, ℕ, [], ◌∷◌, ◌++◌, None, IfOk, IfSome, MatchOption, length, slice_get, vec_capacity};
 ghost use Rattle.atomic_table.specs.Seated.{TableId};
 ghost use Rattle.crossbeam_queue.specs.Passes.{IsSamePass, IsPassOf, ruled_capacity};
-ghost use Rattle.token_queue.specs.Passes.{AreOf, AreItsPasses, HoldNone, parts_of, outside_of};
-ghost use Rattle.token_queue.specs.Rules.{hand, hand_of, weight};
+ghost use Rattle.token_queue.specs.Passes.{AreOf, AreItsPasses, HoldNone, absorbed, parts_of, outside_of};
+ghost use Rattle.token_queue.specs.Rules.{hand, hand_of, parted, weight};
 ghost use Rattle.token_queue.specs.Tokens.{token, tokens_of, tokens_of_nodes, every_token, weigh, without, HasToken, AreTheOthers, HasEachOnce};
 
 use crate::rule::{GivesBack, Line, LinePass, OnePart, PutsAside, Takes};
@@ -131,7 +131,7 @@ fn cut(
     requires queue { IsPassOf line.now keeper.old }
     requires parts { count < (hand_of keeper.old).parts }
     ensures queue { IsSamePass keeper.old keeper.new }
-    ensures keeper { IfOk result (λ passes. hand_of keeper.new ≡ hand ((hand_of keeper.old).parts - count) (hand_of keeper.old).held (hand_of keeper.old).outside) }
+    ensures keeper { IfOk result (λ passes. hand_of keeper.new ≡ parted count (hand_of keeper.old)) }
     ensures count { IfOk result (λ passes. length passes.items ≡ count) }
     ensures of { IfOk result (λ passes. AreOf keeper.old.table_id passes.items) }
     ensures parts { IfOk result (λ passes. parts_of passes.items ≡ count) }
@@ -152,7 +152,7 @@ fn absorb(line: &Line, keeper: &mut LinePass, pass: WorkerPass)
     requires parts { 0 < (hand_of keeper.old).parts }
     requires of { pass.queue ≡ keeper.old.table_id }
     ensures queue { IsSamePass keeper.old keeper.new }
-    ensures keeper { hand_of keeper.new ≡ hand ((hand_of keeper.old).parts + pass.parts) ((hand_of keeper.old).held ++ pass.held) ((hand_of keeper.old).outside ++ pass.outside) }
+    ensures keeper { hand_of keeper.new ≡ absorbed pass (hand_of keeper.old) }
 {
     let WorkerPass { pass } = pass;
     line.absorb::<OnePart>(keeper, pass);

@@ -2,11 +2,13 @@
 use Rattle.std.proofs.Common.{◌≡◌, ℕ, List, [], ◌∷◌, ◌++◌, length, refl, sym, ap, ◌∙◌, subst}
 use Rattle.std.specs.List.{AllZip}
 use Rattle.std.proofs.lemmas.List.{map_push}
+use Rattle.crossbar.specs.declared.word.Word.{Word}
+use Rattle.crossbar.specs.Laws.{UnchangedCountsNothing}
 use Rattle.crossbar.specs.Word.{CountsChange}
 use Rattle.virtual_switch.specs.declared.reply.ConfigReply.{ConfigReply}
 use Rattle.virtual_switch.specs.SwitchValue.{SwitchValue, private_of}
 use Rattle.virtual_switch.specs.PrivateSwitch.{Configured, configured}
-use Rattle.virtual_switch.specs.Each.{IsFed, LeadsTo, AreFed}
+use Rattle.virtual_switch.specs.Each.{IsFed, LeadsTo, AreFed, KeepsPorts}
 
 leads_more : (old mid new : SwitchValue) (steps : List (ℕ × SwitchValue)) (byte : ℕ) → LeadsTo old steps mid → IsFed mid byte new → LeadsTo old (steps ++ (byte, new) ∷ []) new
 leads_more old mid new [] byte same fed = (subst (λ (s : SwitchValue). IsFed s byte new) same fed, refl)
@@ -28,3 +30,12 @@ more_fed_at old mid new bytes more byte reply h step ports counts more_is = reco
     counts = counts;
   });
 }
+
+-- what is kept, of the value that the fields stand for
+pub changed_seen : (view seen new : SwitchValue) → view ≡ seen → new.ports ≡ view.ports → AllZip CountsChange view.words new.words → KeepsPorts seen new
+changed_seen view seen new same ports counts = subst (λ (s : SwitchValue). KeepsPorts s new) same (record { ports = ports; counts = counts })
+
+-- if nothing changed
+pub kept_seen : UnchangedCountsNothing → (view seen new : SwitchValue) → view ≡ seen → new.ports ≡ view.ports → new.words ≡ view.words → KeepsPorts seen new
+kept_seen unchanged view seen new same ports words =
+    changed_seen view seen new same ports (subst (λ (ws : List Word). AllZip CountsChange view.words ws) (sym words) (unchanged view.words))

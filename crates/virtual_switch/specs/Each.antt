@@ -3,7 +3,27 @@ use Rattle.std.specs.Prelude.{◌≡◌, ℕ, List, [], ◌∷◌, length, map}
 use Rattle.std.specs.List.{AllZip}
 use Rattle.crossbar.specs.Word.{CountsChange}
 use Rattle.virtual_switch.specs.SwitchValue.{SwitchValue, private_of}
-use Rattle.virtual_switch.specs.PrivateSwitch.{configured}
+use Rattle.virtual_switch.specs.PrivateSwitch.{configured, all_told, Answers}
+use Rattle.virtual_switch.specs.declared.reply.ConfigReply.{ConfigReply}
+
+-- the ports stay, and each word that changes counts its change once
+pub record KeepsPorts (old new : SwitchValue) : Type 0 where
+  pub ports : new.ports ≡ old.ports
+  pub counts : AllZip CountsChange old.words new.words
+
+-- a byte is answered so, and leaves this
+abbrev pub ConfiguresTo : SwitchValue → ℕ → ConfigReply → SwitchValue → Type 0
+ConfiguresTo old byte reply new =
+    record { reply = reply; switch = private_of new; rest = new.rest } ≡ configured (length old.ports) (private_of old) old.rest byte
+
+-- bytes are answered so, one reply each, and leave this
+abbrev pub AnswersBytes : SwitchValue → List ℕ → List ConfigReply → SwitchValue → Type 0
+AnswersBytes old bytes replies new = Answers (length old.ports) (private_of old) old.rest bytes replies (private_of new) new.rest
+
+-- the same byte after byte
+abbrev pub TellsAll : SwitchValue → List ℕ → List ConfigReply → SwitchValue → Type 0
+TellsAll old bytes replies new =
+    all_told (length old.ports) (private_of old) old.rest bytes ≡ record { replies = replies; switch = private_of new; rest = new.rest }
 
 -- one byte: the switch and the rest are those that it configures, and each word that changes counts its change once
 pub record IsFed (old : SwitchValue) (byte : ℕ) (new : SwitchValue) : Type 0 where

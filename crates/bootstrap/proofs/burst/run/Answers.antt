@@ -32,10 +32,10 @@ returns-in-Fault c =
 pub returns-in-Idle : goal.returns-in-Idle
 returns-in-Idle c =
     let stays : running c.loop-steps.cpu c.loop-steps.links c.loop-steps.memory ≡ left_by c.loop-steps.last c.step.new.cpu c.step.new.links c.step.new.memory =
-    idle-stays c.loop-steps.cpu c.step.new.cpu c.loop-steps.links c.step.new.links c.loop-steps.memory c.step.new.memory c.in-Idle.ensures.answer c.in-Idle.ensures.idle
+    idle-stays c.services_act_on_work.ensures.rest c.loop-steps.cpu c.step.new.cpu c.loop-steps.links c.step.new.links c.loop-steps.memory c.step.new.memory c.in-Idle.ensures.answer c.in-Idle.ensures.idle
     ∙ sym (c.loop-steps.invariant.goes_on c.step.new.cpu c.step.new.links c.step.new.memory) in
     let quiet : is_quiet (running c.loop-steps.cpu c.loop-steps.links c.loop-steps.memory) ≡ true =
-    quiet-running c.loop-steps.cpu c.loop-steps.links c.loop-steps.memory c.in-Idle.ensures.idle in
+    quiet-running c.idle_where_it_rests.ensures.law c.loop-steps.cpu c.loop-steps.links c.loop-steps.memory c.in-Idle.ensures.idle in
     record {
       burst = record {
         steps = subst (λ (y : Node). IsAfter (running c.args.cpu.now c.args.links.now c.args.memory.now) c.loop-steps.steps y) stays c.loop-steps.invariant.after;

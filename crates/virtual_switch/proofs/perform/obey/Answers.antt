@@ -1,5 +1,6 @@
-use Rattle.crossbar.proofs.Words.{each_counts_itself}
+use Rattle.std.proofs.Common.{refl}
 use Rattle.virtual_switch.proofs.perform.obey.Goals as goal
 
-pub returns-else-ports_are_below-clause-counts : goal.returns-else-ports_are_below-clause-counts
-returns-else-ports_are_below-clause-counts g c = each_counts_itself _
+pub returns-else-ports_are_below-clause-kept : goal.returns-else-ports_are_below-clause-kept
+returns-else-ports_are_below-clause-kept g c =
+    record { same_ports = refl; row = c.count.ensures.row; counts = c.rows_are_words_of_ports.ensures.unchanged _ }

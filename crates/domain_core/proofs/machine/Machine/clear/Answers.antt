@@ -10,7 +10,7 @@ use Rattle.domain_core.proofs.machine.Machine.clear.Goals as goal
 pub invariant_of-self : goal.invariant_of-self
 invariant_of-self g c =
     let v : MachineValue = record { part = c.self.inside.part; switch = c.self.inside.switch; devices = c.self.inside.devices } in
-    (still_of_part v c.clear.new.self c.clear-2.new.self c.self.invariant.0 (ap length c.clear.ensures.ports) (large_by v.devices (reopened v.devices) c.clear-2.new.self c.clear-2.ensures (large_reopened v.devices)), c.self.invariant.1)
+    (still_of_part v c.clear.new.self c.clear-2.new.self c.self.invariant.0 (ap length c.clear.ensures.kept.ports) (large_by v.devices (reopened v.devices) c.clear-2.new.self c.clear-2.ensures (large_reopened v.devices)), c.self.invariant.1)
 
 pub returns-clause-state : goal.returns-clause-state
 returns-clause-state g c =

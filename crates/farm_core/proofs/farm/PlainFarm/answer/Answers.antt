@@ -1,7 +1,7 @@
 use Rattle.std.proofs.Common.{◌≡◌, ◌<◌, List, length, slice_set, subst}
 use Rattle.domain_core.specs.Domain.{DomainValue}
 use Rattle.farm_core.specs.Places.{AreSeparatePlaces}
-use Rattle.farm_core.specs.PlainFarm.{places_in, IsCalled}
+use Rattle.farm_core.specs.PlainFarm.{places_in}
 use Rattle.farm_core.proofs.Plain.{Replaces, read_at, still_separate, called_at, others_stay, places_stay, call_of_each_whole}
 use Rattle.farm_core.proofs.farm.PlainFarm.answer.Goals as goal
 
@@ -19,20 +19,17 @@ replaces c =
 separate : (c : goal.After-self-2-1) → AreSeparatePlaces (places_in c.args.self.now)
 separate c = subst (λ (ds : List DomainValue). AreSeparatePlaces (places_in ds)) c.self.view_is c.self.invariant
 
-called : (c : goal.After-self-2-1) → IsCalled (record { by = c.args.by; event = c.args.event }) c.apply.result c.in-Some.domain.now c.apply.new.self
-called c = record { answer = c.apply.ensures.answer; state = c.apply.ensures.state; refused = c.apply.ensures.refused; journal = c.apply.ensures.journal; counts = c.apply.ensures.counts }
-
 pub invariant_of-self-2 : goal.invariant_of-self-2
 invariant_of-self-2 c = still_separate _ _ _ _ _ (replaces c) (separate c)
 
 pub returns-clause-own : goal.returns-clause-own
-returns-clause-own c = called_at _ _ _ _ _ _ _ (replaces c) (called c)
+returns-clause-own c = called_at _ _ _ _ _ _ _ (replaces c) c.apply.ensures.called
 
 pub returns-clause-others : goal.returns-clause-others
 returns-clause-others c = others_stay _ _ _ _ _ (replaces c)
 
 pub returns-clause-whole : goal.returns-clause-whole
-returns-clause-whole c = call_of_each_whole _ _ _ _ _ _ _ (replaces c) (separate c) (called c)
+returns-clause-whole c = call_of_each_whole c.switches_say_their_words.ensures.laws _ _ _ _ _ _ _ (replaces c) (separate c) c.apply.ensures.called
 
 pub returns-clause-places : goal.returns-clause-places
 returns-clause-places c = places_stay _ _ _ _ _ (replaces c)

@@ -26,5 +26,5 @@ returns-clause-rows c =
 pub returns-clause-whole : goal.returns-clause-whole
 returns-clause-whole c =
     let same = c.deref-domain-items.ensures.value ∙ c.self.view_is in
-    have_a_whole c.args.self.now (subst (λ (ds : List DomainValue). AreSeparatePlaces (places_in ds)) c.self.view_is c.self.invariant)
+    have_a_whole c.switches_say_their_words.ensures.laws c.args.self.now (subst (λ (ds : List DomainValue). AreSeparatePlaces (places_in ds)) c.self.view_is c.self.invariant)
     (all_meant c.args.self.now c.loop-domain.domain-index (subst (λ (ds : List DomainValue). length ds ≤ c.loop-domain.domain-index) same c.loop-domain-test.false) c.loop-domain.invariant)

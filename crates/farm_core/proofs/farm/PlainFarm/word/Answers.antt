@@ -1,9 +1,8 @@
 use Rattle.std.proofs.Common.{◌<◌, List, length, arith, refl, sym, subst}
-use Rattle.crossbar.proofs.Switching.{word_within}
 use Rattle.domain_core.specs.Domain.{DomainValue}
 use Rattle.farm_core.specs.Places.{AreSeparatePlaces}
 use Rattle.farm_core.specs.PlainFarm.{places_in}
-use Rattle.farm_core.proofs.Owners.{IsOwner, owner_read, within_farm, within_count, nobody_has, word_of_nobody, word_of_owner, word_says, nothing_says}
+use Rattle.farm_core.proofs.Owners.{IsOwner, owner_read, within_farm, within_count, nobody_has, word_of_nobody, word_of_owner, word_says, nothing_says, word_within}
 use Rattle.farm_core.proofs.farm.PlainFarm.word.Goals as goal
 
 pub returns-in_default-clause-owner : goal.returns-in_default-clause-owner
@@ -41,4 +40,4 @@ pub returns-clause-free : goal.returns-clause-free
 returns-clause-free c = λ free. absurd (nobody_has _ _ _ _ _ free (owner c).there (owner c).port)
 
 pub returns-clause-whole : goal.returns-clause-whole
-returns-clause-whole c = word_says _ _ _ _ _ _ (separate c) (owner c).there (owner c).port c.word.ensures.word c.word.ensures.row
+returns-clause-whole c = word_says c.switches_say_their_words.ensures.laws _ _ _ _ _ _ (separate c) (owner c).there (owner c).port c.word.ensures.word c.word.ensures.row

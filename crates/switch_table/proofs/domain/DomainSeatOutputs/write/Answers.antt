@@ -31,7 +31,7 @@ invariant_of-self c =
     let fits : IsWordOf s.numbering (word_of c.args.word.bits) = subst (λ (t : SeatState). IsWordOf t.ports c.args.word) (sym c.self.view_is) c.requires.word in
     let low = port_low s.numbering _ c.args.number c.physical-port.result kept.row c.physical-port.ensures in
     let stored = c.store.ensures.2 ∙ ap (λ (port : ℕ). let now : Me (Unit {0}) View = (with_view_word s.seat.me.0 port c.args.word.bits, s.seat.me.1) in now) c.from.ensures in
-    written_seat _ _ _ s.seat.me _ s.numbering c.args.number c.physical-port.result c.args.word.bits kept fits low c.physical-port.ensures c.store.ensures.0 stored
+    written_seat c.rows_are_words_of_ports.ensures.set _ _ _ s.seat.me _ s.numbering c.args.number c.physical-port.result c.args.word.bits kept fits low c.physical-port.ensures c.store.ensures.0 stored
 
 pub returns-clause-words : goal.returns-clause-words
 returns-clause-words c =
@@ -49,4 +49,4 @@ returns-clause-row c =
     let fits : IsWordOf s.numbering (word_of c.args.word.bits) = subst (λ (t : SeatState). IsWordOf t.ports c.args.word) (sym c.self.view_is) c.requires.word in
     let low = port_low s.numbering _ c.args.number c.physical-port.result kept.row c.physical-port.ensures in
     let stored = c.store.ensures.2 ∙ ap (λ (port : ℕ). let now : Me (Unit {0}) View = (with_view_word s.seat.me.0 port c.args.word.bits, s.seat.me.1) in now) c.from.ensures in
-    (written_seat _ _ _ s.seat.me _ s.numbering c.args.number c.physical-port.result c.args.word.bits kept fits low c.physical-port.ensures c.store.ensures.0 stored).row
+    (written_seat c.rows_are_words_of_ports.ensures.set _ _ _ s.seat.me _ s.numbering c.args.number c.physical-port.result c.args.word.bits kept fits low c.physical-port.ensures c.store.ensures.0 stored).row

@@ -46,4 +46,4 @@ loop-domain-preserved c =
     }
 
 pub returns-clause-switch : goal.returns-clause-switch
-returns-clause-switch c = cleared_seats c.loop-domain.seats.items c.loop-domain.invariant.clear
+returns-clause-switch c = cleared_seats c.rows_are_words_of_ports.ensures.unused c.loop-domain.seats.items c.loop-domain.invariant.clear

@@ -1,0 +1,17 @@
+//! Laws of private switches, of the numbers of ports and of rows of words.
+ghost use Rattle.crossbar.specs.Laws.{SwitchLaws, ClearedIsPrivate, UnchangedCountsNothing, NumberingsAreFew, RowTakesAWord, UnusedIsCleared, WordsAreASwitch};
+
+/// What a private switch says of its outputs, and whose number a port has.
+pub fn switches_say_their_words()
+    ensures laws { SwitchLaws }
+    ensures cleared { ClearedIsPrivate }
+{}
+
+/// What holds of the words of outputs and of their ports, and what switch changed words are in physical numbers.
+pub fn rows_are_words_of_ports()
+    ensures unchanged { UnchangedCountsNothing }
+    ensures few { NumberingsAreFew }
+    ensures set { RowTakesAWord }
+    ensures unused { UnusedIsCleared }
+    ensures switch { WordsAreASwitch }
+{}

@@ -1,0 +1,66 @@
+//! Which nodes threads have out, so that no two do the Steps of one node at once: all bursts but one would be stale.
+//! It is advice alone, and no contract speaks of it: a commit compares the node all the same.
+
+use crate::NoMemory;
+use std::alloc::Global;
+use std::sync::Wait;
+use std::sync::atomic::{AtomicBool, Ordering};
+use std::thread;
+
+/// The most domains of a plan, and the most nodes of each.
+const MOST_NODES: usize = 16 * 8;
+
+/// A flag for each node that a plan can have.
+#[derive(Drop)]
+pub struct OutNodes {
+    flags: Vec<AtomicBool>,
+}
+
+impl OutNodes {
+    /// No node is out.
+    pub fn none(alloc: Global) -> Result<OutNodes, NoMemory> {
+        let mut flags = Vec::with_capacity(alloc, MOST_NODES)?;
+        for _node in 0..MOST_NODES {
+            flags.push(AtomicBool::new(false))?;
+        }
+        Ok(OutNodes { flags })
+    }
+
+    // The flag of a node of a domain.
+    fn flag(&self, domain: u8, node: u8) -> Option<&AtomicBool> {
+        self.flags.get(usize::from(domain) * 8 + usize::from(node))
+    }
+
+    /// Notes that the caller has a node out, if nobody has; whether nobody had.
+    pub fn takes(&self, domain: u8, node: u8) -> bool {
+        match self.flag(domain, node) {
+            Some(flag) => !flag.swap(true, Ordering::SeqCst),
+            None => true,
+        }
+    }
+
+    /// Notes that nobody has a node out.
+    pub fn gives_back(&self, domain: u8, node: u8) {
+        if let Some(flag) = self.flag(domain, node) {
+            flag.store(false, Ordering::SeqCst);
+        }
+    }
+
+    // Whether somebody has a node out.
+    fn is_out(&self, domain: u8, node: u8) -> bool {
+        match self.flag(domain, node) {
+            Some(flag) => flag.load(Ordering::SeqCst),
+            None => false,
+        }
+    }
+
+    /// Waits until nobody has a node out.
+    pub fn wait_for<R: Wait>(&self, rt: &R, domain: u8, node: u8) {
+        for _look in rt.forever() {
+            if !self.is_out(domain, node) {
+                break;
+            }
+            thread::yield_now();
+        }
+    }
+}

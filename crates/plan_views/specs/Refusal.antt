@@ -1,0 +1,17 @@
+-- What a refusal says of the text of a plan.
+use Rattle.std.specs.Prelude.{ℕ, List, Err, ◌⊎◌}
+use Rattle.plan_checker.specs.declared.fault.PlanFault.{PlanFault}
+use Rattle.plan_checker.specs.Data.{DomainData}
+use Rattle.plan_checker.specs.Document.{IsPlan, Reads}
+use Rattle.plan_checker.specs.Separate.{IsSmallestFault}
+use Rattle.plan_views.specs.declared.view.PlanRefusal.{PlanRefusal}
+use Rattle.plan_views.specs.declared.view.PlanRefusal.TheVariants.{Refused, NoMemory}
+
+-- the bytes are the text of a plan whose smallest fault is this
+abbrev pub HasSmallestFault : List ℕ → PlanFault → Type 0
+HasSmallestFault bytes fault = (plan : List DomainData) × IsPlan bytes plan × IsSmallestFault plan fault
+
+-- the refusal names the fault for which the checker refuses the text
+abbrev pub IsRefusalOf : List ℕ → PlanRefusal → Type 0
+IsRefusalOf bytes NoMemory = Unit {0}
+IsRefusalOf bytes (Refused fault reason) = Reads bytes (Err fault) ⊎ HasSmallestFault bytes fault

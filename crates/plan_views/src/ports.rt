@@ -1,0 +1,30 @@
+//! What is shown of each virtual port.
+ghost use Rattle.std.specs.Prelude.{◌≡◌, ◌<◌, Some, IfSome, length, slice_get};
+ghost use Rattle.domain_core.specs.Devices.{device_at};
+ghost use Rattle.plan_checker.specs.Part.{part_of};
+
+use crossbar::Numbering;
+use domain_core::{Device, device_at};
+use plan_checker::AcceptedPlan;
+
+/// A virtual port of a domain.
+#[derive(Clone, Copy, Debug, PartialEq, Eq)]
+pub struct PortView {
+    /// The physical port, below 32.
+    pub physical: u8,
+    /// The device that is joined there, if there is one.
+    pub device: Option<Device>,
+}
+
+/// A virtual port of a domain, of which `numbering` lists the physical ports.
+pub fn port_view(plan: &AcceptedPlan, domain: u8, numbering: &Numbering, number: u8) -> PortView
+    requires domain { domain < length plan.now }
+    requires number { number < length numbering.now }
+    ensures physical { slice_get numbering.now number ≡ Some result.physical }
+    ensures device { IfSome (slice_get plan.now domain) (λ d. result.device ≡ device_at (part_of d) number) }
+{
+    PortView {
+        physical: numbering.physical(number),
+        device: device_at(plan.part(domain), number),
+    }
+}

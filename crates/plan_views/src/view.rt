@@ -1,0 +1,85 @@
+//! Reading a plan, with the reason if it is refused.
+ghost use Rattle.std.specs.Prelude.{◌≡◌, IfOk, IfErr};
+ghost use Rattle.plan_checker.specs.Document.{IsPlan};
+ghost use Rattle.plan_checker.specs.Separate.{IsSeparate};
+ghost use Rattle.plan_views.specs.declared.view.PlanRefusal.TheVariants.{NoMemory};
+ghost use Rattle.plan_views.specs.Refusal.{IsRefusalOf};
+
+use crate::breach::breach_of;
+use crate::shape::{misshapen, unread};
+use plan_checker::{AcceptedPlan, PlanFault, check, read_plan};
+use std::alloc::{AllocError, AllocFailed, Global};
+use thiserror::Error;
+
+/// Why there is no plan to look at.
+#[derive(Debug, Drop, Error)]
+pub enum PlanRefusal {
+    /// The checker refuses the plan.
+    #[error("plan: {}: {reason}", fault.number())]
+    Refused {
+        /// The smallest of its faults.
+        fault: PlanFault,
+        /// The first place that has the fault, and what would be right there, in one sentence.
+        reason: String,
+    },
+    /// There is no memory, which says nothing of the plan.
+    #[error("memory")]
+    NoMemory,
+}
+
+impl From<AllocError> for PlanRefusal {
+    ghost from_gives = { λ _ refusal. refusal ≡ NoMemory };
+
+    fn from(_error: AllocError) -> PlanRefusal {
+        PlanRefusal::NoMemory
+    }
+}
+
+impl<T: Drop> From<AllocFailed<T>> for PlanRefusal {
+    ghost from_gives = { λ _ refusal. refusal ≡ NoMemory };
+
+    fn from(_error: AllocFailed<T>) -> PlanRefusal {
+        PlanRefusal::NoMemory
+    }
+}
+
+/// Reads and checks the text of a plan.
+///
+/// # Errors
+///
+/// `Refused` with the fault that the checker answers and the place that has it; `NoMemory`.
+pub fn accepted(alloc: Global, text: &[u8]) -> Result<AcceptedPlan, PlanRefusal>
+    ensures accepted { IfOk result (λ plan. IsPlan text.now plan × IsSeparate plan) }
+    ensures refused { IfErr result (λ refusal. IsRefusalOf text.now refusal) }
+{
+    let fault = match read_plan(alloc, text) {
+        Ok(plan) => match check(alloc, plan) {
+            Ok(plan) => return Ok(plan),
+            Err(fault) => fault,
+        },
+        Err(fault) => fault,
+    };
+    match fault {
+        PlanFault::NoMemory => Err(PlanRefusal::NoMemory),
+        _ => {
+            let reason = reason_of(alloc, text, fault)?;
+            Err(PlanRefusal::Refused { fault, reason })
+        }
+    }
+}
+
+// The first place of a refused plan that has the fault. If none is found the fault is said of the plan as a whole.
+fn reason_of(alloc: Global, text: &[u8], fault: PlanFault) -> Result<String, AllocError> {
+    let place = match fault {
+        PlanFault::Text => unread(alloc, text)?,
+        PlanFault::Shape => misshapen(alloc, text)?,
+        _ => match read_plan(alloc, text) {
+            Ok(plan) => breach_of(alloc, plan.domains.as_slice(), fault)?,
+            Err(_) => None,
+        },
+    };
+    match place {
+        Some(reason) => Ok(reason),
+        None => format!(in alloc; "{fault}"),
+    }
+}
