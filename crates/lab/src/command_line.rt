@@ -83,7 +83,7 @@ fn command<'a>(alloc: Global) -> Result<Command<'a>, AllocError> {
     let files = Arg::new(alloc, "file")
         .value_name("FILE")
         .help(
-            "Files of rows: plans if the name ends with .plans, for replay if it ends with .replay, and else for trace",
+            "Files of rows: plans if the name ends with .plans, programs if it ends with .assembly, for replay if it ends with .replay, and else for trace",
         )
         .required(true)
         .num_args(1..)

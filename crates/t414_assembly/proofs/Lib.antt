@@ -6,3 +6,4 @@ pub mod Pieces
 pub mod Growing
 pub mod Usual
 pub mod Nibbles
+pub mod Reassembling

@@ -9,6 +9,7 @@ use Rattle.t414_assembly.specs.Meaning.{goes_on}
 use Rattle.t414_assembly.specs.Spelled.{Means, IsShortest, IsByteOf}
 use Rattle.t414_assembly.specs.Program.{operand_of, address_of, IsInstruction, IsPiece}
 use Rattle.t414_assembly.specs.Layout.{gap, IsTight}
+use Rattle.t414_assembly.specs.Usual.{usual}
 use Rattle.t414_assembly.proofs.Padding.{pad_means, no_pads}
 use Rattle.t414_assembly.proofs.Gaps.{gap_lt, gap_reaches}
 
@@ -41,14 +42,28 @@ prefix_byte room nibble f short one is =
     let less : room ≤ length short = omega (arith, one, count) in
     (is.0, not_padded room short less ∙ is.1, is.2, is.3)
 
+number_usual : (address : ℕ → ℕ) (next room : ℕ) (f : Function) (o : Operand) (short : List ℕ) → (goes_on f ≡ false → Means short f (operand_of address next f o))
+    → (goes_on f ≡ true → IsByteOf f (operand_of address next f o % 16) short) → short ≡ usual f (operand_of address next f o) → IsTight room (Instruction f o)
+    → (n : ℕ) → o ≡ Number n → replicate (room - length short) 0x20 ++ short ≡ usual f n
+number_usual address next room f (Number m) short means prefix usual_is tight n is =
+    let same : m ≡ n = ap number_in is in
+    let less : room ≤ length short = (elim (goes_on f) as (λ g. goes_on f ≡ g → room ≤ length short) [
+      | true ↦ λ on. (let count : length short ≡ 1 = ap length (prefix on).1 in omega (arith, tight.0 on, count))
+      | false ↦ λ off. no_pads short room f m (means off) (λ others h. tight.1 others off h)
+    ]) refl in
+    not_padded room short less ∙ usual_is ∙ ap (usual f) same
+number_usual address next room f (Label p) short means prefix usual_is tight n is = cc
+number_usual address next room f (Difference p q) short means prefix usual_is tight n is = cc
+
 pub instruction_piece : (address : ℕ → ℕ) (next room : ℕ) (f : Function) (o : Operand) (short : List ℕ)
     → (goes_on f ≡ false → Means short f (operand_of address next f o)) → (goes_on f ≡ false → IsShortest short f (operand_of address next f o))
-    → (goes_on f ≡ true → IsByteOf f (operand_of address next f o % 16) short) → IsTight room (Instruction f o)
+    → (goes_on f ≡ true → IsByteOf f (operand_of address next f o % 16) short) → short ≡ usual f (operand_of address next f o) → IsTight room (Instruction f o)
     → IsInstruction address next f o (replicate (room - length short) 0x20 ++ short)
-instruction_piece address next room f o short means shortest prefix tight = record {
+instruction_piece address next room f o short means shortest prefix usual_is tight = record {
   prefix = λ on. prefix_byte room (operand_of address next f o % 16) f short (tight_prefix room f o tight on) (prefix on);
   other = λ off. (room - length short, record { means = pad_means (room - length short) short f (operand_of address next f o) (means off); short = short; whole = refl; shortest = shortest off });
-  number = number_short address next room f o short means shortest tight;
+  number = number_usual address next room f o short means prefix usual_is tight;
+  shortest = number_short address next room f o short means shortest tight;
 }
 
 pub piece_length : (room : ℕ) (short : List ℕ) → length short ≤ room → length (replicate {A = ℕ} (room - length short) 0x20 ++ short) ≡ room

@@ -5,3 +5,4 @@ pub mod Reach
 pub mod Usual
 pub mod Program
 pub mod Layout
+pub mod Reassembled

@@ -1,5 +1,6 @@
 //! Bytes as instructions.
-ghost use Rattle.std.specs.Prelude.{◌≡◌, ◌≤◌, ◌<◌, ◌+◌, ◌++◌, IfOk, length, drop, flat_map, ◌∷◌, []};
+ghost use Rattle.std.specs.Prelude.{◌≡◌, ◌≤◌, ◌<◌, ◌+◌, ◌++◌, IfOk, length, drop, ◌∷◌, []};
+ghost use Rattle.t414_assembly.specs.Reassembled.{bytes_of_all};
 ghost use Rattle.t414_assembly.specs.Usual.{usual};
 
 use crate::codes::is_prefix;
@@ -17,7 +18,7 @@ pub struct Instruction {
 /// The instructions that bytes are. If no instruction stands in them as it is spelled, the next byte is a prefix by
 /// itself. Spelled one after another they are the bytes.
 pub fn disassemble(alloc: Global, bytes: &[u8]) -> Result<Vec<Instruction>, AllocError>
-    ensures { IfOk result (λ found. flat_map (λ i. usual i.function i.operand) found.items ≡ bytes.now) }
+    ensures { IfOk result (λ found. bytes_of_all found.items ≡ bytes.now) }
 {
     let mut found = Vec::new(alloc);
     let mut rest = bytes;

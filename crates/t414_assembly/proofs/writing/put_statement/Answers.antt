@@ -4,6 +4,7 @@ use Rattle.t414_assembly.specs.declared.statement.Statement.TheVariants.{Instruc
 use Rattle.t414_assembly.specs.Spelled.{spelled, Means, IsShortest, IsByteOf}
 use Rattle.t414_assembly.specs.Program.{address_of}
 use Rattle.t414_assembly.specs.Layout.{gap, PutsPiece, IsTight, size_of}
+use Rattle.t414_assembly.specs.Usual.{usual}
 use Rattle.t414_assembly.proofs.Pieces.{instruction_piece, piece_length, align_piece}
 use Rattle.t414_assembly.proofs.writing.put_statement.Goals as goal
 
@@ -20,6 +21,7 @@ returns-in_ok-put_padded-in-Instruction-clause-put c = λ none.
           (λ off. subst (Means (spelled c.spell-spelling.result) c.in-Instruction.function) operand (c.spell-spelling.ensures.means off))
           (λ off. subst (IsShortest (spelled c.spell-spelling.result) c.in-Instruction.function) operand (c.spell-spelling.ensures.shortest off))
           (λ on. subst (λ n. IsByteOf c.in-Instruction.function (n % 16) (spelled c.spell-spelling.result)) operand (c.spell-spelling.ensures.prefix on))
+          (c.spell-spelling.ensures.usual ∙ ap (usual c.in-Instruction.function) operand)
           tight,
     )
 
