@@ -151,7 +151,7 @@ found_below (first ∷ ports) q below found =
       | inr other ↦ found_below ports q (λ k d l. below (suc k) d (omega arith)) (rw other at found)
     ]
 
-pub few : (ports : List ℕ) → IsNumbering ports → length ports ≤ 32
+pub at-most-32-ports : (ports : List ℕ) → IsNumbering ports → length ports ≤ 32
 at-most-32-ports ports h = length-le_from_distinct_below ports 32 (distinct ports h.one_to_one) (λ q. found_below ports q h.below)
 
 -- ---- a numbering kept both ways
