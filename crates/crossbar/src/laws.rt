@@ -7,9 +7,13 @@ pub fn switches_say_their_words()
     ensures cleared { ClearedIsPrivate }
 {}
 
+/// Words that stay count no change.
+pub fn unchanged_words_count_nothing()
+    ensures unchanged { UnchangedCountsNothing }
+{}
+
 /// What holds of the words of outputs and of their ports, and what switch changed words are in physical numbers.
 pub fn rows_are_words_of_ports()
-    ensures unchanged { UnchangedCountsNothing }
     ensures few { NumberingsAreFew }
     ensures set { RowTakesAWord }
     ensures unused { UnusedIsCleared }

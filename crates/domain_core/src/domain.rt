@@ -19,7 +19,7 @@ use crate::event::{By, Event, Refusal, Reply};
 use crate::journal::{Entry, note, note_ticket};
 use crate::machine::{Acted, Machine};
 use crate::ticket::Ticket;
-use crossbar::laws::rows_are_words_of_ports;
+use crossbar::laws::unchanged_words_count_nothing;
 use crossbar::{Numbering, Outputs, Word};
 use plan_checker::{AcceptedPlan, Part};
 use std::alloc::Global;
@@ -110,7 +110,7 @@ impl<O: Outputs + Drop> Domain<O> {
         ensures part { self.new.machine.part ≡ self.old.machine.part }
         ensures ports { self.new.machine.switch.ports ≡ self.old.machine.switch.ports }
     {
-        rows_are_words_of_ports();
+        unchanged_words_count_nothing();
         if !self.machine.has(by, event) {
             return Err(Refusal::NoSuch);
         }

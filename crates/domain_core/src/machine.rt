@@ -21,7 +21,7 @@ use crate::moves::{Fate, Route, copy_to, fate_of, has_moved};
 use crate::table::{DeviceTable, table_of};
 use crate::ticket::Ticket;
 use bootstrap::Node;
-use crossbar::laws::rows_are_words_of_ports;
+use crossbar::laws::unchanged_words_count_nothing;
 use crossbar::{Numbering, Outputs, Word};
 use plan_checker::Part;
 use std::alloc::Global;
@@ -156,7 +156,7 @@ impl<O: Outputs + Drop> Machine<O> {
         ensures kept { KeepsPorts self.old.switch self.new.switch }
     {
         bootstrap::steps_keep_the_size();
-        rows_are_words_of_ports();
+        unchanged_words_count_nothing();
         let mut recorded = true;
         let reply = match event {
             Event::Config(byte) => Reply::Config(self.switch.feed(byte)),

@@ -1,11 +1,7 @@
-use Rattle.crossbar.proofs.Words.{each_counts_itself}
 use Rattle.crossbar.proofs.Numberings.{at-most-32-ports}
 use Rattle.crossbar.proofs.Switching.{switch_of-connected, switch_of-disconnected, switch_of-all_ready, switch_of-cleared}
 use Rattle.crossbar.proofs.PlainRows.{set_row, unused_switch}
 use Rattle.crossbar.proofs.laws.rows_are_words_of_ports.Goals as goal
-
-pub returns-clause-unchanged : goal.returns-clause-unchanged
-returns-clause-unchanged c = each_counts_itself
 
 pub returns-clause-few : goal.returns-clause-few
 returns-clause-few c = at-most-32-ports

@@ -7,5 +7,5 @@ pub returns-in-Enquire-clause-kept : goal.returns-in-Enquire-clause-kept
 returns-in-Enquire-clause-kept g c = record {
   same_ports = c.enquire.ensures.same.same_ports;
   row = c.enquire.ensures.same.row;
-  counts = subst (AllZip CountsChange (g.O.Outputs.words c.args.outputs.now)) (sym c.enquire.ensures.same.same_words) (c.rows_are_words_of_ports.ensures.unchanged _);
+  counts = subst (AllZip CountsChange (g.O.Outputs.words c.args.outputs.now)) (sym c.enquire.ensures.same.same_words) (c.unchanged_words_count_nothing.ensures.unchanged _);
 }
