@@ -31,36 +31,22 @@ impl OutNodes {
         self.flags.get(usize::from(domain) * 8 + usize::from(node))
     }
 
-    /// Notes that the caller has a node out, if nobody has; whether nobody had.
-    pub fn takes(&self, domain: u8, node: u8) -> bool {
-        match self.flag(domain, node) {
-            Some(flag) => !flag.swap(true, Ordering::SeqCst),
-            None => true,
+    /// Waits until nobody has a node out, and notes that the caller has.
+    pub fn take<R: Wait>(&self, rt: &R, domain: u8, node: u8) {
+        if let Some(flag) = self.flag(domain, node) {
+            for _look in rt.forever() {
+                if !flag.swap(true, Ordering::SeqCst) {
+                    break;
+                }
+                thread::yield_now();
+            }
         }
     }
 
     /// Notes that nobody has a node out.
-    pub fn gives_back(&self, domain: u8, node: u8) {
+    pub fn give_back(&self, domain: u8, node: u8) {
         if let Some(flag) = self.flag(domain, node) {
             flag.store(false, Ordering::SeqCst);
-        }
-    }
-
-    // Whether somebody has a node out.
-    fn is_out(&self, domain: u8, node: u8) -> bool {
-        match self.flag(domain, node) {
-            Some(flag) => flag.load(Ordering::SeqCst),
-            None => false,
-        }
-    }
-
-    /// Waits until nobody has a node out.
-    pub fn wait_for<R: Wait>(&self, rt: &R, domain: u8, node: u8) {
-        for _look in rt.forever() {
-            if !self.is_out(domain, node) {
-                break;
-            }
-            thread::yield_now();
         }
     }
 }

@@ -289,18 +289,14 @@ impl Service {
         Ok(())
     }
 
-    // A burst of each node of a domain that has a Step to do, and then the Moves. A node that a worker
-    // has out does its Steps there: they are waited for.
+    // A burst of each node of a domain that has a Step to do, and then the Moves. A node that another
+    // thread has out is waited for, since a second burst of it would be stale.
     pub(crate) fn round<R: Wait>(&self, rt: &R, domain: u8, quantum: u64) -> Result<(), Refusal> {
         for node in 0..self.nodes(domain) {
-            if self.out.takes(domain, node) {
-                let done = self.burst(rt, domain, node, quantum);
-                self.out.gives_back(domain, node);
-                done?;
-            }
-        }
-        for node in 0..self.nodes(domain) {
-            self.out.wait_for(rt, domain, node);
+            self.out.take(rt, domain, node);
+            let done = self.burst(rt, domain, node, quantum);
+            self.out.give_back(domain, node);
+            done?;
         }
         self.move_all(rt, domain)?;
         Ok(())

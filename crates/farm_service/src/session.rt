@@ -136,8 +136,8 @@ impl Session<'_> {
     }
 
     /// Rounds of the domain, up to so many, until it is quiet: in each round every node does up to
-    /// `quantum` Steps, 1 to 4,096, outside the lock, here or by the worker that has it out, and then the
-    /// packets of all ports move. The list of the user's pass stays.
+    /// `quantum` Steps, 1 to 4,096, outside the lock, and then the packets of all ports move. The list
+    /// of the user's pass stays.
     ///
     /// # Errors
     ///

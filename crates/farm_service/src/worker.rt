@@ -64,7 +64,7 @@ fn burst<R: Wait, G: Gate>(
     Ok(stepped)
 }
 
-// A burst of a node that nobody else has out; whether it did a Step.
+// A burst of a node once nobody else has it out; whether it did a Step.
 fn burst_alone<R: Wait, G: Gate>(
     rt: &R,
     service: &Service,
@@ -72,17 +72,15 @@ fn burst_alone<R: Wait, G: Gate>(
     gate: &G,
     quantum: u64,
 ) -> Result<bool, Refusal> {
-    if !service.out().takes(token.domain, token.node) {
-        return Ok(false);
-    }
+    service.out().take(rt, token.domain, token.node);
     let stepped = burst(rt, service, token, gate, quantum);
-    service.out().gives_back(token.domain, token.node);
+    service.out().give_back(token.domain, token.node);
     stepped
 }
 
 // A burst of a node, and then the Moves of its domain, whatever became of the ticket; whether there was
-// anything to do. Where nobody watches, a node that has no Step to do isn't copied, and one that a user
-// has out is left to him.
+// anything to do. Where nobody watches, a node that has no Step to do isn't copied, and one that
+// another thread has out is waited for.
 fn step<R: Wait, G: Gate>(
     rt: &R,
     service: &Service,
