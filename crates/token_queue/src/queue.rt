@@ -4,7 +4,7 @@ ghost use Rattle.std.specs.Prelude.{◌≡◌, ◌<◌, ◌≤◌, ◌+◌, ◌-
 ghost use Rattle.atomic_table.specs.Seated.{TableId};
 ghost use Rattle.crossbeam_queue.specs.Passes.{IsSamePass, IsPassOf, ruled_capacity};
 ghost use Rattle.token_queue.specs.Passes.{AreOf, AreItsPasses, HoldNone, absorbed, parts_of, outside_of};
-ghost use Rattle.token_queue.specs.Rules.{known_tokens, hand_of, parted, weight};
+ghost use Rattle.token_queue.specs.Rules.{known_tokens, known_of, parted, weight};
 ghost use Rattle.token_queue.specs.Tokens.{token, tokens_of, tokens_of_nodes, every_token, weigh, without, HasToken, AreTheOthers, HasEachOnce};
 
 use crate::rule::{GivesBack, Line, LinePass, OnePart, PutsAside, Takes};
@@ -46,23 +46,23 @@ pub struct WorkerPass {
 
 impl Model for WorkerPass {
     ghost use Rattle.std.specs.Prelude.{◌≡◌, ◌<◌, []};
-    ghost use Rattle.token_queue.specs.Rules.{hand_of};
+    ghost use Rattle.token_queue.specs.Rules.{known_of};
     ghost use Rattle.token_queue.specs.Passes.{WorkerPassValue};
 
     ghost Value = { WorkerPassValue };
 
-    ghost view = { λ p. record { queue = p.pass.table_id; parts = (hand_of p.pass).parts; held = (hand_of p.pass).held; outside = (hand_of p.pass).outside } };
+    ghost view = { λ p. record { queue = p.pass.table_id; parts = (known_of p.pass).parts; held = (known_of p.pass).held; outside = (known_of p.pass).outside } };
 
-    ghost invariant = { λ p. (p.pass.me.1 ≡ []) × (0 < (hand_of p.pass).parts) };
+    ghost invariant = { λ p. (p.pass.me.1 ≡ []) × (0 < (known_of p.pass).parts) };
 }
 
 // Puts a token that the pass holds into the queue, which has a place for every token.
 fn put<R: Wait>(rt: &R, line: &Line, pass: &mut LinePass, token: Token)
     requires queue { IsPassOf line.now pass.old × (ruled_capacity line.now ≡ 128) }
-    requires parts { 0 < (hand_of pass.old).parts }
-    requires held { HasToken (hand_of pass.old).held token }
+    requires parts { 0 < (known_of pass.old).parts }
+    requires held { HasToken (known_of pass.old).held token }
     ensures queue { IsSamePass pass.old pass.new }
-    ensures held { hand_of pass.new ≡ known_tokens (hand_of pass.old).parts (without token (hand_of pass.old).held) (hand_of pass.old).outside }
+    ensures held { known_of pass.new ≡ known_tokens (known_of pass.old).parts (without token (known_of pass.old).held) (known_of pass.old).outside }
 {
     if line.push_as::<GivesBack, R>(rt, pass, token).is_err() {
         unreachable!()
@@ -73,12 +73,12 @@ fn put<R: Wait>(rt: &R, line: &Line, pass: &mut LinePass, token: Token)
 #[tactic(auto, using(crate::proofs::Counts::still_held, crate::proofs::Counts::one_node_more))]
 fn put_nodes<R: Wait>(rt: &R, line: &Line, pass: &mut LinePass, domain: u8, nodes: u8)
     requires queue { IsPassOf line.now pass.old × (ruled_capacity line.now ≡ 128) }
-    requires parts { 0 < (hand_of pass.old).parts }
-    requires held { (node : ℕ) → node < nodes → HasToken (hand_of pass.old).held (token domain node) }
+    requires parts { 0 < (known_of pass.old).parts }
+    requires held { (node : ℕ) → node < nodes → HasToken (known_of pass.old).held (token domain node) }
     ensures queue { IsSamePass pass.old pass.new }
-    ensures parts { (hand_of pass.new).parts ≡ (hand_of pass.old).parts }
-    ensures outside { (hand_of pass.new).outside ≡ (hand_of pass.old).outside }
-    ensures held { (h : Token → ℕ) → weigh h (hand_of pass.new).held + weigh h (tokens_of_nodes domain nodes) ≡ weigh h (hand_of pass.old).held }
+    ensures parts { (known_of pass.new).parts ≡ (known_of pass.old).parts }
+    ensures outside { (known_of pass.new).outside ≡ (known_of pass.old).outside }
+    ensures held { (h : Token → ℕ) → weigh h (known_of pass.new).held + weigh h (tokens_of_nodes domain nodes) ≡ weigh h (known_of pass.old).held }
 {
     for node in 0..nodes {
         put(rt, line, pass, Token { domain, node });
@@ -97,11 +97,11 @@ fn nodes_of(plan: &AcceptedPlan, domain: u8) -> u8
 // Puts the tokens of a plan, in plan order.
 fn put_plan<R: Wait>(rt: &R, line: &Line, pass: &mut LinePass, plan: &AcceptedPlan)
     requires queue { IsPassOf line.now pass.old × (ruled_capacity line.now ≡ 128) }
-    requires all { hand_of pass.old ≡ known_tokens 9 every_token [] }
+    requires all { known_of pass.old ≡ known_tokens 9 every_token [] }
     ensures queue { IsSamePass pass.old pass.new }
-    ensures parts { (hand_of pass.new).parts ≡ 9 }
-    ensures outside { (hand_of pass.new).outside ≡ [] }
-    ensures held { AreTheOthers (hand_of pass.new).held (tokens_of plan.now) }
+    ensures parts { (known_of pass.new).parts ≡ 9 }
+    ensures outside { (known_of pass.new).outside ≡ [] }
+    ensures held { AreTheOthers (known_of pass.new).held (tokens_of plan.now) }
 {
     plan.separate();
     for domain in 0..plan.domains() {
@@ -112,9 +112,9 @@ fn put_plan<R: Wait>(rt: &R, line: &Line, pass: &mut LinePass, plan: &AcceptedPl
 // Puts aside what a pass holds.
 fn put_aside(line: &Line, mut whole: LinePass) -> LinePass
     requires queue { IsPassOf line.now whole }
-    requires parts { 1 < (hand_of whole).parts }
+    requires parts { 1 < (known_of whole).parts }
     ensures queue { IsPassOf line.now result }
-    ensures known_tokens { hand_of result ≡ known_tokens (hand_of whole).parts [] ((hand_of whole).held ++ (hand_of whole).outside) }
+    ensures known { known_of result ≡ known_tokens (known_of whole).parts [] ((known_of whole).held ++ (known_of whole).outside) }
 {
     let mut pass = line.another::<PutsAside>(&mut whole);
     line.absorb::<OnePart>(&mut pass, whole);
@@ -129,9 +129,9 @@ fn cut(
     count: u8,
 ) -> Result<Vec<WorkerPass>, AllocError>
     requires queue { IsPassOf line.now keeper.old }
-    requires parts { count < (hand_of keeper.old).parts }
+    requires parts { count < (known_of keeper.old).parts }
     ensures queue { IsSamePass keeper.old keeper.new }
-    ensures keeper { IfOk result (λ passes. hand_of keeper.new ≡ parted count (hand_of keeper.old)) }
+    ensures keeper { IfOk result (λ passes. known_of keeper.new ≡ parted count (known_of keeper.old)) }
     ensures count { IfOk result (λ passes. length passes.items ≡ count) }
     ensures of { IfOk result (λ passes. AreOf keeper.old.table_id passes.items) }
     ensures parts { IfOk result (λ passes. parts_of passes.items ≡ count) }
@@ -149,10 +149,10 @@ fn cut(
 // Takes a pass back.
 fn absorb(line: &Line, keeper: &mut LinePass, pass: WorkerPass)
     requires queue { IsPassOf line.now keeper.old }
-    requires parts { 0 < (hand_of keeper.old).parts }
+    requires parts { 0 < (known_of keeper.old).parts }
     requires of { pass.queue ≡ keeper.old.table_id }
     ensures queue { IsSamePass keeper.old keeper.new }
-    ensures keeper { hand_of keeper.new ≡ absorbed pass (hand_of keeper.old) }
+    ensures keeper { known_of keeper.new ≡ absorbed pass (known_of keeper.old) }
 {
     let WorkerPass { pass } = pass;
     line.absorb::<OnePart>(keeper, pass);
@@ -174,13 +174,13 @@ fn take_last(passes: &mut Vec<WorkerPass>) -> WorkerPass
 // Takes the passes back into one.
 fn absorb_all(line: &Line, keeper: &mut LinePass, mut passes: Vec<WorkerPass>)
     requires queue { IsPassOf line.now keeper.old }
-    requires parts { 0 < (hand_of keeper.old).parts }
+    requires parts { 0 < (known_of keeper.old).parts }
     requires of { AreOf keeper.old.table_id passes.items }
-    requires none { ((hand_of keeper.old).held ≡ []) × HoldNone passes.items }
+    requires none { ((known_of keeper.old).held ≡ []) × HoldNone passes.items }
     ensures queue { IsSamePass keeper.old keeper.new }
-    ensures parts { (hand_of keeper.new).parts ≡ (hand_of keeper.old).parts + parts_of passes.items }
-    ensures held { (hand_of keeper.new).held ≡ [] }
-    ensures outside { (h : Token → ℕ) → weigh h (hand_of keeper.new).outside ≡ weigh h (hand_of keeper.old).outside + weigh h (outside_of passes.items) }
+    ensures parts { (known_of keeper.new).parts ≡ (known_of keeper.old).parts + parts_of passes.items }
+    ensures held { (known_of keeper.new).held ≡ [] }
+    ensures outside { (h : Token → ℕ) → weigh h (known_of keeper.new).outside ≡ weigh h (known_of keeper.old).outside + weigh h (outside_of passes.items) }
 {
     for _taken in 0..passes.len() {
         let pass = take_last(&mut passes);
@@ -191,11 +191,11 @@ fn absorb_all(line: &Line, keeper: &mut LinePass, mut passes: Vec<WorkerPass>)
 // Takes all that is left.
 fn drain<R: Wait>(rt: &R, line: &Line, keeper: &mut LinePass, tokens: &mut Vec<Token>)
     requires queue { IsPassOf line.now keeper.old }
-    requires parts { (hand_of keeper.old).parts ≡ 9 }
-    requires held { (hand_of keeper.old).held ≡ [] }
+    requires parts { (known_of keeper.old).parts ≡ 9 }
+    requires held { (known_of keeper.old).held ≡ [] }
     requires room { 128 ≤ vec_capacity tokens.old }
     requires empty { tokens.old.items ≡ [] }
-    ensures { AreTheOthers (hand_of keeper.old).outside tokens.new.items }
+    ensures { AreTheOthers (known_of keeper.old).outside tokens.new.items }
 {
     for _ in rt.forever() {
         match line.pop_as::<Takes, R>(rt, keeper) {
