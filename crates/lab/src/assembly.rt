@@ -94,13 +94,14 @@ fn answer_to(alloc: Global, row: &str) -> Result<String, Failure> {
         text.push_str(line)?;
         text.push_str("\n")?;
     }
-    let code = assemble(alloc, BOOTED, text.as_bytes())?.image.bytes;
-    let back = code_as_text(alloc, code.as_slice())?;
-    let again = assemble(alloc, BOOTED, back.as_bytes())?.image.bytes;
-    if again.as_slice() != code.as_slice() {
+    let made = assemble(alloc, BOOTED, text.as_bytes())?;
+    let code = made.image.bytes.as_slice();
+    let back = code_as_text(alloc, code)?;
+    let again = assemble(alloc, BOOTED, back.as_bytes())?;
+    if again.image.bytes.as_slice() != code {
         return Ok(String::from_str(alloc, "its disassembly is other code")?);
     }
-    Ok(hexadecimal(alloc, code.as_slice())?)
+    Ok(hexadecimal(alloc, code)?)
 }
 
 // An answer without the line feed at its end, or a fault as it is told.
