@@ -94,8 +94,8 @@ fn answer_to(alloc: Global, row: &str) -> Result<String, Failure> {
         text.push_str(line)?;
         text.push_str("\n")?;
     }
-    let program = assemble(alloc, BOOTED, text.as_bytes())?;
-    let code = program.image.bytes.as_slice();
+    let made = assemble(alloc, BOOTED, text.as_bytes())?;
+    let code = made.image.bytes.as_slice();
     let back = code_as_text(alloc, code)?;
     let again = assemble(alloc, BOOTED, back.as_bytes())?;
     if again.image.bytes.as_slice() != code {
