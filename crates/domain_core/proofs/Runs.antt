@@ -1,6 +1,7 @@
 -- Entries that expand to several Steps.
-use Rattle.std.proofs.Common.{◌≡◌, ℕ, zero, suc, ◌+◌, List, [], ◌∷◌, ◌++◌, length, replicate, refl, sym, ap, ◌∙◌, arith, append_assoc, add-suc, ◌<◌, ◌≤◌}
-use Rattle.std.proofs.lemmas.List.{length-append, append-nil, replicate-append-replicate, length-replicate}
+use Rattle.std.proofs.Common.{◌≡◌, ℕ, zero, suc, ◌+◌, List, [], ◌∷◌, ◌++◌, length, replicate, refl, sym, ap, ◌∙◌, arith, append_assoc, add-suc, ◌<◌, ◌≤◌, ◌-◌, ◌^◌, take, drop, slice_set, slice_index_or}
+use Rattle.std.proofs.lemmas.List.{length-append, append-nil, replicate-append-replicate, length-replicate, length-take-le, take-append-drop}
+use Rattle.std.proofs.Math.Seq.{set-append_seam}
 use Rattle.t414_step.specs.declared.stepping.Stepped.{Stepped}
 use Rattle.t414_step.specs.declared.stepping.Stepped.TheVariants.{Ran}
 use Rattle.domain_core.specs.declared.event.By.{By}
@@ -55,3 +56,40 @@ count_below front old by node before was =
 
 pub expanded_one : (old new : List Entry) (by : By) (event : Event) (reply : Reply) → new ≡ old ++ One by event reply ∷ [] → expanded new ≡ expanded old ++ record { call = record { by = by; event = event }; reply = reply } ∷ []
 expanded_one old new by event reply is = rw (is, expanded-append) refl
+
+-- the last entry, and what stands before it
+drop_one : (k : ℕ) (xs : List Entry) (e : Entry) → length xs ≡ suc k → e ≡ slice_index_or xs k e → drop k xs ≡ e ∷ []
+drop_one zero [] e one is = absurd (omega (arith, one))
+drop_one zero (x ∷ []) e one is = ap (λ (y : Entry). y ∷ []) (sym is)
+drop_one zero (x ∷ (y ∷ xs)) e one is = absurd (omega (arith, one))
+drop_one (suc k) [] e more is = absurd (omega (arith, more))
+drop_one (suc k) (x ∷ xs) e more is = drop_one k xs e (omega (arith, more)) is
+
+last_of : (n : ℕ) (xs : List Entry) (e : Entry) → n ≡ length xs → 0 < n → e ≡ slice_index_or xs (n - 1) e → xs ≡ take (n - 1) xs ++ e ∷ []
+last_of n xs e all some is = sym (take-append-drop (n - 1) xs) ∙ ap (λ (l : List Entry). take (n - 1) xs ++ l) (drop_one (n - 1) xs e (omega (arith, all, some)) is)
+
+last_set : (n : ℕ) (xs : List Entry) (e f : Entry) → n ≡ length xs → 0 < n → e ≡ slice_index_or xs (n - 1) e → slice_set xs (n - 1) f ≡ take (n - 1) xs ++ f ∷ []
+last_set n xs e f all some is =
+    let front : length (take (n - 1) xs) ≡ n - 1 = length-take-le (n - 1) xs (omega (arith, all)) in
+    ap (λ (l : List Entry). slice_set l (n - 1) f) (last_of n xs e all some is)
+    ∙ ap (λ (i : ℕ). slice_set (take (n - 1) xs ++ e ∷ []) i f) (sym front)
+    ∙ set-append_seam (take (n - 1) xs) e [] f
+
+-- a run that stands last has room for what is to come
+pub run_has_room : (n : ℕ) (xs : List Entry) (e : Entry) (by : By) (node before count : ℕ) → n ≡ length xs → 0 < n → e ≡ slice_index_or xs (n - 1) e
+    → length (expanded xs) + count ≤ 2 ^ 40 → e ≡ Run by node before Ran → before + count ≤ 2 ^ 40
+run_has_room n xs e by node before count all some is few run =
+    let below : before ≤ length (expanded xs) = count_below (take (n - 1) xs) xs by node before (last_of n xs e all some is ∙ ap (λ (y : Entry). take (n - 1) xs ++ y ∷ []) run) in
+    omega (arith, below, few)
+
+-- a run that stands last goes on
+pub run_goes_on : (n : ℕ) (xs : List Entry) (e f : Entry) (by : By) (node before count : ℕ) (last : Stepped) → n ≡ length xs → 0 < n → e ≡ slice_index_or xs (n - 1) e → 0 < count
+    → e ≡ Run by node before Ran → f ≡ Run by node (before + count) last → expanded (slice_set xs (n - 1) f) ≡ expanded xs ++ steps by node count last
+run_goes_on n xs e f by node before count last all some is more run grown =
+    expanded_grown (take (n - 1) xs) xs (slice_set xs (n - 1) f) by node before count last more
+    (last_of n xs e all some is ∙ ap (λ (y : Entry). take (n - 1) xs ++ y ∷ []) run)
+    (last_set n xs e f all some is ∙ ap (λ (y : Entry). take (n - 1) xs ++ y ∷ []) grown)
+
+-- an entry that stays
+pub entry_stays : (n : ℕ) (xs : List Entry) (e f : Entry) → n ≡ length xs → 0 < n → e ≡ slice_index_or xs (n - 1) e → f ≡ e → slice_set xs (n - 1) f ≡ xs
+entry_stays n xs e f all some is stays = last_set n xs e f all some is ∙ ap (λ (y : Entry). take (n - 1) xs ++ y ∷ []) stays ∙ sym (last_of n xs e all some is)

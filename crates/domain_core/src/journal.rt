@@ -1,6 +1,8 @@
 //! The entries of a journal.
-ghost use Rattle.std.specs.Prelude.{◌≡◌, ◌<◌, ◌≤◌, ◌+◌, ◌^◌, ◌++◌, ◌∷◌, [], length, vec_len, vec_capacity};
+ghost use Rattle.std.specs.Prelude.{◌≡◌, ◌<◌, ◌≤◌, ◌+◌, ◌^◌, ◌++◌, ◌∷◌, [], ℕ, IsTrue, length, vec_len, vec_capacity};
+ghost use Rattle.domain_core.specs.declared.journal.Entry.TheVariants.{Run};
 ghost use Rattle.domain_core.specs.Journal.{expanded, steps};
+ghost use Rattle.t414_step.specs.declared.stepping.Stepped.TheVariants.{Ran};
 ghost use Rattle.domain_core.specs.Ticket.{steps_told};
 
 use crate::event::{By, Event, Reply};
@@ -44,6 +46,28 @@ pub(crate) fn note(journal: &mut Vec<Entry>, by: By, event: Event, reply: Reply)
     }
 }
 
+// Lets a run of the same node go on, if the entry is one that may; whether it is.
+fn goes_on(entry: &mut Entry, by: By, node: u8, count: u64, last: Stepped) -> bool
+    requires { (before : ℕ) → entry.old ≡ Run by node before Ran → before + count ≤ 2 ^ 40 }
+    ensures grown { IsTrue result → (before : ℕ) × (entry.old ≡ Run by node before Ran) × (entry.new ≡ Run by node (before + count) last) }
+    ensures same { ¬ IsTrue result → entry.new ≡ entry.old }
+{
+    if let Entry::Run {
+        by: asked,
+        node: stepped,
+        count: before,
+        last: answer,
+    } = entry
+    {
+        if *answer == Stepped::Ran && *asked == by && *stepped == node {
+            *before += count;
+            *answer = last;
+            return true;
+        }
+    }
+    false
+}
+
 /// Notes so many Steps of a node, of which the last answered `last` and all others `Ran`, where there is room.
 #[tactic(auto, using(crate::proofs::Runs::expanded_grown, crate::proofs::Runs::expanded_new, crate::proofs::Runs::count_below))]
 pub(crate) fn note_steps(journal: &mut Vec<Entry>, by: By, node: u8, count: u64, last: Stepped)
@@ -54,36 +78,17 @@ pub(crate) fn note_steps(journal: &mut Vec<Entry>, by: By, node: u8, count: u64,
     if count == 0 {
         return;
     }
-    match journal.pop() {
-        Some(
-            Entry::Run {
-                by: asked,
-                node: stepped,
-                count: before,
-                last: Stepped::Ran,
-            },
-        ) if asked == by && stepped == node => journal.push_reserved(Entry::Run {
-            by,
-            node,
-            count: before + count,
-            last,
-        }),
-        Some(entry) => {
-            journal.push_reserved(entry);
-            journal.push_reserved(Entry::Run {
-                by,
-                node,
-                count,
-                last,
-            });
-        }
-        None => journal.push_reserved(Entry::Run {
-            by,
-            node,
-            count,
-            last,
-        }),
+    if let Some(entry) = journal.last_mut()
+        && goes_on(entry, by, node, count, last)
+    {
+        return;
     }
+    journal.push_reserved(Entry::Run {
+        by,
+        node,
+        count,
+        last,
+    });
 }
 
 /// Notes the Steps of a ticket, of which the last answered `last`, where there is room.
