@@ -67,8 +67,8 @@ fn list_line(
     write!(listed, "{address:08x}  ")?;
     list_bytes(listed, head)?;
     if !source.is_empty() {
-        for _ in head.len()..BYTES_A_LINE {
-            listed.push_str("   ")?;
+        for place in head.len()..BYTES_A_LINE {
+            listed.push_str(if place == 0 { "  " } else { "   " })?;
         }
         write!(listed, "  {source}")?;
     }
