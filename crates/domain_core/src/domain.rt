@@ -61,6 +61,7 @@ impl<O: Outputs + Drop> Domain<O> {
     ///
     /// The outputs are as many as the part's ports, and all are disconnected. `NoMemory` where
     /// memories or queues can't be allocated.
+    // Seven clauses: two of the outputs, and one for each part of the domain.
     pub fn open(alloc: Global, part: Part, outputs: O) -> Result<Domain<O>, NoMemory>
         requires count { length (O.ports outputs) ≡ part.count }
         requires cleared { switch_of (O.words outputs) ≡ cleared }

@@ -56,6 +56,7 @@ impl<O: Outputs> Model for Machine<O> {
 
 impl<O: Outputs + Drop> Machine<O> {
     /// A machine as it is opened.
+    // Six clauses: what outputs may be given, and each part of the machine that is opened.
     pub(crate) fn open(alloc: Global, part: Part, outputs: O) -> Result<Machine<O>, NoMemory>
         requires count { length (O.ports outputs) ≡ part.count }
         requires cleared { switch_of (O.words outputs) ≡ cleared }
@@ -147,6 +148,7 @@ impl<O: Outputs + Drop> Machine<O> {
 
     /// Does an event, and answers it.
     #[tactic(auto, using(crate::proofs::Unchanged::keeps_itself))]
+    // Six clauses: the answer, whether it is recorded and the state, each by its definition, and what stays.
     pub(crate) fn act(&mut self, event: Event) -> Acted
         requires { IsIn self.old.part event }
         ensures reply { result.reply ≡ (acted self.old.part (machine_of self.old) event).1 }

@@ -121,6 +121,7 @@ pub(crate) fn fate_of<O: Outputs>(switch: &mut VirtualSwitch<O>, outputs: u32) -
 }
 
 // A packet arrives at the device of an output, if the output is one of these.
+// Eight clauses: five of part, table and devices, the state, and what the loop of its caller keeps.
 fn copy_at(
     devices: &mut Devices,
     part: &Part,

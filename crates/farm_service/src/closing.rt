@@ -94,6 +94,7 @@ fn end_of<R: Wait>(
 }
 
 /// What is left of a plan's domains.
+// Six clauses: there is a lock and room for each domain, and what is left is theirs.
 pub(crate) fn ends_of<R: Wait>(
     rt: &R,
     plan: &AcceptedPlan,

@@ -110,6 +110,7 @@ impl Service {
     /// # Errors
     ///
     /// `NoMemory` where domains, passes, the table or the queue can't be allocated.
+    // Eight clauses: how many workers, and one for each thing that is opened.
     pub fn open<R: Wait>(
         rt: &R,
         alloc: Global,
@@ -158,6 +159,7 @@ impl Service {
     /// The word of a physical output below 32, by one atomic load: at least as new as the one that the
     /// operator saw there last, with an input of the output's domain where it is connected, and 0 where
     /// the output is no domain's. It takes no lock and no memory, and waits for nobody.
+    // Six clauses: whose seat and which output, and of the word what is seen, how new it is and where it lies.
     pub fn survey(&self, operator: &mut OperatorSeat, output: u8) -> Word
         requires operator { IsItsOperator self.now operator.old }
         requires output { output < 32 }
@@ -313,6 +315,7 @@ impl Service {
     /// # Errors
     ///
     /// Service and passes as they were handed in, where there is no memory for what is left of them.
+    // Six clauses: what closing vouches for of domains, runs, users and tokens, and what is given back.
     pub fn close<R: Wait>(
         self,
         rt: &R,

@@ -76,6 +76,7 @@ impl SwitchTable {
 
     /// The word of a physical output, below 32, by one atomic load: at least as new as the one that the
     /// operator saw there last, and confined to the output's domain. It waits for nobody.
+    // Six clauses: two of seat and output, three of the word, and what stays.
     pub fn survey(&self, operator: &mut OperatorSeat, output: u8) -> Word
         requires here { surveyed_table operator.old ≡ table_of self.now }
         requires there { output < 32 }

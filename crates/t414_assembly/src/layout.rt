@@ -101,6 +101,7 @@ fn starts_of(
 }
 
 // The bytes of the statements, if each instruction has the room that it needs; else rooms grow.
+// Six clauses: origin, places and rooms before, and what comes of a round that fits and of one that doesn't.
 fn pass(
     alloc: Global,
     origin: u32,

@@ -13,6 +13,7 @@ use t414_decode::Function;
 /// The shortest bytes that mean a function with an operand; of a prefix, its one byte with the operand's lowest nibble.
 ///
 /// Source: Transputer instruction set handbook, prefixing functions.
+// Six clauses: what the bytes mean, that no fewer do, a prefix by itself, the usual form, and how many they are.
 pub fn spell(function: Function, operand: u32) -> Spelling
     ensures means { goes_on function ≡ false → Means (spelled result) function operand }
     ensures shortest { goes_on function ≡ false → IsShortest (spelled result) function operand }
@@ -47,6 +48,7 @@ fn prefixes_for(operand: u32) -> Spelling
 }
 
 // The fewest prefixes that make of a value the operand that the last of them, pfix or nfix, makes of it.
+// Seven clauses: the recursion needs each of them of the prefixes before.
 fn prefixes(value: u32, negative: bool) -> Spelling
     requires { value < 2 ^ 28 }
     ensures operand { (rest : List ℕ) → read_from 0 (spelled result ++ rest) ≡ read_from (shifted (prefix_of negative) value) rest }

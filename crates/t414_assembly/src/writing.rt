@@ -80,6 +80,7 @@ fn operand_at(origin: u32, starts: &[u32], next: usize, function: Function, oper
 
 /// Puts the bytes of the statement before the place `next` behind others, of which an instruction takes `room`. If it
 /// needs more, this tells how many, and nothing is put there.
+// Seven clauses: five of the layout that is tried, and what is put or wanted.
 pub fn put_statement(
     bytes: &mut Vec<u8>,
     origin: u32,

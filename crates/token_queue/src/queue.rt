@@ -71,6 +71,7 @@ fn put<R: Wait>(rt: &R, line: &Line, pass: &mut LinePass, token: Token)
 
 // Puts the tokens of a domain's nodes, which the pass holds.
 #[tactic(auto, using(crate::proofs::Counts::still_held, crate::proofs::Counts::one_node_more))]
+// Seven clauses: whose pass it is and what it holds, and each part of what it knows after.
 fn put_nodes<R: Wait>(rt: &R, line: &Line, pass: &mut LinePass, domain: u8, nodes: u8)
     requires queue { IsPassOf line.now pass.old × (ruled_capacity line.now ≡ 128) }
     requires parts { 0 < (known_of pass.old).parts }
@@ -95,6 +96,7 @@ fn nodes_of(plan: &AcceptedPlan, domain: u8) -> u8
 }
 
 // Puts the tokens of a plan, in plan order.
+// Six clauses: what the pass is before, and each part of what it knows after.
 fn put_plan<R: Wait>(rt: &R, line: &Line, pass: &mut LinePass, plan: &AcceptedPlan)
     requires queue { IsPassOf line.now pass.old × (ruled_capacity line.now ≡ 128) }
     requires all { known_of pass.old ≡ known_tokens 9 every_token [] }
@@ -122,6 +124,7 @@ fn put_aside(line: &Line, mut whole: LinePass) -> LinePass
 }
 
 // Cuts passes of one part each, which hold nothing.
+// Nine clauses: what the keeper gives away, and each part of what the new passes know.
 fn cut(
     alloc: Global,
     line: &Line,
@@ -172,6 +175,7 @@ fn take_last(passes: &mut Vec<WorkerPass>) -> WorkerPass
 }
 
 // Takes the passes back into one.
+// Eight clauses: what keeper and passes know before, and each part of what the keeper knows after.
 fn absorb_all(line: &Line, keeper: &mut LinePass, mut passes: Vec<WorkerPass>)
     requires queue { IsPassOf line.now keeper.old }
     requires parts { 0 < (known_of keeper.old).parts }
@@ -189,6 +193,7 @@ fn absorb_all(line: &Line, keeper: &mut LinePass, mut passes: Vec<WorkerPass>)
 }
 
 // Takes all that is left.
+// Six clauses: five of who may know that the queue is empty, and what is taken.
 fn drain<R: Wait>(rt: &R, line: &Line, keeper: &mut LinePass, tokens: &mut Vec<Token>)
     requires queue { IsPassOf line.now keeper.old }
     requires parts { (known_of keeper.old).parts ≡ 9 }
