@@ -1,4 +1,4 @@
-// What a node does with the bytes that it boots from. Transputer Reference Manual, bootstrapping.
+//! What a node does with the bytes that it boots from. Transputer Reference Manual, bootstrapping.
 
 ghost use Rattle.std.specs.Prelude.{◌≡◌};
 ghost use Rattle.node_memory.specs.Bytes.{with_word, with_byte};

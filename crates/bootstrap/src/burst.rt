@@ -23,7 +23,9 @@ pub struct Burst {
 fn run(cpu: &mut Cpu, memory: &mut Memory, links: &mut Links, n: u64) -> Burst
     ensures burst { IsBurst n (running cpu.old links.old memory.old) result (left_by result.last cpu.new links.new memory.new) }
 {
+    // A step is idle only if there is nothing to run and no link has work.
     idle_where_it_rests();
+    // Links are served only if one of them has work.
     services_act_on_work();
     let mut last = None;
     for steps in 0..n {

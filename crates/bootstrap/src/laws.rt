@@ -10,7 +10,9 @@ use t414_step::idle_where_it_rests;
 pub fn quiet_step_changes_nothing()
     ensures law { QuietStepChangesNothing }
 {
+    // A step is idle only if there is nothing to run and no link has work.
     idle_where_it_rests();
+    // Links are served only if one of them has work.
     services_act_on_work();
 }
 
@@ -37,7 +39,10 @@ pub fn steps_keep_the_size()
     ensures one { StepKeepsTheSize }
     ensures several { StepsKeepTheSize }
 {
+    // A word that was written is read.
     written_words_are_read();
+    // A byte that was written is read.
     written_bytes_are_read();
+    // A copy past the edge of memory is a fault.
     copies_stop_at_the_edge();
 }

@@ -1,4 +1,4 @@
-// What a node is doing.
+//! What a node is doing.
 
 use link_channels::LinkNumber;
 use node_memory::Fault;

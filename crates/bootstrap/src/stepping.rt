@@ -63,6 +63,7 @@ impl Node {
     pub fn quiet(&self) -> bool
         ensures answer { result ≡ is_quiet self.now }
     {
+        // A step is idle only if there is nothing to run and no link has work.
         idle_where_it_rests();
         match &self.state {
             State::WantsControl => self.offered().is_none(),

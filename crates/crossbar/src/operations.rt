@@ -1,3 +1,4 @@
+//! What a switch does to the words of outputs.
 ghost use Rattle.std.specs.Prelude.{◌≡◌, ◌<◌, ℕ, ◌&&◌, ◌==◌, if◌then◌else◌, length, IfSome};
 ghost use Rattle.std.specs.Int.{bit_at};
 ghost use Rattle.std.specs.FinMap as pairs;

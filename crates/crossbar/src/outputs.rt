@@ -1,3 +1,4 @@
+//! Who keeps the words of a domain's outputs.
 ghost use Rattle.std.specs.Prelude.{◌≡◌, ◌<◌, ℕ, List, length, slice_get, slice_set, Option};
 ghost use Rattle.crossbar.specs.declared.word.Word.{Word as SwitchWord};
 ghost use Rattle.crossbar.specs.Row.{AreWordsOf, IsWordOf, number_in};

@@ -1,3 +1,4 @@
+//! The word that a switch keeps of an output.
 ghost use Rattle.std.specs.Prelude.{◌≡◌, ◌<◌, ◌^◌, Option};
 ghost use Rattle.crossbar.specs.Word.{connection_of, changes_of, low_byte, word_after, IsAtLeastAsNew};
 ghost use Rattle.crossbar.specs.Fits.{InputFits};

@@ -96,6 +96,7 @@ impl<O: Outputs + Drop> Domain<O> {
         ensures count { length self.now.machine.switch.ports ≡ self.now.machine.part.count }
         ensures nodes { length self.now.machine.devices.nodes ≡ length self.now.machine.part.nodes }
     {
+        // A machine has the ports and nodes of its part.
         self.machine.of_part();
     }
 
@@ -111,6 +112,7 @@ impl<O: Outputs + Drop> Domain<O> {
         ensures part { self.new.machine.part ≡ self.old.machine.part }
         ensures ports { self.new.machine.switch.ports ≡ self.old.machine.switch.ports }
     {
+        // Words that stay count no change.
         unchanged_words_count_nothing();
         if !self.machine.has(by, event) {
             return Err(Refusal::NoSuch);
@@ -121,6 +123,7 @@ impl<O: Outputs + Drop> Domain<O> {
         if self.journal.reserve(1).is_err() {
             return Err(Refusal::NoMemory);
         }
+        // A Step that isn't recorded changes nothing.
         bootstrap::quiet_step_changes_nothing();
         let Acted { reply, recorded } = self.machine.act(event);
         if recorded {
@@ -249,8 +252,11 @@ impl<O: Outputs + Drop> Domain<O> {
         if self.journal.reserve(1).is_err() {
             return Err(Refusal::NoMemory);
         }
+        // A Step keeps the size of memory.
         bootstrap::steps_keep_the_size();
+        // A recorded Step that leaves a node which can step again ran.
         bootstrap::recorded_step_ran();
+        // A ticket's node is its start after its Steps.
         ticket.stepped();
         let number = ticket.number();
         let steps = ticket.steps();

@@ -98,6 +98,7 @@ impl<O: Outputs + Drop> Machine<O> {
         ensures count { length self.now.switch.ports ≡ self.now.part.count }
         ensures nodes { length self.now.devices.nodes ≡ length self.now.part.nodes }
     {
+        // The words of a switch are a row of its ports.
         self.switch.row();
     }
 
@@ -157,7 +158,9 @@ impl<O: Outputs + Drop> Machine<O> {
         ensures part { self.new.part ≡ self.old.part }
         ensures kept { KeepsPorts self.old.switch self.new.switch }
     {
+        // A Step keeps the size of memory.
         bootstrap::steps_keep_the_size();
+        // Words that stay count no change.
         unchanged_words_count_nothing();
         let mut recorded = true;
         let reply = match event {

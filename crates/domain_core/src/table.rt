@@ -1,4 +1,4 @@
-// Which device is joined to each virtual port.
+//! Which device is joined to each virtual port.
 ghost use Rattle.std.specs.Prelude.{◌≡◌, ◌≤◌, length};
 ghost use Rattle.domain_core.specs.Devices.{device_at, host_at_port, link_at_port, link_of_four};
 ghost use Rattle.domain_core.specs.MachineValue.{AreJoined};

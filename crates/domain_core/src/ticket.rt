@@ -57,6 +57,7 @@ impl Ticket {
     pub fn burst(&mut self, n: u64)
         ensures { Bursts n self.old self.new }
     {
+        // Steps after Steps are as many as both.
         bootstrap::steps_add_up();
         let most = at_most(n, MOST_STEPS - self.steps);
         let Burst { steps, last } = self.node.burst(most);

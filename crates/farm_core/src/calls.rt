@@ -58,7 +58,9 @@ pub fn run(
     ensures one_each { IfOk result (λ told. length told.items ≡ length calls.now) }
     ensures err { IfErr result (λ refusal. refusal ≡ WantOfMemory) }
 {
+    // What a private switch has is what its words say.
     switches_say_their_words();
+    // The domains of an accepted plan share no port.
     plan.separate();
     match answers_to(alloc, plan, calls) {
         Ok(told) => Ok(told),

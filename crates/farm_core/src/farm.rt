@@ -56,6 +56,7 @@ fn open_domain(
     ensures journal { IfOk result (λ d. d.journal ≡ []) }
     ensures words { IfOk result IsUnused }
 {
+    // The domains of an accepted plan share no port.
     plan.separate();
     let part = plan.part(number).copy(alloc)?;
     Domain::open(alloc, part, PlainOutputs::unused(plan.ranges(number)))
@@ -67,6 +68,7 @@ fn word_of(domain: &mut Domain<PlainOutputs>, output: u8) -> Option<Word>
     ensures proper { IfSome result IsProper }
     ensures same { domain.new ≡ domain.old }
 {
+    // A domain is what its journal says.
     domain.meant();
     if output < domain.part().count() {
         Some(domain.word(output))
@@ -103,7 +105,9 @@ impl PlainFarm {
         ensures journals { IfOk result (λ farm. All (λ d. d.journal ≡ []) farm) }
         ensures words { IfOk result (λ farm. All IsUnused farm) }
     {
+        // What a private switch has is what its words say.
         switches_say_their_words();
+        // The domains of an accepted plan share no port.
         plan.separate();
         let domains = open_domains(alloc, plan)?;
         Ok(PlainFarm { domains })
@@ -120,8 +124,10 @@ impl PlainFarm {
         ensures rows { All HasRow self.now }
         ensures whole { HaveAWhole self.now }
     {
+        // What a private switch has is what its words say.
         switches_say_their_words();
         for domain in &self.domains {
+            // A domain is what its journal says.
             domain.meant();
         }
     }
@@ -159,6 +165,7 @@ impl PlainFarm {
         ensures places { places_in self.new ≡ places_in self.old }
         ensures err { OnErr result (self.new ≡ self.old) }
     {
+        // What a private switch has is what its words say.
         switches_say_their_words();
         let Some(domain) = self.domains.get_mut(usize::from(domain)) else {
             return Err(Refusal::NoSuch);
@@ -245,6 +252,7 @@ impl PlainFarm {
         ensures whole { SaysEachWhole self.old output result }
         ensures same { self.new ≡ self.old }
     {
+        // What a private switch has is what its words say.
         switches_say_their_words();
         let Some((domain, number)) = self.owner(output) else {
             return Word::UNUSED;
@@ -257,6 +265,7 @@ impl PlainFarm {
         ensures owned { IfSome result (λ owner. HasOutput (slice_get self.now owner.0) owner.1 output) }
         ensures free { result ≡ None → IsFree (places_in self.now) output }
     {
+        // What a private switch has is what its words say.
         switches_say_their_words();
         for (index, domain) in self.domains.iter().enumerate() {
             if let Some(number) = domain.virtual_of(output) {

@@ -21,6 +21,7 @@ pub fn each_call_is_private()
     ensures call { EachCallIsPrivate }
     ensures elsewhere { NoDomainNoChange }
 {
+    // What a private switch has is what its words say.
     switches_say_their_words();
 }
 
@@ -28,6 +29,7 @@ pub fn each_call_is_private()
 pub fn each_output_is_of_its_domain()
     ensures law { EachOutputIsOfItsDomain }
 {
+    // What a private switch has is what its words say.
     switches_say_their_words();
 }
 
@@ -43,6 +45,7 @@ pub fn each_domain_is_private()
     ensures private { EachDomainIsPrivate }
     ensures told { EachIsToldPrivately }
 {
+    // What a private switch has is what its words say.
     switches_say_their_words();
 }
 
@@ -51,6 +54,7 @@ pub fn each_domain_is_private()
 pub fn equal_domains_are_answered_alike()
     ensures law { EqualDomainsAreAnsweredAlike }
 {
+    // What a private switch has is what its words say.
     switches_say_their_words();
 }
 
@@ -60,6 +64,7 @@ pub fn each_merge_is_a_run()
     ensures journals { EachMergeIsARun }
     ensures domains { EachMergeOfDomainsIsARun }
 {
+    // What a private switch has is what its words say.
     switches_say_their_words();
 }
 
@@ -70,7 +75,9 @@ pub fn each_domain_of_a_plan_is_private()
     ensures told { EachOfAPlanIsToldPrivately }
     ensures alike { EqualDomainsOfPlansAreAnsweredAlike }
 {
+    // What a private switch has is what its words say.
     switches_say_their_words();
+    // The domains of a plan without a fault share no port.
     plan_checker::laws::faultless_plans_are_separate();
 }
 
@@ -80,6 +87,7 @@ pub fn each_word_is_of_its_output()
     ensures whole { EachWholeIsAsWordsSay }
     ensures merge { EachMergeEndsAsWordsSay }
 {
+    // What a private switch has is what its words say.
     switches_say_their_words();
 }
 

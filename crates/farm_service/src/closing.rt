@@ -63,6 +63,7 @@ fn words_of(domain: &mut SeatedDomain, room: WordRoom) -> Vec<Word>
     ensures words { result.items ≡ domain.old.machine.switch.words }
     ensures same { domain.new ≡ domain.old }
 {
+    // A domain is what its journal says.
     domain.meant();
     let WordRoom { mut words } = room;
     for output in 0..domain.part().count() {
@@ -84,6 +85,7 @@ fn end_of<R: Wait>(
     if !domain.fits(plan, number) {
         return wait(rt);
     }
+    // A domain is what its journal says.
     domain.meant();
     let words = words_of(&mut domain, room);
     ClosedDomain {
@@ -109,9 +111,13 @@ pub(crate) fn ends_of<R: Wait>(
     ensures domains { AreDomainsOf plan.now result.items }
     ensures runs { EachMergeRuns (places_of plan.now) result.items }
 {
+    // The domains of an accepted plan share no port.
     plan.separate();
+    // Domains that share no port have places that are separate.
     numbered_domains_are_separate();
+    // Every merge of the journals is a run of the farm.
     each_merge_is_a_run();
+    // Each output of the farm is as its domain's word says.
     each_word_is_of_its_output();
     for lock in locks {
         let number = closed.len() as u8;

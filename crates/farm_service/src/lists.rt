@@ -40,6 +40,7 @@ fn listed_after(entry: &Entry, user: u8, told: &[Told], listed: usize) -> Option
 fn lists(journal: &[Entry], user: u8, told: &[Told]) -> bool
     ensures { result ≡ true → commands_of user (expanded journal.now) ≡ told.now }
 {
+    // What is appended to a journal comes after what it stands for.
     journals_add_up();
     let mut listed = 0;
     for entry in journal {

@@ -98,7 +98,9 @@ fn ask(
     requires { Fits plan.now number domain.old }
     ensures { UnlessNoMemory result (IsAnswerIn plan.now number (record { by = by; event = event }) result) }
 {
+    // A domain is what its journal says.
     domain.meant();
+    // A history with one more reply is a history.
     histories_grow();
     domain.apply(by, event)
 }

@@ -1,4 +1,4 @@
-// Which channels belong to links.
+//! Which channels belong to links.
 
 ghost use Rattle.std.specs.Prelude.{◌≡◌};
 

@@ -1,4 +1,4 @@
-// Channels of links: a process asks a link of its node for bytes, or gives it bytes to send.
+//! Channels of links: a process asks a link of its node for bytes, or gives it bytes to send.
 
 ghost use Rattle.std.specs.Prelude.{◌≡◌};
 ghost use Rattle.link_channels.specs.Hard.{input_reset, link_disable, link_enable, link_input, link_output, output_reset};

@@ -1,4 +1,4 @@
-// Laws of messages and services.
+//! Laws of messages and services.
 
 ghost use Rattle.link_channels.specs.Laws.{MessageStopsAtTheEdge, ServiceActsOnWork, ServiceLeavesTheRest};
 
@@ -8,6 +8,7 @@ use node_memory::copies_stop_at_the_edge;
 pub fn messages_stop_at_the_edge()
     ensures edge { MessageStopsAtTheEdge }
 {
+    // A copy past the edge of memory is a fault.
     copies_stop_at_the_edge();
 }
 

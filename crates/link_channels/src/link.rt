@@ -1,4 +1,4 @@
-// A link of a node and what processes have asked of it, and the four of them.
+//! A link of a node and what processes have asked of it, and the four of them.
 
 ghost use Rattle.std.specs.Prelude.{◌≡◌, IsTrue};
 

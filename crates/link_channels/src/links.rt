@@ -1,4 +1,4 @@
-// The links of a node, with a flag for what waits to be served.
+//! The links of a node, with a flag for what waits to be served.
 
 ghost use Rattle.std.specs.Prelude.{◌≡◌};
 

@@ -1,4 +1,4 @@
-// The channel instructions on any channel: a soft one, or one of a link.
+//! The channel instructions on any channel: a soft one, or one of a link.
 
 ghost use Rattle.std.specs.Prelude.{◌≡◌, OnErr};
 

@@ -1,4 +1,4 @@
-// The numbers of a node's links.
+//! The numbers of a node's links.
 
 ghost use Rattle.std.specs.Prelude.{◌≡◌};
 

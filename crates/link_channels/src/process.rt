@@ -1,4 +1,4 @@
-// Who asks for what of a channel.
+//! Who asks for what of a channel.
 
 ghost use Rattle.std.specs.Prelude.{◌≡◌};
 

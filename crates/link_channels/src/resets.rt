@@ -1,4 +1,4 @@
-// A channel's reset.
+//! A channel's reset.
 
 ghost use Rattle.std.specs.Prelude.{◌≡◌};
 

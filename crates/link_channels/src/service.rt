@@ -1,4 +1,4 @@
-// What waits at a link is served: bytes into memory, bytes out of it, and arrivals that are watched for.
+//! What waits at a link is served: bytes into memory, bytes out of it, and arrivals that are watched for.
 
 ghost use Rattle.std.specs.Prelude.{◌≡◌};
 ghost use Rattle.link_channels.specs.Reply.{served};

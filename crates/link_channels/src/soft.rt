@@ -1,4 +1,4 @@
-// Soft channels: two processes of one node meet at a word of its memory. What they do leaves the links.
+//! Soft channels: two processes of one node meet at a word of its memory. What they do leaves the links.
 
 ghost use Rattle.std.specs.Prelude.{◌≡◌, OnErr};
 ghost use Rattle.link_channels.specs.Reply.{gave, served};

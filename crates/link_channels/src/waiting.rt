@@ -1,4 +1,4 @@
-// Who waits at a channel.
+//! Who waits at a channel.
 
 ghost use Rattle.std.specs.Prelude.{◌≡◌};
 ghost use Rattle.link_channels.specs.Reply.{served};

@@ -1,4 +1,4 @@
-// A node that is booted with code, and traced Step by Step.
+//! A node that is booted with code, and traced Step by Step.
 
 use crate::instruction::Instruction;
 use crate::packets::{send, write_packet};

@@ -1,5 +1,5 @@
-// What has changed in a node, in words: registers, flags, words of memory, links, always in this order. What isn't named
-// is as it was.
+//! What has changed in a node, in words: registers, flags, words of memory, links, always in this order. What isn't named
+//! is as it was.
 
 use crate::snapshot::Snapshot;
 use bootstrap::Node;

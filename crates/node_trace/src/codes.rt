@@ -1,4 +1,4 @@
-// Instructions as bytes of code.
+//! Instructions as bytes of code.
 
 use crate::words::{Refused, Words};
 use t414_assembly::{function_named, operation_named, spell};

@@ -1,4 +1,4 @@
-// The lines of a text, each read as what it asks for.
+//! The lines of a text, each read as what it asks for.
 
 use crate::codes::{push_bytes, read_instruction};
 use crate::settings::Settings;

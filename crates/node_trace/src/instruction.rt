@@ -1,4 +1,4 @@
-// The instruction byte that a Step does.
+//! The instruction byte that a Step does.
 
 use bootstrap::Node;
 use link_channels::Links;

@@ -1,4 +1,4 @@
-// Packets, and what a host at a link does with them.
+//! Packets, and what a host at a link does with them.
 
 use bootstrap::{LinkNumber, Node, Packet, peek_message, poke_message, word_of};
 use std::alloc::AllocError;

@@ -1,4 +1,4 @@
-// What the lines do, and how they are answered.
+//! What the lines do, and how they are answered.
 
 use crate::changes::{write_all_registers, write_changes};
 use crate::commands::Command;

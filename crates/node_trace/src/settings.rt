@@ -1,4 +1,4 @@
-// What a line puts into a node: registers, flags, words of memory, code, and what stands at links.
+//! What a line puts into a node: registers, flags, words of memory, code, and what stands at links.
 
 use crate::codes::read_instruction;
 use crate::words::{Refused, Words};

@@ -1,4 +1,4 @@
-// What a node was before it changed.
+//! What a node was before it changed.
 
 use bootstrap::{Cpu, Memory, NoMemory, Node};
 use link_channels::FourLinks;

@@ -1,4 +1,4 @@
-// The lines of a text, all read before any is done.
+//! The lines of a text, all read before any is done.
 
 use crate::commands::{Command, read_command};
 use crate::performing::{fresh, perform};

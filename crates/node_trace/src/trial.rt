@@ -1,4 +1,4 @@
-// Instructions on a node of their own, as a row of the handbook has them.
+//! Instructions on a node of their own, as a row of the handbook has them.
 
 use crate::changes::write_changes;
 use crate::performing::fresh;

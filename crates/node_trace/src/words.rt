@@ -1,4 +1,4 @@
-// The words of a line, and what a word spells.
+//! The words of a line, and what a word spells.
 
 ghost use Rattle.std.specs.Prelude.{◌≡◌};
 ghost use Rattle.node_memory.specs.Bytes.{IsMemorySize};

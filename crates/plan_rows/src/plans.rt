@@ -96,6 +96,7 @@ fn names_and_ranges(rt: HostRuntime) -> Result<(), Fail> {
     let [first, second, third, fourth] = plan.ranges(1);
     assert!(rt; first == Some(PortRange { first: 8, last: 10 }));
     assert!(rt; second.is_none() && third.is_none() && fourth.is_none());
+    // The domains of an accepted plan share no port.
     plan.separate();
     Ok(())
 }

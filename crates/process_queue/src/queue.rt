@@ -66,6 +66,7 @@ impl Queue {
         ensures queue_unchanged { OnErr result (self.new ≡ self.old) }
         ensures memory_unchanged { OnErr result (memory.new ≡ memory.old) }
     {
+        // A word that was written is read.
         written_words_are_read();
         if self.front == NOT_PROCESS {
             self.front = workspace;

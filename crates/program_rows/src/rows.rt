@@ -1,3 +1,4 @@
+//! What the program refuses, and streams that fail.
 use farm_program::{Settings, refuse_arguments, run, settings};
 use sample_plans::{ANN_ALONE, ANN_AND_BOB};
 use script_text::{HexFault, bytes_of};

@@ -49,6 +49,7 @@ impl DomainSeat {
         ensures seat { IfOk result (λ s. (s.ports ≡ numbering) × (s.table ≡ dealer.old.table_id) × (s.view.words ≡ dealer.old.me.0.words)) }
         ensures rest { IfOk result (λ _. (dealer.new.table_id ≡ dealer.old.table_id) × (dealer.new.me ≡ (dealt_view dealer.old.me.0, dealer.old.me.1))) }
     {
+        // A row with another proper word is a row.
         rows_are_words_of_ports();
         let board = Arc::try_clone(board)?;
         let seat = board.shared.split_seat::<Deals>(dealer);
@@ -99,6 +100,7 @@ impl Outputs for DomainSeat {
 
     /// One atomic store.
     fn write(&mut self, number: u8, word: Word) {
+        // A row with another proper word is a row.
         rows_are_words_of_ports();
         let port = self.numbering.physical(number);
         let board = &self.board;

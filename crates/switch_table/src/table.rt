@@ -34,6 +34,7 @@ pub struct OperatorSeat {
 fn board_of(alloc: Global, plan: &AcceptedPlan) -> Result<(Arc<Board>, BoardSeat), NoMemory>
     ensures { IfOk result (λ o. (o.1.table_id ≡ (arc_value o.0).shared.table_id) × (o.1.table_id.words ≡ 32) × (o.1.me ≡ dealer_of (domains_of plan.now))) }
 {
+    // The domains of an accepted plan share no port.
     plan.separate();
     let (table, dealer): (Board, BoardSeat) = Table::of_words(alloc, &[0; 32], plan)?;
     Ok((Arc::new(alloc, table)?, dealer))
@@ -62,7 +63,9 @@ impl SwitchTable {
         ensures operator { IfOk result (λ o. (surveyed_table o.2 ≡ table_of o.0) × (surveyed_domains o.2 ≡ domains_of plan.now)) }
         ensures seen { IfOk result (λ o. seen_words o.2 ≡ replicate 32 0) }
     {
+        // A row with another proper word is a row.
         rows_are_words_of_ports();
+        // The domains of an accepted plan share no port.
         plan.separate();
         let domains = plan.domains();
         let mut seats = Vec::with_capacity(alloc, usize::from(domains))?;

@@ -9,6 +9,7 @@ use node_memory::copies_stop_at_the_edge;
 pub fn idle_where_it_rests()
     ensures law { IdleWhereItRests }
 {
+    // Links are served only if one of them has work.
     services_act_on_work();
 }
 
@@ -16,6 +17,7 @@ pub fn idle_where_it_rests()
 pub fn move_stops_at_the_edge()
     ensures law { MoveStopsAtTheEdge }
 {
+    // A copy past the edge of memory is a fault.
     copies_stop_at_the_edge();
 }
 

@@ -81,6 +81,7 @@ pub fn step(cpu: &mut Cpu, memory: &mut Memory, links: &mut Links) -> Stepped
     // It is idle exactly where there is no current process, none in the queue, and no link that has work.
     ensures idle { is_idle result ≡ has_nothing_to_do cpu.old links.old }
 {
+    // Links are served only if one of them has work.
     services_act_on_work();
     advance(cpu, memory, links)
 }

@@ -42,6 +42,7 @@ pub fn both_switches(
 
 /// A switch to which nothing was said. Clearing a seat that never stored stores nothing.
 fn switch_over(mut seat: DomainSeat) -> Switch {
+    // A row with another proper word is a row.
     rows_are_words_of_ports();
     clear(&mut seat);
     VirtualSwitch::new(seat)

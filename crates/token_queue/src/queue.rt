@@ -105,6 +105,7 @@ fn put_plan<R: Wait>(rt: &R, line: &Line, pass: &mut LinePass, plan: &AcceptedPl
     ensures outside { (known_of pass.new).outside ≡ [] }
     ensures held { AreTheOthers (known_of pass.new).held (tokens_of plan.now) }
 {
+    // The domains of an accepted plan share no port.
     plan.separate();
     for domain in 0..plan.domains() {
         put_nodes(rt, line, pass, domain, nodes_of(plan, domain));
