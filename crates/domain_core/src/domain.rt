@@ -20,7 +20,7 @@ use crate::journal::{Entry, note, note_ticket};
 use crate::machine::{Acted, Machine};
 use crate::ticket::Ticket;
 use crossbar::laws::unchanged_words_count_nothing;
-use crossbar::{Numbering, Outputs, Word};
+use crossbar::{Outputs, Word};
 use plan_checker::{AcceptedPlan, Part};
 use std::alloc::Global;
 use std::marker::Model;
@@ -173,7 +173,7 @@ impl<O: Outputs + Drop> Domain<O> {
     {
         number < plan.domains()
             && self.machine.part().same(plan.part(number))
-            && self.machine.is_at(&Numbering::of(plan.ranges(number)))
+            && self.machine.is_at(plan.ports(number))
     }
 
     /// Makes the domain as it was opened, with an empty journal. Change counts go on.

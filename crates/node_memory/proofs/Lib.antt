@@ -1,4 +1,5 @@
 pub mod Copies
 pub mod Edge
+pub mod Kept
 pub mod Parts
 pub mod Writes

@@ -4,4 +4,5 @@ pub mod Marks
 pub mod Words
 -- what only helps contracts
 pub mod Faults
+pub mod Kept
 pub mod Laws

@@ -1,7 +1,8 @@
 //! Bytes from the most negative address upwards, and words of four bytes among them.
 
-ghost use Rattle.std.specs.Prelude.{◌≡◌, ◌+◌, ◌≤◌, ◌↔◌, IfOk, IsTrue, OnErr, length, replicate};
+ghost use Rattle.std.specs.Prelude.{◌≡◌, ◌+◌, ◌<◌, ◌≤◌, ◌↔◌, IfOk, IsTrue, OnErr, length, nat_lt, replicate, vec_capacity};
 ghost use Rattle.node_memory.specs.Bytes.{IsMemorySize, byte_at, word_at, with_byte, with_word, with_word_from, stored, copied};
+ghost use Rattle.node_memory.specs.Kept.{IsKept, memory_of};
 
 use crate::fault::Fault;
 use std::alloc::{AllocError as NoMemory, Global};
@@ -32,21 +33,62 @@ fn put_word(bytes: &mut [u8], first: usize, word: u32)
     part[3] = (word >> 24) as u8;
 }
 
+// Keeps the bytes up to the end of the word in which an offset lies that is behind those that are kept; whether it lies
+// in memory.
+#[cold]
+#[inline(never)]
+#[tactic(auto, using(crate::proofs::Kept::one_more))]
+fn reach(kept: &mut Vec<u8>, size: usize, offset: usize) -> bool
+    requires kept { IsKept kept.old.items size (vec_capacity kept.old) }
+    requires behind { length kept.old.items ≤ offset }
+    ensures answer { result ≡ nat_lt offset size }
+    ensures same { memory_of kept.new.items size ≡ memory_of kept.old.items size }
+    ensures kept { IsKept kept.new.items size (vec_capacity kept.new) }
+    ensures there { IsTrue result → offset < length kept.new.items }
+{
+    if offset >= size {
+        return false;
+    }
+    let end = offset - offset % 4 + 4;
+    while kept.len() < end {
+        kept.push_reserved(0);
+    }
+    true
+}
+
+// Whether all of these bytes are 0.
+fn are_zero(bytes: &[u8]) -> bool
+    ensures { IsTrue result ↔ (bytes.now ≡ replicate (length bytes.now) 0) }
+{
+    bytes.iter().all(|byte| *byte == 0)
+}
+
+// Whether two lists of bytes are the same.
+fn are_same(bytes: &[u8], others: &[u8]) -> bool
+    ensures { IsTrue result ↔ (bytes.now ≡ others.now) }
+{
+    bytes == others
+}
+
 /// A node's memory: its bytes from `MEMORY_START` upwards.
+///
+/// Only the bytes up to the last word that was ever written are kept, since all behind it are 0. So a
+/// copy and a comparison cost what a program has used of memory, and not its size.
 #[derive(Debug, Drop)]
 pub struct Memory {
-    bytes: Vec<u8>,
+    kept: Vec<u8>,
+    size: usize,
 }
 
 impl Model for Memory {
-    ghost use Rattle.std.specs.Prelude.{List, ℕ, length};
-    ghost use Rattle.node_memory.specs.Bytes.{IsMemorySize};
+    ghost use Rattle.std.specs.Prelude.{List, ℕ, vec_capacity};
+    ghost use Rattle.node_memory.specs.Kept.{IsKept, memory_of};
 
     ghost Value = { List ℕ };
 
-    ghost view = { λ m. m.bytes.items };
+    ghost view = { λ m. memory_of m.kept.items m.size };
 
-    ghost invariant = { λ m. IsMemorySize (length m.bytes.items) };
+    ghost invariant = { λ m. IsKept m.kept.items m.size (vec_capacity m.kept) };
 }
 
 impl Memory {
@@ -58,9 +100,8 @@ impl Memory {
         requires { IsMemorySize size }
         ensures { IfOk result (λ memory. memory ≡ replicate size 0) }
     {
-        Ok(Memory {
-            bytes: vec![in alloc; 0; size]?,
-        })
+        let kept = Vec::with_capacity(alloc, size)?;
+        Ok(Memory { kept, size })
     }
 
     /// The byte at an address, or `Fault::OutsideMemory` where it lies outside.
@@ -72,8 +113,10 @@ impl Memory {
         ensures { result ≡ byte_at self.now address }
     {
         let offset = address.wrapping_sub(MEMORY_START) as usize;
-        if offset < self.bytes.len() {
-            Ok(self.bytes[offset])
+        if offset < self.kept.len() {
+            Ok(self.kept[offset])
+        } else if offset < self.size {
+            Ok(0)
         } else {
             Err(Fault::OutsideMemory)
         }
@@ -85,18 +128,17 @@ impl Memory {
     ///
     /// Source: Transputer instruction set handbook, store byte.
     #[inline]
-    #[tactic(auto, unfolding(crate::specs::Bytes::with_byte))]
+    #[tactic(auto, unfolding(crate::specs::Bytes::with_byte), using(crate::proofs::Kept::kept_set, crate::proofs::Kept::length_memory))]
     pub fn set_byte(&mut self, address: u32, byte: u8) -> Result<(), Fault>
         ensures stored { stored result self.new ≡ with_byte self.old address byte }
         ensures err { OnErr result (self.new ≡ self.old) }
     {
         let offset = address.wrapping_sub(MEMORY_START) as usize;
-        if offset < self.bytes.len() {
-            self.bytes[offset] = byte;
-            Ok(())
-        } else {
-            Err(Fault::OutsideMemory)
+        if offset >= self.kept.len() && !reach(&mut self.kept, self.size, offset) {
+            return Err(Fault::OutsideMemory);
         }
+        self.kept[offset] = byte;
+        Ok(())
     }
 
     /// The word that an address lies in, its low two bits ignored.
@@ -110,14 +152,16 @@ impl Memory {
         ensures { result ≡ word_at self.now address }
     {
         let offset = address.wrapping_sub(MEMORY_START) as usize;
-        if offset < self.bytes.len() {
+        if offset < self.kept.len() {
             let first = offset - offset % 4;
-            let bytes = &self.bytes.as_slice()[first..first + 4];
+            let bytes = &self.kept.as_slice()[first..first + 4];
             let low = u32::from(bytes[0]);
             let second = u32::from(bytes[1]);
             let third = u32::from(bytes[2]);
             let high = u32::from(bytes[3]);
             Ok(low + (second << 8) + (third << 16) + (high << 24))
+        } else if offset < self.size {
+            Ok(0)
         } else {
             Err(Fault::OutsideMemory)
         }
@@ -129,19 +173,17 @@ impl Memory {
     ///
     /// Source: Transputer instruction set handbook, store non-local.
     #[inline]
-    #[tactic(auto, unfolding(crate::specs::Bytes::with_word))]
+    #[tactic(auto, unfolding(crate::specs::Bytes::with_word), using(crate::proofs::Kept::length_memory))]
     pub fn set_word(&mut self, address: u32, word: u32) -> Result<(), Fault>
         ensures stored { stored result self.new ≡ with_word self.old address word }
         ensures err { OnErr result (self.new ≡ self.old) }
     {
         let offset = address.wrapping_sub(MEMORY_START) as usize;
-        if offset < self.bytes.len() {
-            let first = offset - offset % 4;
-            put_word(self.bytes.as_mut_slice(), first, word);
-            Ok(())
-        } else {
-            Err(Fault::OutsideMemory)
+        if offset >= self.kept.len() && !reach(&mut self.kept, self.size, offset) {
+            return Err(Fault::OutsideMemory);
         }
+        put_word(self.kept.as_mut_slice(), offset - offset % 4, word);
+        Ok(())
     }
 
     /// Copies `count` bytes from one address to another, upwards and one by one, so that a byte
@@ -157,7 +199,7 @@ impl Memory {
     {
         for i in 0..count {
             // No address passes 2^32: memory's size bounds those that were copied.
-            let _ = &self.bytes;
+            let _ = &self.kept;
             let byte = self.byte(from + i)?;
             self.set_byte(to + i, byte)?;
         }
@@ -168,15 +210,18 @@ impl Memory {
     pub fn clear(&mut self)
         ensures { self.new ≡ replicate (length self.old) 0 }
     {
-        self.bytes.fill(0);
+        self.kept.clear();
     }
 
     /// Memory with the same bytes. `NoMemory` where they can't be allocated.
     pub fn copy(&self) -> Result<Memory, NoMemory>
         ensures { IfOk result (λ memory. memory ≡ self.now) }
     {
+        let mut kept = Vec::with_capacity(*self.kept.allocator(), self.size)?;
+        kept.extend_from_slice(self.kept.as_slice())?;
         Ok(Memory {
-            bytes: Vec::from_slice(*self.bytes.allocator(), self.bytes.as_slice())?,
+            kept,
+            size: self.size,
         })
     }
 
@@ -185,6 +230,18 @@ impl Memory {
         ensures same { IsTrue result → self.now ≡ other.now }
         ensures different { self.now ≡ other.now → IsTrue result }
     {
-        self.bytes == other.bytes
+        if self.size != other.size {
+            return false;
+        }
+        let both = self.kept.len().min(other.kept.len());
+        let (ours, our_rest) = self.kept.as_slice().split_at(both);
+        let (theirs, their_rest) = other.kept.as_slice().split_at(both);
+        if !are_same(ours, theirs) {
+            return false;
+        }
+        if !are_zero(our_rest) {
+            return false;
+        }
+        are_zero(their_rest)
     }
 }

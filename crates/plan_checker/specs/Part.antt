@@ -87,14 +87,15 @@ range_at ranges place = option_map port_range (slice_get ranges place)
 abbrev pub four_ranges : DomainData → List (Option PortRange)
 four_ranges d = map (λ r. Some (port_range r)) d.ranges ++ replicate (4 - length d.ranges) None
 
--- a separate plan, and the parts of its domains
-pub record IsAccepted (plan : List DomainData) (parts : List PartData) : Type 0 where
-  pub separate : IsSeparate plan
-  pub parts_are : parts ≡ map part_of plan
-
 -- the physical ports of a domain: virtual port v is the v-th of them
 abbrev pub physical_ports : DomainData → List ℕ
 physical_ports d = ports_in (four_ranges d)
+
+-- a separate plan, and the parts and the ports of its domains
+pub record IsAccepted (plan : List DomainData) (parts : List PartData) (ports : List (List ℕ)) : Type 0 where
+  pub separate : IsSeparate plan
+  pub parts_are : parts ≡ map part_of plan
+  pub ports_are : ports ≡ map physical_ports plan
 
 -- the ports of a domain are ports of the crossbar, each with one number
 pub record IsNumbered (d : DomainData) : Type 0 where

@@ -2,15 +2,15 @@
 ghost use Rattle.std.specs.Prelude.{◌≡◌, ◌≢◌, ◌<◌, ◌≤◌, IfOk, IfErr, IfSome, All, AllPairs, length, slice_get};
 ghost use Rattle.crossbar.specs.Ranges.{AreRanges};
 ghost use Rattle.plan_checker.specs.Separate.{IsSeparate, IsSmallestFault};
-ghost use Rattle.plan_checker.specs.Part.{IsNumbered, AreSeparate, part_of, four_ranges};
+ghost use Rattle.plan_checker.specs.Part.{IsNumbered, AreSeparate, part_of, four_ranges, physical_ports};
 
 use crate::fault::PlanFault;
 use crate::part::Part;
 use crate::parts::parts_of;
 use crate::plan::{DomainPlan, Plan};
-use crate::row::row_of;
+use crate::row::{ports_of, row_of};
 use crate::smallest::smallest_fault;
-use crossbar::{MOST_RANGES, PortRange};
+use crossbar::{MOST_RANGES, Numbering, PortRange};
 use std::alloc::Global;
 use std::marker::Model;
 
@@ -19,6 +19,7 @@ use std::marker::Model;
 pub struct AcceptedPlan {
     domains: Vec<DomainPlan>,
     parts: Vec<Part>,
+    ports: Vec<Numbering>,
 }
 
 impl Model for AcceptedPlan {
@@ -30,7 +31,7 @@ impl Model for AcceptedPlan {
 
     ghost view = { λ accepted. accepted.domains.items };
 
-    ghost invariant = { λ accepted. IsAccepted accepted.domains.items accepted.parts.items };
+    ghost invariant = { λ accepted. IsAccepted accepted.domains.items accepted.parts.items accepted.ports.items };
 }
 
 /// Accepts the plan where it is separate, and else gives the smallest of its faults.
@@ -46,9 +47,11 @@ pub fn check(alloc: Global, plan: Plan) -> Result<AcceptedPlan, PlanFault>
         Some(fault) => Err(fault),
         None => {
             let parts = parts_of(alloc, plan.domains.as_slice())?;
+            let ports = ports_of(alloc, plan.domains.as_slice())?;
             Ok(AcceptedPlan {
                 domains: plan.domains,
                 parts,
+                ports,
             })
         }
     }
@@ -98,6 +101,14 @@ impl AcceptedPlan {
         ensures ranges { AreRanges result }
     {
         row_of(&self.domains[usize::from(domain)])
+    }
+
+    /// The physical ports of a domain, by their virtual numbers. It takes no memory.
+    pub fn ports(&self, domain: u8) -> &Numbering
+        requires { domain < length self.now }
+        ensures { IfSome (slice_get self.now domain) (λ d. result.now ≡ physical_ports d) }
+    {
+        &self.ports[usize::from(domain)]
     }
 
     /// The part of a domain. It takes no memory.

@@ -1,10 +1,13 @@
 //! The physical ports of a domain.
-ghost use Rattle.std.specs.Prelude.{◌≡◌, ◌≤◌, [], ◌∷◌, All, length};
+ghost use Rattle.std.specs.Prelude.{◌≡◌, ◌≤◌, [], ◌∷◌, All, IfOk, length, map};
+ghost use Rattle.crossbar.specs.Ranges.{AreRanges};
 ghost use Rattle.plan_checker.specs.Separate.{IsRange, IsSeparate};
-ghost use Rattle.plan_checker.specs.Part.{port_range, range_at, four_ranges};
+ghost use Rattle.plan_checker.specs.Part.{port_range, range_at, four_ranges, physical_ports};
 
+use crate::NoMemory;
 use crate::plan::{DomainPlan, RangePlan};
-use crossbar::{MOST_RANGES, PortRange};
+use crossbar::{MOST_RANGES, Numbering, PortRange};
+use std::alloc::Global;
 
 fn port_range(range: &RangePlan) -> PortRange
     requires { IsRange range.now }
@@ -31,7 +34,8 @@ fn place_of(ranges: &[RangePlan], place: usize) -> Option<PortRange>
 /// The ranges of a domain, and then the unused places of the row.
 pub fn row_of(domain: &DomainPlan) -> [Option<PortRange>; MOST_RANGES]
     requires { IsSeparate (domain.now ∷ []) }
-    ensures { result ≡ four_ranges domain.now }
+    ensures row { result ≡ four_ranges domain.now }
+    ensures ranges { AreRanges result }
 {
     let ranges = domain.ranges.as_slice();
     [
@@ -40,4 +44,16 @@ pub fn row_of(domain: &DomainPlan) -> [Option<PortRange>; MOST_RANGES]
         place_of(ranges, 2),
         place_of(ranges, 3),
     ]
+}
+
+/// The physical ports of the domains, in their order.
+pub fn ports_of(alloc: Global, domains: &[DomainPlan]) -> Result<Vec<Numbering>, NoMemory>
+    requires { IsSeparate domains.now }
+    ensures { IfOk result (λ ports. ports.items ≡ map physical_ports domains.now) }
+{
+    let mut ports = Vec::with_capacity(alloc, domains.len())?;
+    for domain in domains {
+        ports.push(Numbering::of(row_of(domain)))?;
+    }
+    Ok(ports)
 }

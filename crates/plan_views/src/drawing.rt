@@ -4,7 +4,7 @@ ghost use Rattle.std.specs.Prelude.{◌<◌, length};
 use crate::NoMemory;
 use crate::ports::{PortView, port_view};
 use crate::table::write_device;
-use crossbar::{Connection, Numbering, PORTS, Word};
+use crossbar::{Connection, PORTS, Word};
 use plan_checker::AcceptedPlan;
 use std::alloc::Global;
 
@@ -57,10 +57,10 @@ fn place(port: u8) -> u32
 fn draw_domain(svg: &mut String, plan: &AcceptedPlan, domain: u8) -> Result<(), NoMemory>
     requires { domain < length plan.now }
 {
-    let numbering = Numbering::of(plan.ranges(domain));
+    let numbering = plan.ports(domain);
     let hue = u32::from(domain) * 137 % 360;
     for number in 0..numbering.count() {
-        let port = port_view(plan, domain, &numbering, number);
+        let port = port_view(plan, domain, number);
         for column in 0..numbering.count() {
             let (x, y) = (place(numbering.physical(column)), place(port.physical));
             write!(

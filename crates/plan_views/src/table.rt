@@ -3,7 +3,7 @@ ghost use Rattle.std.specs.Prelude.{◌<◌, length};
 
 use crate::NoMemory;
 use crate::ports::{PortView, port_view};
-use crossbar::{Numbering, PortRange};
+use crossbar::PortRange;
 use domain_core::Device;
 use plan_checker::{AcceptedPlan, Part};
 use std::alloc::Global;
@@ -47,10 +47,9 @@ fn write_heading(text: &mut String, plan: &AcceptedPlan, domain: u8) -> Result<(
 fn write_ports(text: &mut String, plan: &AcceptedPlan, domain: u8) -> Result<(), NoMemory>
     requires { domain < length plan.now }
 {
-    let numbering = Numbering::of(plan.ranges(domain));
     text.push_str("virtual  physical  device\n")?;
-    for number in 0..numbering.count() {
-        let PortView { physical, device } = port_view(plan, domain, &numbering, number);
+    for number in 0..plan.ports(domain).count() {
+        let PortView { physical, device } = port_view(plan, domain, number);
         write!(text, "{number:7}  {physical:8}  ")?;
         write_device(text, plan, domain, device)?;
         text.push_str("\n")?;

@@ -48,10 +48,15 @@ impl Cpu {
 fn advance(cpu: &mut Cpu, memory: &mut Memory, links: &mut Links) -> Stepped
     ensures answer { step_answer_of result cpu.new links.new memory.new ≡ step cpu.old links.old memory.old }
 {
-    let acted = match links.serve_all(memory, &mut cpu.queue) {
-        Ok(acted) => acted,
-        Err(fault) => return Stepped::Fault(fault),
-    };
+    // Links without work are left as they are.
+    services_act_on_work();
+    let mut acted = false;
+    if links.has_work() {
+        match links.serve_all(memory, &mut cpu.queue) {
+            Ok(any) => acted = any,
+            Err(fault) => return Stepped::Fault(fault),
+        }
+    }
     if !cpu.running {
         match cpu.resume(memory) {
             Ok(true) => {}
