@@ -861,7 +861,7 @@ fn main() {
     if runs("steps") {
         println!("steps: {}", steps(&mut domain, count));
     }
-    for (node, memory) in [(0, "2048"), (1, "65536")] {
+    for (node, memory) in [(0, "2048"), (1, "65536"), (1, "used")] {
         if runs(&format!("checkouts-{memory}")) {
             println!("checkouts-{memory}: {}", checkouts(&domain, node, count));
         }

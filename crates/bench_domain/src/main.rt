@@ -4,7 +4,8 @@
 //! - `pings`: a byte from host to host, and its acknowledge back: a Write, two Moves and a Read each;
 //! - `configs`: three configuration bytes that connect an output, and two that enquire it;
 //! - `checkouts-2048`, `checkouts-65536`: tickets of a node with so many bytes of memory, dropped at once;
-//! - `turns-2048`, `turns-65536`: such tickets that do 256 Steps and come home.
+//! - `turns-2048`, `turns-65536`: such tickets that do 256 Steps and come home;
+//! - `checkouts-used`, `turns-used`: the same of 65,536 bytes, of which the last word was written too.
 //!
 //! Without WORK all run.
 #![tactic(auto)]
@@ -43,6 +44,9 @@ const HOSTS_JOINED: [u8; 4] = [1, 2, 3, 3];
 /// The boot message of a loop of two instruction bytes, with room where the process saves its place.
 const LOOP: [u8; 7] = [0x06, 0x60, 0x0e, 0, 0, 0, 0];
 
+/// The poke of the last word of 65,536 bytes, which lies outside a smaller memory.
+const LAST_WORD_POKED: [u8; 9] = [0, 0xfc, 0xff, 0, 0x80, 1, 2, 3, 4];
+
 /// A ticket's Steps.
 const QUANTUM: u64 = 256;
 
@@ -76,12 +80,17 @@ fn begin(domain: &mut Plain, bytes: &[u8]) -> Result<(), Refusal> {
     Ok(())
 }
 
-// Boots both nodes with the loop, each by its own host.
-fn boot(domain: &mut Plain) -> Result<(), Refusal> {
+// Restarts the domain, and sends both nodes the bytes, each by its own host.
+fn load(domain: &mut Plain, bytes: &[u8]) -> Result<(), Refusal> {
     begin(domain, &NODES_JOINED)?;
-    for byte in LOOP {
-        domain.apply(ANN, Event::Write(0, byte))?;
-        domain.apply(ANN, Event::Write(1, byte))?;
+    send(domain, bytes)
+}
+
+// Sends both nodes the bytes, each by its own host.
+fn send(domain: &mut Plain, bytes: &[u8]) -> Result<(), Refusal> {
+    for byte in bytes {
+        domain.apply(ANN, Event::Write(0, *byte))?;
+        domain.apply(ANN, Event::Write(1, *byte))?;
         for port in [3, 2] {
             domain.apply(By::Farm, Event::Move(port))?;
         }
@@ -216,11 +225,15 @@ fn main(rt: HostRuntime) -> io::Result<()> {
         let done = configs(&mut domain, count).map_err(refused)?;
         println!(rt; "configs: {done}")?;
     }
-    boot(&mut domain).map_err(refused)?;
+    load(&mut domain, &LOOP).map_err(refused)?;
     if runs("steps") {
         println!(rt; "steps: {}", steps(&mut domain, count))?;
     }
-    for (node, memory) in [(0, "2048"), (1, "65536")] {
+    for (node, memory) in [(0, "2048"), (1, "65536"), (1, "used")] {
+        if memory == "used" {
+            load(&mut domain, &LAST_WORD_POKED).map_err(refused)?;
+            send(&mut domain, &LOOP).map_err(refused)?;
+        }
         let name = format!(in alloc; "checkouts-{memory}")?;
         if runs(name.as_str()) {
             let done = checkouts(&domain, node, count).map_err(refused)?;
