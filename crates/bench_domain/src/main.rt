@@ -205,6 +205,33 @@ fn refused(refusal: Refusal) -> io::Error {
     }
 }
 
+// Whether a work is asked for.
+fn is_asked(words: &[String], name: &str) -> bool {
+    words.get(2).is_none_or(|word| word.as_str() == name)
+}
+
+// Tickets of a node, those that are dropped and those that come home, if they are asked for.
+fn tickets(
+    rt: &HostRuntime,
+    domain: &mut Plain,
+    node: u8,
+    memory: &str,
+    count: u64,
+    words: &[String],
+) -> io::Result<()> {
+    let name = format!(in rt.alloc(); "checkouts-{memory}")?;
+    if is_asked(words, name.as_str()) {
+        let done = checkouts(domain, node, count).map_err(refused)?;
+        println!(rt; "{name}: {done}")?;
+    }
+    let name = format!(in rt.alloc(); "turns-{memory}")?;
+    if is_asked(words, name.as_str()) {
+        let done = turns(domain, node, count).map_err(refused)?;
+        println!(rt; "{name}: {done}")?;
+    }
+    Ok(())
+}
+
 fn main(rt: HostRuntime) -> io::Result<()> {
     let alloc = rt.alloc();
     let words: Vec<String> = env::args(&rt)?.collect(alloc)?;
@@ -212,7 +239,7 @@ fn main(rt: HostRuntime) -> io::Result<()> {
         .get(1)
         .and_then(|word| word.parse::<u64>().ok())
         .unwrap_or(100);
-    let runs = |name: &str| words.get(2).is_none_or(|word| word.as_str() == name);
+    let runs = |name: &str| is_asked(words.as_slice(), name);
     let mut domain = match opened(alloc) {
         Ok(domain) => domain,
         Err(fault) => return Err(no_domain(fault)),
@@ -229,21 +256,10 @@ fn main(rt: HostRuntime) -> io::Result<()> {
     if runs("steps") {
         println!(rt; "steps: {}", steps(&mut domain, count))?;
     }
-    for (node, memory) in [(0, "2048"), (1, "65536"), (1, "used")] {
-        if memory == "used" {
-            load(&mut domain, &LAST_WORD_POKED).map_err(refused)?;
-            send(&mut domain, &LOOP).map_err(refused)?;
-        }
-        let name = format!(in alloc; "checkouts-{memory}")?;
-        if runs(name.as_str()) {
-            let done = checkouts(&domain, node, count).map_err(refused)?;
-            println!(rt; "{name}: {done}")?;
-        }
-        let name = format!(in alloc; "turns-{memory}")?;
-        if runs(name.as_str()) {
-            let done = turns(&mut domain, node, count).map_err(refused)?;
-            println!(rt; "{name}: {done}")?;
-        }
-    }
+    tickets(&rt, &mut domain, 0, "2048", count, words.as_slice())?;
+    tickets(&rt, &mut domain, 1, "65536", count, words.as_slice())?;
+    load(&mut domain, &LAST_WORD_POKED).map_err(refused)?;
+    send(&mut domain, &LOOP).map_err(refused)?;
+    tickets(&rt, &mut domain, 1, "used", count, words.as_slice())?;
     Ok(())
 }

@@ -1,6 +1,7 @@
 //! Users, workers and an operator who do anything at once, and what they left done again on one thread: `ROUNDS SEED
 //! WORKERS [COMMANDS]`. Each round opens a service of each of four sizes, and prints what was compared; every stored reply
-//! and every word must be the same. Without words there is one short round by 8 workers, and only what differs is told,
+//! and every word must be the same. Under a plan whose journals hold one event something must be wrong, and that nothing is
+//! counts as one wrong. Without words there is one short round by 8 workers, and only what differs is told,
 //! since the rest hangs on the schedule.
 #![tactic(auto)]
 
@@ -70,8 +71,11 @@ fn main(rt: HostRuntime) -> io::Result<()> {
                 answered,
                 changes,
                 comparison,
+                tells_apart,
             } = round(&rt, alloc, size, load, seed.wrapping_add(count)).map_err(failed)?;
-            wrong = wrong.saturating_add(comparison.wrong);
+            wrong = wrong
+                .saturating_add(comparison.wrong)
+                .saturating_add(u64::from(!tells_apart));
             if words.len() > 1 {
                 let (events, compared) = (comparison.events, comparison.words);
                 println!(rt;

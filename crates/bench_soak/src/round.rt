@@ -7,7 +7,7 @@ ghost use Rattle.token_queue.specs.Passes.{AreItsPasses};
 use crate::users::User;
 use domain_core::{Committed, Refusal};
 use farm_service::{Closed, Gate, Opened, Service, Token, UserPass, WorkerPass, work_all};
-use journal_replay::{Comparison, Merge, Turn, compare};
+use journal_replay::{Comparison, Merge, OneByOne, Turn, compare};
 use plan_checker::AcceptedPlan;
 use rand::RngExt;
 use rand_core::SeedableRng;
@@ -40,6 +40,8 @@ pub struct Outcome {
     pub changes: u64,
     /// What was compared.
     pub comparison: Comparison,
+    /// Whether the comparison finds something wrong where it must: under a plan whose journals hold one event.
+    pub tells_apart: bool,
 }
 
 // Holds every third burst back for a while, so that others change its node meanwhile.
@@ -229,10 +231,13 @@ pub fn round<R: Threads + Wait + Sync>(
         draws: Xoshiro256PlusPlus::seed_from_u64(seed),
     };
     let comparison = compare(alloc, &plan(alloc, size)?, domains.as_slice(), &mut merge)?;
+    let full = plan(alloc, Size { limit: 1, ..size })?;
+    let tells_apart = compare(alloc, &full, domains.as_slice(), &mut OneByOne)?.wrong > 0;
     Ok(Outcome {
         answered,
         changes,
         comparison,
+        tells_apart,
     })
 }
 

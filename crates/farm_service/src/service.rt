@@ -1,6 +1,6 @@
 //! A lock for each domain of a plan, over one switch table.
 
-ghost use Rattle.std.specs.Prelude.{◌≡◌, ◌≢◌, ◌<◌, ◌≤◌, length, replicate, slice_index, slice_set, Ok, Err, IfOk, IfErr, IfSome};
+ghost use Rattle.std.specs.Prelude.{◌≡◌, ◌≢◌, ◌<◌, ◌≤◌, length, replicate, slice_index, slice_set, Ok, Err, IfOk, IfErr, IfSome, MatchOption, slice_get};
 ghost use Rattle.crossbar.specs.Word.{IsAtLeastAsNew};
 ghost use Rattle.domain_core.specs.declared.domain.Committed.TheVariants.{Stale};
 ghost use Rattle.domain_core.specs.declared.event.Refusal.TheVariants.{NoSuch, JournalFull, NoMemory};
@@ -174,7 +174,9 @@ impl Service {
     }
 
     // How many ports a domain has.
-    fn ports(&self, domain: u8) -> u8 {
+    fn ports(&self, domain: u8) -> u8
+        ensures { MatchOption (slice_get self.now.plan domain) (result ≡ 0) (λ d. result ≡ (part_of d).count) }
+    {
         if domain < self.plan.domains() {
             self.plan.part(domain).count()
         } else {
@@ -183,7 +185,9 @@ impl Service {
     }
 
     // How many nodes a domain has.
-    fn nodes(&self, domain: u8) -> u8 {
+    fn nodes(&self, domain: u8) -> u8
+        ensures { MatchOption (slice_get self.now.plan domain) (result ≡ 0) (λ d. result ≡ length d.nodes) }
+    {
         if domain < self.plan.domains() {
             self.plan.nodes(domain)
         } else {
@@ -220,7 +224,9 @@ impl Service {
     }
 
     // Whether no Step and no Move of a domain would be recorded now.
-    pub(crate) fn is_quiet<R: Wait>(&self, rt: &R, domain: u8) -> Result<bool, Refusal> {
+    pub(crate) fn is_quiet<R: Wait>(&self, rt: &R, domain: u8) -> Result<bool, Refusal>
+        ensures elsewhere { length self.now.plan ≤ domain → result ≡ Err NoSuch }
+    {
         match self.domains.get(usize::from(domain)) {
             Some(lock) => Ok(lock.lock(rt).quiet()),
             None => Err(Refusal::NoSuch),

@@ -1,6 +1,7 @@
 //! A user's commands.
 
-ghost use Rattle.std.specs.Prelude.{◌≡◌, ◌≤◌};
+ghost use Rattle.std.specs.Prelude.{◌≡◌, ◌≤◌, Err, length};
+ghost use Rattle.domain_core.specs.declared.event.Refusal.TheVariants.{NoSuch};
 ghost use Rattle.domain_core.specs.declared.event.Event.TheVariants.{Config, Write, Read, Reset, Look};
 ghost use Rattle.farm_service.specs.Answers.{IsTold};
 ghost use Rattle.farm_service.specs.Passes.{Gains};
@@ -141,9 +142,11 @@ impl Session<'_> {
     ///
     /// # Errors
     ///
-    /// The first refusal ends it. What was recorded before stands.
+    /// The first refusal ends it, as `NoSuch` where the pass is of no domain of the plan. What was
+    /// recorded before stands.
     pub fn settle<R: Wait>(&self, rt: &R, quantum: u64, rounds: u64) -> Result<Settled, Refusal>
         requires quantum { (1 ≤ quantum) × (quantum ≤ 4096) }
+        ensures elsewhere { length self.now.plan ≤ self.now.pass.domain → result ≡ Err NoSuch }
     {
         let domain = self.pass.domain;
         for _round in 0..rounds {

@@ -100,10 +100,10 @@ same_rest xs ys m n place last x_within y_within same =
     let size = same_size xs ys m n x_within y_within same in
     ext_get_or 0 (drop place xs) (replicate (length (drop place xs)) 0) (sym (length-replicate {A = ℕ} (length (drop place xs)) 0))
     (λ i less.
-      let below : place + i < length xs = omega (arith, rest, less) in
-      let end = last (omega (arith, below)) in
-      get_or-drop place xs i 0
-      ∙ sym (kept_index xs m (place + i) below)
-      ∙ ap (λ (memory : List ℕ). slice_index memory (place + i)) same
-      ∙ unkept_index ys n (place + i) (omega (arith, end)) (omega (arith, below, x_within, size))
-      ∙ sym (get_or-replicate (length (drop place xs)) i 0 0 less))
+    let below : place + i < length xs = omega (arith, rest, less) in
+    let end = last (omega (arith, below)) in
+    get_or-drop place xs i 0
+    ∙ sym (kept_index xs m (place + i) below)
+    ∙ ap (λ (memory : List ℕ). slice_index memory (place + i)) same
+    ∙ unkept_index ys n (place + i) (omega (arith, end)) (omega (arith, below, x_within, size))
+    ∙ sym (get_or-replicate (length (drop place xs)) i 0 0 less))

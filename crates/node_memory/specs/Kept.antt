@@ -7,7 +7,7 @@ abbrev pub memory_of : List ℕ → ℕ → List ℕ
 memory_of kept size = kept ++ replicate (size - length kept) 0
 
 -- bytes that may be kept of memory of so many bytes, in a vector that has room for so many
-pub record IsKept (kept : List ℕ) (size room : ℕ) : Type 0 where
+pub record AreKept (kept : List ℕ) (size room : ℕ) : Type 0 where
   pub bounds : IsMemorySize size
   pub words : length kept % 4 ≡ 0
   pub within : length kept ≤ size

@@ -2,7 +2,7 @@
 
 ghost use Rattle.std.specs.Prelude.{◌≡◌, ◌+◌, ◌<◌, ◌≤◌, ◌↔◌, IfOk, IsTrue, OnErr, length, nat_lt, replicate, vec_capacity};
 ghost use Rattle.node_memory.specs.Bytes.{IsMemorySize, byte_at, word_at, with_byte, with_word, with_word_from, stored, copied};
-ghost use Rattle.node_memory.specs.Kept.{IsKept, memory_of};
+ghost use Rattle.node_memory.specs.Kept.{AreKept, memory_of};
 
 use crate::fault::Fault;
 use std::alloc::{AllocError as NoMemory, Global};
@@ -35,15 +35,16 @@ fn put_word(bytes: &mut [u8], first: usize, word: u32)
 
 // Keeps the bytes up to the end of the word in which an offset lies that is behind those that are kept; whether it lies
 // in memory.
+// Six clauses: what is kept before and after, that memory is the same, and what the answer tells.
 #[cold]
 #[inline(never)]
 #[tactic(auto, using(crate::proofs::Kept::one_more))]
 fn reach(kept: &mut Vec<u8>, size: usize, offset: usize) -> bool
-    requires kept { IsKept kept.old.items size (vec_capacity kept.old) }
+    requires kept { AreKept kept.old.items size (vec_capacity kept.old) }
     requires behind { length kept.old.items ≤ offset }
     ensures answer { result ≡ nat_lt offset size }
     ensures same { memory_of kept.new.items size ≡ memory_of kept.old.items size }
-    ensures kept { IsKept kept.new.items size (vec_capacity kept.new) }
+    ensures kept { AreKept kept.new.items size (vec_capacity kept.new) }
     ensures there { IsTrue result → offset < length kept.new.items }
 {
     if offset >= size {
@@ -82,13 +83,13 @@ pub struct Memory {
 
 impl Model for Memory {
     ghost use Rattle.std.specs.Prelude.{List, ℕ, vec_capacity};
-    ghost use Rattle.node_memory.specs.Kept.{IsKept, memory_of};
+    ghost use Rattle.node_memory.specs.Kept.{AreKept, memory_of};
 
     ghost Value = { List ℕ };
 
     ghost view = { λ m. memory_of m.kept.items m.size };
 
-    ghost invariant = { λ m. IsKept m.kept.items m.size (vec_capacity m.kept) };
+    ghost invariant = { λ m. AreKept m.kept.items m.size (vec_capacity m.kept) };
 }
 
 impl Memory {

@@ -22,9 +22,8 @@ impl Cpu {
     ghost use Rattle.t414_step.specs.Rows.{row, operate, direct};
     ghost use Rattle.t414_step.specs.Step.{byte_done};
 
-    // One operation on registers and memory, apart from the loops of steps.
-    #[inline(never)]
-    fn perform_apart(&mut self, memory: &mut Memory, operation: PlainOperation) -> Result<(), Fault>
+    // One operation on registers and memory.
+    fn perform_any(&mut self, memory: &mut Memory, operation: PlainOperation) -> Result<(), Fault>
         ensures answer { left result self.new memory.new ≡ row operation self.old memory.old }
     {
         match operation {
@@ -98,8 +97,21 @@ impl Cpu {
         }
     }
 
-    // One operation on registers and memory. The frequent ones stand in the loop of steps; the others get a copy of the
-    // registers, so that the loop keeps its own where no address is taken.
+    // The same by value, apart from the loops of steps: a loop keeps its registers, and what comes of its operations,
+    // where no address is taken.
+    #[inline(never)]
+    fn perform_apart(
+        mut self,
+        memory: &mut Memory,
+        operation: PlainOperation,
+    ) -> (Cpu, Result<(), Fault>)
+        ensures answer { left result.1 result.0 memory.new ≡ row operation self memory.old }
+    {
+        let done = self.perform_any(memory, operation);
+        (self, done)
+    }
+
+    // One operation on registers and memory. The frequent ones stand in the loop of steps.
     #[inline(always)]
     fn perform(&mut self, memory: &mut Memory, operation: PlainOperation) -> Result<(), Fault>
         ensures answer { left result self.new memory.new ≡ row operation self.old memory.old }
@@ -128,16 +140,14 @@ impl Cpu {
             PlainOperation::Multiply => self.multiply(),
             PlainOperation::CheckSubscriptFromZero => self.check_subscript_from_zero(),
             _ => {
-                let mut copy = *self;
-                let done = copy.perform_apart(memory, operation);
-                *self = copy;
+                let (after, done) = self.perform_apart(memory, operation);
+                *self = after;
                 done
             }
         }
     }
 
     // One operation on a channel.
-    #[inline(never)]
     fn talk(
         &mut self,
         memory: &mut Memory,
@@ -157,6 +167,20 @@ impl Cpu {
         }
     }
 
+    // The same by value, apart from the loops of steps.
+    #[inline(never)]
+    fn talk_apart(
+        mut self,
+        memory: &mut Memory,
+        links: &mut Links,
+        operation: ChannelOperation,
+    ) -> (Cpu, Result<(), Fault>)
+        ensures answer { finished result.1 result.0 links.new memory.new ≡ channel_row operation self links.old memory.old }
+    {
+        let done = self.talk(memory, links, operation);
+        (self, done)
+    }
+
     // The operation of a code.
     #[inline(always)]
     fn operate(&mut self, memory: &mut Memory, links: &mut Links, code: u32) -> Result<(), Fault>
@@ -165,9 +189,8 @@ impl Cpu {
         match operation(code) {
             Some(Operation::Plain(operation)) => self.perform(memory, operation),
             Some(Operation::Channel(operation)) => {
-                let mut copy = *self;
-                let done = copy.talk(memory, links, operation);
-                *self = copy;
+                let (after, done) = self.talk_apart(memory, links, operation);
+                *self = after;
                 done
             }
             None => Err(Fault::UnknownOperation(code)),
