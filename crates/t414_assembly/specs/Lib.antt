@@ -1,8 +1,9 @@
--- what only helps contracts
+-- what must be believed
 pub mod Meaning
 pub mod Spelled
-pub mod Reach
 pub mod Usual
 pub mod Program
-pub mod Layout
 pub mod Reassembled
+-- what only helps contracts
+pub mod Reach
+pub mod Layout
