@@ -6,12 +6,14 @@ mod closed;
 mod closing;
 mod crew;
 mod lists;
+mod locking;
 mod opening;
 mod out;
 mod pass;
 mod service;
 mod session;
 mod told;
+mod turns;
 mod waiting;
 mod worker;
 

@@ -1,6 +1,6 @@
 //! A lock for each domain of a plan, over one switch table.
 
-ghost use Rattle.std.specs.Prelude.{◌≡◌, ◌≢◌, ◌<◌, ◌≤◌, length, replicate, slice_index, slice_set, Ok, Err, IfOk, IfErr, IfSome, MatchOption, slice_get};
+ghost use Rattle.std.specs.Prelude.{◌≡◌, ◌≢◌, ◌<◌, ◌≤◌, ◌↔◌, None, length, replicate, slice_index, slice_set, Ok, Err, IfOk, IfErr, IfSome, MatchOption, slice_get};
 ghost use Rattle.crossbar.specs.Word.{IsAtLeastAsNew};
 ghost use Rattle.domain_core.specs.declared.domain.Committed.TheVariants.{Stale};
 ghost use Rattle.domain_core.specs.declared.event.Refusal.TheVariants.{NoSuch, JournalFull, NoMemory};
@@ -21,6 +21,7 @@ ghost use Rattle.farm_service.specs.Services.{IsItsOperator};
 use crate::closed::{Closed, NotClosed};
 use crate::closing::{Room, ends_of};
 use crate::lists::are_listed;
+use crate::locking::take;
 use crate::opening::{Opened, open_domains, open_users};
 use crate::out::OutNodes;
 use crate::pass::UserPass;
@@ -32,7 +33,7 @@ use plan_checker::AcceptedPlan;
 use std::alloc::Global;
 use std::marker::Model;
 use std::sync::atomic::{AtomicBool, Ordering};
-use std::sync::{Mutex, Wait};
+use std::sync::{Mutex, MutexGuard, Wait};
 use switch_table::{DomainSeat, OperatorSeat, SwitchTable};
 use token_queue::{TokenQueue, WorkerPass};
 
@@ -74,17 +75,12 @@ fn is_recorded(reply: Reply) -> bool {
 }
 
 // Moves of the first ports of a domain, in order; whether a packet went.
-fn move_ports(domain: &mut SeatedDomain, ports: u8) -> Result<bool, Refusal> {
+pub(crate) fn move_ports(domain: &mut SeatedDomain, ports: u8) -> Result<bool, Refusal> {
     let mut went = false;
     for port in 0..ports {
         went |= is_recorded(domain.apply(By::Farm, Event::Move(port))?);
     }
     Ok(went)
-}
-
-// Whether a Step of a node would be recorded, the limit aside.
-fn has_step(domain: &SeatedDomain, node: u8) -> bool {
-    usize::from(node) < domain.part().nodes().len() && !domain.node_is_quiet(node)
 }
 
 // Asks a domain that is the plan's of this number.
@@ -174,7 +170,7 @@ impl Service {
     }
 
     // How many ports a domain has.
-    fn ports(&self, domain: u8) -> u8
+    pub(crate) fn ports(&self, domain: u8) -> u8
         ensures { MatchOption (slice_get self.now.plan domain) (result ≡ 0) (λ d. result ≡ (part_of d).count) }
     {
         if domain < self.plan.domains() {
@@ -185,7 +181,7 @@ impl Service {
     }
 
     // How many nodes a domain has.
-    fn nodes(&self, domain: u8) -> u8
+    pub(crate) fn nodes(&self, domain: u8) -> u8
         ensures { MatchOption (slice_get self.now.plan domain) (result ≡ 0) (λ d. result ≡ length d.nodes) }
     {
         if domain < self.plan.domains() {
@@ -202,6 +198,14 @@ impl Service {
         &self.tokens
     }
 
+    // The guard of a domain's lock, none where the plan has no such domain.
+    pub(crate) fn hold<R: Wait>(&self, rt: &R, domain: u8) -> Option<MutexGuard<'_, SeatedDomain>>
+        ensures { (result ≡ None) ↔ (length self.now.plan ≤ domain) }
+    {
+        let lock = self.domains.get(usize::from(domain))?;
+        Some(take(rt, lock))
+    }
+
     // Asks a domain under its lock. Where that one isn't the plan's, waits for ever.
     pub(crate) fn ask<R: Wait>(
         &self,
@@ -212,10 +216,9 @@ impl Service {
     ) -> Result<Reply, Refusal>
         ensures { UnlessNoMemory result (IsAnswerIn self.now.plan domain (record { by = by; event = event }) result) }
     {
-        if domain >= self.plan.domains() {
+        let Some(mut seated) = self.hold(rt, domain) else {
             return Err(Refusal::NoSuch);
-        }
-        let mut seated = self.domains[usize::from(domain)].lock(rt);
+        };
         if seated.fits(&self.plan, domain) {
             ask(&mut seated, &self.plan, domain, by, event)
         } else {
@@ -227,16 +230,8 @@ impl Service {
     pub(crate) fn is_quiet<R: Wait>(&self, rt: &R, domain: u8) -> Result<bool, Refusal>
         ensures elsewhere { length self.now.plan ≤ domain → result ≡ Err NoSuch }
     {
-        match self.domains.get(usize::from(domain)) {
-            Some(lock) => Ok(lock.lock(rt).quiet()),
-            None => Err(Refusal::NoSuch),
-        }
-    }
-
-    // Whether a Step of a node would be recorded now, the limit aside.
-    pub(crate) fn has_step<R: Wait>(&self, rt: &R, domain: u8, node: u8) -> Result<bool, Refusal> {
-        match self.domains.get(usize::from(domain)) {
-            Some(lock) => Ok(has_step(&lock.lock(rt), node)),
+        match self.hold(rt, domain) {
+            Some(mut seated) => Ok(seated.quiet()),
             None => Err(Refusal::NoSuch),
         }
     }
@@ -252,8 +247,8 @@ impl Service {
         ensures elsewhere { length self.now.plan ≤ domain → result ≡ Err NoSuch }
         ensures full { result ≢ Err JournalFull }
     {
-        match self.domains.get(usize::from(domain)) {
-            Some(lock) => lock.lock(rt).checkout(domain, node),
+        match self.hold(rt, domain) {
+            Some(seated) => seated.checkout(domain, node),
             None => Err(Refusal::NoSuch),
         }
     }
@@ -270,16 +265,16 @@ impl Service {
         ensures elsewhere { length self.now.plan ≤ ticket.domain → result ≡ Ok Stale }
         ensures no_such { result ≢ Err NoSuch }
     {
-        match self.domains.get(usize::from(ticket.domain())) {
-            Some(lock) => lock.lock(rt).commit(ticket),
+        match self.hold(rt, ticket.domain()) {
+            Some(mut seated) => seated.commit(ticket),
             None => Ok(Committed::Stale),
         }
     }
 
     // Moves of all ports of a domain, in order, in one hold of its lock; whether a packet went.
     pub(crate) fn move_all<R: Wait>(&self, rt: &R, domain: u8) -> Result<bool, Refusal> {
-        match self.domains.get(usize::from(domain)) {
-            Some(lock) => move_ports(&mut lock.lock(rt), self.ports(domain)),
+        match self.hold(rt, domain) {
+            Some(mut seated) => move_ports(&mut seated, self.ports(domain)),
             None => Err(Refusal::NoSuch),
         }
     }
@@ -287,29 +282,6 @@ impl Service {
     // The nodes that threads have out.
     pub(crate) fn out(&self) -> &OutNodes {
         &self.out
-    }
-
-    // A burst of a node outside the lock, if it has a Step to do. A stale ticket is passed over.
-    fn burst<R: Wait>(&self, rt: &R, domain: u8, node: u8, quantum: u64) -> Result<(), Refusal> {
-        if self.has_step(rt, domain, node)? {
-            let mut ticket = self.checkout(rt, domain, node)?;
-            ticket.burst(quantum);
-            self.commit(rt, ticket)?;
-        }
-        Ok(())
-    }
-
-    // A burst of each node of a domain that has a Step to do, and then the Moves. A node that another
-    // thread has out is waited for, since a second burst of it would be stale.
-    pub(crate) fn round<R: Wait>(&self, rt: &R, domain: u8, quantum: u64) -> Result<(), Refusal> {
-        for node in 0..self.nodes(domain) {
-            self.out.take(rt, domain, node);
-            let done = self.burst(rt, domain, node, quantum);
-            self.out.give_back(domain, node);
-            done?;
-        }
-        self.move_all(rt, domain)?;
-        Ok(())
     }
 
     /// Ends the service. Every merge of the journals is a run of the whole farm of the plan, which

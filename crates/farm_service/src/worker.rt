@@ -46,8 +46,9 @@ pub enum Worked {
     NoMemory,
 }
 
-// A burst of a node outside the lock; whether it did a Step.
-fn burst<R: Wait, G: Gate>(
+// A burst of a node outside the lock, and then the Moves of its domain, whatever became of the ticket; whether there
+// was anything to do.
+fn step<R: Wait, G: Gate>(
     rt: &R,
     service: &Service,
     token: Token,
@@ -61,42 +62,6 @@ fn burst<R: Wait, G: Gate>(
     let committed = service.commit(rt, ticket);
     gate.ended(rt, token, &committed);
     committed?;
-    Ok(stepped)
-}
-
-// A burst of a node once nobody else has it out; whether it did a Step.
-fn burst_alone<R: Wait, G: Gate>(
-    rt: &R,
-    service: &Service,
-    token: Token,
-    gate: &G,
-    quantum: u64,
-) -> Result<bool, Refusal> {
-    service.out().take(rt, token.domain, token.node);
-    let stepped = burst(rt, service, token, gate, quantum);
-    service.out().give_back(token.domain, token.node);
-    stepped
-}
-
-// A burst of a node, and then the Moves of its domain, whatever became of the ticket; whether there was
-// anything to do. Where nobody watches, a node that has no Step to do isn't copied, and one that
-// another thread has out is waited for.
-fn step<R: Wait, G: Gate>(
-    rt: &R,
-    service: &Service,
-    token: Token,
-    gate: &G,
-    quantum: u64,
-) -> Result<bool, Refusal> {
-    if gate.watches() {
-        let stepped = burst(rt, service, token, gate, quantum)?;
-        let moved = service.move_all(rt, token.domain)?;
-        return Ok(stepped || moved);
-    }
-    if !service.has_step(rt, token.domain, token.node)? {
-        return service.move_all(rt, token.domain);
-    }
-    let stepped = burst_alone(rt, service, token, gate, quantum)?;
     let moved = service.move_all(rt, token.domain)?;
     Ok(stepped || moved)
 }
@@ -115,9 +80,14 @@ fn turn<R: Wait, G: Gate>(
     match service.tokens().take(rt, pass) {
         None => Ok(false),
         Some(token) => {
-            let stepped = step(rt, service, token, gate, quantum);
+            // Where nobody watches, a node that has no Step to do isn't copied, and the lock is taken less often.
+            let done = if gate.watches() {
+                step(rt, service, token, gate, quantum)
+            } else {
+                service.turn(rt, token.domain, token.node, quantum)
+            };
             service.tokens().give_back(rt, pass, token);
-            stepped
+            done
         }
     }
 }

@@ -32,15 +32,18 @@ turned Waits s = leave s
 abbrev pub after_message : Reply (Turn × Queue) FourLinks → Cpu → Effect
 after_message r s = reply_and_then r (λ x ls m. Gave (turned x.0 (record s { queue = x.1 })) ls m)
 
+-- the running process gives a message to a channel
+abbrev pub output_by : Transfer → Cpu → FourLinks → List ℕ → Effect
+output_by t s ls m = after_message (output (process_of s) t ls s.queue m) s
+
 -- outbyte and outword: word(W) becomes A; out of so many bytes, pointer W, channel B
 abbrev pub send : ℕ → Cpu → FourLinks → List ℕ → Effect
-send count s ls m = store_then s.workspace s.a ls m (λ m.
-    after_message (output (process_of s) (transfer count s.b s.workspace) ls s.queue m) s)
+send count s ls m = store_then s.workspace s.a ls m (λ m. output_by (transfer count s.b s.workspace) s ls m)
 
 -- an operation on a channel, after the byte that asked for it. A guard of 0 looks at no channel
 unfoldable pub channel_row : ChannelOperation → Cpu → FourLinks → List ℕ → Effect
 channel_row InputMessage s ls m = after_message (input (process_of s) (transfer s.a s.b s.c) ls s.queue m) s  -- 07 in
-channel_row OutputMessage s ls m = after_message (output (process_of s) (transfer s.a s.b s.c) ls s.queue m) s  -- 0B out
+channel_row OutputMessage s ls m = output_by (transfer s.a s.b s.c) s ls m  -- 0B out
 channel_row OutputByte s ls m = send 1 s ls m  -- 0E outbyte
 channel_row OutputWord s ls m = send 4 s ls m  -- 0F outword
 channel_row ResetChannel s ls m = reply_and_then (reset s.a ls m) (λ word ls m. Gave (un word s) ls m)  -- 12 resetch

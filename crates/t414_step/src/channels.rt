@@ -9,7 +9,7 @@ use node_memory::{Fault, Memory};
 #[tactic(auto, unfolding(crate::specs::ChannelRows::channel_row))]
 impl Cpu {
     ghost use Rattle.t414_decode.specs.declared.instruction.ChannelOperation.TheVariants as op;
-    ghost use Rattle.t414_step.specs.ChannelRows.{channel_row, process_of, turned, send};
+    ghost use Rattle.t414_step.specs.ChannelRows.{channel_row, output_by, process_of, transfer, turned, send};
     ghost use Rattle.t414_step.specs.Outcome.{finished};
 
     // The process that asks.
@@ -32,6 +32,37 @@ impl Cpu {
         }
     }
 
+    // The transfer of in and out: as many bytes as A says, through channel B, at C.
+    #[inline]
+    fn transfer(&self) -> Transfer
+        ensures { result ≡ transfer self.now.a self.now.b self.now.c }
+    {
+        Transfer {
+            count: self.a,
+            channel: self.b,
+            pointer: self.c,
+        }
+    }
+
+    // Gives a message to a channel, or waits for it to be taken.
+    #[inline]
+    fn output(
+        &mut self,
+        memory: &mut Memory,
+        links: &mut Links,
+        transfer: Transfer,
+    ) -> Result<(), Fault>
+        ensures { finished result self.new links.new memory.new ≡ output_by transfer self.old links.old memory.old }
+    {
+        let process = self.process();
+        // A call gets a copy of the queue, so that no address of the registers is taken.
+        let mut queue = self.queue;
+        let turn = process.output(memory, links, &mut queue, transfer)?;
+        self.queue = queue;
+        self.take_turn(turn);
+        Ok(())
+    }
+
     // in
     #[inline]
     pub(crate) fn input_message(
@@ -41,15 +72,10 @@ impl Cpu {
     ) -> Result<(), Fault>
         ensures { finished result self.new links.new memory.new ≡ channel_row op.InputMessage self.old links.old memory.old }
     {
-        let transfer = Transfer {
-            count: self.a,
-            channel: self.b,
-            pointer: self.c,
-        };
         let process = self.process();
-        // A call gets a copy of the queue, so that no address of the registers is taken.
+        // A copy of the queue, as in `output`.
         let mut queue = self.queue;
-        let turn = process.input(memory, links, &mut queue, transfer)?;
+        let turn = process.input(memory, links, &mut queue, self.transfer())?;
         self.queue = queue;
         self.take_turn(turn);
         Ok(())
@@ -64,20 +90,11 @@ impl Cpu {
     ) -> Result<(), Fault>
         ensures { finished result self.new links.new memory.new ≡ channel_row op.OutputMessage self.old links.old memory.old }
     {
-        let transfer = Transfer {
-            count: self.a,
-            channel: self.b,
-            pointer: self.c,
-        };
-        let process = self.process();
-        let mut queue = self.queue;
-        let turn = process.output(memory, links, &mut queue, transfer)?;
-        self.queue = queue;
-        self.take_turn(turn);
-        Ok(())
+        self.output(memory, links, self.transfer())
     }
 
     // Sends so many bytes of A, which becomes the word at the workspace.
+    #[inline]
     fn send(&mut self, memory: &mut Memory, links: &mut Links, count: u32) -> Result<(), Fault>
         ensures { finished result self.new links.new memory.new ≡ send count self.old links.old memory.old }
     {
@@ -87,12 +104,7 @@ impl Cpu {
             channel: self.b,
             pointer: self.workspace,
         };
-        let process = self.process();
-        let mut queue = self.queue;
-        let turn = process.output(memory, links, &mut queue, transfer)?;
-        self.queue = queue;
-        self.take_turn(turn);
-        Ok(())
+        self.output(memory, links, transfer)
     }
 
     // outbyte
