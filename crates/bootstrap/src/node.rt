@@ -1,6 +1,6 @@
 //! A node: its opening, reset, copy and comparison, and its links.
 
-ghost use Rattle.std.specs.Prelude.{◌≡◌};
+ghost use Rattle.std.specs.Prelude.{◌≡◌, ◌↔◌};
 
 use crate::state::State;
 use link_channels::{LinkNumber, Links};
@@ -64,6 +64,21 @@ impl Node {
             links: self.links.copy(),
             state: self.state,
         })
+    }
+
+    /// Makes the node equal to another if their memories are of one size; whether they are. If they aren't nothing
+    /// changes. No memory is allocated.
+    pub fn copy_from(&mut self, other: &Node) -> bool
+        ensures answer { IsTrue result ↔ (length self.old.memory ≡ length other.now.memory) }
+        ensures copied { IsTrue result → self.new ≡ other.now }
+        ensures other_size { ¬ IsTrue result → self.new ≡ self.old }
+    {
+        if !self.memory.copy_from(&other.memory) {
+            return false;
+        }
+        self.links = other.links.copy();
+        self.state = other.state;
+        true
     }
 
     /// Whether two nodes are equal, whatever led to them.

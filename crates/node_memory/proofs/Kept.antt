@@ -1,5 +1,5 @@
 -- Reads and writes of what is kept of memory are those of memory.
-use Rattle.std.proofs.Common.{◌≡◌, ℕ, ◌+◌, ◌-◌, ◌/◌, ◌%◌, ◌^◌, ◌<◌, ◌≤◌, min, List, [], ◌∷◌, ◌++◌, Ok, length, take, drop, replicate, get_or, slice_index, slice_set, refl, sym, ap, ◌∙◌, arith, length-set}
+use Rattle.std.proofs.Common.{◌≡◌, ℕ, ◌+◌, ◌-◌, ◌/◌, ◌%◌, ◌^◌, ◌<◌, ◌≤◌, List, [], ◌∷◌, ◌++◌, Ok, length, take, drop, replicate, slice_index, slice_set, refl, sym, ap, ◌∙◌, arith, length-set}
 use Rattle.std.proofs.lemmas.List.{set-append_left, length-append, length-replicate, get_or-append_right, get_or_append_left, get_or-replicate, append_assoc, replicate-append-replicate, take-append-drop, take-append-le, ext_get_or, get_or-drop, length-drop}
 use Rattle.std.proofs.lemmas.Bool.Decides.{nat_tests}
 use Rattle.node_memory.specs.Bytes.{with_word, with_word_from, word_from, word_offset}

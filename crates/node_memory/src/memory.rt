@@ -226,6 +226,25 @@ impl Memory {
         })
     }
 
+    /// Makes the bytes those of another memory if both are of one size; whether they are. If they aren't nothing
+    /// changes. No memory is allocated.
+    pub fn copy_from(&mut self, other: &Memory) -> bool
+        ensures answer { IsTrue result ↔ (length self.old ≡ length other.now) }
+        ensures copied { IsTrue result → self.new ≡ other.now }
+        ensures other_size { ¬ IsTrue result → self.new ≡ self.old }
+    {
+        if self.size != other.size {
+            return false;
+        }
+        let kept = &mut self.kept;
+        kept.clear();
+        // There is room for all of memory.
+        if kept.extend_from_slice(other.kept.as_slice()).is_err() {
+            unreachable!();
+        }
+        true
+    }
+
     /// Whether the sizes and all bytes are the same.
     pub fn same(&self, other: &Memory) -> bool
         ensures same { IsTrue result → self.now ≡ other.now }
