@@ -9,10 +9,12 @@ ghost use Rattle.bootstrap.specs.Step.{node_step, is_quiet};
 ghost use Rattle.domain_core.specs.Hosts.{is_full, host_written, front, host_read};
 ghost use Rattle.domain_core.specs.Hosts.{opened_host};
 ghost use Rattle.domain_core.specs.Devices.{HasDevice, AreQuiet, node_at, host_at, with_node, with_host, opened_devices, reopened, packet_waiting, taken_from_device, arrived_at_device};
+ghost use Rattle.domain_core.specs.Ticket.{fresh_ticket};
 
 use crate::NoMemory;
 use crate::device::Device;
 use crate::host::Host;
+use crate::ticket::Ticket;
 use bootstrap::{Node, Seen};
 use os_link::Packet;
 use plan_checker::{HostPart, NodePart, Part};
@@ -201,11 +203,14 @@ impl Devices {
         self.nodes.get(usize::from(number))
     }
 
-    /// Puts a node in the place of another.
-    pub(crate) fn put_node(&mut self, number: u8, node: Node)
-        requires { number < length self.old.nodes }
-        ensures { self.new ≡ with_node number node self.old }
+    /// Brings a ticket's node home.
+    pub(crate) fn take_home(&mut self, ticket: &mut Ticket)
+        requires there { ticket.old.number < length self.old.nodes }
+        requires start { node_at self.old ticket.old.number ≡ ticket.old.start }
+        ensures home { self.new ≡ with_node ticket.old.number ticket.old.node self.old }
+        ensures spent { ticket.new ≡ fresh_ticket ticket.old.domain ticket.old.number ticket.old.start }
     {
-        self.nodes[usize::from(number)] = node;
+        let number = usize::from(ticket.number());
+        ticket.come_home(&mut self.nodes[number]);
     }
 }

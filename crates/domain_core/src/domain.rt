@@ -1,5 +1,5 @@
 //! A domain: its machine, with the journal of what it answered.
-ghost use Rattle.std.specs.Prelude.{◌≡◌, ◌≢◌, ◌<◌, ◌+◌, [], None, Some, Ok, Err, length, IfOk, OnErr, IsTrue, ◌↔◌, slice_get, true, not};
+ghost use Rattle.std.specs.Prelude.{◌≡◌, ◌≢◌, ◌<◌, ◌+◌, [], None, Some, Ok, Err, length, IfOk, IfSome, OnErr, IsTrue, ◌↔◌, slice_get, true, not};
 ghost use Rattle.std.specs.List.{AllZip};
 ghost use Rattle.crossbar.specs.Row.{switch_of, AreWordsOf, number_in};
 ghost use Rattle.crossbar.specs.Switch.{cleared};
@@ -230,20 +230,53 @@ impl<O: Outputs + Drop> Domain<O> {
         }
     }
 
+    /// As [`Domain::checkout`], but the ticket is put in a slot, where the memory of the one that lies
+    /// there serves again if it is of the same size. After a refusal the slot is what it was.
+    pub fn checkout_to(
+        &self,
+        slot: &mut Option<Ticket>,
+        domain: u8,
+        node: u8,
+    ) -> Result<(), Refusal>
+        ensures no_such { (result ≡ Err NoSuch) ↔ (slice_get self.now.machine.devices.nodes node ≡ None) }
+        ensures ticket { IfOk result (λ _. IfSome (slice_get self.now.machine.devices.nodes node) (λ home. slot.new ≡ Some (fresh_ticket domain node home))) }
+        ensures full { result ≢ Err JournalFull }
+        ensures err { OnErr result (slot.new ≡ slot.old) }
+    {
+        match self.machine.node(node) {
+            None => Err(Refusal::NoSuch),
+            Some(home) => Ok(Ticket::put(slot, domain, node, home)?),
+        }
+    }
+
     /// Brings a ticket's node home, where the home node is still the ticket's start, and records its
     /// Steps, for which the farm asked. The ticket is spent in each case.
     ///
     /// `Stale` where the home node isn't the start or isn't there; else `JournalFull` where the
     /// recorded events and the ticket's Steps pass the limit; else `NoMemory` where the journal can't
     /// grow. In each of these nothing has changed.
-    pub fn commit(&mut self, ticket: Ticket) -> Result<Committed, Refusal>
+    pub fn commit(&mut self, mut ticket: Ticket) -> Result<Committed, Refusal>
         ensures stale { (result ≡ Ok Stale) ↔ ¬ IsHome self.old ticket }
         ensures full { (result ≡ Err JournalFull) ↔ (IsHome self.old ticket × IsPastLimit self.old ticket.steps) }
         ensures no_such { result ≢ Err NoSuch }
         ensures done { result ≡ Ok Done → Commits self.old ticket self.new }
         ensures same { result ≢ Ok Done → self.new ≡ self.old }
     {
-        if !self.machine.is_home(&ticket) {
+        self.bring_home(&mut ticket)
+    }
+
+    /// As [`Domain::commit`], but the ticket is lent. If its node came home it is a ticket of no Steps
+    /// of its start, and else what it was.
+    // Six clauses: those of `commit`, and what becomes of the ticket.
+    pub fn bring_home(&mut self, ticket: &mut Ticket) -> Result<Committed, Refusal>
+        ensures stale { (result ≡ Ok Stale) ↔ ¬ IsHome self.old ticket.old }
+        ensures full { (result ≡ Err JournalFull) ↔ (IsHome self.old ticket.old × IsPastLimit self.old ticket.old.steps) }
+        ensures no_such { result ≢ Err NoSuch }
+        ensures done { result ≡ Ok Done → Commits self.old ticket.old self.new }
+        ensures spent { result ≡ Ok Done → ticket.new ≡ fresh_ticket ticket.old.domain ticket.old.number ticket.old.start }
+        ensures same { result ≢ Ok Done → (self.new ≡ self.old) × (ticket.new ≡ ticket.old) }
+    {
+        if !self.machine.is_home(ticket) {
             return Ok(Committed::Stale);
         }
         if self.machine.part().limit() - self.recorded < ticket.steps() {
@@ -261,7 +294,7 @@ impl<O: Outputs + Drop> Domain<O> {
         let number = ticket.number();
         let steps = ticket.steps();
         let last = ticket.last();
-        self.machine.put_node(number, ticket.into_node());
+        self.machine.take_home(ticket);
         note_ticket(&mut self.journal, number, steps, last);
         self.recorded += steps;
         Ok(Committed::Done)

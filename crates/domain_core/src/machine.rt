@@ -13,6 +13,7 @@ ghost use Rattle.domain_core.specs.Machine.{acted, is_recorded, fresh_machine};
 ghost use Rattle.domain_core.specs.MachineValue.{machine_of, IsIn};
 ghost use Rattle.domain_core.specs.Routes.{route_answer, route_leaves, HasItsDevice};
 ghost use Rattle.domain_core.specs.PrivateFarm.{is_there, is_known, owns};
+ghost use Rattle.domain_core.specs.Ticket.{fresh_ticket};
 
 use crate::NoMemory;
 use crate::devices::Devices;
@@ -262,13 +263,15 @@ impl<O: Outputs + Drop> Machine<O> {
         }
     }
 
-    /// Puts a node with a memory of the same size in the place of another.
-    pub(crate) fn put_node(&mut self, number: u8, node: Node)
-        requires there { number < length self.old.devices.nodes }
-        requires size { length node.memory ≡ length (node_at self.old.devices number).memory }
-        ensures { self.new ≡ record self.old { devices = with_node number node self.old.devices } }
+    /// Brings a ticket's node home, whose memory is of the size of its start's.
+    pub(crate) fn take_home(&mut self, ticket: &mut Ticket)
+        requires there { ticket.old.number < length self.old.devices.nodes }
+        requires start { node_at self.old.devices ticket.old.number ≡ ticket.old.start }
+        requires size { length ticket.old.node.memory ≡ length ticket.old.start.memory }
+        ensures home { self.new ≡ record self.old { devices = with_node ticket.old.number ticket.old.node self.old.devices } }
+        ensures spent { ticket.new ≡ fresh_ticket ticket.old.domain ticket.old.number ticket.old.start }
     {
-        self.devices.put_node(number, node);
+        self.devices.take_home(ticket);
     }
 
     // What a Move of a port would do.

@@ -1,11 +1,12 @@
 //! A copy of a node, whose Steps are done outside the lock of its domain.
-ghost use Rattle.std.specs.Prelude.{◌≡◌, IfOk, IsTrue, ◌↔◌, min};
+ghost use Rattle.std.specs.Prelude.{◌≡◌, IfOk, IsTrue, OnErr, Some, ◌↔◌, min};
 ghost use Rattle.bootstrap.specs.Laws.{later_or};
 ghost use Rattle.domain_core.specs.Ticket.{Bursts, fresh_ticket};
 
 use crate::NoMemory;
 use bootstrap::{Burst, Node};
 use std::marker::Model;
+use std::mem::swap;
 use t414_step::Stepped;
 
 /// The most Steps of one ticket.
@@ -50,6 +51,45 @@ impl Ticket {
             steps: 0,
             last: None,
         })
+    }
+
+    // Makes it a ticket of no Steps of a home whose memory is of the size of its own; whether it is. Else nothing
+    // changes. No memory is allocated.
+    fn renew(&mut self, domain: u8, number: u8, home: &Node) -> bool
+        ensures renewed { IsTrue result → self.new ≡ fresh_ticket domain number home.now }
+        ensures other_size { ¬ IsTrue result → self.new ≡ self.old }
+    {
+        // Steps keep the size of memory, so that the copy's is that of the start.
+        bootstrap::steps_keep_the_size();
+        if !self.start.copy_from(home) {
+            return false;
+        }
+        self.node.copy_from(home);
+        self.domain = domain;
+        self.number = number;
+        self.steps = 0;
+        self.last = None;
+        true
+    }
+
+    // Makes the ticket of a slot one of no Steps of this home. It is made in place of the one that lies there if it can
+    // be. After `NoMemory` the slot is what it was.
+    pub(crate) fn put(
+        slot: &mut Option<Ticket>,
+        domain: u8,
+        number: u8,
+        home: &Node,
+    ) -> Result<(), NoMemory>
+        ensures ticket { IfOk result (λ _. slot.new ≡ Some (fresh_ticket domain number home.now)) }
+        ensures err { OnErr result (slot.new ≡ slot.old) }
+    {
+        if let Some(ticket) = slot
+            && ticket.renew(domain, number, home)
+        {
+            return Ok(());
+        }
+        *slot = Some(Ticket::of(domain, number, home)?);
+        Ok(())
     }
 
     /// Does Steps up to the nth, to the first that would not be recorded, or until the ticket has
@@ -109,19 +149,15 @@ impl Ticket {
         home.same(&self.start)
     }
 
-    // The copy.
-    pub(crate) fn into_node(self) -> Node
-        ensures { result ≡ self.node }
+    // Puts the copy in the place of its home, which is the start, and takes that for it: it is a ticket of no Steps then.
+    pub(crate) fn come_home(&mut self, home: &mut Node)
+        requires { home.old ≡ self.old.start }
+        ensures home { home.new ≡ self.old.node }
+        ensures spent { self.new ≡ fresh_ticket self.old.domain self.old.number self.old.start }
     {
-        let Ticket {
-            node,
-            start: _,
-            domain: _,
-            number: _,
-            steps: _,
-            last: _,
-        } = self;
-        node
+        swap(home, &mut self.node);
+        self.steps = 0;
+        self.last = None;
     }
 }
 
