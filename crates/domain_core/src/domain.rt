@@ -1,5 +1,5 @@
 //! A domain: its machine, with the journal of what it answered.
-ghost use Rattle.std.specs.Prelude.{◌≡◌, ◌≢◌, ◌<◌, ◌+◌, [], None, Some, Ok, Err, length, IfOk, IfSome, OnErr, IsTrue, ◌↔◌, slice_get, true, not};
+ghost use Rattle.std.specs.Prelude.{◌≡◌, ◌≢◌, ◌<◌, ◌+◌, [], None, Some, Ok, Err, length, IfErr, IfOk, IfSome, OnErr, IsTrue, ◌↔◌, slice_get, true, not};
 ghost use Rattle.std.specs.List.{AllZip};
 ghost use Rattle.crossbar.specs.Row.{switch_of, AreWordsOf, number_in};
 ghost use Rattle.crossbar.specs.Switch.{cleared};
@@ -19,6 +19,7 @@ use crate::event::{By, Event, Refusal, Reply};
 use crate::journal::{Entry, note, note_ticket};
 use crate::machine::{Acted, Machine};
 use crate::ticket::Ticket;
+use bootstrap::Node;
 use crossbar::laws::unchanged_words_count_nothing;
 use crossbar::{Outputs, Word};
 use plan_checker::{AcceptedPlan, Part};
@@ -215,6 +216,14 @@ impl<O: Outputs + Drop> Domain<O> {
         journal
     }
 
+    // A node, or `NoSuch`.
+    fn home(&self, node: u8) -> Result<&Node, Refusal>
+        ensures node { IfOk result (λ home. slice_get self.now.machine.devices.nodes node ≡ Some home.now) }
+        ensures no_such { IfErr result (λ refusal. (slice_get self.now.machine.devices.nodes node ≡ None) × (refusal ≡ NoSuch)) }
+    {
+        self.machine.node(node).ok_or(Refusal::NoSuch)
+    }
+
     /// A ticket of a node: a copy of it, with no Steps yet. The domain's number is only written into
     /// the ticket.
     ///
@@ -224,10 +233,7 @@ impl<O: Outputs + Drop> Domain<O> {
         ensures ticket { IfOk result (λ t. (slice_get self.now.machine.devices.nodes node ≡ Some t.start) × (t ≡ fresh_ticket domain node t.start)) }
         ensures full { result ≢ Err JournalFull }
     {
-        match self.machine.node(node) {
-            None => Err(Refusal::NoSuch),
-            Some(home) => Ok(Ticket::of(domain, node, home)?),
-        }
+        Ok(Ticket::of(domain, node, self.home(node)?)?)
     }
 
     /// As [`Domain::checkout`], but the ticket is put in a slot, where the memory of the one that lies
@@ -243,10 +249,7 @@ impl<O: Outputs + Drop> Domain<O> {
         ensures full { result ≢ Err JournalFull }
         ensures err { OnErr result (slot.new ≡ slot.old) }
     {
-        match self.machine.node(node) {
-            None => Err(Refusal::NoSuch),
-            Some(home) => Ok(Ticket::put(slot, domain, node, home)?),
-        }
+        Ok(Ticket::put(slot, domain, node, self.home(node)?)?)
     }
 
     /// Brings a ticket's node home, where the home node is still the ticket's start, and records its

@@ -65,10 +65,8 @@ impl Ticket {
             return false;
         }
         self.node.copy_from(home);
-        self.domain = domain;
-        self.number = number;
-        self.steps = 0;
-        self.last = None;
+        (self.domain, self.number) = (domain, number);
+        (self.steps, self.last) = (0, None);
         true
     }
 
@@ -156,8 +154,7 @@ impl Ticket {
         ensures spent { self.new ≡ fresh_ticket self.old.domain self.old.number self.old.start }
     {
         swap(home, &mut self.node);
-        self.steps = 0;
-        self.last = None;
+        (self.steps, self.last) = (0, None);
     }
 }
 
