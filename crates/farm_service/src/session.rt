@@ -149,11 +149,12 @@ impl Session<'_> {
         ensures elsewhere { length self.now.plan ≤ self.now.pass.domain → result ≡ Err NoSuch }
     {
         let domain = self.pass.domain;
+        let mut slot = None;
         for _round in 0..rounds {
             if self.service.is_quiet(rt, domain)? {
                 return Ok(Settled::Quiet);
             }
-            self.service.round(rt, domain, quantum)?;
+            self.service.round(rt, domain, &mut slot, quantum)?;
         }
         if self.service.is_quiet(rt, domain)? {
             Ok(Settled::Quiet)

@@ -3,7 +3,7 @@
 ghost use Rattle.std.specs.Prelude.{◌≡◌, ◌≤◌, []};
 
 use crate::service::Service;
-use domain_core::{Committed, Refusal};
+use domain_core::{Committed, Refusal, Ticket};
 use std::sync::Wait;
 use std::thread;
 use token_queue::{Token, WorkerPass};
@@ -72,6 +72,7 @@ fn turn<R: Wait, G: Gate>(
     service: &Service,
     pass: &mut WorkerPass,
     gate: &G,
+    slot: &mut Option<Ticket>,
     quantum: u64,
 ) -> Result<bool, Refusal>
     requires { pass.old.queue ≡ service.now.queue }
@@ -84,7 +85,7 @@ fn turn<R: Wait, G: Gate>(
             let done = if gate.watches() {
                 step(rt, service, token, gate, quantum)
             } else {
-                service.turn(rt, token.domain, token.node, quantum)
+                service.turn(rt, token.domain, token.node, slot, quantum)
             };
             service.tokens().give_back(rt, pass, token);
             done
@@ -112,11 +113,12 @@ pub fn work<R: Wait, G: Gate>(
     ensures none { pass.new.held ≡ [] }
     ensures pass { pass.new ≡ pass.old }
 {
+    let mut slot = None;
     for _turn in 0..turns {
         if service.is_stopped() {
             return Worked::Stopped;
         }
-        match turn(rt, service, pass, gate, quantum) {
+        match turn(rt, service, pass, gate, &mut slot, quantum) {
             Ok(true) => {}
             Err(Refusal::NoMemory) => return Worked::NoMemory,
             Ok(false) | Err(_) => thread::yield_now(),
