@@ -5,10 +5,6 @@ use Rattle.bootstrap.specs.Step.{is_step_recorded, is_quiet}
 use Rattle.domain_core.specs.Devices.{DeviceStates, node_at, AreQuiet}
 use Rattle.domain_core.specs.Domain.{IsQuiet}
 use Rattle.domain_core.specs.Machine.{is_recorded}
-use Rattle.domain_core.specs.Machine.{has_moved}
-use Rattle.domain_core.specs.Moves.{moved}
-use Rattle.domain_core.specs.declared.event.Moved.{Moved}
-use Rattle.virtual_switch.specs.SwitchValue.{private_of}
 use Rattle.domain_core.specs.MachineValue.{MachineValue, IsOfPart, machine_of}
 use Rattle.domain_core.specs.declared.event.Event.TheVariants.{Move}
 use Rattle.domain_core.proofs.Outcomes.{of_part_nodes}
@@ -37,11 +33,3 @@ is_quiet_of v of nodes ports = record { nodes = λ node less. nodes node (subst 
 
 pub quiet_nodes_of : (v : MachineValue) → IsOfPart v → IsQuiet v.part (machine_of v) → AreQuiet v.devices
 quiet_nodes_of v of quiet number less = quiet.nodes number (subst (λ (n : ℕ). number < n) (of_part_nodes v of) less)
-
--- a port that a packet could leave isn't quiet
-pub busy_port : (v w : MachineValue) (port : ℕ) (m : Moved) (moves : Bool) → w ≡ v → m ≡ (moved w.part (private_of w.switch) w.devices port).1 → moves ≡ has_moved m → moves ≡ true
-    → ((p : ℕ) → p < v.part.count → has_moved (moved v.part (private_of v.switch) v.devices p).1 ≡ false) → port < v.part.count → ⊥
-busy_port v w port m moves same is tells holds all less =
-    let e : has_moved m ≡ false = ap has_moved (is ∙ ap (λ (x : MachineValue). (moved x.part (private_of x.switch) x.devices port).1) same) ∙ all port less in
-    let f : has_moved m ≡ true = sym tells ∙ holds in
-    absurd cc

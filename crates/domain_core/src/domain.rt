@@ -150,6 +150,22 @@ impl<O: Outputs + Drop> Domain<O> {
         self.machine.node_is_quiet(node)
     }
 
+    /// Whether a Move of this port of the domain would not be recorded, the limit aside. Nothing changes.
+    pub fn port_is_quiet(&mut self, port: u8) -> bool
+        requires { port < self.old.machine.part.count }
+        ensures quiet { result ≡ not (is_recorded self.old.machine.part (machine_of self.old.machine) (SpecEvent.Move port)) }
+        ensures same { self.new ≡ self.old }
+    {
+        self.machine.port_is_quiet(port)
+    }
+
+    /// Whether the recorded events number the part's limit.
+    pub fn is_full(&self) -> bool
+        ensures { IsTrue result ↔ (length (expanded self.now.journal) ≡ self.now.machine.part.limit) }
+    {
+        self.recorded == self.machine.part().limit()
+    }
+
     /// The switch word of a virtual output below the domain's count. Nothing changes.
     pub fn word(&mut self, output: u8) -> Word
         requires { output < self.old.machine.part.count }

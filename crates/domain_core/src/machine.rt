@@ -206,11 +206,20 @@ impl<O: Outputs + Drop> Machine<O> {
         ensures same { self.new ≡ self.old }
     {
         for port in 0..self.part.count() {
-            if has_moved(self.route(port).answer()) {
+            if !self.port_is_quiet(port) {
                 return false;
             }
         }
         true
+    }
+
+    /// Whether a Move of a port would not be recorded.
+    pub(crate) fn port_is_quiet(&mut self, port: u8) -> bool
+        requires { port < self.old.part.count }
+        ensures quiet { result ≡ not (is_recorded self.old.part (machine_of self.old) (SpecEvent.Move port)) }
+        ensures same { self.new ≡ self.old }
+    {
+        !has_moved(self.route(port).answer())
     }
 
     /// The switch word of a virtual output.

@@ -1,20 +1,17 @@
 //! Taking the lock of a domain.
 
 use crate::service::SeatedDomain;
-use std::hint::spin_loop;
+use crate::waiting::{TRIES, back_off};
 use std::sync::{Mutex, MutexGuard, Wait};
 
-/// How often a thread looks at a lock before it sleeps. Others hold the lock for about a microsecond, and to sleep and
-/// to be woken takes several.
-const LOOKS: u32 = 64;
-
-/// Takes the lock of a domain.
+/// Takes the lock of a domain. It tries some times before it sleeps: others hold the lock for less time than it takes to
+/// sleep and to be woken.
 pub fn take<'a, R: Wait>(rt: &R, lock: &'a Mutex<SeatedDomain>) -> MutexGuard<'a, SeatedDomain> {
-    for _look in 0..LOOKS {
+    for tries in 0..TRIES {
         if let Some(guard) = lock.try_lock() {
             return guard;
         }
-        spin_loop();
+        back_off(tries);
     }
     lock.lock(rt)
 }

@@ -2,6 +2,7 @@
 //! It is advice alone, and no contract speaks of it: a commit compares the node all the same.
 
 use crate::NoMemory;
+use crate::waiting::{TRIES, back_off};
 use std::alloc::Global;
 use std::sync::Wait;
 use std::sync::atomic::{AtomicBool, Ordering};
@@ -9,6 +10,11 @@ use std::thread;
 
 /// The most domains of a plan, and the most nodes of each.
 const MOST_NODES: usize = 16 * 8;
+
+// Sets a flag; whether it wasn't set.
+fn claim(flag: &AtomicBool) -> bool {
+    !flag.load(Ordering::SeqCst) && !flag.swap(true, Ordering::SeqCst)
+}
 
 /// A flag for each node that a plan can have.
 #[derive(Drop)]
@@ -33,13 +39,20 @@ impl OutNodes {
 
     /// Waits until nobody has a node out, and notes that the caller has.
     pub fn take<R: Wait>(&self, rt: &R, domain: u8, node: u8) {
-        if let Some(flag) = self.flag(domain, node) {
-            for _look in rt.forever() {
-                if !flag.swap(true, Ordering::SeqCst) {
-                    break;
-                }
-                thread::yield_now();
+        let Some(flag) = self.flag(domain, node) else {
+            return;
+        };
+        for tries in 0..TRIES {
+            if claim(flag) {
+                return;
             }
+            back_off(tries);
+        }
+        for _look in rt.forever() {
+            if claim(flag) {
+                break;
+            }
+            thread::yield_now();
         }
     }
 

@@ -74,11 +74,20 @@ fn is_recorded(reply: Reply) -> bool {
     matches!(reply, Reply::Moved(Moved::Passed | Moved::Lost))
 }
 
-// Moves of the first ports of a domain, in order; whether a packet went.
-pub(crate) fn move_ports(domain: &mut SeatedDomain, ports: u8) -> Result<bool, Refusal> {
+// A Move of a port; whether a packet went. A Move that would not be recorded isn't asked for, unless the journal is full:
+// then it is refused.
+fn move_port(domain: &mut SeatedDomain, port: u8) -> Result<bool, Refusal> {
+    if !domain.is_full() && port < domain.part().count() && domain.port_is_quiet(port) {
+        return Ok(false);
+    }
+    Ok(is_recorded(domain.apply(By::Farm, Event::Move(port))?))
+}
+
+// Moves of all ports of a domain, in order; whether a packet went.
+pub(crate) fn move_ports(domain: &mut SeatedDomain) -> Result<bool, Refusal> {
     let mut went = false;
-    for port in 0..ports {
-        went |= is_recorded(domain.apply(By::Farm, Event::Move(port))?);
+    for port in 0..domain.part().count() {
+        went |= move_port(domain, port)?;
     }
     Ok(went)
 }
@@ -167,17 +176,6 @@ impl Service {
         ensures operator { IsItsOperator self.now operator.new }
     {
         self.table.survey(operator, output)
-    }
-
-    // How many ports a domain has.
-    pub(crate) fn ports(&self, domain: u8) -> u8
-        ensures { MatchOption (slice_get self.now.plan domain) (result ≡ 0) (λ d. result ≡ (part_of d).count) }
-    {
-        if domain < self.plan.domains() {
-            self.plan.part(domain).count()
-        } else {
-            0
-        }
     }
 
     // How many nodes a domain has.
@@ -274,7 +272,7 @@ impl Service {
     // Moves of all ports of a domain, in order, in one hold of its lock; whether a packet went.
     pub(crate) fn move_all<R: Wait>(&self, rt: &R, domain: u8) -> Result<bool, Refusal> {
         match self.hold(rt, domain) {
-            Some(mut seated) => move_ports(&mut seated, self.ports(domain)),
+            Some(mut seated) => move_ports(&mut seated),
             None => Err(Refusal::NoSuch),
         }
     }

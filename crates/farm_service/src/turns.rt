@@ -60,7 +60,7 @@ impl Service {
         if check_out(&seated, domain, node, slot)? {
             return Ok(Begun::Out);
         }
-        let moved = move_ports(&mut seated, self.ports(domain))?;
+        let moved = move_ports(&mut seated)?;
         Ok(Begun::Idle { moved })
     }
 
@@ -75,7 +75,7 @@ impl Service {
             return Err(Refusal::NoSuch);
         };
         bring_home(&mut seated, slot)?;
-        move_ports(&mut seated, self.ports(domain))?;
+        move_ports(&mut seated)?;
         Ok(())
     }
 
