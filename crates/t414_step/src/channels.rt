@@ -1,4 +1,7 @@
 //! Messages through channels.
+//!
+//! All of these stand in the one function that does channel operations, so that it moves registers one by one: to read
+//! several at once that were just written in parts takes longer.
 
 ghost use Rattle.std.specs.Prelude.{◌≡◌};
 
@@ -13,6 +16,7 @@ impl Cpu {
     ghost use Rattle.t414_step.specs.Outcome.{finished};
 
     // The process that asks.
+    #[inline(always)]
     fn process(&self) -> Process
         ensures { result ≡ process_of self.now }
     {
@@ -23,6 +27,7 @@ impl Cpu {
     }
 
     // Goes on, or waits.
+    #[inline(always)]
     fn take_turn(&mut self, turn: Turn)
         ensures { self.new ≡ turned turn self.old }
     {
@@ -33,7 +38,7 @@ impl Cpu {
     }
 
     // The transfer of in and out: as many bytes as A says, through channel B, at C.
-    #[inline]
+    #[inline(always)]
     fn transfer(&self) -> Transfer
         ensures { result ≡ transfer self.now.a self.now.b self.now.c }
     {
@@ -45,7 +50,7 @@ impl Cpu {
     }
 
     // Gives a message to a channel, or waits for it to be taken.
-    #[inline]
+    #[inline(always)]
     fn output(
         &mut self,
         memory: &mut Memory,
@@ -64,7 +69,7 @@ impl Cpu {
     }
 
     // in
-    #[inline]
+    #[inline(always)]
     pub(crate) fn input_message(
         &mut self,
         memory: &mut Memory,
@@ -82,7 +87,7 @@ impl Cpu {
     }
 
     // out
-    #[inline]
+    #[inline(always)]
     pub(crate) fn output_message(
         &mut self,
         memory: &mut Memory,
@@ -94,7 +99,7 @@ impl Cpu {
     }
 
     // Sends so many bytes of A, which becomes the word at the workspace.
-    #[inline]
+    #[inline(always)]
     fn send(&mut self, memory: &mut Memory, links: &mut Links, count: u32) -> Result<(), Fault>
         ensures { finished result self.new links.new memory.new ≡ send count self.old links.old memory.old }
     {
@@ -108,7 +113,7 @@ impl Cpu {
     }
 
     // outbyte
-    #[inline]
+    #[inline(always)]
     pub(crate) fn output_byte(
         &mut self,
         memory: &mut Memory,
@@ -120,7 +125,7 @@ impl Cpu {
     }
 
     // outword
-    #[inline]
+    #[inline(always)]
     pub(crate) fn output_word(
         &mut self,
         memory: &mut Memory,
@@ -132,7 +137,7 @@ impl Cpu {
     }
 
     // resetch
-    #[inline]
+    #[inline(always)]
     pub(crate) fn reset_channel(
         &mut self,
         memory: &mut Memory,
@@ -145,7 +150,7 @@ impl Cpu {
     }
 
     // enbc
-    #[inline]
+    #[inline(always)]
     pub(crate) fn enable_channel(
         &mut self,
         memory: &mut Memory,
@@ -161,7 +166,7 @@ impl Cpu {
     }
 
     // disc
-    #[inline]
+    #[inline(always)]
     pub(crate) fn disable_channel(
         &mut self,
         memory: &mut Memory,

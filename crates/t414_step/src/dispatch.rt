@@ -148,6 +148,7 @@ impl Cpu {
     }
 
     // One operation on a channel.
+    #[inline(always)]
     fn talk(
         &mut self,
         memory: &mut Memory,
