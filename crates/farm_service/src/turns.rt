@@ -1,7 +1,7 @@
 //! Turns of workers where nobody watches, and rounds of `settle`.
 //!
-//! Both keep their tickets in a slot: the memory of a spent ticket serves the next, so that nothing is allocated or
-//! freed under the lock of a domain.
+//! Both keep their tickets in a slot: the memory of a spent ticket serves the next, so that only the first is allocated
+//! under the lock of a domain.
 
 use crate::service::{SeatedDomain, Service, move_ports};
 use domain_core::{Refusal, Ticket};
