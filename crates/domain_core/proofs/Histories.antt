@@ -1,7 +1,7 @@
 -- A history that is one event longer.
 use Rattle.std.proofs.Common.{◌≡◌, List, [], ◌∷◌, ◌++◌, Ok, refl, ap}
 use Rattle.std.proofs.lemmas.List.{map-append}
-use Rattle.plan_checker.specs.Part.{PartData}
+use Rattle.plan_rules.specs.Part.{PartData}
 use Rattle.domain_core.specs.declared.event.Reply.{Reply}
 use Rattle.domain_core.specs.PrivateFarm.{State, Answer, Call, next, answers, after, opening}
 use Rattle.domain_core.specs.Journal.{AnsweredCall, calls_of, replies_of, IsHistory}

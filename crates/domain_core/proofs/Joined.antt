@@ -2,9 +2,9 @@
 use Rattle.std.proofs.Common.{◌≡◌, ℕ, zero, suc, ◌+◌, ◌<◌, ◌≤◌, ◌==◌, Bool, true, false, List, [], ◌∷◌, length, set, get_or, Option, Some, None, ◌⊎◌, inl, inr, refl, ap, sym, ◌∙◌, subst, arith, if◌then◌else◌}
 use Rattle.std.proofs.lemmas.List.{get_or-set_same}
 use Rattle.std.proofs.lemmas.Bool.{cases_lt}
-use Rattle.plan_checker.specs.declared.part.HostPart.{HostPart}
-use Rattle.plan_checker.specs.declared.part.NodePart.{NodePart}
-use Rattle.plan_checker.specs.Part.{PartData}
+use Rattle.plan_rules.specs.declared.part.HostPart.{HostPart}
+use Rattle.plan_rules.specs.declared.part.NodePart.{NodePart}
+use Rattle.plan_rules.specs.Part.{PartData}
 use Rattle.link_channels.specs.declared.number.LinkNumber.{LinkNumber}
 use Rattle.link_channels.specs.declared.number.LinkNumber.TheVariants.{Zero, One, Two, Three}
 use Rattle.domain_core.specs.declared.device.Device.{Device}

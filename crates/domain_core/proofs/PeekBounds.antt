@@ -6,9 +6,9 @@ use Rattle.std.proofs.lemmas.List.FromFn.{get_or-range_with_len, length-range_wi
 use Rattle.std.proofs.Common.{get_or}
 use Rattle.link_channels.specs.declared.number.LinkNumber.{LinkNumber}
 use Rattle.crossbar.specs.Switch.{Switch, drives}
-use Rattle.plan_checker.specs.declared.part.HostPart.{HostPart}
-use Rattle.plan_checker.specs.declared.part.NodePart.{NodePart}
-use Rattle.plan_checker.specs.Part.{PartData}
+use Rattle.plan_rules.specs.declared.part.HostPart.{HostPart}
+use Rattle.plan_rules.specs.declared.part.NodePart.{NodePart}
+use Rattle.plan_rules.specs.Part.{PartData}
 use Rattle.domain_core.specs.declared.device.Device.{Device}
 use Rattle.domain_core.specs.declared.device.Device.TheVariants.{Host, Link}
 use Rattle.domain_core.specs.Devices.{or_else, host_at_port, is_wired_to, link_of_four, link_at_port, device_at}

@@ -1,7 +1,7 @@
 -- Calls that lead from one state of the private farm to another with these answers: none, one more, and several after
 -- others.
 use Rattle.std.proofs.Common.{◌≡◌, ◌+◌, ◌==◌, true, false, List, [], ◌∷◌, ◌++◌, Ok, refl, ◌∙◌, ap}
-use Rattle.plan_checker.specs.Part.{PartData}
+use Rattle.plan_rules.specs.Part.{PartData}
 use Rattle.domain_core.specs.declared.event.Reply.{Reply}
 use Rattle.domain_core.specs.Machine.{Machine, acted, is_recorded}
 use Rattle.domain_core.specs.PrivateFarm.{State, Answer, Call, is_there, next, answers, after}

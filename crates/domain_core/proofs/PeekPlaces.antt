@@ -8,7 +8,7 @@ use Rattle.os_link.specs.End.{next_of}
 use Rattle.link_channels.specs.Links.{at, packet_arrived, packet_taken}
 use Rattle.link_channels.specs.declared.number.LinkNumber.{LinkNumber}
 use Rattle.crossbar.specs.Switch.{Switch}
-use Rattle.plan_checker.specs.Part.{PartData}
+use Rattle.plan_rules.specs.Part.{PartData}
 use Rattle.t414_step.specs.declared.stepping.Stepped.TheVariants.{Ran}
 use Rattle.bootstrap.specs.Step.{node_step, has_halted}
 use Rattle.bootstrap.specs.Opening.{opened_node}

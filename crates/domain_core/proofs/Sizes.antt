@@ -3,8 +3,8 @@ use Rattle.std.proofs.Common.{◌≡◌, ℕ, zero, suc, ◌≤◌, List, [], �
 use Rattle.std.proofs.lemmas.List.{length-set, length-map, length-replicate}
 use Rattle.os_link.specs.declared.latch.Packet.{Packet}
 use Rattle.crossbar.specs.Switch.{Switch}
-use Rattle.plan_checker.specs.declared.part.NodePart.{NodePart}
-use Rattle.plan_checker.specs.Part.{PartData}
+use Rattle.plan_rules.specs.declared.part.NodePart.{NodePart}
+use Rattle.plan_rules.specs.Part.{PartData}
 use Rattle.virtual_switch.specs.SwitchValue.{SwitchValue}
 use Rattle.domain_core.specs.Hosts.{opened_host}
 use Rattle.domain_core.specs.Hosts.{HostState}

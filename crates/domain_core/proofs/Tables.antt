@@ -2,8 +2,8 @@
 use Rattle.std.proofs.Common.{◌≡◌, ◌≢◌, ℕ, ◌+◌, ◌<◌, ◌≤◌, List, ◌∷◌, length, drop, get_or, Some, None, refl, ap, ◌∙◌, arith}
 use Rattle.std.proofs.lemmas.Bool.Decides.{nat_tests}
 use Rattle.std.proofs.lemmas.List.{drop_more, drop_all}
-use Rattle.plan_checker.specs.declared.part.HostPart.{HostPart}
-use Rattle.plan_checker.specs.declared.part.NodePart.{NodePart}
+use Rattle.plan_rules.specs.declared.part.HostPart.{HostPart}
+use Rattle.plan_rules.specs.declared.part.NodePart.{NodePart}
 use Rattle.domain_core.specs.declared.device.Device.{Device}
 use Rattle.domain_core.specs.declared.device.Device.TheVariants.{Host}
 use Rattle.domain_core.specs.Devices.{host_at_port, link_at_port, link_of_four}

@@ -1,6 +1,6 @@
 -- What one caller is told, whatever was asked before.
 use Rattle.std.specs.Prelude.{◌≡◌, ◌++◌, List, [], ◌∷◌}
-use Rattle.plan_checker.specs.Part.{PartData}
+use Rattle.plan_rules.specs.Part.{PartData}
 use Rattle.domain_core.specs.PrivateFarm.{Answer, Call, answers, opening}
 
 -- a farm that holds the domain alone gives this answer last to some list of calls that ends with this one

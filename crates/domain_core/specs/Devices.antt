@@ -7,9 +7,9 @@ use Rattle.link_channels.specs.declared.number.LinkNumber.TheVariants.{Zero, One
 use Rattle.bootstrap.specs.declared.node.Node.{Node}
 use Rattle.bootstrap.specs.Opening.{opened_node}
 use Rattle.bootstrap.specs.Step.{is_step_recorded}
-use Rattle.plan_checker.specs.declared.part.NodePart.{NodePart}
-use Rattle.plan_checker.specs.declared.part.HostPart.{HostPart}
-use Rattle.plan_checker.specs.Part.{PartData}
+use Rattle.plan_rules.specs.declared.part.NodePart.{NodePart}
+use Rattle.plan_rules.specs.declared.part.HostPart.{HostPart}
+use Rattle.plan_rules.specs.Part.{PartData}
 use Rattle.domain_core.specs.declared.device.Device.{Device}
 use Rattle.domain_core.specs.declared.device.Device.TheVariants.{Host, Link}
 use Rattle.domain_core.specs.Hosts.{HostState, delivered, packet_left}

@@ -2,8 +2,8 @@
 use Rattle.std.specs.Prelude.{ℕ, ◌+◌, List, [], ◌∷◌, ◌++◌, length, OnErr, ◌≡◌, ◌<◌, ◌≤◌, ◌^◌, Ok, Err, false, if◌then◌else◌, slice_get, Some}
 use Rattle.std.specs.List.{AllZip}
 use Rattle.crossbar.specs.Word.{CountsChange}
-use Rattle.plan_checker.specs.Data.{DomainData}
-use Rattle.plan_checker.specs.Part.{PartData, part_of, physical_ports}
+use Rattle.plan_rules.specs.Data.{DomainData}
+use Rattle.plan_rules.specs.Part.{PartData, part_of, physical_ports}
 use Rattle.domain_core.specs.declared.event.Event.TheVariants.{Step, Move}
 use Rattle.domain_core.specs.declared.event.Refusal.TheVariants.{NoSuch, JournalFull, NoMemory}
 use Rattle.domain_core.specs.declared.journal.Entry.{Entry}

@@ -1,6 +1,6 @@
 -- A journal: what was answered, in order.
 use Rattle.std.specs.Prelude.{ℕ, zero, suc, List, [], ◌∷◌, ◌++◌, map, replicate, Ok, ◌≡◌}
-use Rattle.plan_checker.specs.Part.{PartData}
+use Rattle.plan_rules.specs.Part.{PartData}
 use Rattle.t414_step.specs.declared.stepping.Stepped.{Stepped}
 use Rattle.t414_step.specs.declared.stepping.Stepped.TheVariants.{Ran}
 use Rattle.domain_core.specs.declared.event.By.{By}

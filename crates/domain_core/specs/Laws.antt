@@ -1,8 +1,8 @@
 -- What holds of all domains, their journals and their histories.
 use Rattle.std.specs.Prelude.{◌≡◌, ◌++◌, ℕ, List, [], ◌∷◌, Ok}
 use Rattle.t414_step.specs.declared.stepping.Stepped.{Stepped}
-use Rattle.plan_checker.specs.Data.{DomainData}
-use Rattle.plan_checker.specs.Part.{PartData}
+use Rattle.plan_rules.specs.Data.{DomainData}
+use Rattle.plan_rules.specs.Part.{PartData}
 use Rattle.domain_core.specs.declared.event.By.{By}
 use Rattle.domain_core.specs.declared.event.Reply.{Reply}
 use Rattle.domain_core.specs.declared.journal.Entry.{Entry}

@@ -5,7 +5,7 @@ use Rattle.virtual_switch.specs.PrivateSwitch.{configured}
 use Rattle.bootstrap.specs.Opening.{restarted}
 use Rattle.bootstrap.specs.Seen.{seen}
 use Rattle.bootstrap.specs.Step.{is_step_recorded, node_step}
-use Rattle.plan_checker.specs.Part.{PartData}
+use Rattle.plan_rules.specs.Part.{PartData}
 use Rattle.domain_core.specs.declared.event.Event.{Event}
 use Rattle.domain_core.specs.declared.event.Event.TheVariants.{Config, Write, Read, Reset, Look, Step, Move}
 use Rattle.domain_core.specs.declared.event.Reply.{Reply}

@@ -1,6 +1,6 @@
 -- What contracts see of a machine: its part, its switch, and its nodes and hosts; and what it stands for.
 use Rattle.std.specs.Prelude.{◌≡◌, ◌<◌, ◌≤◌, ℕ, List, length, map, Option, None, slice_index_or}
-use Rattle.plan_checker.specs.Part.{PartData}
+use Rattle.plan_rules.specs.Part.{PartData}
 use Rattle.virtual_switch.specs.SwitchValue.{SwitchValue, private_of}
 use Rattle.domain_core.specs.declared.device.Device.{Device}
 use Rattle.domain_core.specs.declared.event.Event.{Event}

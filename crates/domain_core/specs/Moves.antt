@@ -5,7 +5,7 @@ use Rattle.std.specs.List.{list_all, range_with_len}
 use Rattle.std.specs.FinSet as set
 use Rattle.os_link.specs.declared.latch.Packet.{Packet}
 use Rattle.crossbar.specs.Switch.{Switch, drives}
-use Rattle.plan_checker.specs.Part.{PartData}
+use Rattle.plan_rules.specs.Part.{PartData}
 use Rattle.domain_core.specs.declared.device.Device.{Device}
 use Rattle.domain_core.specs.declared.event.Moved.{Moved}
 use Rattle.domain_core.specs.declared.event.Moved.TheVariants.{Nothing, Lost, Stayed, Passed}

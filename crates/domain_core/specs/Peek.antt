@@ -13,7 +13,7 @@ use Rattle.bootstrap.specs.Messages.{bytes_of_word}
 use Rattle.bootstrap.specs.Step.{or_zero}
 use Rattle.bootstrap.specs.declared.node.Node.{Node}
 use Rattle.bootstrap.specs.declared.state.State.TheVariants.{WantsControl}
-use Rattle.plan_checker.specs.Part.{PartData}
+use Rattle.plan_rules.specs.Part.{PartData}
 use Rattle.domain_core.specs.declared.device.Device.TheVariants.{Host, Link}
 use Rattle.domain_core.specs.declared.event.By.{By}
 use Rattle.domain_core.specs.declared.event.Event.{Event}

@@ -2,9 +2,9 @@
 use Rattle.std.specs.Prelude.{◌≡◌, ◌↔◌, ℕ, length, Some, slice_get, All}
 use Rattle.link_channels.specs.declared.number.LinkNumber.{LinkNumber}
 use Rattle.link_channels.specs.declared.number.LinkNumber.TheVariants.{Zero, One, Two, Three}
-use Rattle.plan_checker.specs.declared.part.HostPart.{HostPart}
-use Rattle.plan_checker.specs.declared.part.NodePart.{NodePart}
-use Rattle.plan_checker.specs.Part.{PartData, IsPart}
+use Rattle.plan_rules.specs.declared.part.HostPart.{HostPart}
+use Rattle.plan_rules.specs.declared.part.NodePart.{NodePart}
+use Rattle.plan_rules.specs.Part.{PartData, IsPart}
 use Rattle.domain_core.specs.declared.device.Device.{Device}
 use Rattle.domain_core.specs.declared.device.Device.TheVariants.{Host, Link}
 use Rattle.domain_core.specs.Devices.{device_at}

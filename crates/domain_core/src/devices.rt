@@ -1,7 +1,7 @@
 //! The nodes and hosts of a domain, as devices that send and receive packets.
 ghost use Rattle.std.specs.Prelude.{◌≡◌, ◌<◌, All, IfOk, IsTrue, ◌↔◌, Some, map, length, not, slice_get};
 ghost use Rattle.std.specs.Option.{option_copied};
-ghost use Rattle.plan_checker.specs.Part.{IsNodePart};
+ghost use Rattle.plan_rules.specs.Part.{IsNodePart};
 ghost use Rattle.bootstrap.specs.Opening.{opened_node};
 ghost use Rattle.bootstrap.specs.Opening.{restarted};
 ghost use Rattle.bootstrap.specs.Seen.{seen};
@@ -17,7 +17,7 @@ use crate::host::Host;
 use crate::ticket::Ticket;
 use bootstrap::{Node, Seen};
 use os_link::Packet;
-use plan_checker::{HostPart, NodePart, Part};
+use plan_rules::{HostPart, NodePart, Part};
 use std::alloc::Global;
 use std::marker::Model;
 use t414_step::Stepped;

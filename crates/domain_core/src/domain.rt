@@ -22,7 +22,7 @@ use crate::ticket::Ticket;
 use bootstrap::Node;
 use crossbar::laws::unchanged_words_count_nothing;
 use crossbar::{Outputs, Word};
-use plan_checker::{AcceptedPlan, Part};
+use plan_rules::{AcceptedPlan, Part};
 use std::alloc::Global;
 use std::marker::Model;
 

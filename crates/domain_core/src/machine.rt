@@ -24,7 +24,7 @@ use crate::ticket::Ticket;
 use bootstrap::Node;
 use crossbar::laws::unchanged_words_count_nothing;
 use crossbar::{Numbering, Outputs, Word};
-use plan_checker::Part;
+use plan_rules::Part;
 use std::alloc::Global;
 use std::marker::Model;
 use virtual_switch::VirtualSwitch;

@@ -14,7 +14,7 @@ use crate::event::Moved;
 use crate::table::DeviceTable;
 use crossbar::Outputs;
 use os_link::Packet;
-use plan_checker::Part;
+use plan_rules::Part;
 use virtual_switch::VirtualSwitch;
 
 /// What becomes of a packet that waits.

@@ -6,7 +6,7 @@ ghost use Rattle.domain_core.specs.MachineValue.{AreJoined};
 use crate::device::Device;
 use crossbar::PORTS;
 use link_channels::LinkNumber;
-use plan_checker::{HostPart, NodePart, Part};
+use plan_rules::{HostPart, NodePart, Part};
 
 /// The devices of a part by the virtual ports to which they are joined.
 pub(crate) type DeviceTable = [Option<Device>; PORTS as usize];

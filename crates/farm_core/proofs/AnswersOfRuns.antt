@@ -9,7 +9,7 @@ use Rattle.domain_core.specs.declared.event.Event.{Event}
 use Rattle.domain_core.specs.declared.event.Refusal.TheVariants.{NoSuch, JournalFull, NoMemory}
 use Rattle.domain_core.specs.PrivateFarm.{Call, Answer}
 use Rattle.domain_core.specs.Domain.{UnlessNoMemory, DomainValue}
-use Rattle.plan_checker.specs.Data.{DomainData}
+use Rattle.plan_rules.specs.Data.{DomainData}
 use Rattle.farm_core.specs.Places.{Place, places_of}
 use Rattle.farm_core.specs.Whole.{Farm, whole_next, physical_answers, whole_opening}
 use Rattle.farm_core.specs.Projection.{lowered_for, own}

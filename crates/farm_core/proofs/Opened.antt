@@ -9,8 +9,8 @@ use Rattle.crossbar.specs.declared.range.PortRange.{PortRange}
 use Rattle.crossbar.specs.Laws.{SwitchLaws}
 use Rattle.std.proofs.lemmas.List.{take_more, map-append}
 use Rattle.std.proofs.lemmas.List.Elements.{All-push, All-cons, All-nil}
-use Rattle.plan_checker.specs.Data.{DomainData}
-use Rattle.plan_checker.specs.Part.{part_of}
+use Rattle.plan_rules.specs.Data.{DomainData}
+use Rattle.plan_rules.specs.Part.{part_of}
 use Rattle.domain_core.specs.PrivateFarm.{opening}
 use Rattle.domain_core.specs.Domain.{DomainValue, state_of}
 use Rattle.farm_core.specs.Places.{Place, place_of, places_of}

@@ -11,7 +11,7 @@ use Rattle.crossbar.specs.Switch.{Switch, drives, names}
 use Rattle.crossbar.specs.Ranges.{IsOneToOne}
 use Rattle.crossbar.specs.Row.{number_in}
 use Rattle.crossbar.specs.Laws.{SwitchLaws}
-use Rattle.plan_checker.specs.Part.{PartData}
+use Rattle.plan_rules.specs.Part.{PartData}
 use Rattle.domain_core.specs.declared.device.Device.{Device}
 use Rattle.domain_core.specs.declared.event.Moved.{Moved}
 use Rattle.domain_core.specs.declared.event.Moved.TheVariants.{Nothing, Lost, Stayed, Passed}

@@ -1,9 +1,9 @@
 -- Plans that break no rule, and the places of their domains.
 use Rattle.std.proofs.Common.{◌≡◌, ℕ, Some, List, slice_get, option_map, ap, ◌∙◌}
 use Rattle.std.proofs.lemmas.Option.{slice_get-map}
-use Rattle.plan_checker.specs.Data.{DomainData}
-use Rattle.plan_checker.specs.Laws.{SeparatePlansAreNumbered, SeparatePlansShareNoPort}
-use Rattle.plan_checker.specs.Separate.{IsSeparate}
+use Rattle.plan_rules.specs.Data.{DomainData}
+use Rattle.plan_rules.specs.Laws.{SeparatePlansAreNumbered, SeparatePlansShareNoPort}
+use Rattle.plan_rules.specs.Separate.{IsSeparate}
 use Rattle.farm_core.specs.Places.{place_of, places_of, AreSeparatePlaces}
 use Rattle.farm_core.specs.Laws.{EachDomainOfAPlanIsPrivate, EachOfAPlanIsToldPrivately, EqualDomainsOfPlansAreAnsweredAlike}
 use Rattle.farm_core.proofs.Runs.{each_domain_is_private, each_is_told_privately, equal_domains_are_answered_alike}

@@ -3,8 +3,8 @@ use Rattle.std.proofs.Common.{◌≡◌, inl, inr, ℕ, ◌<◌, Option, Some, N
 use Rattle.std.proofs.lemmas.Bool.{cases_order}
 use Rattle.std.proofs.lemmas.Option.{none-some, same_Some, slice_get-map, slice_get_within, get_or_from_slice_get}
 use Rattle.std.specs.List.{AllPairs}
-use Rattle.plan_checker.specs.Data.{DomainData}
-use Rattle.plan_checker.specs.Part.{IsNumbered, AreSeparate, physical_ports}
+use Rattle.plan_rules.specs.Data.{DomainData}
+use Rattle.plan_rules.specs.Part.{IsNumbered, AreSeparate, physical_ports}
 use Rattle.farm_core.specs.Places.{Place, place_of, places_of, IsPlace, AreApart}
 use Rattle.farm_core.specs.Laws.{NumberedDomainsAreSeparate}
 

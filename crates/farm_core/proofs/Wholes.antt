@@ -4,8 +4,8 @@ use Rattle.std.proofs.lemmas.Bool.{cases_eq}
 use Rattle.std.proofs.lemmas.List.{map-append, append-nil, ext_get_or, length-map}
 use Rattle.std.proofs.lemmas.List.Elements.{filter-append}
 use Rattle.std.proofs.lemmas.Option.{slice_get_past, slice_get-get_or, slice_get_within, get_or_from_slice_get, slice_get-map, same_Some}
-use Rattle.plan_checker.specs.Data.{DomainData}
-use Rattle.plan_checker.specs.Part.{part_with}
+use Rattle.plan_rules.specs.Data.{DomainData}
+use Rattle.plan_rules.specs.Part.{part_with}
 use Rattle.domain_core.specs.Domain.{DomainValue, IsMeant, Fits}
 use Rattle.domain_core.specs.Journal.{AnsweredCall}
 use Rattle.farm_core.specs.Places.{Place, place_of, places_of, AreSeparatePlaces}

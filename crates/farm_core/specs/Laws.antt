@@ -1,9 +1,9 @@
 -- In the whole farm each domain is a farm of its own.
 use Rattle.std.specs.Prelude.{◌≡◌, ℕ, List, ◌++◌, map, Some, slice_get, AllPairs, All}
 use Rattle.std.specs.List.{zip}
-use Rattle.plan_checker.specs.Data.{DomainData}
-use Rattle.plan_checker.specs.Part.{IsNumbered, AreSeparate, part_of}
-use Rattle.plan_checker.specs.Separate.{IsSeparate}
+use Rattle.plan_rules.specs.Data.{DomainData}
+use Rattle.plan_rules.specs.Part.{IsNumbered, AreSeparate, part_of}
+use Rattle.plan_rules.specs.Separate.{IsSeparate}
 use Rattle.domain_core.specs.PrivateFarm.{Call, Answer, answers, after, opening}
 use Rattle.farm_core.specs.Places.{Place, place_of, places_of, AreSeparatePlaces}
 use Rattle.farm_core.specs.Whole.{Farm, physical_answers, whole_after, whole_opening}

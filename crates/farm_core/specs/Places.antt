@@ -3,8 +3,8 @@ use Rattle.std.specs.Prelude.{◌≡◌, ◌≢◌, ℕ, ◌+◌, List, [], ◌�
 use Rattle.std.specs.Option.{option_map}
 use Rattle.crossbar.specs.Ranges.{IsNumbering}
 use Rattle.crossbar.specs.Row.{number_in}
-use Rattle.plan_checker.specs.Data.{DomainData}
-use Rattle.plan_checker.specs.Part.{PartData, part_of, physical_ports}
+use Rattle.plan_rules.specs.Data.{DomainData}
+use Rattle.plan_rules.specs.Part.{PartData, part_of, physical_ports}
 use Rattle.domain_core.specs.declared.device.Device.{Device}
 use Rattle.domain_core.specs.Devices.{device_at}
 

@@ -5,7 +5,7 @@ use Rattle.std.specs.Option.{option_map, option_and_then}
 use Rattle.crossbar.specs.declared.word.Word.{Word}
 use Rattle.crossbar.specs.Word.{connection_of, CountsChange}
 use Rattle.crossbar.specs.Row.{input_of, is_ready}
-use Rattle.plan_checker.specs.Data.{DomainData}
+use Rattle.plan_rules.specs.Data.{DomainData}
 use Rattle.bootstrap.specs.declared.node.Node.{Node}
 use Rattle.domain_core.specs.declared.domain.Committed.{Committed}
 use Rattle.domain_core.specs.declared.domain.Committed.TheVariants.{Done, Stale}

@@ -1,6 +1,6 @@
 -- A run of a plan: calls of its domains in one order, and what each is told.
 use Rattle.std.specs.Prelude.{◌≡◌, ℕ, List, map, Some, None, Err, slice_get, All}
-use Rattle.plan_checker.specs.Data.{DomainData}
+use Rattle.plan_rules.specs.Data.{DomainData}
 use Rattle.domain_core.specs.declared.event.By.{By}
 use Rattle.domain_core.specs.declared.event.Event.{Event}
 use Rattle.domain_core.specs.declared.event.Refusal.TheVariants.{NoSuch}

@@ -3,7 +3,7 @@ use Rattle.std.specs.Prelude.{◌≡◌, ℕ, List, length, map, Some, slice_get
 use Rattle.crossbar.specs.declared.word.Word.{Word}
 use Rattle.crossbar.specs.Row.{AreWordsOf}
 use Rattle.crossbar.specs.Switch.{Switch}
-use Rattle.plan_checker.specs.Data.{DomainData}
+use Rattle.plan_rules.specs.Data.{DomainData}
 use Rattle.domain_core.specs.Domain.{DomainValue, IsMeant, Fits}
 use Rattle.domain_core.specs.Journal.{AnsweredCall}
 use Rattle.farm_core.specs.Places.{places_of, AreSeparatePlaces}

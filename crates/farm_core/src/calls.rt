@@ -8,7 +8,7 @@ ghost use Rattle.farm_core.specs.Run.{calls_asked, EachToldAlone, NobodyElsewher
 use crate::farm::PlainFarm;
 use crossbar::laws::switches_say_their_words;
 use domain_core::{By, Event, NoMemory, Refusal, Reply};
-use plan_checker::AcceptedPlan;
+use plan_rules::AcceptedPlan;
 use std::alloc::Global;
 
 /// What each event of a run is answered, in order.

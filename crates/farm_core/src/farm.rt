@@ -2,7 +2,7 @@
 ghost use Rattle.std.specs.Prelude.{◌≡◌, ◌≢◌, ◌<◌, ◌↔◌, [], length, slice_get, All, IfOk, IfSome, IsTrue, OnErr, None, Some, Ok, Err};
 ghost use Rattle.std.specs.Option.{option_copied};
 ghost use Rattle.crossbar.specs.Word.{IsProper};
-ghost use Rattle.plan_checker.specs.Part.{part_of};
+ghost use Rattle.plan_rules.specs.Part.{part_of};
 ghost use Rattle.domain_core.specs.declared.domain.Committed.TheVariants.{Done};
 ghost use Rattle.domain_core.specs.declared.event.Refusal.TheVariants.{NoSuch, JournalFull};
 ghost use Rattle.domain_core.specs.Domain.{state_of, IsMeant, IsQuiet, UnlessNoMemory};
@@ -19,7 +19,7 @@ ghost use Rattle.farm_core.specs.Words.{HasRow, IsUnused, HaveAWhole};
 use crossbar::laws::switches_say_their_words;
 use crossbar::{PlainOutputs, Word};
 use domain_core::{By, Committed, Domain, Entry, Event, NoMemory, Refusal, Reply, Ticket};
-use plan_checker::AcceptedPlan;
+use plan_rules::AcceptedPlan;
 use std::alloc::Global;
 use std::marker::Model;
 

@@ -78,7 +78,7 @@ pub fn each_domain_of_a_plan_is_private()
     // What a private switch has is what its words say.
     switches_say_their_words();
     // The domains of a plan without a fault share no port.
-    plan_checker::laws::faultless_plans_are_separate();
+    plan_rules::laws::faultless_plans_are_separate();
 }
 
 /// Each output of the whole farm is driven and ready as its domain's switch word says, in every whole farm that is made of

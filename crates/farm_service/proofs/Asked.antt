@@ -1,7 +1,7 @@
 -- What a domain of a plan answers.
 use Rattle.std.proofs.Common.{◌≡◌, ℕ, List, None, Ok, Err, refl, sym, subst, Option, slice_get, MatchOption}
-use Rattle.plan_checker.specs.Data.{DomainData}
-use Rattle.plan_checker.specs.Part.{PartData, part_of}
+use Rattle.plan_rules.specs.Data.{DomainData}
+use Rattle.plan_rules.specs.Part.{PartData, part_of}
 use Rattle.domain_core.specs.declared.event.Refusal.TheVariants.{NoSuch, JournalFull, NoMemory}
 use Rattle.domain_core.specs.PrivateFarm.{Answer, Call, next}
 use Rattle.domain_core.specs.Domain.{DomainValue, state_of, IsMeant, Fits, UnlessNoMemory}

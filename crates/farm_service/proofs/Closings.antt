@@ -5,8 +5,8 @@ use Rattle.std.proofs.lemmas.List.Elements.{All-push, All-nil}
 use Rattle.std.proofs.lemmas.Option.{slice_get-map, same_Some, slice_get_within, get_or_from_slice_get, none-some}
 use Rattle.std.specs.List.{range_with_len}
 use Rattle.crossbar.specs.declared.word.Word.{Word}
-use Rattle.plan_checker.specs.Data.{DomainData}
-use Rattle.plan_checker.specs.Part.{physical_ports}
+use Rattle.plan_rules.specs.Data.{DomainData}
+use Rattle.plan_rules.specs.Part.{physical_ports}
 use Rattle.domain_core.specs.Domain.{DomainValue, IsMeant}
 use Rattle.domain_core.specs.Journal.{AnsweredCall, expanded}
 use Rattle.farm_core.specs.Places.{Place, place_of, places_of, AreSeparatePlaces}

@@ -1,7 +1,7 @@
 -- What a command is answered.
 use Rattle.std.specs.Prelude.{ℕ, List, ◌≡◌, Err, MatchOption, slice_get}
-use Rattle.plan_checker.specs.Data.{DomainData}
-use Rattle.plan_checker.specs.Part.{part_of}
+use Rattle.plan_rules.specs.Data.{DomainData}
+use Rattle.plan_rules.specs.Part.{part_of}
 use Rattle.domain_core.specs.declared.event.Event.{Event}
 use Rattle.domain_core.specs.declared.event.Refusal.TheVariants.{NoSuch}
 use Rattle.domain_core.specs.PrivateFarm.{Answer, Call}

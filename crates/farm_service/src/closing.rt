@@ -12,7 +12,7 @@ use crossbar::Word;
 use farm_core::laws::{
     each_merge_is_a_run, each_word_is_of_its_output, numbered_domains_are_separate,
 };
-use plan_checker::AcceptedPlan;
+use plan_rules::AcceptedPlan;
 use std::alloc::Global;
 use std::sync::{Mutex, Wait};
 use token_queue::{PLACES, Token};

@@ -7,7 +7,7 @@ ghost use Rattle.domain_core.specs.declared.event.Refusal.TheVariants.{NoSuch, J
 ghost use Rattle.domain_core.specs.Domain.{Fits, UnlessNoMemory};
 ghost use Rattle.domain_core.specs.Ticket.{fresh_ticket};
 ghost use Rattle.farm_core.specs.Places.{places_of};
-ghost use Rattle.plan_checker.specs.Part.{part_of};
+ghost use Rattle.plan_rules.specs.Part.{part_of};
 ghost use Rattle.switch_table.specs.Domains.{domains_of};
 ghost use Rattle.switch_table.specs.Rule.{IsConfined, word_of};
 ghost use Rattle.switch_table.specs.Seats.{seen_words};
@@ -29,7 +29,7 @@ use crate::waiting::wait;
 use crossbar::Word;
 use domain_core::laws::histories_grow;
 use domain_core::{By, Committed, Domain, Event, Moved, Refusal, Reply, Ticket};
-use plan_checker::AcceptedPlan;
+use plan_rules::AcceptedPlan;
 use std::alloc::Global;
 use std::marker::Model;
 use std::sync::atomic::{AtomicBool, Ordering};

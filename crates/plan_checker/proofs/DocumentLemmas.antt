@@ -5,10 +5,10 @@ use Rattle.toml.specs.View.{view, items_of, items_view}
 use Rattle.toml.specs.declared.value.Value.{Value}
 use Rattle.toml.proofs.Views.{items_view-push, get_item_within}
 use Rattle.plan_checker.specs.Fields.{keys_of}
-use Rattle.plan_checker.specs.Data.{DomainData}
+use Rattle.plan_rules.specs.Data.{DomainData}
 use Rattle.plan_checker.specs.Document.{ReadsValue, list, document, IsDocument, ReadsDocument, Reads}
-use Rattle.plan_checker.specs.declared.fault.PlanFault.{PlanFault}
-use Rattle.plan_checker.specs.declared.fault.PlanFault.TheVariants.{Text, Shape, DomainCount, Name, NameTwice, Range, SharedPort, NodeCount, Memory, Port, PortTwice, HostCount, UnwiredNode, Limit, NoMemory, RangeCount, UserCount}
+use Rattle.plan_rules.specs.declared.fault.PlanFault.{PlanFault}
+use Rattle.plan_rules.specs.declared.fault.PlanFault.TheVariants.{Text, Shape, DomainCount, Name, NameTwice, Range, SharedPort, NodeCount, Memory, Port, PortTwice, HostCount, UnwiredNode, Limit, NoMemory, RangeCount, UserCount}
 use Rattle.std.proofs.lemmas.List.{take_more}
 
 pub items_of-push : {X : Type 0} (f : X → Data) (xs : List X) (x : X) → items_of (map f (xs ++ x ∷ [])) ≡ push_item (items_of (map f xs)) (f x)

@@ -1,8 +1,2 @@
 pub mod FieldLemmas
 pub mod DocumentLemmas
-pub mod ListLemmas
-pub mod RuleLemmas
-pub mod NumberLemmas
-pub mod PartLemmas
-pub mod PortLemmas
-pub mod SeparateLemmas

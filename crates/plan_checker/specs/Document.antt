@@ -4,15 +4,15 @@ use Rattle.std.specs.Borrow.{Bor}
 use Rattle.toml.specs.Data.{Data, string, integer, array, table, Members, no_members, member}
 use Rattle.toml.specs.View.{items_of}
 use Rattle.toml.specs.Parse.{parse_document}
-use Rattle.plan_checker.specs.declared.plan.NodePlan.{NodePlan}
-use Rattle.plan_checker.specs.declared.plan.RangePlan.{RangePlan}
+use Rattle.plan_rules.specs.declared.plan.NodePlan.{NodePlan}
+use Rattle.plan_rules.specs.declared.plan.RangePlan.{RangePlan}
 use Rattle.plan_checker.specs.declared.version.PlanVersion.{PlanVersion}
 use Rattle.plan_checker.specs.declared.version.PlanVersion.TheVariants.{One, Two, Three}
-use Rattle.plan_checker.specs.Data.{UserData, DomainData}
+use Rattle.plan_rules.specs.Data.{UserData, DomainData}
 use Rattle.plan_checker.specs.Version.{version_number}
 use Rattle.plan_checker.specs.Fields.{keys_of}
-use Rattle.plan_checker.specs.declared.fault.PlanFault.{PlanFault}
-use Rattle.plan_checker.specs.declared.fault.PlanFault.TheVariants.{Text, Shape, NoMemory}
+use Rattle.plan_rules.specs.declared.fault.PlanFault.{PlanFault}
+use Rattle.plan_rules.specs.declared.fault.PlanFault.TheVariants.{Text, Shape, NoMemory}
 
 -- an array of values
 abbrev pub list : {X : Type 0} → (X → Data) → List X → Data

@@ -1,26 +1,15 @@
 //! Reads a plan of the farm from TOML text, and accepts it where its domains are separate.
+//!
+//! The rules of a plan and their check stand in `plan_rules`, on which the farm's machines stand. Who reads plans finds here
+//! the reading and the check, with the types that they answer.
 #![tactic(auto)]
 
-mod accepted;
-mod apart;
-mod fault;
 mod fields;
-pub mod laws;
-mod part;
-mod parts;
-mod plan;
-mod ports;
 mod read;
-mod row;
-pub mod rules;
-mod smallest;
 mod values;
 mod version;
 
-pub use accepted::{AcceptedPlan, check};
-pub use fault::PlanFault;
-pub use part::{HostPart, NodePart, Part};
-pub use plan::{DomainPlan, NodePlan, Plan, RangePlan, UserPlan};
+pub use plan_rules::{AcceptedPlan, DomainPlan, HostPart, NodePart, NodePlan, Part, Plan, PlanFault, RangePlan, UserPlan, check};
 pub use read::read_plan;
 
 /// Want of memory.

@@ -5,7 +5,7 @@ ghost use Rattle.toml.specs.View.{view, table_view};
 ghost use Rattle.plan_checker.specs.declared.version.PlanVersion.{PlanVersion};
 ghost use Rattle.plan_checker.specs.Document.{ReadsValue, list, IsTomlTable};
 
-use crate::fault::PlanFault;
+use plan_rules::PlanFault;
 use crate::fields::has_fields;
 use crate::version::PlanVersion;
 use std::alloc::Global;

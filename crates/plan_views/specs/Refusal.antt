@@ -1,9 +1,9 @@
 -- What a refusal says of the text of a plan.
 use Rattle.std.specs.Prelude.{ℕ, List, Err, ◌⊎◌}
-use Rattle.plan_checker.specs.declared.fault.PlanFault.{PlanFault}
-use Rattle.plan_checker.specs.Data.{DomainData}
+use Rattle.plan_rules.specs.declared.fault.PlanFault.{PlanFault}
+use Rattle.plan_rules.specs.Data.{DomainData}
 use Rattle.plan_checker.specs.Document.{IsPlan, Reads}
-use Rattle.plan_checker.specs.Separate.{IsSmallestFault}
+use Rattle.plan_rules.specs.Separate.{IsSmallestFault}
 use Rattle.plan_views.specs.declared.view.PlanRefusal.{PlanRefusal}
 use Rattle.plan_views.specs.declared.view.PlanRefusal.TheVariants.{Refused, NoMemory}
 

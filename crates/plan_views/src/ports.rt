@@ -1,7 +1,7 @@
 //! What is shown of each virtual port.
 ghost use Rattle.std.specs.Prelude.{◌≡◌, ◌<◌, Some, IfSome, length, slice_get};
 ghost use Rattle.domain_core.specs.Devices.{device_at};
-ghost use Rattle.plan_checker.specs.Part.{part_of, physical_ports};
+ghost use Rattle.plan_rules.specs.Part.{part_of, physical_ports};
 
 use domain_core::{Device, device_at};
 use plan_checker::AcceptedPlan;

@@ -1,7 +1,7 @@
 //! Reading a plan, with the reason if it is refused.
 ghost use Rattle.std.specs.Prelude.{◌≡◌, IfOk, IfErr};
 ghost use Rattle.plan_checker.specs.Document.{IsPlan};
-ghost use Rattle.plan_checker.specs.Separate.{IsSeparate};
+ghost use Rattle.plan_rules.specs.Separate.{IsSeparate};
 ghost use Rattle.plan_views.specs.declared.view.PlanRefusal.TheVariants.{NoMemory};
 ghost use Rattle.plan_views.specs.Refusal.{IsRefusalOf};
 

@@ -4,8 +4,8 @@ use Rattle.std.proofs.lemmas.Bool.{cases_order}
 use Rattle.std.proofs.lemmas.Option.{none-some, same_Some, get_or_from_slice_get, slice_get_within}
 use Rattle.crossbar.specs.declared.range.PortRange.{PortRange}
 use Rattle.crossbar.specs.Ranges.{ports_in, IsNumbering}
-use Rattle.plan_checker.specs.Data.{DomainData}
-use Rattle.plan_checker.specs.Part.{four_ranges, physical_ports, IsNumbered, AreSeparate}
+use Rattle.plan_rules.specs.Data.{DomainData}
+use Rattle.plan_rules.specs.Part.{four_ranges, physical_ports, IsNumbered, AreSeparate}
 use Rattle.switch_table.specs.Domains.{domains_of, AreDisjoint}
 use Rattle.std.specs.Prelude.{Option}
 

@@ -1,7 +1,7 @@
 -- The domains of a plan, each as the list of its physical ports in the order of their virtual numbers.
 use Rattle.std.specs.Prelude.{◌≡◌, ℕ, List, map, Some, slice_get, Contains}
-use Rattle.plan_checker.specs.Data.{DomainData}
-use Rattle.plan_checker.specs.Part.{physical_ports}
+use Rattle.plan_rules.specs.Data.{DomainData}
+use Rattle.plan_rules.specs.Part.{physical_ports}
 
 -- the physical ports of each domain of a plan
 abbrev pub domains_of : List DomainData → List (List ℕ)

@@ -1,7 +1,7 @@
 //! The table under its rule.
 use crate::view::View;
 use atomic_table::{Play, Seat, Split, Table, TableRule};
-use plan_checker::AcceptedPlan;
+use plan_rules::AcceptedPlan;
 use std::alloc::Global;
 
 /// The shared table rule.

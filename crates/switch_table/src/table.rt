@@ -10,7 +10,7 @@ use crate::domain::DomainSeat;
 use atomic_table::Table;
 use crossbar::laws::rows_are_words_of_ports;
 use crossbar::{Numbering, Word};
-use plan_checker::AcceptedPlan;
+use plan_rules::AcceptedPlan;
 use std::alloc::Global;
 use std::sync::Arc;
 

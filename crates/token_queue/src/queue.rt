@@ -9,7 +9,7 @@ ghost use Rattle.token_queue.specs.Tokens.{token, tokens_of, tokens_of_nodes, ev
 
 use crate::rule::{GivesBack, Line, LinePass, OnePart, PutsAside, Takes};
 use crate::token::Token;
-use plan_checker::AcceptedPlan;
+use plan_rules::AcceptedPlan;
 use std::alloc::{AllocError, Global};
 use std::marker::Model;
 use std::sync::Wait;

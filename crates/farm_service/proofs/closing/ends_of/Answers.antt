@@ -2,7 +2,7 @@ use Rattle.std.proofs.Common.{◌≡◌, ◌≤◌, ◌+◌, ◌∙◌, ℕ, len
 use Rattle.std.proofs.lemmas.List.{length-take-le, length_push}
 use Rattle.std.proofs.lemmas.Iterator.Consumers.{YieldsList-end}
 use Rattle.std.proofs.lemmas.Iterator.Adapters.{YieldsList-from_vec}
-use Rattle.plan_checker.specs.declared.fault.PlanFault.TheVariants.{DomainCount}
+use Rattle.plan_rules.specs.declared.fault.PlanFault.TheVariants.{DomainCount}
 use Rattle.farm_service.specs.Endings.{IsEndOf}
 use Rattle.farm_service.proofs.Closings.{AreEndsSoFar, ends_more, all_run, whole}
 use Rattle.farm_service.proofs.closing.ends_of.Goals as goal

@@ -2,13 +2,13 @@ use Rattle.std.proofs.Common.{rules, ap, ◌∙◌, Some, refl, codes, Vec, Glob
 use Rattle.std.proofs.lemmas.Int.{to_z-of_z}
 use Rattle.std.proofs.lemmas.Result.{err_from_is_err_and}
 use Rattle.toml.specs.Data.{table}
-use Rattle.plan_checker.specs.declared.plan.RangePlan.{RangePlan}
-use Rattle.plan_checker.specs.declared.plan.NodePlan.{NodePlan}
-use Rattle.plan_checker.specs.Data.{DomainData}
+use Rattle.plan_rules.specs.declared.plan.RangePlan.{RangePlan}
+use Rattle.plan_rules.specs.declared.plan.NodePlan.{NodePlan}
+use Rattle.plan_rules.specs.Data.{DomainData}
 use Rattle.plan_checker.specs.declared.version.PlanVersion.TheVariants.{Two}
 use Rattle.plan_checker.specs.Document.{list, node, range, domain, HasFourLinks, IsWhole}
 use Rattle.plan_checker.proofs.DocumentLemmas.{one_user_fields, part_fault, at_field}
-use Rattle.plan_checker.proofs.read.domain_of_one_user.Goals as goal
+use Rattle.plan_rules.proofs.read.domain_of_one_user.Goals as goal
 
 pub returns-in_err-table : goal.returns-in_err-table
 returns-in_err-table c =

@@ -1,6 +1,0 @@
-use Rattle.std.proofs.Common.{rules}
-use Rattle.plan_checker.specs.declared.fault.PlanFault.TheVariants.{DomainCount}
-use Rattle.plan_checker.proofs.accepted.AcceptedPlan.domains.Goals as goal
-
-pub overflow_cast-result : goal.overflow_cast-result
-overflow_cast-result c = let few = c.self.invariant.separate DomainCount in search rules

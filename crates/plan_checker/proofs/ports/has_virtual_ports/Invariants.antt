@@ -1,6 +1,0 @@
-use Rattle.std.proofs.Common.{take, All}
-use Rattle.plan_checker.specs.Separate.{IsVirtualPort}
-use Rattle.plan_checker.proofs.ports.has_virtual_ports.Given as goal
-
-abbrev pub invariant-loop-port : goal.invariant-loop-port
-invariant-loop-port l = All (IsVirtualPort l.ranges) (take l.port-index l.ports)

@@ -1,0 +1,6 @@
+-- what must be believed
+pub mod Data
+pub mod Fault
+pub mod Separate
+pub mod Part
+pub mod Laws
