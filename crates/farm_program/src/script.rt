@@ -25,6 +25,36 @@ pub enum Command {
     Look { node: u8 },
 }
 
+/// The word of a line that says what it asks.
+#[derive(Clone, Copy)]
+enum Verb {
+    Config,
+    Write,
+    Boot,
+    Poke,
+    Peek,
+    Collect,
+    Reset,
+    Look,
+}
+
+impl Verb {
+    // The verb that a word is.
+    fn of(word: &[u8]) -> Option<Verb> {
+        match word {
+            b"config" => Some(Verb::Config),
+            b"write" => Some(Verb::Write),
+            b"boot" => Some(Verb::Boot),
+            b"poke" => Some(Verb::Poke),
+            b"peek" => Some(Verb::Peek),
+            b"collect" => Some(Verb::Collect),
+            b"reset" => Some(Verb::Reset),
+            b"look" => Some(Verb::Look),
+            _ => None,
+        }
+    }
+}
+
 /// A line of a user, who is named by his domain and his place among its users.
 #[derive(Debug, Drop)]
 pub struct Line {
@@ -76,6 +106,7 @@ fn line_of(alloc: Global, plan: &AcceptedPlan, line: &[u8]) -> Result<Line, Refu
     let Some((verb, words)) = words.split_first() else {
         return Err(Refused::Line(LineFault::Verb));
     };
+    let verb = Verb::of(verb).ok_or(Refused::Line(LineFault::Verb))?;
     let command = command_of(alloc, verb, words)?;
     Ok(Line {
         domain,
@@ -97,39 +128,36 @@ fn user_named(plan: &AcceptedPlan, name: &[u8]) -> Option<(u8, u8)> {
 }
 
 /// The command of a verb and its words. The number of words and the decimal numbers are tested before any digits.
-fn command_of(alloc: Global, verb: &[u8], words: &[&[u8]]) -> Result<Command, Refused> {
-    let args = Refused::Line(LineFault::Args);
+fn command_of(alloc: Global, verb: Verb, words: &[&[u8]]) -> Result<Command, Refused> {
     match (verb, words) {
-        (b"config", [digits]) => Ok(Command::Config(hex_of(alloc, digits)?)),
-        (b"write", [host, digits]) => Ok(Command::Write {
+        (Verb::Config, [digits]) => Ok(Command::Config(hex_of(alloc, digits)?)),
+        (Verb::Write, [host, digits]) => Ok(Command::Write {
             host: decimal_of(host)?,
             bytes: hex_of(alloc, digits)?,
         }),
-        (b"boot", [host, digits]) => Ok(Command::Boot {
+        (Verb::Boot, [host, digits]) => Ok(Command::Boot {
             host: decimal_of(host)?,
             code: hex_of(alloc, digits)?,
         }),
-        (b"poke", [host, address, word]) => Ok(Command::Poke {
+        (Verb::Poke, [host, address, word]) => Ok(Command::Poke {
             host: decimal_of(host)?,
             address: word_of(alloc, address)?,
             word: word_of(alloc, word)?,
         }),
-        (b"peek", [host, address]) => Ok(Command::Peek {
+        (Verb::Peek, [host, address]) => Ok(Command::Peek {
             host: decimal_of(host)?,
             address: word_of(alloc, address)?,
         }),
-        (b"collect", [host]) => Ok(Command::Collect {
+        (Verb::Collect, [host]) => Ok(Command::Collect {
             host: decimal_of(host)?,
         }),
-        (b"reset", [node]) => Ok(Command::Reset {
+        (Verb::Reset, [node]) => Ok(Command::Reset {
             node: decimal_of(node)?,
         }),
-        (b"look", [node]) => Ok(Command::Look {
+        (Verb::Look, [node]) => Ok(Command::Look {
             node: decimal_of(node)?,
         }),
-        (b"config" | b"write" | b"boot" | b"poke" | b"peek" | b"collect" | b"reset" | b"look", _) =>
-            Err(args),
-        _ => Err(Refused::Line(LineFault::Verb)),
+        _ => Err(Refused::Line(LineFault::Args)),
     }
 }
 
