@@ -76,7 +76,7 @@ fn configured<R: Wait>(
     let mut text = String::new(alloc);
     for byte in bytes {
         let reply = session.configure(rt, *byte)?;
-        if reply != Reply::Config(ConfigReply::Nothing) {
+        if !matches!(reply, Reply::Config(ConfigReply::Nothing)) {
             if !text.is_empty() {
                 text.push_str(" ")?;
             }
@@ -97,7 +97,7 @@ fn written<R: Wait>(
     bytes: &[u8],
 ) -> Result<usize, Refusal> {
     for (taken, byte) in bytes.iter().enumerate() {
-        if session.write(rt, host, *byte)? == Reply::Full {
+        if matches!(session.write(rt, host, *byte)?, Reply::Full) {
             return Ok(taken);
         }
     }

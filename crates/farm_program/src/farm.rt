@@ -7,8 +7,7 @@ use crate::failure::Failure;
 use crate::quantum::Quantum;
 use crate::script::Line;
 use crate::visits::{Visitor, visit, visitors_of};
-use domain_core::Refusal;
-use farm_service::{NoGate, NoMemory, Opened, Service, WorkerPass, work_all};
+use farm_service::{NoGate, NoMemory, Opened, Service, UserPass, WorkerPass, work_all};
 use plan_checker::AcceptedPlan;
 use std::alloc::Global;
 use std::sync::Wait;
@@ -82,6 +81,77 @@ fn meet<R: Threads + Wait + Sync>(
     )
 }
 
+/// What the users leave behind.
+#[derive(Drop)]
+struct Left {
+    /// Their passes.
+    passes: Vec<UserPass>,
+    /// Their output lines.
+    texts: Vec<String>,
+    /// Whether one of them met want of memory.
+    wanted: bool,
+}
+
+// Room for what so many users leave behind.
+fn room_for(alloc: Global, users: usize) -> Result<Left, NoMemory> {
+    let passes = Vec::with_capacity(alloc, users)?;
+    let texts = Vec::with_capacity(alloc, users)?;
+    Ok(Left {
+        passes,
+        texts,
+        wanted: false,
+    })
+}
+
+// Puts in the room what the users leave behind, in their order.
+fn left_by(visitors: Vec<Visitor>, room: Left) -> Result<Left, NoMemory> {
+    let mut left = room;
+    for visitor in visitors {
+        let Visitor {
+            pass,
+            text,
+            wanted,
+            ..
+        } = visitor;
+        left.wanted |= wanted;
+        left.texts.push(text)?;
+        // His session has ended, and gave his pass back.
+        if let Some(pass) = pass {
+            left.passes.push(pass)?;
+        }
+    }
+    Ok(left)
+}
+
+// Gives each user his pass.
+fn hand_out(visitors: &mut [Visitor], users: Vec<UserPass>) {
+    for (visitor, pass) in visitors.iter_mut().zip(users) {
+        visitor.pass = Some(pass);
+    }
+}
+
+// Closes the service, and gives the output lines of each user.
+fn close<R: Wait>(
+    rt: &R,
+    alloc: Global,
+    service: Service,
+    shift: Shift,
+    left: Left,
+) -> Result<Vec<String>, Failure>
+    requires { AreItsPasses service.plan service.queue shift.passes.items }
+{
+    let Left {
+        passes: users,
+        texts,
+        wanted,
+    } = left;
+    let Shift { passes, ended } = shift;
+    if service.close(rt, alloc, passes, users).is_err() || ended.is_err() || wanted {
+        return Err(Failure::Memory);
+    }
+    Ok(texts)
+}
+
 /// Runs the lines of a script on a service of the plan, and gives the output lines of each user, in the
 /// order of the plan. At the end the service is closed, so that what users were told is what the
 /// journals hold.
@@ -96,8 +166,7 @@ pub fn texts_on<R: Threads + Wait + Sync>(
     requires quantum { (1 ≤ settings.quantum) × (settings.quantum ≤ 4096) }
 {
     let mut visitors = visitors_of(alloc, &plan)?;
-    let mut ended = Vec::with_capacity(alloc, visitors.len())?;
-    let mut texts = Vec::with_capacity(alloc, visitors.len())?;
+    let room = room_for(alloc, visitors.len())?;
     let Ok(opened) = Service::open(rt, alloc, plan, settings.workers) else {
         return Err(Failure::Memory);
     };
@@ -107,27 +176,9 @@ pub fn texts_on<R: Threads + Wait + Sync>(
         users,
         operator: _,
     } = opened;
-    for (visitor, pass) in visitors.iter_mut().zip(users) {
-        visitor.pass = Some(pass);
-    }
+    hand_out(visitors.as_mut_slice(), users);
     let quantum = Quantum::of(settings.quantum);
     let (shift, visitors) = meet(rt, alloc, &service, quantum, lines, visitors, passes);
-    let Shift {
-        passes,
-        ended: work,
-    } = shift;
-    let mut wanted = work.is_err();
-    for visitor in visitors {
-        wanted |= visitor.wanted;
-        let Visitor { pass, text, .. } = visitor;
-        texts.push(text)?;
-        // His session has ended, and gave his pass back.
-        if let Some(pass) = pass {
-            ended.push(pass)?;
-        }
-    }
-    if service.close(rt, alloc, passes, ended).is_err() || wanted {
-        return Err(Failure::Memory);
-    }
-    Ok(texts)
+    let left = left_by(visitors, room)?;
+    close(rt, alloc, service, shift, left)
 }

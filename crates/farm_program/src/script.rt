@@ -5,7 +5,7 @@ use script_text::{HexFault, bytes_of, is_passed_over, split_line};
 use std::alloc::Global;
 
 /// What a script line asks.
-#[derive(Debug, Drop)]
+#[derive(Drop)]
 pub enum Command {
     /// Configuration bytes for the switch of the user's domain.
     Config(Vec<u8>),
@@ -23,6 +23,35 @@ pub enum Command {
     Reset { node: u8 },
     /// A look at a node.
     Look { node: u8 },
+}
+
+impl Command {
+    /// The verb of its line.
+    pub fn verb(&self) -> &'static str {
+        match self {
+            Command::Config(_) => "config",
+            Command::Write { .. } => "write",
+            Command::Boot { .. } => "boot",
+            Command::Poke { .. } => "poke",
+            Command::Peek { .. } => "peek",
+            Command::Collect { .. } => "collect",
+            Command::Reset { .. } => "reset",
+            Command::Look { .. } => "look",
+        }
+    }
+
+    /// The number of the host or node that it asks, if it asks one.
+    pub fn place(&self) -> Option<u8> {
+        match self {
+            Command::Config(_) => None,
+            Command::Write { host, .. }
+            | Command::Boot { host, .. }
+            | Command::Poke { host, .. }
+            | Command::Peek { host, .. }
+            | Command::Collect { host } => Some(*host),
+            Command::Reset { node } | Command::Look { node } => Some(*node),
+        }
+    }
 }
 
 /// The word of a line that says what it asks.
@@ -56,7 +85,7 @@ impl Verb {
 }
 
 /// A line of a user, who is named by his domain and his place among its users.
-#[derive(Debug, Drop)]
+#[derive(Drop)]
 pub struct Line {
     pub domain: u8,
     pub user: u8,
@@ -64,7 +93,7 @@ pub struct Line {
 }
 
 /// Why a line can't run: it is wrong, or there is no memory for it.
-#[derive(Clone, Copy, Debug, PartialEq, Eq)]
+#[derive(Clone, Copy)]
 enum Refused {
     Line(LineFault),
     Memory,

@@ -76,7 +76,7 @@ fn act_all<R: Wait>(
         if line.domain == visitor.domain && line.user == visitor.user {
             let told = result_of(rt, alloc, session, quantum, &line.command);
             write_line(visitor, &line.command, told)?;
-            if settle(rt, session, quantum) == Err(Refusal::NoMemory) {
+            if matches!(settle(rt, session, quantum), Err(Refusal::NoMemory)) {
                 return Err(NoMemory);
             }
         }
@@ -91,15 +91,10 @@ fn write_line(
     told: Result<String, Refusal>,
 ) -> Result<(), NoMemory> {
     let Visitor { name, text, .. } = visitor;
-    match command {
-        Command::Config(_) => write!(text, "{name} config ")?,
-        Command::Write { host, .. } => write!(text, "{name} write {host} ")?,
-        Command::Boot { host, .. } => write!(text, "{name} boot {host} ")?,
-        Command::Poke { host, .. } => write!(text, "{name} poke {host} ")?,
-        Command::Peek { host, .. } => write!(text, "{name} peek {host} ")?,
-        Command::Collect { host } => write!(text, "{name} collect {host} ")?,
-        Command::Reset { node } => write!(text, "{name} reset {node} ")?,
-        Command::Look { node } => write!(text, "{name} look {node} ")?,
+    let verb = command.verb();
+    match command.place() {
+        Some(number) => write!(text, "{name} {verb} {number} ")?,
+        None => write!(text, "{name} {verb} ")?,
     }
     match told {
         Ok(told) => text.push_str(told.as_str())?,
