@@ -18,8 +18,8 @@ ghost use Rattle.token_queue.specs.Passes.{AreOf, AreItsPasses, HoldNone};
 mod users;
 
 use crate::users::{ActiveUser, boot, send_each};
-use domain_core::{Committed, Refusal};
-use farm_service::{Gate, Opened, Service, Token, UserPass, WorkerPass, work};
+use domain_core::Refusal;
+use farm_service::{Gate, Opened, Service, Token, Turned, UserPass, WorkerPass, work};
 use sample_plans::{Size, sized_plan};
 use std::alloc::{AllocError, Global};
 use std::sync::Wait;
@@ -43,8 +43,8 @@ struct Counter {
 impl Gate for Counter {
     fn begins<R: Wait>(&self, _rt: &R, _token: Token) {}
 
-    fn ended<R: Wait>(&self, _rt: &R, _token: Token, committed: &Result<Committed, Refusal>) {
-        if *committed == Ok(Committed::Done) {
+    fn ended<R: Wait>(&self, _rt: &R, _token: Token, turned: &Result<Turned, Refusal>) {
+        if *turned == Ok(Turned::CameHome) {
             self.done.fetch_add(1, Ordering::SeqCst);
         }
     }

@@ -5,8 +5,8 @@ ghost use Rattle.farm_service.specs.Services.{IsItsOperator};
 ghost use Rattle.token_queue.specs.Passes.{AreItsPasses};
 
 use crate::users::User;
-use domain_core::{Committed, Refusal};
-use farm_service::{Closed, Gate, Opened, Service, Token, UserPass, WorkerPass, work_all};
+use domain_core::Refusal;
+use farm_service::{Closed, Gate, Opened, Service, Token, Turned, UserPass, WorkerPass, work_all};
 use journal_replay::{Comparison, Merge, OneByOne, Turn, compare};
 use plan_checker::AcceptedPlan;
 use rand::RngExt;
@@ -59,7 +59,7 @@ impl Gate for HoldsSome {
         }
     }
 
-    fn ended<R: Wait>(&self, _rt: &R, _token: Token, _committed: &Result<Committed, Refusal>) {}
+    fn ended<R: Wait>(&self, _rt: &R, _token: Token, _turned: &Result<Turned, Refusal>) {}
 }
 
 // Journals are merged by chance, up to 40 entries at a time.

@@ -6,3 +6,5 @@ pub mod Commands
 pub mod Closed
 -- what only helps contracts
 pub mod Endings
+pub mod PortMoves
+pub mod Turns

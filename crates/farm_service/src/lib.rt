@@ -5,8 +5,10 @@
 mod closed;
 mod closing;
 mod crew;
+mod halves;
 mod lists;
 mod locking;
+mod moves;
 mod opening;
 mod out;
 mod pass;
@@ -19,6 +21,7 @@ mod worker;
 
 pub use closed::{Closed, ClosedDomain, NotClosed};
 pub use crew::work_all;
+pub use halves::Turned;
 pub use opening::Opened;
 pub use pass::UserPass;
 pub use service::Service;

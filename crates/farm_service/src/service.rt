@@ -28,7 +28,7 @@ use crate::pass::UserPass;
 use crate::waiting::wait;
 use crossbar::Word;
 use domain_core::laws::histories_grow;
-use domain_core::{By, Committed, Domain, Event, Moved, Refusal, Reply, Ticket};
+use domain_core::{By, Committed, Domain, Event, Refusal, Reply, Ticket};
 use plan_rules::AcceptedPlan;
 use std::alloc::Global;
 use std::marker::Model;
@@ -67,29 +67,6 @@ impl Model for Service {
     ghost view = { λ s. record { plan = s.plan; queue = s.tokens; table = table_of s.table } };
 
     ghost invariant = { λ s. length s.domains.items ≡ length s.plan };
-}
-
-// Whether a Move is recorded: where a packet went.
-fn is_recorded(reply: Reply) -> bool {
-    matches!(reply, Reply::Moved(Moved::Passed | Moved::Lost))
-}
-
-// A Move of a port; whether a packet went. A Move that would not be recorded isn't asked for, unless the journal is full:
-// then it is refused.
-fn move_port(domain: &mut SeatedDomain, port: u8) -> Result<bool, Refusal> {
-    if !domain.is_full() && port < domain.part().count() && domain.port_is_quiet(port) {
-        return Ok(false);
-    }
-    Ok(is_recorded(domain.apply(By::Farm, Event::Move(port))?))
-}
-
-// Moves of all ports of a domain, in order; whether a packet went.
-pub(crate) fn move_ports(domain: &mut SeatedDomain) -> Result<bool, Refusal> {
-    let mut went = false;
-    for port in 0..domain.part().count() {
-        went |= move_port(domain, port)?;
-    }
-    Ok(went)
 }
 
 // Asks a domain that is the plan's of this number.
@@ -266,14 +243,6 @@ impl Service {
         match self.hold(rt, ticket.domain()) {
             Some(mut seated) => seated.commit(ticket),
             None => Ok(Committed::Stale),
-        }
-    }
-
-    // Moves of all ports of a domain, in order, in one hold of its lock; whether a packet went.
-    pub(crate) fn move_all<R: Wait>(&self, rt: &R, domain: u8) -> Result<bool, Refusal> {
-        match self.hold(rt, domain) {
-            Some(mut seated) => move_ports(&mut seated),
-            None => Err(Refusal::NoSuch),
         }
     }
 

@@ -1,42 +1,12 @@
-//! Turns of workers where nobody watches, and rounds of `settle`.
-//!
-//! Both keep their tickets in a slot: the memory of a spent ticket serves the next, so that only the first is allocated
-//! under the lock of a domain.
+//! Turns of workers, and rounds of `settle`.
 
-use crate::service::{SeatedDomain, Service, move_ports};
+use crate::halves::{Ended, Turned, begin_turn, bring_home, end_turn};
+use crate::moves::move_ports;
+use crate::service::Service;
+use crate::worker::Gate;
 use domain_core::{Refusal, Ticket};
 use std::sync::Wait;
-
-// What a turn begins with.
-enum Begun {
-    // The slot has a ticket of the node.
-    Out,
-    // The node has no Step to do, and the packets of the domain's ports moved; whether one went.
-    Idle { moved: bool },
-}
-
-// Puts a ticket of a node in a slot, if a Step of it would be recorded, the limit aside; whether one would.
-fn check_out(
-    domain: &SeatedDomain,
-    number: u8,
-    node: u8,
-    slot: &mut Option<Ticket>,
-) -> Result<bool, Refusal> {
-    if usize::from(node) < domain.part().nodes().len() && !domain.node_is_quiet(node) {
-        domain.checkout_to(slot, number, node)?;
-        Ok(true)
-    } else {
-        Ok(false)
-    }
-}
-
-// Brings home the node of the ticket in a slot, unless it is stale.
-fn bring_home(domain: &mut SeatedDomain, slot: &mut Option<Ticket>) -> Result<(), Refusal> {
-    if let Some(ticket) = slot {
-        domain.bring_home(ticket)?;
-    }
-    Ok(())
-}
+use token_queue::Token;
 
 // Does up to so many Steps of the ticket in a slot.
 fn burst(slot: &mut Option<Ticket>, quantum: u64) {
@@ -45,73 +15,73 @@ fn burst(slot: &mut Option<Ticket>, quantum: u64) {
     }
 }
 
+impl Ended {
+    // Whether there was anything to do.
+    fn is_busy(self) -> bool {
+        self.moved || self.turned != Turned::NoStep
+    }
+}
+
 impl Service {
-    // Begins a turn in one hold of the domain's lock: a ticket of the node, or the Moves if it has no Step to do.
-    fn begin_turn<R: Wait>(
+    // Begins a turn in one hold of the domain's lock.
+    fn begin<R: Wait>(
         &self,
         rt: &R,
-        domain: u8,
-        node: u8,
+        token: Token,
         slot: &mut Option<Ticket>,
-    ) -> Result<Begun, Refusal> {
-        let Some(mut seated) = self.hold(rt, domain) else {
-            return Err(Refusal::NoSuch);
-        };
-        if check_out(&seated, domain, node, slot)? {
-            return Ok(Begun::Out);
+    ) -> Result<bool, Refusal> {
+        match self.hold(rt, token.domain) {
+            Some(seated) => begin_turn(&seated, token.domain, token.node, slot),
+            None => Err(Refusal::NoSuch),
         }
-        let moved = move_ports(&mut seated)?;
-        Ok(Begun::Idle { moved })
     }
 
-    // Ends a turn in one hold of the domain's lock: the ticket comes home, unless it is stale, and then the Moves.
-    fn end_turn<R: Wait>(
+    // Ends a turn in one hold of the domain's lock.
+    fn end<R: Wait>(
         &self,
         rt: &R,
-        domain: u8,
+        token: Token,
+        out: bool,
         slot: &mut Option<Ticket>,
-    ) -> Result<(), Refusal> {
-        let Some(mut seated) = self.hold(rt, domain) else {
-            return Err(Refusal::NoSuch);
-        };
-        bring_home(&mut seated, slot)?;
-        move_ports(&mut seated)?;
-        Ok(())
+    ) -> Result<Ended, Refusal> {
+        match self.hold(rt, token.domain) {
+            Some(mut seated) => end_turn(&mut seated, out, slot),
+            None => Err(Refusal::NoSuch),
+        }
     }
 
     // A turn of a node that nobody else has out; whether there was anything to do.
-    fn turn_alone<R: Wait>(
+    fn turn_alone<R: Wait, G: Gate>(
         &self,
         rt: &R,
-        domain: u8,
-        node: u8,
+        token: Token,
+        gate: &G,
         slot: &mut Option<Ticket>,
         quantum: u64,
     ) -> Result<bool, Refusal> {
-        match self.begin_turn(rt, domain, node, slot)? {
-            Begun::Idle { moved } => Ok(moved),
-            Begun::Out => {
-                burst(slot, quantum);
-                self.end_turn(rt, domain, slot)?;
-                Ok(true)
-            }
+        let out = self.begin(rt, token, slot)?;
+        gate.begins(rt, token);
+        if out {
+            burst(slot, quantum);
         }
+        let ended = self.end(rt, token, out, slot);
+        gate.ended(rt, token, &ended.map(|ended| ended.turned));
+        Ok(ended?.is_busy())
     }
 
-    // A burst of a node outside the lock, if it has a Step to do, and then the Moves of its domain; whether
-    // there was anything to do. A node that another thread has out is waited for, since a second burst
-    // of it would be stale. A stale ticket is passed over.
-    pub(crate) fn turn<R: Wait>(
+    // A turn: a burst of a node outside the lock, if it has a Step to do, and then the Moves of its domain; whether there
+    // was anything to do. A node that another thread has out is waited for, since a second burst of it would be stale.
+    pub(crate) fn turn<R: Wait, G: Gate>(
         &self,
         rt: &R,
-        domain: u8,
-        node: u8,
+        token: Token,
+        gate: &G,
         slot: &mut Option<Ticket>,
         quantum: u64,
     ) -> Result<bool, Refusal> {
-        self.out().take(rt, domain, node);
-        let done = self.turn_alone(rt, domain, node, slot, quantum);
-        self.out().give_back(domain, node);
+        self.out().take(rt, token.domain, token.node);
+        let done = self.turn_alone(rt, token, gate, slot, quantum);
+        self.out().give_back(token.domain, token.node);
         done
     }
 
@@ -120,19 +90,14 @@ impl Service {
     fn burst_alone<R: Wait>(
         &self,
         rt: &R,
-        domain: u8,
-        node: u8,
+        token: Token,
         slot: &mut Option<Ticket>,
         quantum: u64,
     ) -> Result<(), Refusal> {
-        let has_step = match self.hold(rt, domain) {
-            Some(seated) => check_out(&seated, domain, node, slot)?,
-            None => return Err(Refusal::NoSuch),
-        };
-        if has_step {
+        if self.begin(rt, token, slot)? {
             burst(slot, quantum);
-            if let Some(mut seated) = self.hold(rt, domain) {
-                bring_home(&mut seated, slot)?;
+            if let Some(mut seated) = self.hold(rt, token.domain) {
+                bring_home(&mut seated, true, slot)?;
             }
         }
         Ok(())
@@ -149,11 +114,14 @@ impl Service {
     ) -> Result<(), Refusal> {
         for node in 0..self.nodes(domain) {
             self.out().take(rt, domain, node);
-            let done = self.burst_alone(rt, domain, node, slot, quantum);
+            let done = self.burst_alone(rt, Token { domain, node }, slot, quantum);
             self.out().give_back(domain, node);
             done?;
         }
-        self.move_all(rt, domain)?;
+        match self.hold(rt, domain) {
+            Some(mut seated) => move_ports(&mut seated)?,
+            None => return Err(Refusal::NoSuch),
+        };
         Ok(())
     }
 }

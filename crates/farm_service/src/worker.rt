@@ -2,37 +2,32 @@
 
 ghost use Rattle.std.specs.Prelude.{◌≡◌, ◌≤◌, []};
 
+use crate::halves::Turned;
 use crate::service::Service;
-use domain_core::{Committed, Refusal, Ticket};
+use domain_core::{Refusal, Ticket};
 use std::sync::Wait;
 use std::thread;
 use token_queue::{Token, WorkerPass};
 
-/// Who is told of a worker's turns. The calls come outside of every lock.
+/// Who is told of a worker's turns. The calls come outside of every lock, and each `begins` is followed by one `ended` of
+/// the same token.
 pub trait Gate {
-    /// Whether it is told of turns in which there is nothing to do, too.
-    fn watches(&self) -> bool {
-        true
-    }
-
-    /// After the checkout of the token's node, and before its burst.
+    /// After the first hold of the domain's lock, in which the token's node was copied or found to have no Step to do, and
+    /// before the burst. If the node couldn't be copied, nobody is told of the turn.
     fn begins<R: Wait>(&self, rt: &R, token: Token);
 
-    /// After the commit, with what became of it.
-    fn ended<R: Wait>(&self, rt: &R, token: Token, committed: &Result<Committed, Refusal>);
+    /// After the second hold of the domain's lock, with what became of the node in it before the domain's ports moved, or
+    /// with the refusal that ended the turn: of the node's Steps, or of a Move. What was recorded before it stands.
+    fn ended<R: Wait>(&self, rt: &R, token: Token, turned: &Result<Turned, Refusal>);
 }
 
 /// Nobody is told.
 pub struct NoGate;
 
 impl Gate for NoGate {
-    fn watches(&self) -> bool {
-        false
-    }
-
     fn begins<R: Wait>(&self, _rt: &R, _token: Token) {}
 
-    fn ended<R: Wait>(&self, _rt: &R, _token: Token, _committed: &Result<Committed, Refusal>) {}
+    fn ended<R: Wait>(&self, _rt: &R, _token: Token, _turned: &Result<Turned, Refusal>) {}
 }
 
 /// Why a worker came back.
@@ -44,26 +39,6 @@ pub enum Worked {
     Stopped,
     /// A node could not be copied, or a journal could not grow.
     NoMemory,
-}
-
-// A burst of a node outside the lock, and then the Moves of its domain, whatever became of the ticket; whether there
-// was anything to do.
-fn step<R: Wait, G: Gate>(
-    rt: &R,
-    service: &Service,
-    token: Token,
-    gate: &G,
-    quantum: u64,
-) -> Result<bool, Refusal> {
-    let mut ticket = service.checkout(rt, token.domain, token.node)?;
-    gate.begins(rt, token);
-    ticket.burst(quantum);
-    let stepped = ticket.steps() > 0;
-    let committed = service.commit(rt, ticket);
-    gate.ended(rt, token, &committed);
-    committed?;
-    let moved = service.move_all(rt, token.domain)?;
-    Ok(stepped || moved)
 }
 
 // One turn; whether there was anything to do. The token goes back in every case.
@@ -81,12 +56,7 @@ fn turn<R: Wait, G: Gate>(
     match service.tokens().take(rt, pass) {
         None => Ok(false),
         Some(token) => {
-            // Where nobody watches, a node that has no Step to do isn't copied, and the lock is taken less often.
-            let done = if gate.watches() {
-                step(rt, service, token, gate, quantum)
-            } else {
-                service.turn(rt, token.domain, token.node, slot, quantum)
-            };
+            let done = service.turn(rt, token, gate, slot, quantum);
             service.tokens().give_back(rt, pass, token);
             done
         }

@@ -32,6 +32,8 @@ pub enum Act {
     Look(u8),
     /// Settles.
     Settle,
+    /// Settles for so many rounds at most.
+    Rounds(u64),
 }
 
 // Tells what a configuration byte was answered.
@@ -148,9 +150,14 @@ fn repeat<R: Wait>(
 }
 
 // Settles, and settles again where memory was wanting.
-fn settle<R: Wait>(rt: &R, session: &mut Session<'_>, said: &mut String) -> Result<(), AllocError> {
-    let settled = match session.settle(rt, QUANTUM, ROUNDS) {
-        Err(Refusal::NoMemory) => session.settle(rt, QUANTUM, ROUNDS),
+fn settle<R: Wait>(
+    rt: &R,
+    session: &mut Session<'_>,
+    rounds: u64,
+    said: &mut String,
+) -> Result<(), AllocError> {
+    let settled = match session.settle(rt, QUANTUM, rounds) {
+        Err(Refusal::NoMemory) => session.settle(rt, QUANTUM, rounds),
         told => told,
     };
     match settled {
@@ -175,7 +182,8 @@ pub fn perform<R: Wait>(
         Act::Read(host, count) => repeat(rt, session, Event::Read(host), count, said),
         Act::Reset(node) => tell(said, ask(rt, session, Event::Reset(node))),
         Act::Look(node) => tell(said, ask(rt, session, Event::Look(node))),
-        Act::Settle => settle(rt, session, said),
+        Act::Settle => settle(rt, session, ROUNDS, said),
+        Act::Rounds(rounds) => settle(rt, session, rounds, said),
     }
 }
 

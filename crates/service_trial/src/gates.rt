@@ -2,7 +2,7 @@
 
 use crate::acts::QUANTUM;
 use domain_core::{Committed, Refusal};
-use farm_service::{Gate, Service, Token};
+use farm_service::{Gate, Service, Token, Turned};
 use std::sync::{Mutex, Wait};
 use std::thread;
 
@@ -11,13 +11,13 @@ use std::thread;
 pub struct Seen {
     /// How many bursts began, up to 255.
     pub begun: u8,
-    /// Whether node 1's burst was committed.
+    /// Whether node 1 came home from its burst.
     pub committed: bool,
     /// Whether node 0 waited for it in vain.
     pub failed: bool,
 }
 
-/// Holds node 0's burst until node 1's burst has been committed.
+/// Holds node 0's burst until node 1 has come home from one.
 #[derive(Drop)]
 pub struct HoldsFirst<'a> {
     service: &'a Service,
@@ -90,8 +90,8 @@ impl Gate for HoldsFirst<'_> {
         }
     }
 
-    fn ended<R: Wait>(&self, rt: &R, token: Token, committed: &Result<Committed, Refusal>) {
-        if token.node == 1 && *committed == Ok(Committed::Done) {
+    fn ended<R: Wait>(&self, rt: &R, token: Token, turned: &Result<Turned, Refusal>) {
+        if token.node == 1 && *turned == Ok(Turned::CameHome) {
             self.seen.lock(rt).committed = true;
         }
     }

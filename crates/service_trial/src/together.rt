@@ -1,10 +1,10 @@
 //! Rows of users, workers and the operator in threads of their own.
 
-use crate::acts::Act::{self, Config, Fill, Knock, Look, Read, Settle, Write};
+use crate::acts::Act::{self, Config, Fill, Knock, Look, Read, Rounds, Settle, Write};
 use crate::apart::{Visit, look_apart, visit_apart, visit_both};
 use crate::crew::{work_held, work_here, work_in};
 use crate::farm::{Farm, close, open};
-use crate::rows::{DRIVE_OUTPUT_5, JOIN, PEEK, POKE, SAYS_41};
+use crate::rows::{DRIVE_OUTPUT_5, JOIN, LOOPS, PEEK, POKE, SAYS_41};
 use farm_service::{Closed, NoMemory, Token, UserPass, Worked};
 use sample_plans::{ANN_AND_BOB, ANN_OF_THREE_EVENTS, ANN_WITH_CAS, TWO_NODES};
 use std::alloc::{AllocError, Global};
@@ -22,6 +22,16 @@ const POKE_AND_PEEK: [Act; 5] = [
 
 /// Boots the node with a program that sends 41.
 const BOOT: [Act; 2] = [Config(&JOIN), Write(0, &SAYS_41)];
+
+/// Boots two nodes, each by a host of its own, with a program that loops for ever, and looks at them.
+const LOOP_BOTH: [Act; 6] = [
+    Config(&[1, 0, 3, 1, 1, 2, 3]),
+    Write(0, &LOOPS),
+    Write(1, &LOOPS),
+    Rounds(20),
+    Look(0),
+    Look(1),
+];
 
 /// Reads what the program sent, and looks at its node.
 const LOOK: [Act; 2] = [Read(0, 2), Look(0)];
@@ -216,18 +226,25 @@ pub fn full_journal<R: Threads + Wait + Sync>(rt: &R, alloc: Global) -> Result<S
     worked(rt, alloc, ANN_OF_THREE_EVENTS, &[Fill(0, 3)], &BOOT)
 }
 
-/// While a worker holds node 0's ticket, another checks node 1 out and commits it: no lock is held
+/// While a worker holds the ticket of node 0, which loops, another checks node 1 out and commits it: no lock is held
 /// from a checkout to its commit. Where no thread could be started for the other, the first does it.
 pub fn one_node_waits<R: Threads + Wait + Sync>(
     rt: &R,
     alloc: Global,
 ) -> Result<String, AllocError> {
-    let Some((farm, users)) = open(rt, alloc, TWO_NODES, 2) else {
+    let Some((farm, mut users)) = open(rt, alloc, TWO_NODES, 2) else {
         return Err(AllocError);
     };
+    let Some(ann) = users.pop() else {
+        return Err(AllocError);
+    };
+    let Visit { pass, said } = visit_apart(rt, alloc, &farm.service, ann, &LOOP_BOTH);
+    users.push(pass)?;
     let (farm, seen, work) = work_held(rt, farm);
     let (committed, failed) = (seen.committed, seen.failed);
-    let mut text = format!(in alloc; " committed {committed}, failed {failed};")?;
+    let mut text = String::new(alloc);
+    tell(&mut text, "ann", said)?;
+    write!(text, " committed {committed}, failed {failed};")?;
     tell_work(&mut text, work)?;
     text.push_str(tell_closed(alloc, close(rt, alloc, farm, users))?.as_str())?;
     Ok(text)

@@ -1,0 +1,82 @@
+//! The two halves of a turn, each of which is done in one hold of a domain's lock. Between them the ticket does its burst.
+//!
+//! A ticket is kept in a slot: the memory of a spent one serves the next, if the nodes' memories are of one size.
+ghost use Rattle.std.specs.Prelude.{◌≡◌, ◌≢◌, true, Ok, Some, IfOk, IfErr, IfSome, slice_get};
+ghost use Rattle.domain_core.specs.declared.event.Refusal.TheVariants.{NoMemory};
+ghost use Rattle.domain_core.specs.Ticket.{fresh_ticket};
+ghost use Rattle.farm_service.specs.Turns.{has_step, Homes, EndsTurn};
+
+use crate::moves::move_ports;
+use crate::service::SeatedDomain;
+use domain_core::{Committed, Refusal, Ticket};
+
+/// What became of the node of a turn.
+#[derive(Clone, Copy, Debug, PartialEq, Eq)]
+pub enum Turned {
+    /// It came home, and its Steps are in the journal.
+    CameHome,
+    /// The home node had changed since it was copied, so that the burst is lost.
+    Stale,
+    /// It had no Step to do, and was not copied.
+    NoStep,
+}
+
+/// What became of a turn: of its node, and whether a packet moved after it.
+#[derive(Clone, Copy)]
+pub(crate) struct Ended {
+    pub(crate) turned: Turned,
+    pub(crate) moved: bool,
+}
+
+/// Begins a turn: puts a ticket of the node in the slot, if a Step of it would be recorded, the limit aside; whether one
+/// would. The domain's number is only written into the ticket.
+pub(crate) fn begin_turn(
+    domain: &SeatedDomain,
+    number: u8,
+    node: u8,
+    slot: &mut Option<Ticket>,
+) -> Result<bool, Refusal>
+    ensures step { IfOk result (λ out. out ≡ has_step domain.now node) }
+    ensures ticket { result ≡ Ok true → IfSome (slice_get domain.now.machine.devices.nodes node) (λ home. slot.new ≡ Some (fresh_ticket number node home)) }
+    ensures same { result ≢ Ok true → slot.new ≡ slot.old }
+    ensures err { IfErr result (λ refusal. (refusal ≡ NoMemory) × (has_step domain.now node ≡ true)) }
+{
+    // A domain has as many nodes as its part.
+    domain.meant();
+    if usize::from(node) < domain.part().nodes().len() && !domain.node_is_quiet(node) {
+        domain.checkout_to(slot, number, node)?;
+        Ok(true)
+    } else {
+        Ok(false)
+    }
+}
+
+/// Brings the ticket of a slot home, if it is out, unless it is stale.
+pub(crate) fn bring_home(
+    domain: &mut SeatedDomain,
+    out: bool,
+    slot: &mut Option<Ticket>,
+) -> Result<Turned, Refusal>
+    ensures { Homes out domain.old slot.old result domain.new slot.new }
+{
+    match slot {
+        Some(ticket) if out => match domain.bring_home(ticket)? {
+            Committed::Done => Ok(Turned::CameHome),
+            Committed::Stale => Ok(Turned::Stale),
+        },
+        _ => Ok(Turned::NoStep),
+    }
+}
+
+/// Ends a turn: the ticket of the slot is brought home, if it is out, and then all ports move, in order.
+pub(crate) fn end_turn(
+    domain: &mut SeatedDomain,
+    out: bool,
+    slot: &mut Option<Ticket>,
+) -> Result<Ended, Refusal>
+    ensures { EndsTurn out domain.old slot.old result domain.new slot.new }
+{
+    let turned = bring_home(domain, out, slot)?;
+    let moved = move_ports(domain)?;
+    Ok(Ended { turned, moved })
+}
