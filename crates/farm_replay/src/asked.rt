@@ -3,7 +3,7 @@
 use domain_core::{By, Event};
 
 /// What a line asks of a farm.
-#[derive(Debug, Drop)]
+#[derive(Drop)]
 pub enum Asked {
     /// The words of all physical outputs.
     Words,
@@ -14,7 +14,7 @@ pub enum Asked {
 }
 
 /// What a line asks of a domain.
-#[derive(Debug, Drop)]
+#[derive(Drop)]
 pub enum OfDomain {
     /// Events by one asker, one after another.
     Events(By, Vec<Event>),

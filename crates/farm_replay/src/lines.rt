@@ -6,7 +6,7 @@ use script_text::{HexFault, bytes_of};
 use std::alloc::{AllocError, AllocFailed, Global};
 
 /// Why a line asks nothing.
-#[derive(Clone, Copy, Debug, PartialEq, Eq)]
+#[derive(Clone, Copy)]
 pub enum Unread {
     Wrong,
     NoMemory,
@@ -81,54 +81,72 @@ fn asker<'a, 'b>(words: &'a [&'b str]) -> Result<(Option<By>, &'a [&'b str]), Un
     }
 }
 
-// Events that are asked by the line's asker, or else by the farm if it steps and moves, and by user 0 in all other cases.
+// Events that are asked by the line's asker, or else by who asks for such usually.
 fn events_of(alloc: Global, by: Option<By>, words: &[&str]) -> Result<OfDomain, Unread> {
     let mut events = Vec::new(alloc);
-    let usual = match words {
-        ["step", node] => {
-            events.push(Event::Step(byte_number(node)?))?;
-            By::Farm
-        }
-        ["move", port] => {
-            events.push(Event::Move(byte_number(port)?))?;
-            By::Farm
-        }
+    let usual = push_events(alloc, words, &mut events)?;
+    Ok(OfDomain::Events(by.unwrap_or(usual), events))
+}
+
+// Adds the events that are asked. Usually the farm steps and moves, and user 0 asks in all other cases. A plural asks for
+// several, one after another.
+fn push_events(alloc: Global, words: &[&str], events: &mut Vec<Event>) -> Result<By, Unread> {
+    match words {
         ["moves", ports @ ..] => {
             for port in ports {
                 events.push(Event::Move(byte_number(port)?))?;
             }
-            By::Farm
+            Ok(By::Farm)
         }
-        words => {
-            commands_of(alloc, words, &mut events)?;
-            By::User(0)
-        }
-    };
-    Ok(OfDomain::Events(by.unwrap_or(usual), events))
-}
-
-// The events of a user's command. A plural asks for several, one after another.
-fn commands_of(alloc: Global, words: &[&str], events: &mut Vec<Event>) -> Result<(), Unread> {
-    match words {
-        ["config", byte] => events.push(Event::Config(one_byte(byte)?))?,
-        ["write", host, byte] => events.push(Event::Write(byte_number(host)?, one_byte(byte)?))?,
-        ["read", host] => events.push(Event::Read(byte_number(host)?))?,
-        ["reset", node] => events.push(Event::Reset(byte_number(node)?))?,
-        ["look", node] => events.push(Event::Look(byte_number(node)?))?,
         ["configs", digits] => {
             for byte in &bytes_in(alloc, digits)? {
                 events.push(Event::Config(*byte))?;
             }
+            Ok(By::User(0))
         }
         ["writes", host, digits] => {
-            let host = byte_number(host)?;
-            for byte in &bytes_in(alloc, digits)? {
-                events.push(Event::Write(host, *byte))?;
-            }
+            push_writes(alloc, byte_number(host)?, digits, events)?;
+            Ok(By::User(0))
         }
-        _ => return Err(Unread::Wrong),
+        words => {
+            let (by, event) = event_of(words)?;
+            events.push(event)?;
+            Ok(by)
+        }
+    }
+}
+
+fn push_writes(
+    alloc: Global,
+    host: u8,
+    digits: &str,
+    events: &mut Vec<Event>,
+) -> Result<(), Unread> {
+    for byte in &bytes_in(alloc, digits)? {
+        events.push(Event::Write(host, *byte))?;
     }
     Ok(())
+}
+
+// A single event, and who asks for it usually.
+fn event_of(words: &[&str]) -> Result<(By, Event), Unread> {
+    match words {
+        ["step", node] => Ok((By::Farm, Event::Step(byte_number(node)?))),
+        ["move", port] => Ok((By::Farm, Event::Move(byte_number(port)?))),
+        words => Ok((By::User(0), command_of(words)?)),
+    }
+}
+
+// A user's command.
+fn command_of(words: &[&str]) -> Result<Event, Unread> {
+    match words {
+        ["config", byte] => Ok(Event::Config(one_byte(byte)?)),
+        ["write", host, byte] => Ok(Event::Write(byte_number(host)?, one_byte(byte)?)),
+        ["read", host] => Ok(Event::Read(byte_number(host)?)),
+        ["reset", node] => Ok(Event::Reset(byte_number(node)?)),
+        ["look", node] => Ok(Event::Look(byte_number(node)?)),
+        _ => Err(Unread::Wrong),
+    }
 }
 
 fn settled(quantum: &str, rounds: &str) -> Result<OfDomain, Unread> {
@@ -151,24 +169,35 @@ fn number(word: &str, most: u64) -> Result<u64, Unread> {
 }
 
 fn byte_number(word: &str) -> Result<u8, Unread> {
-    u8::try_from(number(word, 255)?).map_err(|_| Unread::Wrong)
+    match u8::try_from(number(word, 255)?) {
+        Ok(number) => Ok(number),
+        Err(_) => Err(Unread::Wrong),
+    }
 }
 
 fn place(word: &str) -> Result<usize, Unread> {
-    usize::try_from(number(word, u64::MAX)?).map_err(|_| Unread::Wrong)
+    match usize::try_from(number(word, u64::MAX)?) {
+        Ok(place) => Ok(place),
+        Err(_) => Err(Unread::Wrong),
+    }
 }
 
 // The byte that two hexadecimal digits spell.
 fn one_byte(word: &str) -> Result<u8, Unread> {
-    if word.len() != 2 || !word.bytes().all(|byte| byte.is_ascii_hexdigit()) {
-        return Err(Unread::Wrong);
+    match u8::from_str_radix(word, 16) {
+        Ok(byte) if word.len() == 2 && are_hexadecimal(word) => Ok(byte),
+        _ => Err(Unread::Wrong),
     }
-    u8::from_str_radix(word, 16).map_err(|_| Unread::Wrong)
+}
+
+fn are_hexadecimal(word: &str) -> bool {
+    word.bytes().all(|byte| byte.is_ascii_hexdigit())
 }
 
 fn bytes_in(alloc: Global, digits: &str) -> Result<Vec<u8>, Unread> {
-    bytes_of(alloc, digits).map_err(|fault| match fault {
-        HexFault::NotHex => Unread::Wrong,
-        HexFault::NoMemory => Unread::NoMemory,
-    })
+    match bytes_of(alloc, digits) {
+        Ok(bytes) => Ok(bytes),
+        Err(HexFault::NotHex) => Err(Unread::Wrong),
+        Err(HexFault::NoMemory) => Err(Unread::NoMemory),
+    }
 }

@@ -146,8 +146,10 @@ impl Played {
     fn checkout(&mut self, domain: u8, node: u8, text: &mut String) -> Result<(), Refusal> {
         let ticket = self.farm.checkout(domain, node)?;
         write!(text, "ticket {}", self.tickets.len())?;
-        self.tickets.push(Some(ticket)).map_err(|_| NoMemory)?;
-        Ok(())
+        match self.tickets.push(Some(ticket)) {
+            Ok(()) => Ok(()),
+            Err(_) => Err(Refusal::NoMemory),
+        }
     }
 
     // The place of a ticket of the domain that isn't spent.

@@ -18,7 +18,7 @@ const BETWEEN_FARMS: &[u8] = b"===";
 const AFTER_THE_PLAN: &[u8] = b"---";
 
 // A line that asks: its number in the text, how often it asks, what, and the answer that it expects.
-#[derive(Debug, Drop)]
+#[derive(Drop)]
 struct Line {
     number: u64,
     times: u64,
@@ -90,10 +90,17 @@ fn lines_in(text: &[u8]) -> u64 {
 
 // A farm whose plan begins after so many lines of the text.
 fn script_of(alloc: Global, text: &[u8], before: u64) -> Result<Script, ReplayFault> {
-    let (plan, mut rest) = divide(text, AFTER_THE_PLAN);
+    let (plan, rest) = divide(text, AFTER_THE_PLAN);
     let before = lines_in(plan).saturating_add(before).saturating_add(1);
     let plan = check(alloc, read_plan(alloc, plan)?)?;
+    let lines = asking_lines(alloc, rest, before)?;
+    Ok(Script { plan, lines })
+}
+
+// The lines that ask, of which the first has so many before it in the whole text.
+fn asking_lines(alloc: Global, text: &[u8], before: u64) -> Result<Vec<Line>, ReplayFault> {
     let mut lines = Vec::new(alloc);
+    let mut rest = text;
     for number in 1..u64::MAX {
         if rest.is_empty() {
             break;
@@ -109,11 +116,13 @@ fn script_of(alloc: Global, text: &[u8], before: u64) -> Result<Script, ReplayFa
             Err(Unread::NoMemory) => return Err(ReplayFault::NoMemory),
         }
     }
-    Ok(Script { plan, lines })
+    Ok(lines)
 }
 
 fn line_of(alloc: Global, line: &[u8], number: u64) -> Result<Line, Unread> {
-    let line = std::str::from_utf8(line).map_err(|_| Unread::Wrong)?;
+    let Ok(line) = std::str::from_utf8(line) else {
+        return Err(Unread::Wrong);
+    };
     let (text, expected) = split_expected(line);
     let (times, asked) = asked_in(alloc, text)?;
     Ok(Line {
@@ -135,22 +144,26 @@ fn play(
     let mut played = Played::open(alloc, &plan)?;
     for line in lines {
         let answer = answer_of(alloc, &plan, &mut played, &line)?;
-        let Line {
-            number,
-            times: _,
-            asked: _,
-            text,
-            expected,
-        } = line;
-        answers.push(Answered {
-            line: number,
-            asked: text,
-            answer,
-            expected,
-        })?;
+        answers.push(answered(line, answer))?;
     }
     let words = played.words();
     Ok(ReplayedFarm { plan, words })
+}
+
+fn answered(line: Line, answer: String) -> Answered {
+    let Line {
+        number,
+        times: _,
+        asked: _,
+        text,
+        expected,
+    } = line;
+    Answered {
+        line: number,
+        asked: text,
+        answer,
+        expected,
+    }
 }
 
 // The answers of a line that asks so often.

@@ -37,35 +37,39 @@ pub fn trace_boot(alloc: Global, code: &[u8], steps: u64) -> Result<String, Boot
     send(&mut node, LinkNumber::Zero, message.as_slice());
     let mut text = String::new(alloc);
     for _ in 0..steps {
-        if let Some(instruction) = Instruction::next(&node)? {
-            let address = instruction.address;
-            write!(text, "{address:08x} ")?;
-        }
-        let stepped = write_step(&mut node, &mut text)?;
-        text.push_str("\n")?;
-        take_packets(&mut node, &mut text)?;
-        if stepped != Stepped::Ran {
+        if write_line(&mut node, &mut text)? != Stepped::Ran {
             break;
         }
     }
     Ok(text)
 }
 
-// Takes the packets that leave the links, and acknowledges each byte.
-fn take_packets(node: &mut Node, text: &mut String) -> Result<(), AllocError> {
+// Does a Step, and writes its line and those of the packets that leave then.
+fn write_line(node: &mut Node, text: &mut String) -> Result<Stepped, AllocError> {
+    if let Some(instruction) = Instruction::next(node)? {
+        let address = instruction.address;
+        write!(text, "{address:08x} ")?;
+    }
+    let stepped = write_step(node, text)?;
+    text.push_str("\n")?;
     for link in LinkNumber::all() {
+        take_packets(node, link, text)?;
+    }
+    Ok(stepped)
+}
+
+// Takes the packets that leave a link, and acknowledges each byte. An acknowledge and a byte may wait at once.
+fn take_packets(node: &mut Node, link: LinkNumber, text: &mut String) -> Result<(), AllocError> {
+    for _ in 0..2 {
+        let Some(packet) = node.take(link) else {
+            break;
+        };
         let number = number_of(link);
-        // An acknowledge and a byte may wait at once.
-        for _ in 0..2 {
-            let Some(packet) = node.take(link) else {
-                break;
-            };
-            write!(text, "link {number} ")?;
-            write_packet(text, Some(packet))?;
-            text.push_str("\n")?;
-            if let Packet::Byte(_) = packet {
-                node.deliver(link, Packet::Ack);
-            }
+        write!(text, "link {number} ")?;
+        write_packet(text, Some(packet))?;
+        text.push_str("\n")?;
+        if let Packet::Byte(_) = packet {
+            node.deliver(link, Packet::Ack);
         }
     }
     Ok(())

@@ -50,29 +50,40 @@ pub fn write_all_registers(text: &mut String, registers: &Cpu) -> Result<(), All
 
 // Writes the registers that differ from others, or all.
 fn write_registers(text: &mut String, old: &Cpu, new: &Cpu, all: bool) -> Result<(), AllocError> {
-    for (name, old, new) in [
+    let words = [
         ("Iptr", old.instruction, new.instruction),
         ("W", old.workspace, new.workspace),
         ("A", old.a, new.a),
         ("B", old.b, new.b),
         ("C", old.c, new.c),
         ("O", old.operand, new.operand),
-    ] {
-        write_word(text, name, all || old != new, new)?;
-    }
+    ];
+    write_words(text, &words, all)?;
     write_count(text, "bytes", all || old.bytes != new.bytes, new.bytes)?;
-    for (name, old, new) in [
+    let words = [
         ("Front", old.queue.front, new.queue.front),
         ("Back", old.queue.back, new.queue.back),
-    ] {
-        write_word(text, name, all || old != new, new)?;
-    }
-    for (name, old, new) in [
-        ("Error", old.error, new.error),
-        ("HaltOnError", old.halt_on_error, new.halt_on_error),
-        ("running", old.running, new.running),
-    ] {
-        write_flag(text, name, all || old != new, new)?;
+    ];
+    write_words(text, &words, all)?;
+    write_flags(text, old, new, all)
+}
+
+fn write_flags(text: &mut String, old: &Cpu, new: &Cpu, all: bool) -> Result<(), AllocError> {
+    write_flag(text, "Error", all || old.error != new.error, new.error)?;
+    let differs = all || old.halt_on_error != new.halt_on_error;
+    write_flag(text, "HaltOnError", differs, new.halt_on_error)?;
+    write_flag(
+        text,
+        "running",
+        all || old.running != new.running,
+        new.running,
+    )
+}
+
+// Writes the words that differ, or all: each has a name, and what it was and is.
+fn write_words(text: &mut String, words: &[(&str, u32, u32)], all: bool) -> Result<(), AllocError> {
+    for (name, old, new) in words {
+        write_word(text, name, all || old != new, *new)?;
     }
     Ok(())
 }
@@ -134,15 +145,25 @@ fn write_link(text: &mut String, number: &str, old: &Link, new: &Link) -> Result
     }
     write!(text, " link {number}")?;
     write_end(text, &old.end, &new.end)?;
-    let (pointer, count) = (new.input_pointer, new.input_count);
-    if (old.input_pointer, old.input_count) != (pointer, count) {
-        write!(text, " input {pointer:08x} {count}")?;
-    }
-    let (pointer, count) = (new.output_pointer, new.output_count);
-    if (old.output_pointer, old.output_count) != (pointer, count) {
-        write!(text, " output {pointer:08x} {count}")?;
-    }
+    let was = (old.input_pointer, old.input_count);
+    write_message(text, "input", was, (new.input_pointer, new.input_count))?;
+    let was = (old.output_pointer, old.output_count);
+    write_message(text, "output", was, (new.output_pointer, new.output_count))?;
     write_flag(text, "watched", old.watched != new.watched, new.watched)
+}
+
+// Writes where a message goes on and how many bytes are left, where that differs.
+fn write_message(
+    text: &mut String,
+    name: &str,
+    old: (u32, u32),
+    new: (u32, u32),
+) -> Result<(), AllocError> {
+    if old == new {
+        return Ok(());
+    }
+    let (pointer, count) = new;
+    write!(text, " {name} {pointer:08x} {count}")
 }
 
 fn write_end(text: &mut String, old: &LinkEnd, new: &LinkEnd) -> Result<(), AllocError> {

@@ -10,18 +10,20 @@ pub fn read_instruction(words: &mut Words, code: &mut Vec<u8>) -> Result<bool, R
     let Some(name) = words.peek() else {
         return Ok(false);
     };
-    if name == "hex" {
+    let spelling = if name == "hex" {
         words.skip();
         push_bytes(words.take()?, code)?;
+        return Ok(true);
     } else if let Some(function) = function_named(name) {
         words.skip();
-        code.extend_from_slice(spell(function, words.operand()?).as_slice())?;
+        spell(function, words.operand()?)
     } else if let Some(operation) = operation_named(name) {
         words.skip();
-        code.extend_from_slice(spell(Function::Operate, operation).as_slice())?;
+        spell(Function::Operate, operation)
     } else {
         return Ok(false);
-    }
+    };
+    code.extend_from_slice(spelling.as_slice())?;
     Ok(true)
 }
 

@@ -85,11 +85,7 @@ fn read_bytes(alloc: Global, name: &str, words: &mut Words) -> Result<Command, R
         }
         "boot" => {
             let link = words.link()?;
-            for _ in 0..u64::MAX {
-                if !read_instruction(words, &mut bytes)? {
-                    break;
-                }
-            }
+            read_code(words, &mut bytes)?;
             Ok(Command::Boot(link, bytes))
         }
         _ => {
@@ -99,23 +95,41 @@ fn read_bytes(alloc: Global, name: &str, words: &mut Words) -> Result<Command, R
     }
 }
 
+// Instructions, as long as there are some.
+fn read_code(words: &mut Words, code: &mut Vec<u8>) -> Result<(), Refused> {
+    for _ in 0..u64::MAX {
+        if !read_instruction(words, code)? {
+            break;
+        }
+    }
+    Ok(())
+}
+
 // A line of few words.
 fn read_question(name: &str, words: &mut Words) -> Result<Command, Refused> {
     match name {
-        "step" => Ok(Command::Step(count_or_one(words)?)),
-        "run" => Ok(Command::Run(words.count()?)),
-        "deliver" => Ok(Command::Deliver(words.link()?, read_packet(words)?)),
-        "take" => Ok(Command::Take(words.link()?)),
         "look" => Ok(Command::Look),
         "quiet" => Ok(Command::Quiet),
         "registers" => Ok(Command::Registers),
-        "word" => Ok(Command::Word(words.hexadecimal()?)),
         "reset" => Ok(Command::Reset),
         "clear" => Ok(Command::Clear),
-        "receive" => Ok(Command::Receive(words.link()?)),
+        "take" | "receive" | "deliver" => read_host(name, words),
+        "step" => Ok(Command::Step(count_or_one(words)?)),
+        "run" => Ok(Command::Run(words.count()?)),
+        "word" => Ok(Command::Word(words.hexadecimal()?)),
         "peek" => Ok(Command::Peek(words.hexadecimal()?)),
         "poke" => Ok(Command::Poke(words.hexadecimal()?, words.hexadecimal()?)),
         _ => Err(Refused::Word),
+    }
+}
+
+// What a host does at a link.
+fn read_host(name: &str, words: &mut Words) -> Result<Command, Refused> {
+    let link = words.link()?;
+    match name {
+        "take" => Ok(Command::Take(link)),
+        "receive" => Ok(Command::Receive(link)),
+        _ => Ok(Command::Deliver(link, read_packet(words)?)),
     }
 }
 

@@ -37,6 +37,11 @@ pub fn fresh(alloc: Global, size: usize) -> Result<Node, NoMemory> {
     Ok(Node::running(memory, Links::new(), registers))
 }
 
+/// A text, or `-` if it is empty.
+pub fn or_dash(alloc: Global, text: &str) -> Result<String, NoMemory> {
+    String::from_str(alloc, if text.is_empty() { "-" } else { text })
+}
+
 /// Does what a line asks for on a node, and writes the answer; the node as it is then.
 pub fn perform(
     alloc: Global,

@@ -9,21 +9,34 @@ use std::alloc::Global;
 /// One thing that is put into a node.
 #[derive(Clone, Copy)]
 pub enum Setting {
-    Instruction(u32),
-    Workspace(u32),
-    A(u32),
-    B(u32),
-    C(u32),
-    Operand(u32),
-    Front(u32),
-    Back(u32),
+    Register(Register, u32),
+    Flag(Flag, bool),
+    /// How many bytes of instructions were done.
     Bytes(u32),
-    Error(bool),
-    HaltOnError(bool),
-    Running(bool),
     /// A word of memory: its address, and the word.
     Word(u32, u32),
     AtLink(LinkNumber, LinkSetting),
+}
+
+/// A register of a word.
+#[derive(Clone, Copy)]
+pub enum Register {
+    Instruction,
+    Workspace,
+    A,
+    B,
+    C,
+    Operand,
+    Front,
+    Back,
+}
+
+/// A flag of the processor.
+#[derive(Clone, Copy)]
+pub enum Flag {
+    Error,
+    HaltOnError,
+    Running,
 }
 
 /// One thing that stands at a link.
@@ -31,18 +44,24 @@ pub enum Setting {
 pub enum LinkSetting {
     /// The byte that waits to leave.
     Sends(Option<u8>),
-    /// Whether an acknowledge waits to leave.
-    Acknowledges(bool),
     /// The byte in the buffer.
     Holds(Option<u8>),
     Overruns(u32),
-    Awaits(bool),
-    Acknowledged(bool),
+    Flag(LinkFlag, bool),
     /// Where the next byte that arrives is stored, and how many are still awaited.
     Input(u32, u32),
     /// Where the byte lies that is sent next, and how many are still to be sent.
     Output(u32, u32),
-    Watched(bool),
+}
+
+/// What is so at a link or isn't.
+#[derive(Clone, Copy)]
+pub enum LinkFlag {
+    /// An acknowledge waits to leave.
+    Acknowledges,
+    Awaits,
+    Acknowledged,
+    Watched,
 }
 
 /// What a line puts into a node, and the code that it puts where Iptr points then.
@@ -107,13 +126,15 @@ impl Settings {
     ) -> Result<(), Fault> {
         for setting in &self.settings {
             match setting {
+                Setting::Register(register, word) => put_register(registers, *register, *word),
+                Setting::Flag(flag, value) => put_flag(registers, *flag, *value),
+                Setting::Bytes(count) => registers.bytes = *count,
                 Setting::Word(address, word) => memory.set_word(*address, *word)?,
                 Setting::AtLink(number, setting) => {
                     let mut link = links.at(*number);
                     put_at_link(&mut link, setting);
                     links.set(*number, link);
                 }
-                setting => put_register(registers, setting),
             }
         }
         let mut address = registers.instruction;
@@ -125,32 +146,33 @@ impl Settings {
     }
 }
 
-fn put_register(registers: &mut Cpu, setting: &Setting) {
-    match setting {
-        Setting::Instruction(word) => registers.instruction = *word,
-        Setting::Workspace(word) => registers.workspace = *word,
-        Setting::A(word) => registers.a = *word,
-        Setting::B(word) => registers.b = *word,
-        Setting::C(word) => registers.c = *word,
-        Setting::Operand(word) => registers.operand = *word,
-        Setting::Front(word) => registers.queue.front = *word,
-        Setting::Back(word) => registers.queue.back = *word,
-        Setting::Bytes(count) => registers.bytes = *count,
-        Setting::Error(flag) => registers.error = *flag,
-        Setting::HaltOnError(flag) => registers.halt_on_error = *flag,
-        Setting::Running(flag) => registers.running = *flag,
-        Setting::Word(..) | Setting::AtLink(..) => {}
+fn put_register(registers: &mut Cpu, register: Register, word: u32) {
+    match register {
+        Register::Instruction => registers.instruction = word,
+        Register::Workspace => registers.workspace = word,
+        Register::A => registers.a = word,
+        Register::B => registers.b = word,
+        Register::C => registers.c = word,
+        Register::Operand => registers.operand = word,
+        Register::Front => registers.queue.front = word,
+        Register::Back => registers.queue.back = word,
+    }
+}
+
+fn put_flag(registers: &mut Cpu, flag: Flag, value: bool) {
+    match flag {
+        Flag::Error => registers.error = value,
+        Flag::HaltOnError => registers.halt_on_error = value,
+        Flag::Running => registers.running = value,
     }
 }
 
 fn put_at_link(link: &mut Link, setting: &LinkSetting) {
     match setting {
         LinkSetting::Sends(byte) => link.end.latch.byte = *byte,
-        LinkSetting::Acknowledges(flag) => link.end.latch.acknowledge = *flag,
         LinkSetting::Holds(byte) => link.end.input.buffer = *byte,
         LinkSetting::Overruns(count) => link.end.input.overruns = *count,
-        LinkSetting::Awaits(flag) => link.end.output.awaits = *flag,
-        LinkSetting::Acknowledged(flag) => link.end.output.acknowledged = *flag,
+        LinkSetting::Flag(flag, value) => put_link_flag(link, *flag, *value),
         LinkSetting::Input(pointer, count) => {
             link.input_pointer = *pointer;
             link.input_count = *count;
@@ -159,7 +181,15 @@ fn put_at_link(link: &mut Link, setting: &LinkSetting) {
             link.output_pointer = *pointer;
             link.output_count = *count;
         }
-        LinkSetting::Watched(flag) => link.watched = *flag,
+    }
+}
+
+fn put_link_flag(link: &mut Link, flag: LinkFlag, value: bool) {
+    match flag {
+        LinkFlag::Acknowledges => link.end.latch.acknowledge = value,
+        LinkFlag::Awaits => link.end.output.awaits = value,
+        LinkFlag::Acknowledged => link.end.output.acknowledged = value,
+        LinkFlag::Watched => link.watched = value,
     }
 }
 
@@ -169,38 +199,63 @@ fn read_setting(
     link: Option<LinkNumber>,
     words: &mut Words,
 ) -> Result<Setting, Refused> {
-    Ok(match name {
-        "Iptr" => Setting::Instruction(words.hexadecimal()?),
-        "W" => Setting::Workspace(words.hexadecimal()?),
-        "A" => Setting::A(words.hexadecimal()?),
-        "B" => Setting::B(words.hexadecimal()?),
-        "C" => Setting::C(words.hexadecimal()?),
-        "O" => Setting::Operand(words.hexadecimal()?),
-        "Front" => Setting::Front(words.hexadecimal()?),
-        "Back" => Setting::Back(words.hexadecimal()?),
-        "bytes" => Setting::Bytes(words.small_count()?),
-        "Error" => Setting::Error(words.flag()?),
-        "HaltOnError" => Setting::HaltOnError(words.flag()?),
-        "running" => Setting::Running(words.flag()?),
-        "word" => Setting::Word(words.hexadecimal()?, words.hexadecimal()?),
-        _ => {
-            let number = link.ok_or(Refused::Word)?;
-            Setting::AtLink(number, read_link_setting(name, words)?)
-        }
-    })
+    if let Some(register) = register_named(name) {
+        return Ok(Setting::Register(register, words.hexadecimal()?));
+    }
+    if let Some(flag) = flag_named(name) {
+        return Ok(Setting::Flag(flag, words.flag()?));
+    }
+    match (name, link) {
+        ("bytes", _) => Ok(Setting::Bytes(words.small_count()?)),
+        ("word", _) => Ok(Setting::Word(words.hexadecimal()?, words.hexadecimal()?)),
+        (_, Some(number)) => Ok(Setting::AtLink(number, read_link_setting(name, words)?)),
+        _ => Err(Refused::Word),
+    }
+}
+
+fn register_named(name: &str) -> Option<Register> {
+    match name {
+        "Iptr" => Some(Register::Instruction),
+        "W" => Some(Register::Workspace),
+        "A" => Some(Register::A),
+        "B" => Some(Register::B),
+        "C" => Some(Register::C),
+        "O" => Some(Register::Operand),
+        "Front" => Some(Register::Front),
+        "Back" => Some(Register::Back),
+        _ => None,
+    }
+}
+
+fn flag_named(name: &str) -> Option<Flag> {
+    match name {
+        "Error" => Some(Flag::Error),
+        "HaltOnError" => Some(Flag::HaltOnError),
+        "running" => Some(Flag::Running),
+        _ => None,
+    }
 }
 
 fn read_link_setting(name: &str, words: &mut Words) -> Result<LinkSetting, Refused> {
+    if let Some(flag) = link_flag_named(name) {
+        return Ok(LinkSetting::Flag(flag, words.flag()?));
+    }
     match name {
         "sends" => Ok(LinkSetting::Sends(words.byte_or_none()?)),
-        "acknowledges" => Ok(LinkSetting::Acknowledges(words.flag()?)),
         "holds" => Ok(LinkSetting::Holds(words.byte_or_none()?)),
         "overruns" => Ok(LinkSetting::Overruns(words.small_count()?)),
-        "awaits" => Ok(LinkSetting::Awaits(words.flag()?)),
-        "acknowledged" => Ok(LinkSetting::Acknowledged(words.flag()?)),
         "input" => Ok(LinkSetting::Input(words.hexadecimal()?, words.small_count()?)),
         "output" => Ok(LinkSetting::Output(words.hexadecimal()?, words.small_count()?)),
-        "watched" => Ok(LinkSetting::Watched(words.flag()?)),
         _ => Err(Refused::Word),
+    }
+}
+
+fn link_flag_named(name: &str) -> Option<LinkFlag> {
+    match name {
+        "acknowledges" => Some(LinkFlag::Acknowledges),
+        "awaits" => Some(LinkFlag::Awaits),
+        "acknowledged" => Some(LinkFlag::Acknowledged),
+        "watched" => Some(LinkFlag::Watched),
+        _ => None,
     }
 }

@@ -1,7 +1,7 @@
 //! The lines of a text, all read before any is done.
 
 use crate::commands::{Command, read_command};
-use crate::performing::{fresh, perform};
+use crate::performing::{fresh, or_dash, perform};
 use crate::words::Refused;
 use script_text::{Answered, is_passed_over, owned, split_expected, split_line};
 use std::alloc::{AllocError, AllocFailed, Global};
@@ -47,24 +47,26 @@ pub fn trace(alloc: Global, text: &[u8]) -> Result<Vec<Answered>, TraceFault> {
     let mut answers = Vec::new(alloc);
     let mut node = fresh(alloc, 4096)?;
     for line in lines {
-        let Line {
-            number,
-            asked,
-            command,
-            expected,
-        } = line;
         let mut answer = String::new(alloc);
-        node = perform(alloc, node, &command, &mut answer)?;
-        let trimmed = answer.as_str().trim();
-        let answer = String::from_str(alloc, if trimmed.is_empty() { "-" } else { trimmed })?;
-        answers.push(Answered {
-            line: number,
-            asked,
-            answer,
-            expected,
-        })?;
+        node = perform(alloc, node, &line.command, &mut answer)?;
+        answers.push(answered(line, or_dash(alloc, answer.as_str().trim())?))?;
     }
     Ok(answers)
+}
+
+fn answered(line: Line, answer: String) -> Answered {
+    let Line {
+        number,
+        asked,
+        command: _,
+        expected,
+    } = line;
+    Answered {
+        line: number,
+        asked,
+        answer,
+        expected,
+    }
 }
 
 // The lines of a text. The empty ones and those that begin with `#` are passed over, but counted.

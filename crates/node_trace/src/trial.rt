@@ -1,8 +1,8 @@
 //! Instructions on a node of their own, as a row of the handbook has them.
 
 use crate::changes::write_changes;
-use crate::performing::fresh;
-use crate::settings::{Setting, Settings};
+use crate::performing::{fresh, or_dash};
+use crate::settings::{Flag, Setting, Settings};
 use crate::snapshot::Snapshot;
 use answer_text::write_stepped;
 use bootstrap::{Node, Stepped};
@@ -18,18 +18,24 @@ pub fn write_trial(
     let has_flag = settings
         .settings
         .iter()
-        .any(|it| matches!(it, Setting::HaltOnError(true)));
+        .any(|it| matches!(it, Setting::Flag(Flag::HaltOnError, true)));
     let first = outcome(alloc, settings, false)?;
     text.push_str(first.as_str())?;
     if has_flag {
         return Ok(());
     }
     let second = outcome(alloc, settings, true)?;
-    if second.as_str() == "fault 3" {
-        text.push_str("\nhalts")?;
-    } else if second.as_str() != first.as_str() {
+    write_second(text, first.as_str(), second.as_str())
+}
+
+// Writes what came with HaltOnError set, where it isn't what came first.
+fn write_second(text: &mut String, first: &str, second: &str) -> Result<(), AllocError> {
+    if second == "fault 3" {
+        return text.push_str("\nhalts");
+    }
+    if second != first {
         text.push_str("\nwith HaltOnError ")?;
-        text.push_str(second.as_str())?;
+        text.push_str(second)?;
     }
     Ok(())
 }
@@ -43,19 +49,23 @@ fn outcome(alloc: Global, settings: &Settings, halts: bool) -> Result<String, Al
         return Ok(text);
     }
     let mut node = if halts { halting(node) } else { node };
-    let before = Snapshot::of(&node)?;
+    write_code_done(&mut text, &mut node, settings.code.as_slice())?;
+    or_dash(alloc, text.as_str().trim_start())
+}
+
+// Does a Step for each byte of code, to one that doesn't run, and writes what they changed.
+fn write_code_done(text: &mut String, node: &mut Node, code: &[u8]) -> Result<(), AllocError> {
+    let before = Snapshot::of(node)?;
     let mut bytes = 0u32;
-    for _ in &settings.code {
+    for _ in code {
         let stepped = node.step();
         if stepped != Stepped::Ran {
-            write_stepped(&mut text, stepped)?;
+            write_stepped(text, stepped)?;
             break;
         }
         bytes = bytes.saturating_add(1);
     }
-    write_changes(&mut text, &before, &node, bytes)?;
-    let trimmed = text.as_str().trim_start();
-    String::from_str(alloc, if trimmed.is_empty() { "-" } else { trimmed })
+    write_changes(text, &before, node, bytes)
 }
 
 // The node with HaltOnError set.

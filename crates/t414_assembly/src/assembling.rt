@@ -11,7 +11,7 @@ use script_text::split_line;
 use std::alloc::{AllocFailed, Global};
 
 /// A program that was read from a text, and its bytes.
-#[derive(Debug, Drop)]
+#[derive(Drop)]
 pub struct Assembly {
     /// The statements of all lines.
     pub statements: Vec<Statement>,

@@ -9,7 +9,7 @@ use std::alloc::{AllocError, Global};
 use t414_decode::{Function, accumulate, decode};
 
 /// A function with its operand. A prefix by itself is one byte, and its operand a nibble.
-#[derive(Clone, Copy, Debug, PartialEq, Eq)]
+#[derive(Clone, Copy)]
 pub struct Instruction {
     pub function: Function,
     pub operand: u32,

@@ -11,7 +11,7 @@ use std::alloc::{AllocError, AllocFailed, Global};
 use thiserror::Error;
 
 /// The bytes of a program, and where its places are.
-#[derive(Debug, Drop)]
+#[derive(Drop)]
 pub struct Image {
     /// The bytes of all statements.
     pub bytes: Vec<u8>,

@@ -12,14 +12,14 @@ use std::alloc::{AllocError, AllocFailed, Global};
 use t414_decode::Function;
 
 /// A label and its place.
-#[derive(Clone, Copy, Debug)]
+#[derive(Clone, Copy)]
 pub struct Definition<'a> {
     name: &'a [u8],
     place: usize,
 }
 
 /// Why a line gives no statements.
-#[derive(Clone, Copy, Debug)]
+#[derive(Clone, Copy)]
 pub enum Stop {
     Wrong(Wrong),
     NoMemory,
@@ -45,7 +45,7 @@ impl<T: Drop> From<AllocFailed<T>> for Stop {
 
 /// What is read of a text. The labels are gathered first, when a label in an operand may still be unknown; then the
 /// text is read once more.
-#[derive(Debug, Drop)]
+#[derive(Drop)]
 pub struct Reader<'a> {
     definitions: Vec<Definition<'a>>,
     gathers: bool,
@@ -137,8 +137,8 @@ impl<'a> Reader<'a> {
         };
         let operand = after_blanks(rest);
         match name {
-            "byte" => self.read_bytes(operand),
-            "word" => self.read_words(operand),
+            "byte" => self.read_list(operand, false),
+            "word" => self.read_list(operand, true),
             "align" => self.read_alignment(rest),
             "space" => self.read_space(operand),
             _ => match (function_named(name), operation_named(name)) {
@@ -207,17 +207,13 @@ impl<'a> Reader<'a> {
         }
     }
 
-    // Values of bytes and strings, with commas between them.
-    fn read_bytes<'b>(&mut self, text: &'b [u8]) -> Result<&'b [u8], Stop> {
+    // Values of bytes or words, and strings of them, with commas between them.
+    fn read_list<'b>(&mut self, text: &'b [u8], in_words: bool) -> Result<&'b [u8], Stop> {
         let mut text = text;
         for _ in 0..text.len().saturating_add(1) {
             let rest = match text.split_first() {
-                Some((b'"', string)) => self.read_string(string, false)?,
-                _ => {
-                    let (value, rest) = byte_of(text)?;
-                    self.add(Statement::Byte(value))?;
-                    rest
-                }
+                Some((b'"', string)) => self.read_string(string, in_words)?,
+                _ => self.read_value(text, in_words)?,
             };
             match after_comma(rest) {
                 Some(after) => text = after,
@@ -227,24 +223,16 @@ impl<'a> Reader<'a> {
         Ok(text)
     }
 
-    // Words and strings, with commas between them.
-    fn read_words<'b>(&mut self, text: &'b [u8]) -> Result<&'b [u8], Stop> {
-        let mut text = text;
-        for _ in 0..text.len().saturating_add(1) {
-            let rest = match text.split_first() {
-                Some((b'"', string)) => self.read_string(string, true)?,
-                _ => {
-                    let (operand, rest) = self.operand_of(text)?;
-                    self.add(Statement::Word(operand))?;
-                    rest
-                }
-            };
-            match after_comma(rest) {
-                Some(after) => text = after,
-                None => return Ok(rest),
-            }
+    // The value of a word or of a byte.
+    fn read_value<'b>(&mut self, text: &'b [u8], in_words: bool) -> Result<&'b [u8], Stop> {
+        if in_words {
+            let (operand, rest) = self.operand_of(text)?;
+            self.add(Statement::Word(operand))?;
+            return Ok(rest);
         }
-        Ok(text)
+        let (value, rest) = byte_of(text)?;
+        self.add(Statement::Byte(value))?;
+        Ok(rest)
     }
 
     // The characters of a string, up to its closing quote, each as a byte or a word.

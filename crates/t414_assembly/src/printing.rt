@@ -64,30 +64,40 @@ fn list_line(
 ) -> Result<(), AllocError> {
     let address = u64::from(origin).saturating_add(start as u64);
     let head = bytes.get(..BYTES_A_LINE).unwrap_or(bytes);
-    write!(listed, "{address:08x}  ")?;
-    list_bytes(listed, head)?;
+    list_bytes(listed, address, head)?;
     if !source.is_empty() {
-        for place in head.len()..BYTES_A_LINE {
-            listed.push_str(if place == 0 { "  " } else { "   " })?;
-        }
-        write!(listed, "  {source}")?;
+        list_source(listed, head.len(), source)?;
     }
     listed.push_str("\n")?;
-    let mut address = address;
+    list_rest(listed, address, bytes)
+}
+
+// The bytes behind those of the first line.
+fn list_rest(listed: &mut String, start: u64, bytes: &[u8]) -> Result<(), AllocError> {
+    let mut address = start;
     for row in bytes
         .get(BYTES_A_LINE..)
         .unwrap_or(&[])
         .chunks(BYTES_A_LINE)
     {
         address = address.saturating_add(BYTES_A_LINE as u64);
-        write!(listed, "{address:08x}  ")?;
-        list_bytes(listed, row)?;
+        list_bytes(listed, address, row)?;
         listed.push_str("\n")?;
     }
     Ok(())
 }
 
-fn list_bytes(listed: &mut String, bytes: &[u8]) -> Result<(), AllocError> {
+// A text behind the bytes of its line, of which so many are shown.
+fn list_source(listed: &mut String, shown: usize, source: &str) -> Result<(), AllocError> {
+    for place in shown..BYTES_A_LINE {
+        listed.push_str(if place == 0 { "  " } else { "   " })?;
+    }
+    write!(listed, "  {source}")
+}
+
+// An address and the bytes that stand there.
+fn list_bytes(listed: &mut String, address: u64, bytes: &[u8]) -> Result<(), AllocError> {
+    write!(listed, "{address:08x}  ")?;
     for (place, byte) in bytes.iter().enumerate() {
         if place > 0 {
             listed.push_str(" ")?;
@@ -110,16 +120,21 @@ pub fn pokes(
     let mut address = u64::from(crate::loading::LOADED);
     for word in code.chunks(4) {
         write!(script, "{user} poke {host} {address:08x} ")?;
-        for place in (0..4usize).rev() {
-            let byte = word.get(place).copied().unwrap_or(0);
-            write!(script, "{byte:02x}")?;
-        }
-        script.push_str("\n")?;
+        push_word(&mut script, word)?;
         address = address.saturating_add(4);
     }
     let digits = hexadecimal(alloc, boot)?;
     write!(script, "{user} boot {host} {digits}\n")?;
     Ok(script)
+}
+
+// The word of up to four bytes, of which the first is the least significant, and the end of its line.
+fn push_word(script: &mut String, bytes: &[u8]) -> Result<(), AllocError> {
+    for place in (0..4usize).rev() {
+        let byte = bytes.get(place).copied().unwrap_or(0);
+        write!(script, "{byte:02x}")?;
+    }
+    script.push_str("\n")
 }
 
 /// Instructions as text, one a line.

@@ -5,7 +5,7 @@ use t414_decode::Function;
 /// What a word or the operand of an instruction is.
 ///
 /// A place is the number of the statement before which it stands; the place behind the last statement is their number.
-#[derive(Clone, Copy, Debug, PartialEq, Eq)]
+#[derive(Clone, Copy)]
 pub enum Operand {
     /// A word of 32 bits.
     Number(u32),
@@ -16,7 +16,7 @@ pub enum Operand {
 }
 
 /// What stands in a program.
-#[derive(Clone, Copy, Debug, PartialEq, Eq)]
+#[derive(Clone, Copy)]
 pub enum Statement {
     /// An instruction. A prefix by itself is one byte with the operand's lowest nibble.
     Instruction(Function, Operand),

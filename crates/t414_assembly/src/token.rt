@@ -5,7 +5,7 @@ ghost use Rattle.std.specs.Prelude.{◌≤◌, length};
 use crate::fault::Expected;
 
 /// Something else was expected before the last `left` bytes of a line.
-#[derive(Clone, Copy, Debug)]
+#[derive(Clone, Copy)]
 pub struct Wrong {
     pub expected: Expected,
     pub left: usize,
