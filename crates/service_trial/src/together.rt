@@ -65,6 +65,29 @@ fn tell_closed(alloc: Global, closed: Option<Closed>) -> Result<String, AllocErr
     }
 }
 
+// Closes a service whose last user gives his pass; what is left.
+fn close_one<R: Wait>(
+    rt: &R,
+    alloc: Global,
+    farm: Farm,
+    pass: UserPass,
+) -> Result<String, AllocError> {
+    let users = vec![in alloc; pass]?;
+    tell_closed(alloc, close(rt, alloc, farm, users))
+}
+
+// Whether a service could be closed, whose two users give their passes.
+fn is_closed<R: Wait>(
+    rt: &R,
+    alloc: Global,
+    farm: Farm,
+    one: UserPass,
+    other: UserPass,
+) -> Result<bool, AllocError> {
+    let users = vec![in alloc; one, other]?;
+    Ok(close(rt, alloc, farm, users).is_some())
+}
+
 // Bob drives his output 5 and then clears it, each in a thread; after each, and before both, the
 // operator surveys his physical output 13, and at the end an output of no domain.
 fn surveyed<R: Threads + Wait + Sync>(
@@ -84,17 +107,14 @@ fn surveyed<R: Threads + Wait + Sync>(
     let cleared = visit_apart(rt, alloc, &service, driven.pass, &[Config(&[4])]);
     let (end, operator) = look_apart(rt, &service, operator, 13);
     let (free, operator) = look_apart(rt, &service, operator, 20);
-    let (before, after, end, free) = (before.bits, after.bits, end.bits, free.bits);
-    let mut said = format!(in alloc; " {before:x} {after:x} {end:x}, free {free:x};")?;
     let farm = Farm {
         service,
         passes,
         operator,
     };
-    let users = vec![in alloc; cleared.pass]?;
-    let closed = close(rt, alloc, farm, users);
-    said.push_str(tell_closed(alloc, closed)?.as_str())?;
-    Ok(said)
+    let left = close_one(rt, alloc, farm, cleared.pass)?;
+    let (before, after, end, free) = (before.bits, after.bits, end.bits, free.bits);
+    format!(in alloc; " {before:x} {after:x} {end:x}, free {free:x};{left}")
 }
 
 /// The survey in a thread of its own, after bob's thread ended.
@@ -134,11 +154,11 @@ pub fn bobs_journal<R: Threads + Wait + Sync>(rt: &R, alloc: Global) -> Result<S
         bob,
         &[Config(&DRIVE_OUTPUT_5)],
     );
+    users.push(pass)?;
+    let left = tell_closed(alloc, close(rt, alloc, farm, users))?;
     let mut text = String::new(alloc);
     tell(&mut text, "bob", said)?;
-    users.push(pass)?;
-    let closed = close(rt, alloc, farm, users);
-    text.push_str(tell_closed(alloc, closed)?.as_str())?;
+    text.push_str(left.as_str())?;
     Ok(text)
 }
 
@@ -157,14 +177,10 @@ fn both<R: Threads + Wait + Sync>(
         return Err(AllocError);
     };
     let (one, other) = visit_both(rt, alloc, &farm.service, (one, first), (other, second));
-    let mut text = String::new(alloc);
-    tell(&mut text, "first", one.said)?;
-    tell(&mut text, "second", other.said)?;
-    let users = vec![in alloc; one.pass, other.pass]?;
-    if close(rt, alloc, farm, users).is_none() {
-        text.push_str(" not closed")?;
-    }
-    Ok(text)
+    let (one, first) = (one.pass, one.said);
+    let (other, second) = (other.pass, other.said);
+    let closed = is_closed(rt, alloc, farm, one, other)?;
+    tell_two(alloc, ("first", first), ("second", second), Ok(()), closed)
 }
 
 /// Two users at once, each in a domain of his own.
@@ -186,6 +202,24 @@ fn tell_work(said: &mut String, work: Result<(), NoMemory>) -> Result<(), AllocE
     }
 }
 
+// Tells what two users were told, each under a name, whether a worker wanted memory, and if the service wasn't closed.
+fn tell_two(
+    alloc: Global,
+    one: (&str, Result<String, AllocError>),
+    other: (&str, Result<String, AllocError>),
+    work: Result<(), NoMemory>,
+    closed: bool,
+) -> Result<String, AllocError> {
+    let mut text = String::new(alloc);
+    tell(&mut text, one.0, one.1)?;
+    tell(&mut text, other.0, other.1)?;
+    tell_work(&mut text, work)?;
+    if !closed {
+        text.push_str(" not closed")?;
+    }
+    Ok(text)
+}
+
 // Ann and bob act, one worker works, and both read and look.
 fn worked<R: Threads + Wait + Sync>(
     rt: &R,
@@ -205,15 +239,10 @@ fn worked<R: Threads + Wait + Sync>(
     let (farm, work) = work_in(rt, farm, 1000);
     let first = visit_apart(rt, alloc, &farm.service, first.pass, &LOOK);
     let second = visit_apart(rt, alloc, &farm.service, second.pass, &LOOK);
-    let mut text = String::new(alloc);
-    tell(&mut text, "ann", first.said)?;
-    tell(&mut text, "bob", second.said)?;
-    tell_work(&mut text, work)?;
-    let users = vec![in alloc; first.pass, second.pass]?;
-    if close(rt, alloc, farm, users).is_none() {
-        text.push_str(" not closed")?;
-    }
-    Ok(text)
+    let (first, ann) = (first.pass, first.said);
+    let (second, bob) = (second.pass, second.said);
+    let closed = is_closed(rt, alloc, farm, first, second)?;
+    tell_two(alloc, ("ann", ann), ("bob", bob), work, closed)
 }
 
 /// One worker runs a program that sends a byte to its host, and stops.
@@ -241,12 +270,13 @@ pub fn one_node_waits<R: Threads + Wait + Sync>(
     let Visit { pass, said } = visit_apart(rt, alloc, &farm.service, ann, &LOOP_BOTH);
     users.push(pass)?;
     let (farm, seen, work) = work_held(rt, farm);
+    let left = tell_closed(alloc, close(rt, alloc, farm, users))?;
     let (committed, failed) = (seen.committed, seen.failed);
     let mut text = String::new(alloc);
     tell(&mut text, "ann", said)?;
     write!(text, " committed {committed}, failed {failed};")?;
     tell_work(&mut text, work)?;
-    text.push_str(tell_closed(alloc, close(rt, alloc, farm, users))?.as_str())?;
+    text.push_str(left.as_str())?;
     Ok(text)
 }
 
@@ -269,9 +299,10 @@ pub fn stopped<R: Threads + Wait + Sync>(rt: &R, alloc: Global) -> Result<String
     let (farm, seen, work) = work_held(rt, farm);
     let begun = seen.begun;
     let (farm, after) = work_here(rt, farm);
+    let left = tell_closed(alloc, close(rt, alloc, farm, users))?;
     let (before, after) = (name_of(before), name_of(after));
     let mut text = format!(in alloc; " {before}, {after}, {begun} begun;")?;
     tell_work(&mut text, work)?;
-    text.push_str(tell_closed(alloc, close(rt, alloc, farm, users))?.as_str())?;
+    text.push_str(left.as_str())?;
     Ok(text)
 }
