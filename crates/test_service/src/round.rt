@@ -4,10 +4,11 @@ ghost use Rattle.std.specs.Prelude.{◌≡◌, ◌≤◌};
 ghost use Rattle.farm_service.specs.Services.{IsItsOperator};
 ghost use Rattle.token_queue.specs.Passes.{AreItsPasses};
 
+use crate::comparison::{Comparison, compare};
+use crate::merge::{Merge, OneByOne, Turn};
 use crate::users::User;
 use domain_core::Refusal;
 use farm_service::{Closed, Gate, Opened, Service, Token, Turned, UserPass, WorkerPass, work_all};
-use journal_replay::{Comparison, Merge, OneByOne, Turn, compare};
 use plan_checker::AcceptedPlan;
 use rand::RngExt;
 use rand_core::SeedableRng;

@@ -4,11 +4,12 @@ ghost use Rattle.std.specs.Prelude.{◌≡◌};
 ghost use Rattle.token_queue.specs.Passes.{AreItsPasses};
 
 use crate::acts::{Act, QUANTUM, act_all};
+use crate::comparison::compare;
 use crate::farm::{Farm, close, open};
 use crate::many::sixteen_domains;
+use crate::merge::OneByOne;
 use crate::rows::SAYS_41;
 use farm_service::{Closed, NoGate, NoMemory, Service, Session, UserPass, WorkerPass, work_all};
-use journal_replay::{OneByOne, compare};
 use sample_plans::plan_of;
 use std::alloc::{AllocError, Global};
 use std::sync::Wait;
