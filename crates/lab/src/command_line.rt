@@ -55,9 +55,32 @@ pub fn asked_of<'a, S: AsStr>(alloc: Global, words: &'a [S]) -> Result<Asked<'a>
 }
 
 fn command<'a>(alloc: Global) -> Result<Command<'a>, AllocError> {
-    let replay = Command::new(alloc, "replay").about(
+    let lab = Command::new(alloc, "lab")
+        .about("A laboratory for the farm of T414 processors")
+        .after_help(AFTER_HELP)
+        .subcommand_required(true);
+    with_code(alloc, with_farms(alloc, lab)?)?.subcommand(rows(alloc)?)
+}
+
+// With the subcommands of farms and of a node.
+fn with_farms<'a>(alloc: Global, lab: Command<'a>) -> Result<Command<'a>, AllocError> {
+    lab.subcommand(Command::new(alloc, "replay").about(
         "Answers single events on farms: reads a plan, a line ---, and events, one a line",
-    );
+    ))?.subcommand(Command::new(alloc, "plan").about(
+        "Shows the domains, users, ports and devices of a plan, or where and why it is refused",
+    ))?.subcommand(Command::new(alloc, "draw").about(
+        "Draws the switch in SVG after the events of a text as replay reads it",
+    ))?.subcommand(trace(alloc)?)
+}
+
+// With the subcommands of code.
+fn with_code<'a>(alloc: Global, lab: Command<'a>) -> Result<Command<'a>, AllocError> {
+    lab.subcommand(assemble(alloc)?)?.subcommand(Command::new(alloc, "disassemble").about(
+        "Prints code as text: reads hexadecimal digits, and prints an instruction a line",
+    ))
+}
+
+fn trace<'a>(alloc: Global) -> Result<Command<'a>, AllocError> {
     let code = Arg::new(alloc, "boot")
         .long("boot")
         .value_name("HEX")
@@ -70,16 +93,13 @@ fn command<'a>(alloc: Global) -> Result<Command<'a>, AllocError> {
         .default_value("1000")
         .action(ArgAction::Set)
         .value_parser(value_parser!(u32));
-    let trace = Command::new(alloc, "trace")
+    Command::new(alloc, "trace")
         .about("Traces a node alone: reads lines that set it and let it do Steps")
         .arg(code)?
-        .arg(steps)?;
-    let plan = Command::new(alloc, "plan").about(
-        "Shows the domains, users, ports and devices of a plan, or where and why it is refused",
-    );
-    let draw = Command::new(alloc, "draw").about(
-        "Draws the switch in SVG after the events of a text as replay reads it",
-    );
+        .arg(steps)
+}
+
+fn rows<'a>(alloc: Global) -> Result<Command<'a>, AllocError> {
     let files = Arg::new(alloc, "file")
         .value_name("FILE")
         .help(
@@ -88,23 +108,9 @@ fn command<'a>(alloc: Global) -> Result<Command<'a>, AllocError> {
         .required(true)
         .num_args(1..)
         .action(ArgAction::Append);
-    let rows = Command::new(alloc, "rows")
+    Command::new(alloc, "rows")
         .about("Compares the answers of worked rows with those that their files expect")
-        .arg(files)?;
-    let disassemble = Command::new(alloc, "disassemble").about(
-        "Prints code as text: reads hexadecimal digits, and prints an instruction a line",
-    );
-    Command::new(alloc, "lab")
-        .about("A laboratory for the farm of T414 processors")
-        .after_help(AFTER_HELP)
-        .subcommand_required(true)
-        .subcommand(replay)?
-        .subcommand(plan)?
-        .subcommand(draw)?
-        .subcommand(trace)?
-        .subcommand(assemble(alloc)?)?
-        .subcommand(disassemble)?
-        .subcommand(rows)
+        .arg(files)
 }
 
 fn assemble<'a>(alloc: Global) -> Result<Command<'a>, AllocError> {
@@ -131,23 +137,29 @@ fn chosen<'a>(alloc: Global, matches: &ArgMatches<'a>) -> Result<Asked<'a>, Fail
         Some(("plan", _)) => Ok(Asked::Plan),
         Some(("draw", _)) => Ok(Asked::Draw),
         Some(("trace", matches)) => traced(alloc, matches),
-        Some(("assemble", matches)) => Ok(Asked::Assemble(Wanted {
-            listing: matches.get_flag("listing"),
-            pokes: match matches.get_strs("pokes") {
-                Some([host, user, ..]) => Some((*host, *user)),
-                _ => None,
-            },
-        })),
+        Some(("assemble", matches)) => Ok(Asked::Assemble(wanted_of(matches))),
         Some(("disassemble", _)) => Ok(Asked::Disassemble),
-        Some(("rows", matches)) => {
-            let mut files = Vec::new(alloc);
-            for file in matches.get_strs("file").unwrap_or(&[]) {
-                files.push(*file)?;
-            }
-            Ok(Asked::Rows(files))
-        }
+        Some(("rows", matches)) => Ok(Asked::Rows(files_of(alloc, matches)?)),
         _ => Ok(Asked::Replay),
     }
+}
+
+fn wanted_of<'a>(matches: &ArgMatches<'a>) -> Wanted<'a> {
+    Wanted {
+        listing: matches.get_flag("listing"),
+        pokes: match matches.get_strs("pokes") {
+            Some([host, user, ..]) => Some((*host, *user)),
+            _ => None,
+        },
+    }
+}
+
+fn files_of<'a>(alloc: Global, matches: &ArgMatches<'a>) -> Result<Vec<&'a str>, AllocError> {
+    let mut files = Vec::new(alloc);
+    for file in matches.get_strs("file").unwrap_or(&[]) {
+        files.push(*file)?;
+    }
+    Ok(files)
 }
 
 fn traced<'a>(alloc: Global, matches: &ArgMatches<'a>) -> Result<Asked<'a>, Failure> {

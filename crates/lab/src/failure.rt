@@ -5,42 +5,59 @@ use node_trace::{BootTraceFault, TraceFault};
 use plan_views::PlanRefusal;
 use script_text::{ReadFault, write_whole};
 use std::alloc::{AllocError, AllocFailed, Global};
+use std::fmt;
 use std::io::{self, Write};
 use t414_assembly::TextFault;
-use thiserror::Error;
 
-/// Why the lab ends without its output, with the text for standard error.
-#[derive(Debug, Drop, Error)]
+/// Why the lab ends without its output.
+#[derive(Drop)]
 pub enum Failure {
     /// `clap` refuses the words.
-    #[error("{0}")]
     Words(clap::Error),
-    #[error("error: an argument isn't UTF-8\n")]
     Arguments,
-    #[error("error: the code is not 2 to 255 bytes in hexadecimal digits\n")]
     Code,
     /// A plan is refused, with the number of its fault.
-    #[error("plan: {0}\n")]
     Plan(u8),
     /// A plan is refused, with the place and the reason.
-    #[error("{0}\n")]
     RefusedPlan(PlanRefusal),
     /// A line asks nothing that there is.
-    #[error("line {0}\n")]
     Line(u64),
     /// A text is no program, or no digits.
-    #[error("{0}\n")]
     Text(TextFault),
     /// A boot can't take so many bytes of code.
-    #[error("the code has {0} bytes, and a boot takes 2 to 255\n")]
     Length(usize),
     /// So many bytes of code can't be poked.
-    #[error("the code has {0} bytes, and 1 to 65456 can be poked\n")]
     Poked(usize),
-    #[error("memory\n")]
     Memory,
-    #[error("io\n")]
     Io,
+}
+
+/// The text for standard error.
+impl fmt::Display for Failure {
+    fn fmt<W: fmt::Write>(&self, f: &mut fmt::Formatter<W>) -> fmt::Result {
+        match self {
+            Failure::Words(error) => write!(f, "{error}"),
+            Failure::Arguments => f.write_str("error: an argument isn't UTF-8\n"),
+            Failure::Code => {
+                f.write_str("error: the code is not 2 to 255 bytes in hexadecimal digits\n")
+            }
+            Failure::Plan(number) => write!(f, "plan: {number}\n"),
+            Failure::RefusedPlan(refusal) => write!(f, "{refusal}\n"),
+            Failure::Line(number) => write!(f, "line {number}\n"),
+            Failure::Text(fault) => write!(f, "{fault}\n"),
+            Failure::Length(count) => {
+                write!(f, "the code has {count} bytes, and a boot takes 2 to 255\n")
+            }
+            Failure::Poked(count) => {
+                write!(
+                    f,
+                    "the code has {count} bytes, and 1 to 65456 can be poked\n"
+                )
+            }
+            Failure::Memory => f.write_str("memory\n"),
+            Failure::Io => f.write_str("io\n"),
+        }
+    }
 }
 
 impl Failure {

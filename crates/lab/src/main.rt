@@ -26,12 +26,17 @@ fn main(rt: HostRuntime) -> ExitCode {
     })
 }
 
+fn words_of(rt: &HostRuntime) -> Result<Vec<String>, Failure> {
+    match env::args(rt) {
+        Ok(words) => Ok(words.collect(rt.alloc())?),
+        Err(error) => Err(Failure::of_arguments(&error)),
+    }
+}
+
 // What goes to standard output, and the status.
 fn report(rt: &HostRuntime) -> Result<Report, Failure> {
     let alloc = rt.alloc();
-    let words: Vec<String> = env::args(rt)
-        .map_err(|error| Failure::of_arguments(&error))?
-        .collect(alloc)?;
+    let words = words_of(rt)?;
     match asked_of(alloc, words.as_slice())? {
         Asked::Help(text) => Ok(Report { text, status: 0 }),
         Asked::Rows(files) => report_rows(rt, files.as_slice()),

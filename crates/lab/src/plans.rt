@@ -13,6 +13,14 @@ struct Block<'a> {
     text: String,
 }
 
+// What a heading says: what is expected, and why, and whether the plan is the base of those that follow.
+#[derive(Clone, Copy)]
+struct Heading<'a> {
+    expected: &'a str,
+    why: &'a str,
+    is_base: bool,
+}
+
 /// Tries each plan of a text. A plan stands below a heading `=== EXPECTED`, where `accepted`, the number of its fault or
 /// the line of its refusal, which begins with `plan: `, is expected; ` - ` and why may follow. Below `=== base EXPECTED` stands a plan of which the next are changes: each
 /// `replace: OLD` has a line `with: NEW` after it, and OLD stands exactly once in the plan so far; empty lines are
@@ -27,31 +35,50 @@ pub fn try_plans(alloc: Global, text: &[u8]) -> Result<Vec<Answered>, Failure> {
             continue;
         }
         let plan = plan_of(alloc, base.as_str(), &block)?;
-        let (expected, why) = block
-            .heading
-            .split_once(" - ")
-            .unwrap_or((block.heading, "a plan"));
-        let base_expected = expected.strip_prefix("base ");
-        answers.push(Answered {
-            line: block.number,
-            asked: String::from_str(alloc, why)?,
-            answer: answer_of(alloc, plan.as_str(), expected.starts_with("plan: "))?,
-            expected: Some(String::from_str(alloc, base_expected.unwrap_or(expected))?),
-        })?;
-        if base_expected.is_some() {
+        let heading = heading_of(block.heading);
+        answers.push(answered(alloc, block.number, &heading, plan.as_str())?)?;
+        if heading.is_base {
             base = plan;
         }
     }
     Ok(answers)
 }
 
+fn heading_of(text: &str) -> Heading<'_> {
+    let (expected, why) = text.split_once(" - ").unwrap_or((text, "a plan"));
+    match expected.strip_prefix("base ") {
+        Some(expected) => Heading {
+            expected,
+            why,
+            is_base: true,
+        },
+        None => Heading {
+            expected,
+            why,
+            is_base: false,
+        },
+    }
+}
+
+// What the plan below a heading, whose line has this number, is answered.
+fn answered(
+    alloc: Global,
+    number: u64,
+    heading: &Heading,
+    plan: &str,
+) -> Result<Answered, Failure> {
+    let tells_why = !heading.is_base && heading.expected.starts_with("plan: ");
+    Ok(Answered {
+        line: number,
+        asked: String::from_str(alloc, heading.why)?,
+        answer: answer_of(alloc, plan, tells_why)?,
+        expected: Some(String::from_str(alloc, heading.expected)?),
+    })
+}
+
 fn blocks_of<'a>(alloc: Global, text: &'a [u8]) -> Result<Vec<Block<'a>>, Failure> {
     let mut blocks = Vec::new(alloc);
-    let mut block = Block {
-        number: 0,
-        heading: "#",
-        text: String::new(alloc),
-    };
+    let mut block = block_at(alloc, 0, "#");
     let mut rest = text;
     for number in 1..u64::MAX {
         if rest.is_empty() {
@@ -59,24 +86,32 @@ fn blocks_of<'a>(alloc: Global, text: &'a [u8]) -> Result<Vec<Block<'a>>, Failur
         }
         let (line, after) = split_line(rest);
         rest = after;
-        let line = std::str::from_utf8(line).map_err(|_| Failure::Line(number))?;
-        match line.strip_prefix("=== ") {
-            Some(heading) => {
-                blocks.push(block)?;
-                block = Block {
-                    number,
-                    heading,
-                    text: String::new(alloc),
-                };
-            }
-            None => {
-                block.text.push_str(line)?;
-                block.text.push_str("\n")?;
-            }
+        let Ok(line) = std::str::from_utf8(line) else {
+            return Err(Failure::Line(number));
+        };
+        if let Some(heading) = line.strip_prefix("=== ") {
+            blocks.push(block)?;
+            block = block_at(alloc, number, heading);
+        } else {
+            push_line(&mut block.text, line)?;
         }
     }
     blocks.push(block)?;
     Ok(blocks)
+}
+
+// A block of which no line is read yet.
+fn block_at<'a>(alloc: Global, number: u64, heading: &'a str) -> Block<'a> {
+    Block {
+        number,
+        heading,
+        text: String::new(alloc),
+    }
+}
+
+fn push_line(text: &mut String, line: &str) -> Result<(), AllocError> {
+    text.push_str(line)?;
+    text.push_str("\n")
 }
 
 // The plan of a block: its text, or the changed base.
@@ -92,21 +127,15 @@ fn plan_of(alloc: Global, base: &str, block: &Block) -> Result<String, Failure> 
         if line.is_empty() {
             continue;
         }
-        match (
-            line.strip_prefix("replace: "),
-            line.strip_prefix("with:"),
-            old,
-        ) {
-            (Some(text), None, None) => old = Some(text),
-            (None, Some(text), Some(text_of_base)) => {
-                let new = text.strip_prefix(" ").unwrap_or(text);
-                plan = changed(alloc, plan.as_str(), text_of_base, new)?.ok_or(Failure::Line(
-                    number,
-                ))?;
-                old = None;
+        old = match old {
+            Some(text) => {
+                let new = line.strip_prefix("with:").ok_or(Failure::Line(number))?;
+                let new = new.strip_prefix(" ").unwrap_or(new);
+                plan = changed(alloc, plan.as_str(), text, new)?.ok_or(Failure::Line(number))?;
+                None
             }
-            _ => return Err(Failure::Line(number)),
-        }
+            None => Some(line.strip_prefix("replace: ").ok_or(Failure::Line(number))?),
+        };
     }
     match old {
         Some(_) => Err(Failure::Line(number)),

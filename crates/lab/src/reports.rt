@@ -20,7 +20,7 @@ pub struct Report {
 pub fn report_of(alloc: Global, asked: &Asked, text: &[u8]) -> Result<Report, Failure> {
     let text = match asked {
         Asked::Boot(code, steps) => trace_boot(alloc, code.as_slice(), u64::from(*steps))?,
-        Asked::Plan => table_of(alloc, &accepted(alloc, divide(text, b"---").0)?)?,
+        Asked::Plan => shown(alloc, text)?,
         Asked::Draw => drawn(alloc, text)?,
         Asked::Assemble(wanted) => assembled(alloc, wanted, text)?,
         Asked::Disassemble => disassembled(alloc, text)?,
@@ -28,6 +28,12 @@ pub fn report_of(alloc: Global, asked: &Asked, text: &[u8]) -> Result<Report, Fa
         _ => text_of(alloc, replay(alloc, text)?)?,
     };
     Ok(Report { text, status: 0 })
+}
+
+// The plan of a text as a table.
+fn shown(alloc: Global, text: &[u8]) -> Result<String, Failure> {
+    let plan = accepted(alloc, divide(text, b"---").0)?;
+    Ok(table_of(alloc, &plan)?)
 }
 
 // The switch of the last farm of a text.

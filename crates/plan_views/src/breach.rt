@@ -1,11 +1,11 @@
 //! Where a plan that can be read breaks a rule.
 
 use crate::names::{domain_name, push_quoted};
+use plan_checker::{DomainPlan, PlanFault, RangePlan};
 use plan_rules::rules::{
     has_limit, has_node_count, has_range_count, has_user_count, has_wired_link, is_memory_size,
     is_name, is_range, is_wired,
 };
-use plan_checker::{DomainPlan, PlanFault, RangePlan};
 use std::alloc::{AllocError, Global};
 
 /// What is said of a place, if the rule is broken there.

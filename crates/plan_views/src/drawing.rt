@@ -86,23 +86,19 @@ fn draw_name(
 {
     let end = NAMES - 30;
     let middle = place(port.physical) + 13;
-    for (way, turn) in [("output", ""), ("input", " rotate(-90)")] {
-        let (x, y) = if way == "output" {
-            (end, middle)
-        } else {
-            (middle, end)
-        };
-        write!(
-            svg,
-            "<text text-anchor=\"{}\"",
-            if way == "output" { "end" } else { "start" }
-        )?;
-        write!(svg, " transform=\"translate({x} {y}){turn}\">")?;
-        write!(svg, "domain {domain} {way} {number}: ")?;
-        write_device(svg, plan, domain, port.device)?;
-        svg.push_str("</text>\n")?;
-    }
-    Ok(())
+    write!(
+        svg,
+        "<text text-anchor=\"end\" transform=\"translate({end} {middle})\">"
+    )?;
+    write!(svg, "domain {domain} output {number}: ")?;
+    write_device(svg, plan, domain, port.device)?;
+    write!(
+        svg,
+        "</text>\n<text text-anchor=\"start\" transform=\"translate({middle} {end}) rotate(-90)\">"
+    )?;
+    write!(svg, "domain {domain} input {number}: ")?;
+    write_device(svg, plan, domain, port.device)?;
+    svg.push_str("</text>\n")
 }
 
 // The lines between the squares, and the numbers of the ports.

@@ -7,7 +7,7 @@ use domain_core::{Device, device_at};
 use plan_checker::AcceptedPlan;
 
 /// A virtual port of a domain.
-#[derive(Clone, Copy, Debug, PartialEq, Eq)]
+#[derive(Clone, Copy)]
 pub struct PortView {
     /// The physical port, below 32.
     pub physical: u8,

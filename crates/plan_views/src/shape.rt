@@ -8,7 +8,7 @@ use toml::{Table, Value};
 type Misfit = Result<Option<String>, AllocError>;
 
 /// The kinds of values that a field of a plan may have.
-#[derive(Clone, Copy, Debug, PartialEq, Eq)]
+#[derive(Clone, Copy)]
 enum Kind {
     Integer,
     Text,
