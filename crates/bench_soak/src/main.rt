@@ -9,9 +9,9 @@ mod round;
 mod users;
 
 use crate::round::{Load, Outcome, round};
-use sample_plans::Size;
 use std::alloc::AllocError;
 use std::{env, io};
+use test_plans::Size;
 
 /// 16 domains; 28 nodes; 16 users in 4 domains; 16 users in 4 domains whose journals are soon full.
 const SIZES: [Size; 4] = [

@@ -1,10 +1,10 @@
 //! Which domain of which plan a domain is.
 use crate::opening::{domain_of, opened};
 use crate::work::join;
-use sample_plans::{
+use std::test::Fail;
+use test_plans::{
     ANN_AND_BOB, ANN_OF_THREE_EVENTS, ANN_WITH_CAS, EXCHANGED_RANGES, TWO_NODES, plan_of,
 };
-use std::test::Fail;
 
 /// Ann's and bob's parts are equal: their ports alone tell them apart.
 #[test]

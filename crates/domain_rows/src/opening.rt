@@ -2,8 +2,8 @@
 use crossbar::{Outputs, PlainOutputs};
 use domain_core::Domain;
 use plan_checker::{AcceptedPlan, PlanFault};
-use sample_plans::plan_of;
 use std::alloc::Global;
+use test_plans::plan_of;
 
 /// A domain over words that nobody shares.
 pub type Plain = Domain<PlainOutputs>;

@@ -5,11 +5,11 @@ use crate::opening::{Plain, opened};
 use crate::work::{ANN, run, word};
 use domain_core::{By, Committed, Entry, Event, Refusal, Reply, Ticket};
 use plan_checker::{AcceptedPlan, PlanFault};
-use sample_plans::{ANN_AND_BOB, plan_of};
 use std::alloc::Global;
 use std::process::Abort;
 use std::test::Fail;
 use t414_step::Stepped;
+use test_plans::{ANN_AND_BOB, plan_of};
 
 /// What is seen of a domain without an event.
 #[derive(Drop, PartialEq, Eq)]

@@ -1,8 +1,8 @@
 //! A farm's domains one by one.
 use domain_core::{By, Event, Reply};
 use farm_core::PlainFarm;
-use sample_plans::{ANN_ALONE, ANN_AND_BOB, ANN_OF_THREE_EVENTS, plan_of};
 use std::test::Fail;
+use test_plans::{ANN_ALONE, ANN_AND_BOB, ANN_OF_THREE_EVENTS, plan_of};
 use virtual_switch::ConfigReply;
 
 const ANN: u8 = 0;

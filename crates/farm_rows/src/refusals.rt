@@ -3,9 +3,9 @@ use crate::calls::{Call, config};
 use domain_core::{By, Event, Refusal, Reply};
 use farm_core::{PlainFarm, run};
 use plan_checker::{AcceptedPlan, PlanFault};
-use sample_plans::{ANN_AND_BOB, plan_of};
 use std::alloc::Global;
 use std::test::Fail;
+use test_plans::{ANN_AND_BOB, plan_of};
 use virtual_switch::ConfigReply;
 
 /// The plan, at the second try where the first met want of memory.

@@ -3,9 +3,9 @@ use crate::calls::{Call, joined};
 use bootstrap::{Activity, Seen};
 use domain_core::{By, Event, Refusal, Reply};
 use farm_core::run;
-use sample_plans::{ANN_ALONE, ANN_AND_BOB, ANN_IN_TWO_RANGES, plan_of};
 use std::alloc::Global;
 use std::test::Fail;
+use test_plans::{ANN_ALONE, ANN_AND_BOB, ANN_IN_TWO_RANGES, plan_of};
 
 /// A loaded program that sends 41 and stops: ajw 5, mint, ldc 65, outbyte, stopp.
 const SEND_A: [u8; 9] = [0x08, 0xb5, 0x24, 0xf2, 0x24, 0x41, 0xfe, 0x21, 0xf5];

@@ -1,6 +1,5 @@
 //! What the program refuses, and streams that fail.
 use farm_program::{Settings, refuse_arguments, run, settings};
-use sample_plans::{ANN_ALONE, ANN_AND_BOB};
 use script_text::{HexFault, bytes_of};
 use std::alloc::Global;
 use std::io;
@@ -8,6 +7,7 @@ use std::io::{Read, Write};
 use std::sync::Wait;
 use std::test::Fail;
 use std::thread::Threads;
+use test_plans::{ANN_ALONE, ANN_AND_BOB};
 
 /// Gives a text in pieces of at most `piece` bytes, and fails at one read.
 #[derive(Drop)]

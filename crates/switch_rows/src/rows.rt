@@ -1,8 +1,8 @@
 //! What only typed calls of a switch show: bytes at once, the outputs that an input drives, the greatest change count.
 use crate::switches::{driven_by, is_ready, outputs_of, physical_of, switch_of, word_of};
 use crossbar::{Connection, Outputs, Word};
-use sample_plans::TWO_RANGES;
 use std::test::Fail;
+use test_plans::TWO_RANGES;
 use virtual_switch::ConfigReply;
 
 const NOTHING: ConfigReply = ConfigReply::Nothing;

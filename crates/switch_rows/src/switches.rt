@@ -1,8 +1,8 @@
 //! Switches over the domains of a plan.
 use crossbar::PlainOutputs;
 use plan_checker::PlanFault;
-use sample_plans::plan_of;
 use std::alloc::Global;
+use test_plans::plan_of;
 use virtual_switch::VirtualSwitch;
 
 pub type Switch = VirtualSwitch<PlainOutputs>;

@@ -5,9 +5,9 @@ ghost use Rattle.switch_table.specs.Seats.{surveyed_table, table_of};
 use crossbar::clear;
 use crossbar::laws::rows_are_words_of_ports;
 use plan_checker::PlanFault;
-use sample_plans::{ANN_AND_BOB, plan_of};
 use std::alloc::Global;
 use switch_table::{DomainSeat, OperatorSeat, SwitchTable};
+use test_plans::{ANN_AND_BOB, plan_of};
 use virtual_switch::VirtualSwitch;
 
 /// A domain's switch over its seat.

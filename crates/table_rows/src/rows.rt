@@ -6,11 +6,11 @@ use crate::farm::{Switch, both_switches, fed, last_switch, word_of};
 use crate::meeting::meet;
 use crate::surveys::{all_are, look, look_apart, watch};
 use plan_checker::PlanFault;
-use sample_plans::{ANN_AND_BOB, TWO_RANGES};
 use std::alloc::Global;
 use std::sync::atomic::AtomicU64;
 use std::test::Fail;
 use std::thread;
+use test_plans::{ANN_AND_BOB, TWO_RANGES};
 
 /// Connects input 2 to output 5, and makes it ready.
 const CONNECT_READY: [u8; 4] = [0x00, 0x02, 0x05, 0x03];

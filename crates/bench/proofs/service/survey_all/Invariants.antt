@@ -1,5 +1,5 @@
 use Rattle.farm_service.specs.Services.{IsItsOperator}
-use Rattle.bench_service.proofs.survey_all.Given as goal
+use Rattle.bench.proofs.service.survey_all.Given as goal
 
 abbrev pub invariant-loop-round : goal.invariant-loop-round
 invariant-loop-round l = IsItsOperator l.service l.operator

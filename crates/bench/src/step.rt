@@ -1,16 +1,18 @@
-//! Steps the processor through loops of instruction bytes, so that their rates can be measured: `COUNT [LOOP]`, where
-//! LOOP is `arithmetic`, `memory`, `lend`, `channel` or `sieve`; without it all five run. Links are served before each
-//! byte.
-#![tactic(auto)]
+//! Steps the processor through loops of instruction bytes: `arithmetic`, `memory`, `lend`, `channel` and `sieve`.
 
+use crate::asked::Asked;
+use crate::processor::{begun, place};
 use link_channels::Links;
-use node_memory::{Fault, Memory};
-use process_queue::Queue;
-use std::{env, io};
+use node_memory::Memory;
+use std::alloc::Global;
+use std::io;
 use t414_step::{Cpu, Stepped, step};
 
 /// The address of the first byte of a loop.
 const START: u32 = 0x8000_0100;
+
+/// The workspace of a loop, of which the word behind the first is told at the end.
+const WORKSPACE: u32 = 0x8000_0200;
 
 static ARITHMETIC: [u8; 24] = [
     0x40, 0xd0, // ldc 0; stl 0
@@ -66,34 +68,8 @@ static SIEVE: [u8; 44] = [
     0x62, 0x09, // j to ldc 2
 ];
 
-// The registers before the first byte of a loop.
-fn opened() -> Cpu {
-    Cpu {
-        instruction: START,
-        workspace: 0x8000_0200,
-        a: 0,
-        b: 0,
-        c: 0,
-        operand: 0,
-        queue: Queue::empty(),
-        bytes: 0,
-        error: false,
-        halt_on_error: false,
-        running: true,
-    }
-}
-
-// Puts the bytes of a loop into memory.
-fn place(memory: &mut Memory, code: &[u8]) -> Result<(), Fault> {
-    let mut address = START;
-    for byte in code {
-        memory.set_byte(address, *byte)?;
-        address = address.wrapping_add(1);
-    }
-    Ok(())
-}
-
-// Steps until a step doesn't run, at most so many times; how many ran.
+// Steps until a step doesn't run, at most so many times; how many ran. Links are served before each byte. Its one caller has
+// the registers, so they are locals of the loop.
 fn burst(cpu: &mut Cpu, memory: &mut Memory, links: &mut Links, limit: u32) -> u32 {
     for done in 0..limit {
         if !matches!(step(cpu, memory, links), Stepped::Ran) {
@@ -104,39 +80,35 @@ fn burst(cpu: &mut Cpu, memory: &mut Memory, links: &mut Links, limit: u32) -> u
 }
 
 // Runs a loop for so many steps, and prints what came of it.
-fn run(rt: &HostRuntime, name: &str, code: &[u8], count: u32) -> io::Result<()> {
-    let mut memory = Memory::new(rt.alloc(), 4096)?;
-    if place(&mut memory, code).is_err() {
+fn run(rt: &impl Print, alloc: Global, name: &str, code: &[u8], count: u32) -> io::Result<()> {
+    let mut memory = Memory::new(alloc, 4096)?;
+    if place(&mut memory, START, code).is_err() {
         return Ok(());
     }
-    let mut cpu = opened();
+    let mut cpu = begun(START, WORKSPACE, 0);
     let mut links = Links::new();
     let done = burst(&mut cpu, &mut memory, &mut links, count);
-    let word = memory.word(0x8000_0204).unwrap_or(0);
+    let word = memory.word(WORKSPACE + 4).unwrap_or(0);
     println!(rt; "{name}: {done} bytes, word {word}")
 }
 
-fn main(rt: HostRuntime) -> io::Result<()> {
-    let words: Vec<String> = env::args(&rt)?.collect(rt.alloc())?;
-    let count = words
-        .get(1)
-        .and_then(|word| word.parse::<u32>().ok())
-        .unwrap_or(1000);
-    let runs = |name: &str| words.get(2).is_none_or(|word| word.as_str() == name);
-    if runs("arithmetic") {
-        run(&rt, "arithmetic", &ARITHMETIC, count)?;
+/// Runs the loops that are asked for, COUNT bytes each, but no more than 2^32 - 1.
+pub fn measure(rt: &impl Print, alloc: Global, asked: Asked<'_>) -> io::Result<()> {
+    let count = u32::try_from(asked.count).unwrap_or(u32::MAX);
+    if asked.runs("arithmetic") {
+        run(rt, alloc, "arithmetic", &ARITHMETIC, count)?;
     }
-    if runs("memory") {
-        run(&rt, "memory", &MEMORY, count)?;
+    if asked.runs("memory") {
+        run(rt, alloc, "memory", &MEMORY, count)?;
     }
-    if runs("lend") {
-        run(&rt, "lend", &LEND, count)?;
+    if asked.runs("lend") {
+        run(rt, alloc, "lend", &LEND, count)?;
     }
-    if runs("channel") {
-        run(&rt, "channel", &CHANNEL, count)?;
+    if asked.runs("channel") {
+        run(rt, alloc, "channel", &CHANNEL, count)?;
     }
-    if runs("sieve") {
-        run(&rt, "sieve", &SIEVE, count)?;
+    if asked.runs("sieve") {
+        run(rt, alloc, "sieve", &SIEVE, count)?;
     }
     Ok(())
 }

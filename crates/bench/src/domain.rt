@@ -1,4 +1,4 @@
-//! Events through a domain, and Steps of tickets, so that their rates can be measured: `COUNT [WORK]`, where WORK is one of
+//! Events through a domain, and Steps of tickets, by these names:
 //!
 //! - `steps`: Steps of a node that runs a loop of two instruction bytes;
 //! - `pings`: a byte from host to host, and its acknowledge back: a Write, two Moves and a Read each;
@@ -6,16 +6,16 @@
 //! - `checkouts-2048`, `checkouts-65536`: tickets of a node with so many bytes of memory, dropped at once;
 //! - `turns-2048`, `turns-65536`: such tickets that do 256 Steps and come home;
 //! - `checkouts-used`, `turns-used`: the same of 65,536 bytes, of which the last word was written too.
-//!
-//! Without WORK all run.
-#![tactic(auto)]
 
+use crate::asked::Asked;
+use crate::faults::{failed, refused};
 use crossbar::{Outputs, PlainOutputs};
 use domain_core::{By, Committed, Domain, Event, Moved, Refusal, Reply};
-use plan_checker::{PlanFault, check, read_plan};
+use plan_checker::PlanFault;
 use std::alloc::Global;
-use std::{env, io};
+use std::io;
 use t414_step::Stepped;
+use test_plans::plan_of;
 use virtual_switch::ConfigReply;
 
 /// Node 0 has the least memory and node 1 the most.
@@ -59,7 +59,7 @@ type Plain = Domain<PlainOutputs>;
 
 // The domain of the plan, as it is opened.
 fn opened(alloc: Global) -> Result<Plain, PlanFault> {
-    let plan = check(alloc, read_plan(alloc, PLAN.as_bytes())?)?;
+    let plan = plan_of(alloc, PLAN)?;
     if plan.domains() == 0 {
         return Err(PlanFault::DomainCount);
     }
@@ -189,77 +189,50 @@ fn turns(domain: &mut Plain, node: u8, count: u64) -> Result<u64, Refusal> {
     Ok(count)
 }
 
-// A plan or a domain that could not be had, as an error of the program.
-fn no_domain(fault: PlanFault) -> io::Error {
-    match fault {
-        PlanFault::NoMemory => io::Error::from(io::ErrorKind::OutOfMemory),
-        _ => io::Error::from(io::ErrorKind::InvalidData),
-    }
-}
-
-// An event that was refused, as an error of the program.
-fn refused(refusal: Refusal) -> io::Error {
-    match refusal {
-        Refusal::NoMemory => io::Error::from(io::ErrorKind::OutOfMemory),
-        _ => io::Error::from(io::ErrorKind::InvalidData),
-    }
-}
-
-// Whether a work is asked for.
-fn is_asked(words: &[String], name: &str) -> bool {
-    words.get(2).is_none_or(|word| word.as_str() == name)
-}
-
 // Tickets of a node, those that are dropped and those that come home, if they are asked for.
 fn tickets(
-    rt: &HostRuntime,
+    rt: &impl Print,
+    alloc: Global,
     domain: &mut Plain,
     node: u8,
     memory: &str,
-    count: u64,
-    words: &[String],
+    asked: Asked<'_>,
 ) -> io::Result<()> {
-    let name = format!(in rt.alloc(); "checkouts-{memory}")?;
-    if is_asked(words, name.as_str()) {
-        let done = checkouts(domain, node, count).map_err(refused)?;
+    let name = format!(in alloc; "checkouts-{memory}")?;
+    if asked.runs(name.as_str()) {
+        let done = checkouts(domain, node, asked.count).map_err(refused)?;
         println!(rt; "{name}: {done}")?;
     }
-    let name = format!(in rt.alloc(); "turns-{memory}")?;
-    if is_asked(words, name.as_str()) {
-        let done = turns(domain, node, count).map_err(refused)?;
+    let name = format!(in alloc; "turns-{memory}")?;
+    if asked.runs(name.as_str()) {
+        let done = turns(domain, node, asked.count).map_err(refused)?;
         println!(rt; "{name}: {done}")?;
     }
     Ok(())
 }
 
-fn main(rt: HostRuntime) -> io::Result<()> {
-    let alloc = rt.alloc();
-    let words: Vec<String> = env::args(&rt)?.collect(alloc)?;
-    let count = words
-        .get(1)
-        .and_then(|word| word.parse::<u64>().ok())
-        .unwrap_or(100);
-    let runs = |name: &str| is_asked(words.as_slice(), name);
+/// Does COUNT rounds of each of those that are asked for.
+pub fn measure(rt: &impl Print, alloc: Global, asked: Asked<'_>) -> io::Result<()> {
+    let count = asked.count;
     let mut domain = match opened(alloc) {
         Ok(domain) => domain,
-        Err(fault) => return Err(no_domain(fault)),
+        Err(fault) => return Err(failed(fault)),
     };
-    if runs("pings") {
+    if asked.runs("pings") {
         let done = pings(&mut domain, count).map_err(refused)?;
         println!(rt; "pings: {done}")?;
     }
-    if runs("configs") {
+    if asked.runs("configs") {
         let done = configs(&mut domain, count).map_err(refused)?;
         println!(rt; "configs: {done}")?;
     }
     load(&mut domain, &LOOP).map_err(refused)?;
-    if runs("steps") {
+    if asked.runs("steps") {
         println!(rt; "steps: {}", steps(&mut domain, count))?;
     }
-    tickets(&rt, &mut domain, 0, "2048", count, words.as_slice())?;
-    tickets(&rt, &mut domain, 1, "65536", count, words.as_slice())?;
+    tickets(rt, alloc, &mut domain, 0, "2048", asked)?;
+    tickets(rt, alloc, &mut domain, 1, "65536", asked)?;
     load(&mut domain, &LAST_WORD_POKED).map_err(refused)?;
     send(&mut domain, &LOOP).map_err(refused)?;
-    tickets(&rt, &mut domain, 1, "used", count, words.as_slice())?;
-    Ok(())
+    tickets(rt, alloc, &mut domain, 1, "used", asked)
 }

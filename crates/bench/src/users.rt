@@ -2,10 +2,10 @@
 
 use domain_core::Refusal;
 use farm_service::Session;
-use sample_plans::Size;
 use std::sync::Wait;
 use std::thread;
 use std::thread::Threads;
+use test_plans::Size;
 
 /// The boot message of a loop of two instruction bytes, with room where the process saves its place.
 const LOOP: [u8; 7] = [0x06, 0x60, 0x0e, 0, 0, 0, 0];

@@ -1,5 +1,4 @@
-//! Users, workers and an operator at a service, so that their rates can be measured: `COUNT [WORK]`,
-//! where WORK is one of
+//! Users, workers and an operator at a service, by these names:
 //!
 //! - `own-1`, `own-2`, `own-4`, `own-8`: COUNT rounds of five configuration bytes by each of so many
 //!   users, in threads and domains of their own;
@@ -8,25 +7,23 @@
 //!   1 in one domain, or 8 or 28 in four;
 //! - `surveys`: COUNT surveys of all 32 outputs, beside a user who does COUNT rounds.
 //!
-//! Without WORK all run, and the turns that came home aren't told, since they hang on the schedule.
-#![tactic(auto)]
+//! If all are asked for, the turns that came home aren't told, since they hang on the schedule.
 
 ghost use Rattle.std.specs.Prelude.{◌≡◌, ◌≤◌, IfOk};
 ghost use Rattle.farm_service.specs.Services.{IsItsOperator};
 ghost use Rattle.token_queue.specs.Passes.{AreOf, AreItsPasses, HoldNone};
 
-mod users;
-
+use crate::asked::Asked;
 use crate::users::{ActiveUser, boot, send_each};
 use domain_core::{Committed, Refusal};
 use farm_service::{Gate, Opened, Service, Token, UserPass, WorkerPass, work};
-use sample_plans::{Size, sized_plan};
 use std::alloc::{AllocError, Global};
 use std::sync::Wait;
 use std::sync::atomic::{AtomicU64, Ordering};
 use std::thread::Threads;
-use std::{env, io, thread};
+use std::{io, thread};
 use switch_table::OperatorSeat;
+use test_plans::{Size, sized_plan};
 
 /// A turn's Steps.
 const QUANTUM: u64 = 256;
@@ -189,19 +186,12 @@ fn surveys<R: Threads + Wait + Sync>(rt: &R, alloc: Global, count: u64) -> Resul
     Ok(seen)
 }
 
-// Want of memory, or a refusal, as an error of the program.
-fn failed(_: AllocError) -> io::Error {
-    io::Error::from(io::ErrorKind::OutOfMemory)
-}
-
-fn main(rt: HostRuntime) -> io::Result<()> {
-    let alloc = rt.alloc();
-    let words: Vec<String> = env::args(&rt)?.collect(alloc)?;
-    let count = words
-        .get(1)
-        .and_then(|word| word.parse::<u64>().ok())
-        .unwrap_or(100);
-    let wanted = words.get(2).map(|word| word.as_str());
+// Rounds of users in domains of their own and in one.
+fn measure_commands<R: Print + Threads + Wait + Sync>(
+    rt: &R,
+    alloc: Global,
+    asked: Asked<'_>,
+) -> io::Result<()> {
     for (name, domains, users) in [
         ("own-1", 1, 1),
         ("own-2", 2, 1),
@@ -211,37 +201,57 @@ fn main(rt: HostRuntime) -> io::Result<()> {
         ("shared-2", 1, 2),
         ("shared-4", 1, 4),
     ] {
-        if wanted.is_none_or(|word| word == name) {
+        if asked.runs(name) {
             let size = Size {
                 domains,
                 nodes: 1,
                 users,
                 limit: MOST_EVENTS,
             };
-            let done = commands(&rt, alloc, size, count).map_err(failed)?;
+            let done = commands(rt, alloc, size, asked.count)?;
             println!(rt; "{name}: {done}")?;
         }
     }
+    Ok(())
+}
+
+// Turns of workers over few nodes and many.
+fn measure_turns<R: Print + Threads + Wait + Sync>(
+    rt: &R,
+    alloc: Global,
+    asked: Asked<'_>,
+) -> io::Result<()> {
     for (nodes, domains, each) in [("1", 1, 1), ("8", 4, 2), ("28", 4, 7)] {
         for (workers, number) in [("1", 1), ("2", 2), ("4", 4), ("8", 8)] {
             let name = format!(in alloc; "steps-{workers}-{nodes}")?;
-            if wanted.is_none_or(|word| word == name.as_str()) {
+            if asked.runs(name.as_str()) {
                 let size = Size {
                     domains,
                     nodes: each,
                     users: 1,
                     limit: MOST_EVENTS,
                 };
-                let done = turns(&rt, alloc, size, number, count).map_err(failed)?;
-                match wanted {
+                let done = turns(rt, alloc, size, number, asked.count)?;
+                match asked.name {
                     Some(_) => println!(rt; "{name}: {done}")?,
                     None => println!(rt; "{name}")?,
                 }
             }
         }
     }
-    if wanted.is_none_or(|word| word == "surveys") {
-        let seen = surveys(&rt, alloc, count).map_err(failed)?;
+    Ok(())
+}
+
+/// Does COUNT rounds of each of those that are asked for.
+pub fn measure<R: Print + Threads + Wait + Sync>(
+    rt: &R,
+    alloc: Global,
+    asked: Asked<'_>,
+) -> io::Result<()> {
+    measure_commands(rt, alloc, asked)?;
+    measure_turns(rt, alloc, asked)?;
+    if asked.runs("surveys") {
+        let seen = surveys(rt, alloc, asked.count)?;
         println!(rt; "surveys: {seen:x}")?;
     }
     Ok(())

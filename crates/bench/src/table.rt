@@ -1,17 +1,18 @@
-//! Loads, stores and surveys of switch words, so that their rates can be measured: `COUNT [WORK]`, where WORK is
-//! `seat-loads`, `seat-stores`, `plain-loads`, `plain-stores` or `surveys-beside-stores`; without it all five run. A store
-//! comes with the load that shows that the word changes.
-#![tactic(auto)]
+//! Loads, stores and surveys of switch words: `seat-loads`, `seat-stores`, `plain-loads`, `plain-stores` and
+//! `surveys-beside-stores`. A store comes with the load that shows that the word changes.
 
 ghost use Rattle.std.specs.Prelude.{◌≡◌, ◌<◌, IfOk};
 ghost use Rattle.switch_table.specs.Seats.{surveyed_table, table_of};
 
+use crate::asked::Asked;
+use crate::faults::failed;
 use crossbar::{Outputs, PlainOutputs, connect};
 use plan_checker::{AcceptedPlan, PlanFault};
-use sample_plans::{BOB_ALONE, plan_of};
 use std::alloc::Global;
-use std::{env, io, thread};
+use std::thread::Threads;
+use std::{io, thread};
 use switch_table::{DomainSeat, OperatorSeat, SwitchTable};
+use test_plans::{BOB_ALONE, plan_of};
 
 // The table of the plan, the seat of its domain, and the operator's.
 fn opened(
@@ -45,7 +46,7 @@ fn wire<O: Outputs>(outputs: &mut O, input: u8, output: u8) {
 }
 
 // The sum of so many loads, from outputs 0 to 7 by turns.
-fn loads<O: Outputs>(outputs: &mut O, count: u32) -> u64 {
+fn loads<O: Outputs>(outputs: &mut O, count: u64) -> u64 {
     let mut sum: u64 = 0;
     for turn in 0..count {
         sum = sum.wrapping_add(load(outputs, (turn % 8) as u8));
@@ -54,7 +55,7 @@ fn loads<O: Outputs>(outputs: &mut O, count: u32) -> u64 {
 }
 
 // The bits of output 5 after so many stores of it, each with a load.
-fn stores<O: Outputs>(outputs: &mut O, count: u32) -> u64 {
+fn stores<O: Outputs>(outputs: &mut O, count: u64) -> u64 {
     for turn in 0..count {
         wire(outputs, (turn % 2) as u8 + 2, 5);
     }
@@ -62,12 +63,12 @@ fn stores<O: Outputs>(outputs: &mut O, count: u32) -> u64 {
 }
 
 // As `stores`, of a seat that is then dropped.
-fn stored(mut seat: DomainSeat, count: u32) -> u64 {
+fn stored(mut seat: DomainSeat, count: u64) -> u64 {
     stores(&mut seat, count)
 }
 
 // Whether the count never falls over so many surveys of an output.
-fn rises(table: &SwitchTable, mut operator: OperatorSeat, output: u8, count: u32) -> bool
+fn rises(table: &SwitchTable, mut operator: OperatorSeat, output: u8, count: u64) -> bool
     requires here { surveyed_table operator ≡ table_of table.now }
     requires there { output < 32 }
 {
@@ -88,48 +89,35 @@ fn wire_all<O: Outputs>(outputs: &mut O) {
     }
 }
 
-// A plan or a table that could not be had, as an error of the program.
-fn failed(fault: PlanFault) -> io::Error {
-    match fault {
-        PlanFault::NoMemory => io::Error::from(io::ErrorKind::OutOfMemory),
-        _ => io::Error::from(io::ErrorKind::InvalidData),
-    }
-}
-
-fn main(rt: HostRuntime) -> io::Result<()> {
-    let alloc = rt.alloc();
-    let words: Vec<String> = env::args(&rt)?.collect(alloc)?;
-    let count = words
-        .get(1)
-        .and_then(|word| word.parse::<u32>().ok())
-        .unwrap_or(1000);
-    let work = words.get(2).map_or("all", |word| word.as_str());
+/// Does COUNT rounds of each of those that are asked for.
+pub fn measure<R: Print + Threads>(rt: &R, alloc: Global, asked: Asked<'_>) -> io::Result<()> {
+    let count = asked.count;
     let plan = plan_of(alloc, BOB_ALONE).map_err(failed)?;
     let (table, mut seat, operator) = match opened(alloc, &plan) {
         Ok(opened) => opened,
         Err(fault) => return Err(failed(fault)),
     };
     wire_all(&mut seat);
-    if work == "all" || work == "seat-loads" {
+    if asked.runs("seat-loads") {
         println!(rt; "seat-loads: sum {}", loads(&mut seat, count))?;
     }
-    if work == "all" || work == "seat-stores" {
+    if asked.runs("seat-stores") {
         println!(rt; "seat-stores: word {}", stores(&mut seat, count))?;
     }
     if plan.domains() == 1 {
         let mut plain = PlainOutputs::unused(plan.ranges(0));
         wire_all(&mut plain);
-        if work == "all" || work == "plain-loads" {
+        if asked.runs("plain-loads") {
             println!(rt; "plain-loads: sum {}", loads(&mut plain, count))?;
         }
-        if work == "all" || work == "plain-stores" {
+        if asked.runs("plain-stores") {
             println!(rt; "plain-stores: word {}", stores(&mut plain, count))?;
         }
     }
-    if work == "all" || work == "surveys-beside-stores" {
+    if asked.runs("surveys-beside-stores") {
         let shared = &table;
         let (word, rises) = thread::join(
-            &rt,
+            rt,
             move || stored(seat, count),
             move ||
                 requires { surveyed_table operator ≡ table_of shared.now }
