@@ -7,7 +7,7 @@ use Rattle.plan_rules.specs.Data.{DomainData}
 use Rattle.plan_checker.specs.declared.version.PlanVersion.TheVariants.{One}
 use Rattle.plan_checker.specs.Document.{list, node, domain, HasFourLinks, IsWhole}
 use Rattle.plan_checker.proofs.DocumentLemmas.{one_range_fields, part_fault, at_field}
-use Rattle.plan_rules.proofs.read.domain_of_one_range.Goals as goal
+use Rattle.plan_checker.proofs.read.domain_of_one_range.Goals as goal
 
 pub returns-in_err-table : goal.returns-in_err-table
 returns-in_err-table c =

@@ -8,7 +8,7 @@ use Rattle.plan_rules.specs.Data.{UserData, DomainData}
 use Rattle.plan_checker.specs.declared.version.PlanVersion.TheVariants.{Three}
 use Rattle.plan_checker.specs.Document.{list, node, range, user, domain, HasFourLinks, IsWhole}
 use Rattle.plan_checker.proofs.DocumentLemmas.{users_fields, part_fault, at_field}
-use Rattle.plan_rules.proofs.read.domain_of_users.Goals as goal
+use Rattle.plan_checker.proofs.read.domain_of_users.Goals as goal
 
 pub returns-in_err-table : goal.returns-in_err-table
 returns-in_err-table c =

@@ -4,7 +4,7 @@ use Rattle.toml.specs.Data.{integer}
 use Rattle.toml.specs.View.{view}
 use Rattle.plan_checker.specs.Version.{version_number}
 use Rattle.plan_checker.proofs.DocumentLemmas.{document_fields}
-use Rattle.plan_rules.proofs.read.plan_of.Goals as goal
+use Rattle.plan_checker.proofs.read.plan_of.Goals as goal
 
 pub returns-in_ok-domains-in-Some : goal.returns-in_ok-domains-in-Some
 returns-in_ok-domains-in-Some c =

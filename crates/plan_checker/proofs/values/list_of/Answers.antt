@@ -3,7 +3,7 @@ use Rattle.std.proofs.lemmas.Result.{err_from_is_err_and}
 use Rattle.std.proofs.lemmas.List.Elements.{All-push}
 use Rattle.toml.specs.View.{view, items_view}
 use Rattle.plan_checker.proofs.DocumentLemmas.{array_is, list_fault, spells_more}
-use Rattle.plan_rules.proofs.values.list_of.Goals as goal
+use Rattle.plan_checker.proofs.values.list_of.Goals as goal
 
 pub returns-in_err-from_value : goal.returns-in_err-from_value
 returns-in_err-from_value g c =

@@ -1,6 +1,6 @@
 use Rattle.std.proofs.Common.{◌≡◌, map, take, All}
 use Rattle.toml.specs.View.{items_of, items_view}
-use Rattle.plan_rules.proofs.values.list_of.Given as goal
+use Rattle.plan_checker.proofs.values.list_of.Given as goal
 
 -- the values so far spell the items so far
 abbrev pub invariant-loop-value : goal.invariant-loop-value

@@ -1,6 +1,6 @@
 use Rattle.std.proofs.Common.{sym, refl}
 use Rattle.toml.proofs.Views.{table_get}
-use Rattle.plan_rules.proofs.values.value_at.Goals as goal
+use Rattle.plan_checker.proofs.values.value_at.Goals as goal
 
 pub returns-in-Some : goal.returns-in-Some
 returns-in-Some c =

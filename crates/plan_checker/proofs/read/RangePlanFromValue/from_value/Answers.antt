@@ -4,8 +4,8 @@ use Rattle.toml.specs.Data.{integer}
 use Rattle.plan_rules.specs.declared.plan.RangePlan.{RangePlan}
 use Rattle.plan_checker.specs.Document.{list, range}
 use Rattle.plan_checker.proofs.DocumentLemmas.{part_fault, same_length}
-use Rattle.plan_rules.proofs.read.RangePlanFromValue.from_value.Goals as goal
-use Rattle.plan_rules.proofs.read.RangePlanFromValue.from_value.Goals.{in_default, in_default-2}
+use Rattle.plan_checker.proofs.read.RangePlanFromValue.from_value.Goals as goal
+use Rattle.plan_checker.proofs.read.RangePlanFromValue.from_value.Goals.{in_default, in_default-2}
 
 pub returns-in_err-ends : goal.returns-in_err-ends
 returns-in_err-ends c =

@@ -2,7 +2,7 @@ use Rattle.std.proofs.Common.{ap, ◌∙◌, Some, refl}
 use Rattle.std.proofs.lemmas.Result.{err_from_is_err_and}
 use Rattle.toml.specs.Data.{table}
 use Rattle.plan_checker.proofs.DocumentLemmas.{user_fields}
-use Rattle.plan_rules.proofs.read.UserPlanFromValue.from_value.Goals as goal
+use Rattle.plan_checker.proofs.read.UserPlanFromValue.from_value.Goals as goal
 
 pub returns-in_err-table : goal.returns-in_err-table
 returns-in_err-table c =
