@@ -1,4 +1,4 @@
-// The loops of crates/bench_step in C: the yardstick of the proved step. It does only the functions and operations
+// The loops of crates/bench/src/step.rt in C: the yardstick of the proved step. It does only the functions and operations
 // that these loops have, serves no links, and tests addresses, Error and slices as the proved step does.
 #include <stdint.h>
 #include <stdio.h>

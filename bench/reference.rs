@@ -1,6 +1,6 @@
-//! The works of crates/bench_domain in plain Rust: the yardstick of events and tickets. It answers, tests, records and
+//! The works of crates/bench/src/domain.rt in plain Rust: the yardstick of events and tickets. It answers, tests, records and
 //! copies what a domain does, and proves nothing. It has the functions and operations of an instruction byte that
-//! `reference.c` has, but those of channels, and no plan: the domain of `bench_domain` is written down.
+//! `reference.c` has, but those of channels, and no plan: the domain of that file is written down.
 use std::collections::VecDeque;
 
 const NOT_PROCESS: u32 = 0x8000_0000;

@@ -10,11 +10,11 @@ use crate::many::sixteen_domains;
 use crate::merge::OneByOne;
 use crate::rows::SAYS_41;
 use farm_service::{Closed, NoGate, NoMemory, Service, Session, UserPass, WorkerPass, work_all};
-use sample_plans::plan_of;
 use std::alloc::{AllocError, Global};
 use std::sync::Wait;
 use std::thread;
 use std::thread::Threads;
+use test_plans::plan_of;
 
 /// Each user joins his node to his host, and boots it with a program that sends 41.
 const BEGINNING: [Act; 2] = [Act::Config(&[1, 0, 1, 3]), Act::Write(0, &SAYS_41)];

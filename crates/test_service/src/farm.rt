@@ -5,10 +5,10 @@ ghost use Rattle.farm_service.specs.Services.{IsItsOperator};
 ghost use Rattle.token_queue.specs.Passes.{AreItsPasses};
 
 use farm_service::{Closed, NotClosed, Opened, Service, UserPass, WorkerPass};
-use sample_plans::plan_of;
 use std::alloc::Global;
 use std::sync::Wait;
 use switch_table::OperatorSeat;
+use test_plans::plan_of;
 
 /// A service with its workers' passes and its operator's seat.
 #[derive(Drop)]

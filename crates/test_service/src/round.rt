@@ -13,13 +13,13 @@ use plan_checker::AcceptedPlan;
 use rand::RngExt;
 use rand_core::SeedableRng;
 use rand_xoshiro::Xoshiro256PlusPlus;
-use sample_plans::{Size, sized_plan};
 use std::alloc::{AllocError, Global};
 use std::sync::Wait;
 use std::sync::atomic::{AtomicU64, Ordering};
 use std::thread;
 use std::thread::Threads;
 use switch_table::OperatorSeat;
+use test_plans::{Size, sized_plan};
 
 /// How many workers, users' commands and workers' turns a round has.
 #[derive(Clone, Copy)]

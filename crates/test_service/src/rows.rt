@@ -1,7 +1,7 @@
 //! Rows that are done on one thread: what users do in turn, each in a session of his own.
 
 use crate::acts::Act::{self, Config, Fill, Look, Read, Reset, Settle, Write};
-use sample_plans::{ALL_PORTS, ANN_AND_BOB, ANN_OF_THREE_EVENTS, TWO_NODES};
+use test_plans::{ALL_PORTS, ANN_AND_BOB, ANN_OF_THREE_EVENTS, TWO_NODES};
 
 /// A row: its name, the plan, and which user, by his place in the plan, does what.
 #[derive(Clone, Copy)]

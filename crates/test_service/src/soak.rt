@@ -1,11 +1,11 @@
 //! Users, workers and an operator who do anything at once, and what they left done again on one thread.
 
 use crate::round::{Load, Outcome, round};
-use sample_plans::Size;
 use std::alloc::{AllocError, Global};
 use std::io;
 use std::sync::Wait;
 use std::thread::Threads;
+use test_plans::Size;
 
 /// 16 domains; 28 nodes; 16 users in 4 domains; 16 users in 4 domains whose journals are soon full.
 const SIZES: [Size; 4] = [

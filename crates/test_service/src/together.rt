@@ -6,10 +6,10 @@ use crate::crew::{work_held, work_here, work_in};
 use crate::farm::{Farm, close, open};
 use crate::rows::{DRIVE_OUTPUT_5, JOIN, LOOPS, PEEK, POKE, SAYS_41};
 use farm_service::{Closed, NoMemory, Token, UserPass, Worked};
-use sample_plans::{ANN_AND_BOB, ANN_OF_THREE_EVENTS, ANN_WITH_CAS, TWO_NODES};
 use std::alloc::{AllocError, Global};
 use std::sync::Wait;
 use std::thread::Threads;
+use test_plans::{ANN_AND_BOB, ANN_OF_THREE_EVENTS, ANN_WITH_CAS, TWO_NODES};
 
 /// Joins the node to host 0, pokes a word and peeks it back.
 const POKE_AND_PEEK: [Act; 5] = [

@@ -6,8 +6,8 @@ use domain_core::{Refusal, Reply};
 use farm_service::Session;
 use rand::RngExt;
 use rand_xoshiro::Xoshiro256PlusPlus;
-use sample_plans::Size;
 use std::sync::Wait;
+use test_plans::Size;
 
 /// Boot messages: a loop of two instruction bytes, a program that sends 41, and two that destroy what they stand on.
 const PROGRAMS: [&[u8]; 4] = [

@@ -1,0 +1,238 @@
+//! Events through a domain, and Steps of tickets, by these names:
+//!
+//! - `steps`: Steps of a node that runs a loop of two instruction bytes;
+//! - `pings`: a byte from host to host, and its acknowledge back: a Write, two Moves and a Read each;
+//! - `configs`: three configuration bytes that connect an output, and two that enquire it;
+//! - `checkouts-2048`, `checkouts-65536`: tickets of a node with so many bytes of memory, dropped at once;
+//! - `turns-2048`, `turns-65536`: such tickets that do 256 Steps and come home;
+//! - `checkouts-used`, `turns-used`: the same of 65,536 bytes, of which the last word was written too.
+
+use crate::asked::Asked;
+use crate::faults::{failed, refused};
+use crossbar::{Outputs, PlainOutputs};
+use domain_core::{By, Committed, Domain, Event, Moved, Refusal, Reply};
+use plan_checker::PlanFault;
+use std::alloc::Global;
+use std::io;
+use t414_step::Stepped;
+use test_plans::plan_of;
+use virtual_switch::ConfigReply;
+
+/// Node 0 has the least memory and node 1 the most.
+const PLAN: &str = r#"
+version = 1
+[[domain]]
+name = "ann"
+first = 0
+last = 7
+limit = 1099511627776
+host = [3, 2]
+[[domain.node]]
+memory = 2048
+links = [0, -1, -1, -1]
+[[domain.node]]
+memory = 65536
+links = [1, -1, -1, -1]
+"#;
+
+/// Each host is joined to the node of its number.
+const NODES_JOINED: [u8; 7] = [1, 0, 3, 1, 1, 2, 3];
+
+/// The hosts are joined to each other.
+const HOSTS_JOINED: [u8; 4] = [1, 2, 3, 3];
+
+/// The boot message of a loop of two instruction bytes, with room where the process saves its place.
+const LOOP: [u8; 7] = [0x06, 0x60, 0x0e, 0, 0, 0, 0];
+
+/// The poke of the last word of 65,536 bytes, which lies outside a smaller memory.
+const LAST_WORD_POKED: [u8; 9] = [0, 0xfc, 0xff, 0, 0x80, 1, 2, 3, 4];
+
+/// A ticket's Steps.
+const QUANTUM: u64 = 256;
+
+/// How many pings or rounds of configuration bytes a journal holds before it is emptied.
+const ROUNDS: u64 = 200_000;
+
+const ANN: By = By::User(0);
+
+type Plain = Domain<PlainOutputs>;
+
+// The domain of the plan, as it is opened.
+fn opened(alloc: Global) -> Result<Plain, PlanFault> {
+    let plan = plan_of(alloc, PLAN)?;
+    if plan.domains() == 0 {
+        return Err(PlanFault::DomainCount);
+    }
+    let part = plan.part(0).copy(alloc)?;
+    let outputs = PlainOutputs::unused(plan.ranges(0));
+    if outputs.count() != part.count() {
+        return Err(PlanFault::DomainCount);
+    }
+    Ok(Domain::open(alloc, part, outputs)?)
+}
+
+// Restarts the domain, and sends its switch the bytes.
+fn begin(domain: &mut Plain, bytes: &[u8]) -> Result<(), Refusal> {
+    domain.restart();
+    for byte in bytes {
+        domain.apply(ANN, Event::Config(*byte))?;
+    }
+    Ok(())
+}
+
+// Restarts the domain, and sends both nodes the bytes, each by its own host.
+fn load(domain: &mut Plain, bytes: &[u8]) -> Result<(), Refusal> {
+    begin(domain, &NODES_JOINED)?;
+    send(domain, bytes)
+}
+
+// Sends both nodes the bytes, each by its own host.
+fn send(domain: &mut Plain, bytes: &[u8]) -> Result<(), Refusal> {
+    for byte in bytes {
+        domain.apply(ANN, Event::Write(0, *byte))?;
+        domain.apply(ANN, Event::Write(1, *byte))?;
+        for port in [3, 2] {
+            domain.apply(By::Farm, Event::Move(port))?;
+        }
+        for node in 0..2 {
+            domain.apply(By::Farm, Event::Step(node))?;
+        }
+        for port in 0..2 {
+            domain.apply(By::Farm, Event::Move(port))?;
+        }
+    }
+    Ok(())
+}
+
+// Steps node 0 until a Step doesn't run, at most so many times; how many ran.
+fn steps(domain: &mut Plain, count: u64) -> u64 {
+    for done in 0..count {
+        if domain.apply(By::Farm, Event::Step(0)) != Ok(Reply::Stepped(Stepped::Ran)) {
+            return done;
+        }
+    }
+    count
+}
+
+// Moves the packet that waits at a port; whether it passed.
+fn passes(domain: &mut Plain, port: u8) -> bool {
+    domain.apply(By::Farm, Event::Move(port)) == Ok(Reply::Moved(Moved::Passed))
+}
+
+// Sends a byte from host 0 to host 1, and its acknowledge back; whether it came.
+fn ping(domain: &mut Plain, byte: u8) -> bool {
+    domain.apply(ANN, Event::Write(0, byte)) == Ok(Reply::Written)
+        && passes(domain, 3)
+        && passes(domain, 2)
+        && domain.apply(ANN, Event::Read(1)) == Ok(Reply::Read(Some(byte)))
+}
+
+// Pings until a byte doesn't come, at most so many times; how many came.
+fn pings(domain: &mut Plain, count: u64) -> Result<u64, Refusal> {
+    for done in 0..count {
+        if done % ROUNDS == 0 {
+            begin(domain, &HOSTS_JOINED)?;
+        }
+        if !ping(domain, (done % 256) as u8) {
+            return Ok(done);
+        }
+    }
+    Ok(count)
+}
+
+// Connects input 2 to output 5, and enquires it; whether that is answered.
+fn is_connected(domain: &mut Plain) -> bool {
+    for byte in [0, 2, 5, 2] {
+        if domain.apply(ANN, Event::Config(byte)) != Ok(Reply::Config(ConfigReply::Nothing)) {
+            return false;
+        }
+    }
+    domain.apply(ANN, Event::Config(5)) == Ok(Reply::Config(ConfigReply::Answer(0x82)))
+}
+
+// Rounds of five configuration bytes, at most so many; how many were answered.
+fn configs(domain: &mut Plain, count: u64) -> Result<u64, Refusal> {
+    for done in 0..count {
+        if done % ROUNDS == 0 {
+            begin(domain, &[])?;
+        }
+        if !is_connected(domain) {
+            return Ok(done);
+        }
+    }
+    Ok(count)
+}
+
+// Tickets of a node that are dropped at once.
+fn checkouts(domain: &Plain, node: u8, count: u64) -> Result<u64, Refusal> {
+    for done in 0..count {
+        let ticket = domain.checkout(0, node)?;
+        if ticket.number() != node {
+            return Ok(done);
+        }
+    }
+    Ok(count)
+}
+
+// Tickets of a node that do Steps and come home, until one doesn't do them all; how many did.
+fn turns(domain: &mut Plain, node: u8, count: u64) -> Result<u64, Refusal> {
+    for done in 0..count {
+        let mut ticket = domain.checkout(0, node)?;
+        ticket.burst(QUANTUM);
+        if ticket.steps() != QUANTUM {
+            return Ok(done);
+        }
+        if domain.commit(ticket)? != Committed::Done {
+            return Ok(done);
+        }
+    }
+    Ok(count)
+}
+
+// Tickets of a node, those that are dropped and those that come home, if they are asked for.
+fn tickets(
+    rt: &impl Print,
+    alloc: Global,
+    domain: &mut Plain,
+    node: u8,
+    memory: &str,
+    asked: Asked<'_>,
+) -> io::Result<()> {
+    let name = format!(in alloc; "checkouts-{memory}")?;
+    if asked.runs(name.as_str()) {
+        let done = checkouts(domain, node, asked.count).map_err(refused)?;
+        println!(rt; "{name}: {done}")?;
+    }
+    let name = format!(in alloc; "turns-{memory}")?;
+    if asked.runs(name.as_str()) {
+        let done = turns(domain, node, asked.count).map_err(refused)?;
+        println!(rt; "{name}: {done}")?;
+    }
+    Ok(())
+}
+
+/// Does COUNT rounds of each of those that are asked for.
+pub fn measure(rt: &impl Print, alloc: Global, asked: Asked<'_>) -> io::Result<()> {
+    let count = asked.count;
+    let mut domain = match opened(alloc) {
+        Ok(domain) => domain,
+        Err(fault) => return Err(failed(fault)),
+    };
+    if asked.runs("pings") {
+        let done = pings(&mut domain, count).map_err(refused)?;
+        println!(rt; "pings: {done}")?;
+    }
+    if asked.runs("configs") {
+        let done = configs(&mut domain, count).map_err(refused)?;
+        println!(rt; "configs: {done}")?;
+    }
+    load(&mut domain, &LOOP).map_err(refused)?;
+    if asked.runs("steps") {
+        println!(rt; "steps: {}", steps(&mut domain, count))?;
+    }
+    tickets(rt, alloc, &mut domain, 0, "2048", asked)?;
+    tickets(rt, alloc, &mut domain, 1, "65536", asked)?;
+    load(&mut domain, &LAST_WORD_POKED).map_err(refused)?;
+    send(&mut domain, &LOOP).map_err(refused)?;
+    tickets(rt, alloc, &mut domain, 1, "used", asked)
+}

@@ -1,0 +1,109 @@
+//! Works of the parts of the farm, so that their rates can be measured: `WORK [COUNT [NAME]]`, where WORK is one of
+//!
+//! - `step`: the processor's step through loops of instruction bytes;
+//! - `node`: a node's bursts beside the step;
+//! - `domain`: events through a domain, and Steps of tickets;
+//! - `table`: loads, stores and surveys of switch words;
+//! - `service`: users, workers and an operator at a service.
+//!
+//! COUNT is how many rounds, and NAME one of the work's names, which stand at the head of its module; without NAME all of
+//! them run. Without words there is a short run of every work.
+#![tactic(auto)]
+
+mod asked;
+mod domain;
+mod faults;
+mod node;
+mod processor;
+mod service;
+mod step;
+mod table;
+mod users;
+
+use crate::asked::Asked;
+use std::alloc::Global;
+use std::sync::Wait;
+use std::thread::Threads;
+use std::{env, io};
+
+/// What is measured.
+#[derive(Clone, Copy)]
+enum Work {
+    Step,
+    Node,
+    Domain,
+    Table,
+    Service,
+}
+
+const WORKS: [Work; 5] = [
+    Work::Step,
+    Work::Node,
+    Work::Domain,
+    Work::Table,
+    Work::Service,
+];
+
+impl Work {
+    // The work of this name.
+    fn of(word: &str) -> Option<Work> {
+        match word {
+            "step" => Some(Work::Step),
+            "node" => Some(Work::Node),
+            "domain" => Some(Work::Domain),
+            "table" => Some(Work::Table),
+            "service" => Some(Work::Service),
+            _ => None,
+        }
+    }
+
+    // How many rounds a short run has.
+    fn few(self) -> u64 {
+        match self {
+            Work::Step | Work::Node | Work::Table => 1000,
+            Work::Domain | Work::Service => 100,
+        }
+    }
+
+    // Does what is asked for, and prints what came of it.
+    fn measure<R: Print + Threads + Wait + Sync>(
+        self,
+        rt: &R,
+        alloc: Global,
+        asked: Asked<'_>,
+    ) -> io::Result<()> {
+        match self {
+            Work::Step => step::measure(rt, alloc, asked),
+            Work::Node => node::measure(rt, alloc, asked),
+            Work::Domain => domain::measure(rt, alloc, asked),
+            Work::Table => table::measure(rt, alloc, asked),
+            Work::Service => service::measure(rt, alloc, asked),
+        }
+    }
+}
+
+// A short run of every work.
+fn measure_all<R: Print + Threads + Wait + Sync>(rt: &R, alloc: Global) -> io::Result<()> {
+    for work in WORKS {
+        let count = work.few();
+        work.measure(rt, alloc, Asked { count, name: None })?;
+    }
+    Ok(())
+}
+
+fn main(rt: HostRuntime) -> io::Result<()> {
+    let alloc = rt.alloc();
+    let words: Vec<String> = env::args(&rt)?.collect(alloc)?;
+    let Some(word) = words.get(1) else {
+        return measure_all(&rt, alloc);
+    };
+    let Some(work) = Work::of(word.as_str()) else {
+        return Err(io::Error::from(io::ErrorKind::InvalidInput));
+    };
+    let count = words
+        .get(2)
+        .and_then(|word| word.parse::<u64>().ok())
+        .unwrap_or(work.few());
+    let name = words.get(3).map(|word| word.as_str());
+    work.measure(&rt, alloc, Asked { count, name })
+}

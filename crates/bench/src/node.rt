@@ -1,0 +1,83 @@
+//! A loop of instruction bytes through a node's bursts, `node`, and through the processor's step alone, `processor`, so that
+//! their rates can be compared.
+
+use crate::asked::Asked;
+use crate::processor::{begun, place};
+use bootstrap::{Node, boot_message};
+use link_channels::{LinkNumber, Links};
+use node_memory::Memory;
+use os_link::Packet;
+use std::alloc::Global;
+use std::io;
+use t414_step::{Cpu, Stepped, step};
+
+// Where code is loaded, and the word boundary at its end.
+const START: u32 = 0x8000_0048;
+
+const WORKSPACE: u32 = 0x8000_0064;
+
+static LOOP: [u8; 28] = [
+    0x40, 0xd0, // ldc 0; stl 0
+    0x40, 0xd1, // ldc 0; stl 1
+    0x70, 0x81, 0xd0, // ldl 0; adc 1; stl 0
+    0x71, 0x70, 0xf2, 0xd1, // ldl 1; ldl 0; bsub; stl 1
+    0x71, 0x23, 0xf3, 0xd2, // ldl 1; xor; stl 2
+    0x70, 0x4f, 0x24, 0xf6, 0xa2, // ldl 0; ldc 15; and; cj over two bytes
+    0x40, 0xa0, // ldc 0; cj over none
+    0x61, 0x0c, // j to ldl 0
+    0x40, 0x40, 0x40, 0x40, // where a process that is sliced saves its place
+];
+
+// Gives a node its boot message, a byte a Step.
+fn boot(node: &mut Node, message: &[u8]) {
+    for byte in message {
+        node.deliver(LinkNumber::Zero, Packet::Byte(*byte));
+        let _ = node.step();
+        let _ = node.take(LinkNumber::Zero);
+    }
+}
+
+// Runs the loop through a node's bursts.
+fn run_node(rt: &impl Print, alloc: Global, count: u64) -> io::Result<()> {
+    let Ok(message) = boot_message(alloc, &LOOP) else {
+        return Ok(());
+    };
+    let mut node = Node::open(alloc, 4096)?;
+    boot(&mut node, message.as_slice());
+    let burst = node.burst(count);
+    println!(rt; "node: {} bytes", burst.steps)
+}
+
+// Steps until a step doesn't run, at most so many times; how many ran. Links are served before each byte. Its one caller has
+// the registers, so they are locals of the loop.
+fn burst(cpu: &mut Cpu, memory: &mut Memory, links: &mut Links, limit: u64) -> u64 {
+    for done in 0..limit {
+        if !matches!(step(cpu, memory, links), Stepped::Ran) {
+            return done;
+        }
+    }
+    limit
+}
+
+// Runs the loop through the processor's step, which begins as that node does.
+fn run_processor(rt: &impl Print, alloc: Global, count: u64) -> io::Result<()> {
+    let mut memory = Memory::new(alloc, 4096)?;
+    if place(&mut memory, START, &LOOP).is_err() {
+        return Ok(());
+    }
+    let mut cpu = begun(START, WORKSPACE, LinkNumber::Zero.input_channel());
+    let mut links = Links::new();
+    let done = burst(&mut cpu, &mut memory, &mut links, count);
+    println!(rt; "processor: {done} bytes")
+}
+
+/// Runs the loop as it is asked for, COUNT bytes each time.
+pub fn measure(rt: &impl Print, alloc: Global, asked: Asked<'_>) -> io::Result<()> {
+    if asked.runs("node") {
+        run_node(rt, alloc, asked.count)?;
+    }
+    if asked.runs("processor") {
+        run_processor(rt, alloc, asked.count)?;
+    }
+    Ok(())
+}

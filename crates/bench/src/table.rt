@@ -1,0 +1,129 @@
+//! Loads, stores and surveys of switch words: `seat-loads`, `seat-stores`, `plain-loads`, `plain-stores` and
+//! `surveys-beside-stores`. A store comes with the load that shows that the word changes.
+
+ghost use Rattle.std.specs.Prelude.{◌≡◌, ◌<◌, IfOk};
+ghost use Rattle.switch_table.specs.Seats.{surveyed_table, table_of};
+
+use crate::asked::Asked;
+use crate::faults::failed;
+use crossbar::{Outputs, PlainOutputs, connect};
+use plan_checker::{AcceptedPlan, PlanFault};
+use std::alloc::Global;
+use std::thread::Threads;
+use std::{io, thread};
+use switch_table::{DomainSeat, OperatorSeat, SwitchTable};
+use test_plans::{BOB_ALONE, plan_of};
+
+// The table of the plan, the seat of its domain, and the operator's.
+fn opened(
+    alloc: Global,
+    plan: &AcceptedPlan,
+) -> Result<(SwitchTable, DomainSeat, OperatorSeat), PlanFault>
+    ensures { IfOk result (λ o. surveyed_table o.2 ≡ table_of o.0) }
+{
+    let (table, mut seats, operator) = SwitchTable::open(alloc, plan)?;
+    let Some(seat) = seats.pop() else {
+        return Err(PlanFault::DomainCount);
+    };
+    Ok((table, seat, operator))
+}
+
+// The bits of an output, where it is there.
+fn load<O: Outputs>(outputs: &mut O, output: u8) -> u64 {
+    if output < outputs.count() {
+        outputs.read(output).bits
+    } else {
+        0
+    }
+}
+
+// Connects an input to an output, where both are there.
+fn wire<O: Outputs>(outputs: &mut O, input: u8, output: u8) {
+    let count = outputs.count();
+    if input < count && output < count {
+        connect(outputs, input, output);
+    }
+}
+
+// The sum of so many loads, from outputs 0 to 7 by turns.
+fn loads<O: Outputs>(outputs: &mut O, count: u64) -> u64 {
+    let mut sum: u64 = 0;
+    for turn in 0..count {
+        sum = sum.wrapping_add(load(outputs, (turn % 8) as u8));
+    }
+    sum
+}
+
+// The bits of output 5 after so many stores of it, each with a load.
+fn stores<O: Outputs>(outputs: &mut O, count: u64) -> u64 {
+    for turn in 0..count {
+        wire(outputs, (turn % 2) as u8 + 2, 5);
+    }
+    load(outputs, 5)
+}
+
+// As `stores`, of a seat that is then dropped.
+fn stored(mut seat: DomainSeat, count: u64) -> u64 {
+    stores(&mut seat, count)
+}
+
+// Whether the count never falls over so many surveys of an output.
+fn rises(table: &SwitchTable, mut operator: OperatorSeat, output: u8, count: u64) -> bool
+    requires here { surveyed_table operator ≡ table_of table.now }
+    requires there { output < 32 }
+{
+    let mut rises = true;
+    let mut newest = 0;
+    for _ in 0..count {
+        let changes = table.survey(&mut operator, output).changes();
+        rises = rises && newest <= changes;
+        newest = changes;
+    }
+    rises
+}
+
+// Connects each input to the output of its number.
+fn wire_all<O: Outputs>(outputs: &mut O) {
+    for port in 0..8 {
+        wire(outputs, port, port);
+    }
+}
+
+/// Does COUNT rounds of each of those that are asked for.
+pub fn measure<R: Print + Threads>(rt: &R, alloc: Global, asked: Asked<'_>) -> io::Result<()> {
+    let count = asked.count;
+    let plan = plan_of(alloc, BOB_ALONE).map_err(failed)?;
+    let (table, mut seat, operator) = match opened(alloc, &plan) {
+        Ok(opened) => opened,
+        Err(fault) => return Err(failed(fault)),
+    };
+    wire_all(&mut seat);
+    if asked.runs("seat-loads") {
+        println!(rt; "seat-loads: sum {}", loads(&mut seat, count))?;
+    }
+    if asked.runs("seat-stores") {
+        println!(rt; "seat-stores: word {}", stores(&mut seat, count))?;
+    }
+    if plan.domains() == 1 {
+        let mut plain = PlainOutputs::unused(plan.ranges(0));
+        wire_all(&mut plain);
+        if asked.runs("plain-loads") {
+            println!(rt; "plain-loads: sum {}", loads(&mut plain, count))?;
+        }
+        if asked.runs("plain-stores") {
+            println!(rt; "plain-stores: word {}", stores(&mut plain, count))?;
+        }
+    }
+    if asked.runs("surveys-beside-stores") {
+        let shared = &table;
+        let (word, rises) = thread::join(
+            rt,
+            move || stored(seat, count),
+            move ||
+                requires { surveyed_table operator ≡ table_of shared.now }
+            { rises(shared, operator, 13, count) },
+        );
+        println!(rt; "surveys-beside-stores: word {word}, counts rise {rises}")?;
+    }
+    Ok(())
+}

@@ -1,0 +1,4 @@
+//! The link switch, over the outputs of plans.
+
+mod rows;
+mod switches;

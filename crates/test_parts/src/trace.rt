@@ -1,0 +1,4 @@
+//! Traces: lines that are refused, nodes without registers, and booted code.
+
+mod boots;
+mod refusals;
