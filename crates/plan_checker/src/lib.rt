@@ -9,7 +9,10 @@ mod read;
 mod values;
 mod version;
 
-pub use plan_rules::{AcceptedPlan, DomainPlan, HostPart, NodePart, NodePlan, Part, Plan, PlanFault, RangePlan, UserPlan, check};
+pub use plan_rules::{
+    AcceptedPlan, DomainPlan, HostPart, NodePart, NodePlan, Part, Plan, PlanFault, RangePlan,
+    UserPlan, check,
+};
 pub use read::read_plan;
 
 /// Want of memory.

@@ -5,11 +5,10 @@ ghost use Rattle.toml.specs.View.{view, table_view};
 ghost use Rattle.plan_checker.specs.declared.version.PlanVersion.TheVariants.{One, Two, Three};
 ghost use Rattle.plan_checker.specs.Document.{Reads, ReadsDocument, ReadsValue, list, node, range, user, domain, HasFourLinks, IsWhole};
 
-use plan_rules::PlanFault;
 use crate::fields::has_fields;
-use plan_rules::{DomainPlan, NodePlan, Plan, RangePlan, UserPlan};
 use crate::values::{FromValue, integer_of, integers_of, list_of, table_of, text_of, value_at};
 use crate::version::PlanVersion;
+use plan_rules::{DomainPlan, NodePlan, Plan, PlanFault, RangePlan, UserPlan};
 use std::alloc::Global;
 use toml::{Table, Value};
 

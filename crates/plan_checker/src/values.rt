@@ -5,9 +5,9 @@ ghost use Rattle.toml.specs.View.{view, table_view};
 ghost use Rattle.plan_checker.specs.declared.version.PlanVersion.{PlanVersion};
 ghost use Rattle.plan_checker.specs.Document.{ReadsValue, list, IsTomlTable};
 
-use plan_rules::PlanFault;
 use crate::fields::has_fields;
 use crate::version::PlanVersion;
+use plan_rules::PlanFault;
 use std::alloc::Global;
 use toml::{Table, Value};
 
