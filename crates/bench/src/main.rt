@@ -7,7 +7,7 @@
 //! - `service`: users, workers and an operator at a service.
 //!
 //! COUNT is how many rounds, and NAME one of the work's names, which stand at the head of its module; without NAME all of
-//! them run. Without words there is a short run of every work.
+//! them run. Without words there is a short run of every work, and `--help` tells these words.
 #![tactic(auto)]
 
 mod asked;
@@ -43,6 +43,9 @@ const WORKS: [Work; 5] = [
     Work::Table,
     Work::Service,
 ];
+
+const USAGE: &str =
+    "usage: bench [WORK [COUNT [NAME]]], where WORK is step, node, domain, table or service";
 
 impl Work {
     // The work of this name.
@@ -97,6 +100,9 @@ fn main(rt: HostRuntime) -> io::Result<()> {
     let Some(word) = words.get(1) else {
         return measure_all(&rt, alloc);
     };
+    if word.as_str() == "--help" {
+        return println!(rt; "{USAGE}");
+    }
     let Some(work) = Work::of(word.as_str()) else {
         return Err(io::Error::from(io::ErrorKind::InvalidInput));
     };
