@@ -1,5 +1,7 @@
 //! Users, workers and an operator who do anything at once, and what they left done again on one thread.
 
+ghost use Rattle.std.specs.Prelude.{◌≤◌};
+
 use crate::round::{Load, Outcome, round};
 use std::alloc::{AllocError, Global};
 use std::io;
@@ -64,7 +66,9 @@ fn run<R: Threads + Wait + Sync + Print>(
     alloc: Global,
     rounds: Rounds,
     is_told: bool,
-) -> io::Result<u64> {
+) -> io::Result<u64>
+    requires { (1 ≤ rounds.load.workers) × (rounds.load.workers ≤ 8) }
+{
     let mut wrong = 0u64;
     for count in 0..rounds.count {
         for size in SIZES {
