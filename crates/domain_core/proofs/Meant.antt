@@ -2,6 +2,9 @@
 use Rattle.std.proofs.Common.{◌≡◌, ◌≢◌, ℕ, ◌+◌, ◌^◌, ◌≤◌, ◌==◌, List, [], ◌∷◌, ◌++◌, length, Bool, true, false, not, Ok, refl, sym, ap, ◌∙◌, arith, subst, if◌then◌else◌}
 use Rattle.std.proofs.lemmas.Bool.Decides.{nat_tests}
 use Rattle.std.proofs.lemmas.List.{set-get_or, length-append}
+use Rattle.std.specs.Prelude.{OnErr}
+use Rattle.std.specs.List.{AllZip}
+use Rattle.crossbar.specs.Word.{CountsChange}
 use Rattle.plan_rules.specs.Part.{PartData}
 use Rattle.bootstrap.specs.declared.node.Node.{Node}
 use Rattle.bootstrap.specs.Laws.{QuietStepChangesNothing}
@@ -12,7 +15,7 @@ use Rattle.domain_core.specs.declared.event.Event.TheVariants.{Config, Write, Re
 use Rattle.domain_core.specs.declared.event.Reply.{Reply}
 use Rattle.domain_core.specs.declared.journal.Entry.{Entry}
 use Rattle.domain_core.specs.Devices.{DeviceStates, node_at, with_node}
-use Rattle.domain_core.specs.Domain.{DomainValue, state_of, IsMeant}
+use Rattle.domain_core.specs.Domain.{DomainValue, state_of, IsMeant, IsCalled, gained}
 use Rattle.domain_core.specs.Journal.{AnsweredCall, expanded, IsHistory}
 use Rattle.domain_core.specs.Machine.{Machine, with_devices, acted, is_recorded}
 use Rattle.domain_core.specs.MachineValue.{MachineValue, machine_of}
@@ -54,6 +57,35 @@ same_history {P} {Q} {h} {k} {s} {t} parts histories states of =
 counted : (recorded : Bool) (n m : ℕ) → recorded ≡ true → m ≡ n + 1 → (if recorded then n + 1 else n) ≡ m
 counted recorded n m is more = rw (is, more) refl
 
+-- what the farm that holds the domain alone does with an event that is recorded
+record Told (d : DomainValue) (call : Call) (m : MachineValue) (reply : Reply) (entries : List Entry) : Type 0 where
+  answer : (next d.machine.part (state_of d) call).1 ≡ Ok reply
+  state : (next d.machine.part (state_of d) call).0 ≡ state_of (record { machine = m; journal = entries })
+  long : length (expanded entries) ≡ length (expanded d.journal) + 1
+
+told_recorded : (d : DomainValue) (call : Call) (m : MachineValue) (reply : Reply) (entries : List Entry)
+    → is_there d.machine.part call ≡ true → length (expanded d.journal) ≢ d.machine.part.limit
+    → machine_of m ≡ (acted d.machine.part (machine_of d.machine) call.event).0
+    → reply ≡ (acted d.machine.part (machine_of d.machine) call.event).1
+    → is_recorded d.machine.part (machine_of d.machine) call.event ≡ true
+    → expanded entries ≡ expanded d.journal ++ record { call = call; reply = reply } ∷ []
+    → Told d call m reply entries
+told_recorded d call m reply entries there below machine replies recorded gains =
+    let s : State = state_of d in
+    let P : PartData = d.machine.part in
+    let one : AnsweredCall = record { call = call; reply = reply } in
+    let told : next P s call ≡ (answered P s call.event, Ok (acted P s.machine call.event).1) = next_told P s call there below in
+    let long : length (expanded entries) ≡ s.recorded + 1 = ap length gains ∙ length-append (expanded d.journal) (one ∷ []) in
+    let number : (answered P s call.event).recorded ≡ length (expanded entries) = counted (is_recorded P s.machine call.event) s.recorded (length (expanded entries)) recorded long in
+    record {
+      answer = ap (λ (p : State × Answer). p.1) told ∙ ap (λ (r : Reply). let a : Answer = Ok r in a) (sym replies);
+      state =
+          ap (λ (p : State × Answer). p.0) told
+          ∙ ap (λ (x : Machine). let y : State = record { machine = x; recorded = (answered P s call.event).recorded } in y) (sym machine)
+          ∙ ap (λ (n : ℕ). let y : State = record { machine = machine_of m; recorded = n } in y) number;
+      long = long;
+    }
+
 -- an event that is recorded
 pub meant_recorded : (d : DomainValue) (call : Call) (m : MachineValue) (reply : Reply) (entries : List Entry)
     → IsMeant d → is_there d.machine.part call ≡ true → length (expanded d.journal) ≢ d.machine.part.limit
@@ -67,23 +99,40 @@ meant_recorded d call m reply entries meant there below machine replies part rec
     let s : State = state_of d in
     let P : PartData = d.machine.part in
     let one : AnsweredCall = record { call = call; reply = reply } in
-    let told : next P s call ≡ (answered P s call.event, Ok (acted P s.machine call.event).1) = next_told P s call there below in
-    let said : (next P s call).1 ≡ Ok reply = ap (λ (p : State × Answer). p.1) told ∙ ap (λ (r : Reply). let a : Answer = Ok r in a) (sym replies) in
-    let long : length (expanded entries) ≡ s.recorded + 1 = ap length gains ∙ length-append (expanded d.journal) (one ∷ []) in
-    let number : (answered P s call.event).recorded ≡ length (expanded entries) = counted (is_recorded P s.machine call.event) s.recorded (length (expanded entries)) recorded long in
-    let state : (next P s call).0 ≡ state_of (record { machine = m; journal = entries }) =
-    ap (λ (p : State × Answer). p.0) told
-    ∙ ap (λ (x : Machine). let y : State = record { machine = x; recorded = (answered P s call.event).recorded } in y) (sym machine)
-    ∙ ap (λ (n : ℕ). let y : State = record { machine = machine_of m; recorded = n } in y) number in
-    let history : IsHistory P (expanded d.journal ++ one ∷ []) (next P s call).0 = longer P (expanded d.journal) s call reply meant.history said in
+    let told : Told d call m reply entries = told_recorded d call m reply entries there below machine replies recorded gains in
+    let history : IsHistory P (expanded d.journal ++ one ∷ []) (next P s call).0 = longer P (expanded d.journal) s call reply meant.history told.answer in
     record {
-      history = same_history (sym part) (sym gains) state history;
-      within_limit = within (length (expanded d.journal)) (length (expanded entries)) d.machine.part.limit m.part.limit meant.within_limit below long (ap (λ (x : PartData). x.limit) part);
+      history = same_history (sym part) (sym gains) told.state history;
+      within_limit = within (length (expanded d.journal)) (length (expanded entries)) d.machine.part.limit m.part.limit meant.within_limit below told.long (ap (λ (x : PartData). x.limit) part);
       limit = subst (λ (x : PartData). x.limit ≤ 2 ^ 40) (sym part) meant.limit;
     }
   where
     within : (before now limit same : ℕ) → before ≤ limit → before ≢ limit → now ≡ before + 1 → same ≡ limit → now ≤ same
     within before now limit same few other more is = omega (arith, few, other, more, is)
+
+-- and it is answered as that farm answers it
+pub called_recorded : (d : DomainValue) (call : Call) (m : MachineValue) (reply : Reply) (entries : List Entry)
+    → is_there d.machine.part call ≡ true → length (expanded d.journal) ≢ d.machine.part.limit
+    → machine_of m ≡ (acted d.machine.part (machine_of d.machine) call.event).0
+    → reply ≡ (acted d.machine.part (machine_of d.machine) call.event).1
+    → is_recorded d.machine.part (machine_of d.machine) call.event ≡ true
+    → expanded entries ≡ expanded d.journal ++ record { call = call; reply = reply } ∷ []
+    → AllZip CountsChange d.machine.switch.words m.switch.words
+    → IsCalled call (Ok reply) d (record { machine = m; journal = entries })
+called_recorded d call m reply entries there below machine replies recorded gains counts =
+    let s : State = state_of d in
+    let P : PartData = d.machine.part in
+    let one : AnsweredCall = record { call = call; reply = reply } in
+    let told : Told d call m reply entries = told_recorded d call m reply entries there below machine replies recorded gains in
+    let said : Answer = Ok reply in
+    let gain : gained P s call said ≡ one ∷ [] = rw recorded refl in
+    record {
+      answer = sym told.answer;
+      state = sym told.state;
+      refused = subst (λ (a : Answer). OnErr a (said ≡ a)) (sym told.answer) tt;
+      journal = gains ∙ ap (λ (more : List AnsweredCall). expanded d.journal ++ more) (sym gain);
+      counts = counts;
+    }
 
 -- one that is not
 pub meant_unrecorded : QuietStepChangesNothing → (d : DomainValue) (event : Event) (m : MachineValue) (entries : List Entry)

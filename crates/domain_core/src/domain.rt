@@ -5,6 +5,7 @@ ghost use Rattle.crossbar.specs.Row.{switch_of, AreWordsOf, number_in};
 ghost use Rattle.crossbar.specs.Switch.{cleared};
 ghost use Rattle.crossbar.specs.Word.{CountsChange};
 ghost use Rattle.domain_core.specs.declared.domain.Committed.TheVariants.{Done, Stale};
+ghost use Rattle.domain_core.specs.declared.event.By.TheVariants.{Farm};
 ghost use Rattle.domain_core.specs.declared.event.Event.{Event as SpecEvent};
 ghost use Rattle.domain_core.specs.declared.event.Refusal.TheVariants.{NoSuch, JournalFull};
 ghost use Rattle.domain_core.specs.Machine.{is_recorded};
@@ -18,6 +19,7 @@ use crate::NoMemory;
 use crate::event::{By, Event, Refusal, Reply};
 use crate::journal::{Entry, note, note_ticket};
 use crate::machine::{Acted, Machine};
+use crate::moves::has_moved;
 use crate::ticket::Ticket;
 use bootstrap::Node;
 use crossbar::laws::unchanged_words_count_nothing;
@@ -134,6 +136,34 @@ impl<O: Outputs + Drop> Domain<O> {
         Ok(reply)
     }
 
+    /// As [`Domain::apply`] of a Move of a port of the domain, for which the farm asks. The packet's way is found once, and
+    /// where nothing waits the journal isn't asked for room.
+    // Six clauses: one of the port, those of `apply`, and one of the refusals.
+    #[tactic(auto, using(crate::proofs::Unchanged::counts_itself))]
+    pub fn move_port(&mut self, port: u8) -> Result<Reply, Refusal>
+        requires { port < self.old.machine.part.count }
+        ensures called { IsCalled (record { by = Farm; event = SpecEvent.Move port }) result self.old self.new }
+        ensures no_such { result ≢ Err NoSuch }
+        ensures err { OnErr result (self.new ≡ self.old) }
+        ensures part { self.new.machine.part ≡ self.old.machine.part }
+        ensures ports { self.new.machine.switch.ports ≡ self.old.machine.switch.ports }
+    {
+        // Words that stay count no change.
+        unchanged_words_count_nothing();
+        if self.is_full() {
+            return Err(Refusal::JournalFull);
+        }
+        let route = self.machine.route(port);
+        let moved = route.answer();
+        if has_moved(moved) {
+            self.journal.reserve(1)?;
+            self.machine.follow(route);
+            note(&mut self.journal, By::Farm, Event::Move(port), Reply::Moved(moved));
+            self.recorded += 1;
+        }
+        Ok(Reply::Moved(moved))
+    }
+
     /// Whether no Step and no Move would be recorded, the limit aside. Nothing changes.
     pub fn quiet(&mut self) -> bool
         ensures quiet { IsTrue result ↔ IsQuiet self.old.machine.part (machine_of self.old.machine) }
@@ -148,15 +178,6 @@ impl<O: Outputs + Drop> Domain<O> {
         ensures { result ≡ not (is_recorded self.now.machine.part (machine_of self.now.machine) (SpecEvent.Step node)) }
     {
         self.machine.node_is_quiet(node)
-    }
-
-    /// Whether a Move of this port of the domain would not be recorded, the limit aside. Nothing changes.
-    pub fn port_is_quiet(&mut self, port: u8) -> bool
-        requires { port < self.old.machine.part.count }
-        ensures quiet { result ≡ not (is_recorded self.old.machine.part (machine_of self.old.machine) (SpecEvent.Move port)) }
-        ensures same { self.new ≡ self.old }
-    {
-        self.machine.port_is_quiet(port)
     }
 
     /// Whether the recorded events number the part's limit.

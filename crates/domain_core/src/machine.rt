@@ -283,8 +283,8 @@ impl<O: Outputs + Drop> Machine<O> {
         self.devices.take_home(ticket);
     }
 
-    // What a Move of a port would do.
-    fn route(&mut self, port: u8) -> Route
+    /// What a Move of a port would do. Nothing changes.
+    pub(crate) fn route(&mut self, port: u8) -> Route
         requires { port < self.old.part.count }
         ensures answer { route_answer result ≡ (moved self.old.part (private_of self.old.switch) self.old.devices port).1 }
         ensures leaves { route_leaves self.old.part result self.old.devices ≡ (moved self.old.part (private_of self.old.switch) self.old.devices port).0 }
@@ -309,15 +309,11 @@ impl<O: Outputs + Drop> Machine<O> {
         }
     }
 
-    // Moves the packet that waits at a port.
-    fn pass(&mut self, port: u8) -> Moved
-        requires { port < self.old.part.count }
-        ensures answer { result ≡ (moved self.old.part (private_of self.old.switch) self.old.devices port).1 }
-        ensures devices { self.new.devices ≡ (moved self.old.part (private_of self.old.switch) self.old.devices port).0 }
-        ensures switch { self.new.switch ≡ self.old.switch }
-        ensures part { self.new.part ≡ self.old.part }
+    /// Does what a Move would do.
+    pub(crate) fn follow(&mut self, route: Route)
+        requires { HasItsDevice self.old.devices route }
+        ensures { self.new ≡ record self.old { devices = route_leaves self.old.part route self.old.devices } }
     {
-        let route = self.route(port);
         match route {
             Route::Nothing | Route::Stayed => {}
             Route::Lost(device) => self.devices.take(device),
@@ -330,6 +326,18 @@ impl<O: Outputs + Drop> Machine<O> {
                 copy_to(&mut self.devices, &self.part, &self.table, outputs, packet);
             }
         }
+    }
+
+    // Moves the packet that waits at a port.
+    fn pass(&mut self, port: u8) -> Moved
+        requires { port < self.old.part.count }
+        ensures answer { result ≡ (moved self.old.part (private_of self.old.switch) self.old.devices port).1 }
+        ensures devices { self.new.devices ≡ (moved self.old.part (private_of self.old.switch) self.old.devices port).0 }
+        ensures switch { self.new.switch ≡ self.old.switch }
+        ensures part { self.new.part ≡ self.old.part }
+    {
+        let route = self.route(port);
+        self.follow(route);
         route.answer()
     }
 }

@@ -72,6 +72,7 @@ pub fn work_all<R: Threads + Wait + Sync, G: Gate + Sync>(
     ensures passes { AreItsPasses service.now.plan service.now.queue passes.new.items }
 {
     let wanted = AtomicBool::new(false);
+    service.schedule().note_cores(rt);
     work_each(
         rt,
         service,

@@ -1,12 +1,13 @@
 //! The Moves of a domain's ports.
-ghost use Rattle.std.specs.Prelude.{◌≡◌, ◌<◌, [], ◌∷◌, IfOk, IfErr, OnErr};
+ghost use Rattle.std.specs.Prelude.{◌≡◌, ◌≢◌, ◌<◌, [], ◌∷◌, Err, IfOk, IfErr, OnErr};
 ghost use Rattle.domain_core.specs.Machine.{has_moved};
 ghost use Rattle.domain_core.specs.declared.event.Moved.{Moved as SpecMoved};
+ghost use Rattle.domain_core.specs.declared.event.Refusal.TheVariants.{NoSuch};
 ghost use Rattle.domain_core.specs.declared.event.Reply.TheVariants as reply_of;
 ghost use Rattle.farm_service.specs.PortMoves.{AreDone, HaveMoved, IsRefused, move_of};
 
 use crate::service::SeatedDomain;
-use domain_core::{By, Event, Moved, Refusal, Reply};
+use domain_core::{Moved, Refusal, Reply};
 
 // Whether a packet went.
 fn is_recorded(reply: Reply) -> bool
@@ -15,23 +16,21 @@ fn is_recorded(reply: Reply) -> bool
     matches!(reply, Reply::Moved(Moved::Passed | Moved::Lost))
 }
 
-// A Move of a port; whether a packet went. A Move that would not be recorded changes nothing, and isn't asked for, unless
-// the journal is full: then it is refused.
+// A Move of a port; whether a packet went.
 fn move_port(domain: &mut SeatedDomain, port: u8) -> Result<bool, Refusal>
     requires { port < domain.old.machine.part.count }
     ensures done { IfOk result (λ went. AreDone (move_of port ∷ []) domain.old went domain.new) }
     ensures refused { IfErr result (IsRefused (move_of port) domain.old) }
+    ensures no_such { result ≢ Err NoSuch }
     ensures err { OnErr result (domain.new ≡ domain.old) }
 {
-    if !domain.is_full() && domain.port_is_quiet(port) {
-        return Ok(false);
-    }
-    Ok(is_recorded(domain.apply(By::Farm, Event::Move(port))?))
+    Ok(is_recorded(domain.move_port(port)?))
 }
 
 /// Moves of all ports of a domain, in order; whether a packet went. The first refusal ends them.
 pub(crate) fn move_ports(domain: &mut SeatedDomain) -> Result<bool, Refusal>
-    ensures { HaveMoved domain.old result domain.new }
+    ensures moved { HaveMoved domain.old result domain.new }
+    ensures no_such { result ≢ Err NoSuch }
 {
     let mut went = false;
     for port in 0..domain.part().count() {

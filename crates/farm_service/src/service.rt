@@ -23,8 +23,8 @@ use crate::closing::{Room, ends_of};
 use crate::lists::are_listed;
 use crate::locking::take;
 use crate::opening::{Opened, open_domains, open_users};
-use crate::out::OutNodes;
 use crate::pass::UserPass;
+use crate::schedule::Schedule;
 use crate::waiting::wait;
 use crossbar::Word;
 use domain_core::laws::histories_grow;
@@ -53,8 +53,8 @@ pub struct Service {
     table: SwitchTable,
     tokens: TokenQueue,
     stopped: AtomicBool,
-    // Which nodes a thread has out. Nobody relies on it: it spares bursts that would be stale.
-    out: OutNodes,
+    // Which bursts are to be done next. Nobody relies on it: it spares bursts that would be stale, or too many.
+    schedule: Schedule,
 }
 
 impl Model for Service {
@@ -113,7 +113,7 @@ impl Service {
         let (table, seats, operator) = SwitchTable::open(alloc, &plan)?;
         let domains = open_domains(alloc, &plan, seats)?;
         let users = open_users(alloc, &plan)?;
-        let out = OutNodes::none(alloc)?;
+        let schedule = Schedule::empty(alloc)?;
         let (tokens, passes) = TokenQueue::open(rt, alloc, &plan, workers)?;
         Ok(Opened {
             service: Service {
@@ -122,7 +122,7 @@ impl Service {
                 table,
                 tokens,
                 stopped: AtomicBool::new(false),
-                out,
+                schedule,
             },
             passes,
             users,
@@ -204,6 +204,7 @@ impl Service {
     // Whether no Step and no Move of a domain would be recorded now.
     pub(crate) fn is_quiet<R: Wait>(&self, rt: &R, domain: u8) -> Result<bool, Refusal>
         ensures elsewhere { length self.now.plan ≤ domain → result ≡ Err NoSuch }
+        ensures there { domain < length self.now.plan → result ≢ Err NoSuch }
     {
         match self.hold(rt, domain) {
             Some(mut seated) => Ok(seated.quiet()),
@@ -246,9 +247,9 @@ impl Service {
         }
     }
 
-    // The nodes that threads have out.
-    pub(crate) fn out(&self) -> &OutNodes {
-        &self.out
+    // Which bursts are to be done next.
+    pub(crate) fn schedule(&self) -> &Schedule {
+        &self.schedule
     }
 
     /// Ends the service. Every merge of the journals is a run of the whole farm of the plan, which
@@ -290,7 +291,7 @@ impl Service {
             table: _,
             tokens,
             stopped: _,
-            out: _,
+            schedule: _,
         } = self;
         let Room {
             domains: closed,

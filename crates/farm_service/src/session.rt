@@ -1,6 +1,6 @@
 //! A user's commands.
 
-ghost use Rattle.std.specs.Prelude.{◌≡◌, ◌≤◌, Err, length};
+ghost use Rattle.std.specs.Prelude.{◌≡◌, ◌≢◌, ◌<◌, ◌≤◌, Err, length};
 ghost use Rattle.domain_core.specs.declared.event.Refusal.TheVariants.{NoSuch};
 ghost use Rattle.domain_core.specs.declared.event.Event.TheVariants.{Config, Write, Read, Reset, Look};
 ghost use Rattle.farm_service.specs.Answers.{IsTold};
@@ -147,19 +147,12 @@ impl Session<'_> {
     pub fn settle<R: Wait>(&self, rt: &R, quantum: u64, rounds: u64) -> Result<Settled, Refusal>
         requires quantum { (1 ≤ quantum) × (quantum ≤ 4096) }
         ensures elsewhere { length self.now.plan ≤ self.now.pass.domain → result ≡ Err NoSuch }
+        ensures there { self.now.pass.domain < length self.now.plan → result ≢ Err NoSuch }
     {
         let domain = self.pass.domain;
-        let mut slot = None;
-        for _round in 0..rounds {
-            if self.service.is_quiet(rt, domain)? {
-                return Ok(Settled::Quiet);
-            }
-            self.service.round(rt, domain, &mut slot, quantum)?;
-        }
-        if self.service.is_quiet(rt, domain)? {
-            Ok(Settled::Quiet)
-        } else {
-            Ok(Settled::Busy)
-        }
+        self.service.schedule().begin_settling(domain);
+        let settled = self.service.settle(rt, domain, quantum, rounds);
+        self.service.schedule().end_settling(domain);
+        settled
     }
 }

@@ -1,8 +1,12 @@
 //! Turns of workers, and rounds of `settle`.
 
+ghost use Rattle.std.specs.Prelude.{◌≡◌, ◌≢◌, ◌<◌, ◌≤◌, Err, length};
+ghost use Rattle.domain_core.specs.declared.event.Refusal.TheVariants.{NoSuch};
+
 use crate::halves::{Ended, Turned, begin_turn, bring_home, end_turn};
 use crate::moves::move_ports;
 use crate::service::Service;
+use crate::session::Settled;
 use crate::worker::Gate;
 use domain_core::{Refusal, Ticket};
 use std::sync::Wait;
@@ -29,7 +33,9 @@ impl Service {
         rt: &R,
         token: Token,
         slot: &mut Option<Ticket>,
-    ) -> Result<bool, Refusal> {
+    ) -> Result<bool, Refusal>
+        ensures there { token.domain < length self.now.plan → result ≢ Err NoSuch }
+    {
         match self.hold(rt, token.domain) {
             Some(seated) => begin_turn(&seated, token.domain, token.node, slot),
             None => Err(Refusal::NoSuch),
@@ -70,7 +76,7 @@ impl Service {
     }
 
     // A turn: a burst of a node outside the lock, if it has a Step to do, and then the Moves of its domain; whether there
-    // was anything to do. A node that another thread has out is waited for, since a second burst of it would be stale.
+    // was anything to do. There is no turn if the schedule doesn't give the node.
     pub(crate) fn turn<R: Wait, G: Gate>(
         &self,
         rt: &R,
@@ -79,21 +85,24 @@ impl Service {
         slot: &mut Option<Ticket>,
         quantum: u64,
     ) -> Result<bool, Refusal> {
-        self.out().take(rt, token.domain, token.node);
+        if !self.schedule().take(token) {
+            return Ok(false);
+        }
         let done = self.turn_alone(rt, token, gate, slot, quantum);
-        self.out().give_back(token.domain, token.node);
+        self.schedule().give_back(token);
         done
     }
 
-    // A burst of a node that nobody else has out, outside the lock, if it has a Step to do. A stale ticket is
-    // passed over.
+    // A burst of a node outside the lock, if it has a Step to do. A stale ticket is passed over.
     fn burst_alone<R: Wait>(
         &self,
         rt: &R,
         token: Token,
         slot: &mut Option<Ticket>,
         quantum: u64,
-    ) -> Result<(), Refusal> {
+    ) -> Result<(), Refusal>
+        ensures there { token.domain < length self.now.plan → result ≢ Err NoSuch }
+    {
         if self.begin(rt, token, slot)? {
             burst(slot, quantum);
             if let Some(mut seated) = self.hold(rt, token.domain) {
@@ -103,25 +112,89 @@ impl Service {
         Ok(())
     }
 
-    // A burst of each node of a domain that has a Step to do, and then the Moves. A node that another
-    // thread has out is waited for, as in a turn.
+    // The burst of a node in a round, if the schedule gives the node: a worker may be doing it.
+    fn burst_free<R: Wait>(
+        &self,
+        rt: &R,
+        token: Token,
+        slot: &mut Option<Ticket>,
+        quantum: u64,
+    ) -> Result<(), Refusal>
+        ensures there { token.domain < length self.now.plan → result ≢ Err NoSuch }
+    {
+        if !self.schedule().take(token) {
+            return Ok(());
+        }
+        let done = self.burst_alone(rt, token, slot, quantum);
+        self.schedule().give_back(token);
+        done
+    }
+
+    // Sees that the burst of a node in a round is over. A worker that keeps it out for long may have no core: then the
+    // burst is done here, and the worker's is stale.
+    fn finish_burst<R: Wait>(
+        &self,
+        rt: &R,
+        token: Token,
+        slot: &mut Option<Ticket>,
+        quantum: u64,
+    ) -> Result<(), Refusal>
+        ensures there { token.domain < length self.now.plan → result ≢ Err NoSuch }
+    {
+        if self.schedule().await_home(token) {
+            Ok(())
+        } else {
+            self.burst_alone(rt, token, slot, quantum)
+        }
+    }
+
+    // A burst of each node of a domain that has a Step to do, whoever does it, and then the Moves.
     pub(crate) fn round<R: Wait>(
         &self,
         rt: &R,
         domain: u8,
         slot: &mut Option<Ticket>,
         quantum: u64,
-    ) -> Result<(), Refusal> {
-        for node in 0..self.nodes(domain) {
-            self.out().take(rt, domain, node);
-            let done = self.burst_alone(rt, Token { domain, node }, slot, quantum);
-            self.out().give_back(domain, node);
-            done?;
+    ) -> Result<(), Refusal>
+        ensures there { domain < length self.now.plan → result ≢ Err NoSuch }
+    {
+        let nodes = self.nodes(domain);
+        self.schedule().begin_round(domain, nodes);
+        for node in 0..nodes {
+            self.burst_free(rt, Token { domain, node }, slot, quantum)?;
+        }
+        for node in 0..nodes {
+            self.finish_burst(rt, Token { domain, node }, slot, quantum)?;
         }
         match self.hold(rt, domain) {
             Some(mut seated) => move_ports(&mut seated)?,
             None => return Err(Refusal::NoSuch),
         };
         Ok(())
+    }
+
+    // Whether a domain is quiet after up to so many rounds.
+    pub(crate) fn settle<R: Wait>(
+        &self,
+        rt: &R,
+        domain: u8,
+        quantum: u64,
+        rounds: u64,
+    ) -> Result<Settled, Refusal>
+        ensures elsewhere { length self.now.plan ≤ domain → result ≡ Err NoSuch }
+        ensures there { domain < length self.now.plan → result ≢ Err NoSuch }
+    {
+        let mut slot = None;
+        for _round in 0..rounds {
+            if self.is_quiet(rt, domain)? {
+                return Ok(Settled::Quiet);
+            }
+            self.round(rt, domain, &mut slot, quantum)?;
+        }
+        if self.is_quiet(rt, domain)? {
+            Ok(Settled::Quiet)
+        } else {
+            Ok(Settled::Busy)
+        }
     }
 }

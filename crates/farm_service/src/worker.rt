@@ -6,7 +6,6 @@ use crate::halves::Turned;
 use crate::service::Service;
 use domain_core::{Refusal, Ticket};
 use std::sync::Wait;
-use std::thread;
 use token_queue::{Token, WorkerPass};
 
 /// Who is told of a worker's turns. The calls come outside of every lock, and each `begins` is followed by one `ended` of
@@ -63,12 +62,42 @@ fn turn<R: Wait, G: Gate>(
     }
 }
 
+// Works for so many turns, beside so many workers that came before.
+fn take_turns<R: Wait, G: Gate>(
+    rt: &R,
+    service: &Service,
+    pass: &mut WorkerPass,
+    gate: &G,
+    quantum: u64,
+    turns: u64,
+    workers_before: usize,
+) -> Worked
+    requires { pass.old.queue ≡ service.now.queue }
+    ensures { pass.new ≡ pass.old }
+{
+    let mut slot = None;
+    let mut idle_turns: u32 = 0;
+    for _turn in 0..turns {
+        if service.is_stopped() {
+            return Worked::Stopped;
+        }
+        service.schedule().make_way(rt, workers_before, idle_turns);
+        match turn(rt, service, pass, gate, &mut slot, quantum) {
+            Ok(true) => idle_turns = 0,
+            Err(Refusal::NoMemory) => return Worked::NoMemory,
+            Ok(false) | Err(_) => idle_turns = idle_turns.saturating_add(1),
+        }
+    }
+    Worked::Turns
+}
+
 /// Works for so many turns. In each a token is taken, its node does up to `quantum` Steps, 1 to 4,096,
 /// outside the lock of its domain, the packets of the domain's ports move, and the token goes back. A
 /// turn that finds no token is spent all the same; `JournalFull` ends a turn alone.
 ///
-/// The pass holds no token before the call and none after it, whatever it answers. After a turn with
-/// nothing to do the thread yields, so that users go first.
+/// The pass holds no token before the call and none after it, whatever it answers. Users go first: after a turn with
+/// nothing to do the thread gives its core away, and while somebody settles in a domain, his round and the workers do one
+/// burst of each node there, and workers for whom there is no core sleep.
 pub fn work<R: Wait, G: Gate>(
     rt: &R,
     service: &Service,
@@ -83,16 +112,8 @@ pub fn work<R: Wait, G: Gate>(
     ensures none { pass.new.held ≡ [] }
     ensures pass { pass.new ≡ pass.old }
 {
-    let mut slot = None;
-    for _turn in 0..turns {
-        if service.is_stopped() {
-            return Worked::Stopped;
-        }
-        match turn(rt, service, pass, gate, &mut slot, quantum) {
-            Ok(true) => {}
-            Err(Refusal::NoMemory) => return Worked::NoMemory,
-            Ok(false) | Err(_) => thread::yield_now(),
-        }
-    }
-    Worked::Turns
+    let workers_before = service.schedule().begin_work();
+    let worked = take_turns(rt, service, pass, gate, quantum, turns, workers_before);
+    service.schedule().end_work();
+    worked
 }

@@ -4,7 +4,7 @@ use Rattle.domain_core.specs.Devices.{taken_from_device}
 use Rattle.domain_core.specs.MachineValue.{MachineValue}
 use Rattle.domain_core.specs.Routes.{marked_in}
 use Rattle.domain_core.proofs.Sizes.{still_of_part, large_by, large_taken, large_gone}
-use Rattle.domain_core.proofs.machine.Machine.pass.Goals as goal
+use Rattle.domain_core.proofs.machine.Machine.follow.Goals as goal
 
 pub invariant_of-self : goal.invariant_of-self
 invariant_of-self g c =
