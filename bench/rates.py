@@ -18,9 +18,9 @@ def count_asked(usual):
     return int(sys.argv[1]) if len(sys.argv) > 1 else usual
 
 
-def timed(call, text="", cores=None):
-    """Nanoseconds of one run with this standard input on these cores, what it printed, and its peak memory in MiB, which
-    `time` tells."""
+def timed(call, text="", cores=None, more=None):
+    """Nanoseconds of one run with this standard input, on these cores, with more variables than this process has; what it
+    printed; and its peak memory in MiB, which `time` tells."""
     words = [str(word) for word in call]
     with tempfile.NamedTemporaryFile("r") as peak, tempfile.TemporaryFile() as given:
         given.write(text.encode())
@@ -28,7 +28,7 @@ def timed(call, text="", cores=None):
         prepare = None if cores is None else lambda: os.sched_setaffinity(0, cores)
         begun = time.perf_counter_ns()
         done = subprocess.run(["time", "-f", "%M", "-o", peak.name, *words], stdin=given, stdout=subprocess.PIPE, text=True,
-                              env={**os.environ, **KEEPS_MEMORY}, preexec_fn=prepare, check=True)
+                              env={**os.environ, **(more or {})}, preexec_fn=prepare, check=True)
         return time.perf_counter_ns() - begun, done.stdout, int(peak.read()) / 1024
 
 

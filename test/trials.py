@@ -3,8 +3,6 @@ libraries of C that stand before the C library."""
 import contextlib
 import os
 import resource
-import select
-import signal
 import subprocess
 import sys
 
@@ -46,7 +44,7 @@ def library(name, folder):
 @contextlib.contextmanager
 def no_threads():
     """Programs that begin meanwhile can start no thread but the first: its stack would be larger than all memory that a
-    process may have. No other thread of this process may start programs then."""
+    process may have. The limits hold for this process too, whose own threads, if it had some, might be too much for them."""
     told = {resource.RLIMIT_STACK: 1 << 30, resource.RLIMIT_AS: 1 << 29}
     kept = {it: resource.getrlimit(it) for it in told}
     for it, most in told.items():
@@ -58,34 +56,15 @@ def no_threads():
             resource.setrlimit(it, limits)
 
 
-def ended(process, seconds):
-    """The status of a process, or none if it had to be killed."""
-    handle, waiting = os.pidfd_open(process), select.poll()
-    waiting.register(handle, select.POLLIN)
-    is_over = waiting.poll(1000 * seconds)
-    if not is_over:
-        os.kill(process, signal.SIGKILL)
-    os.close(handle)
-    status = os.waitstatus_to_exitcode(os.waitpid(process, 0)[1])
-    return status if is_over else None
-
-
 def run(call, text=b"", more=None, limits=contextlib.nullcontext, seconds=MOST_SECONDS):
-    """Status, standard output and standard error of a program, whose streams are files in memory, with more variables than
-    this process has. The status is none if it didn't end. It is started by posix_spawn, since a start by subprocess takes
-    longer than most texts."""
-    with contextlib.ExitStack() as files:
-        streams = [files.enter_context(open(os.memfd_create(it), "w+b", buffering=0)) for it in ("text", "output", "errors")]
-        streams[0].write(text)
-        streams[0].seek(0)
-        actions = [(os.POSIX_SPAWN_DUP2, it.fileno(), at) for at, it in enumerate(streams)]
-        with limits():
-            process = os.posix_spawn(call[0], call, {**os.environ, **(more or {})}, file_actions=actions,
-                                     setsigdef=[signal.SIGPIPE])
-        status = ended(process, seconds)
-        for it in streams:
-            it.seek(0)
-        return (None, b"", b"it did not end") if status is None else (status, streams[1].read(), streams[2].read())
+    """Status, standard output and standard error of a program with this standard input, with more variables than this process
+    has. The status is none if the program didn't end in so many seconds."""
+    with limits():
+        try:
+            done = subprocess.run(call, input=text, capture_output=True, timeout=seconds, env={**os.environ, **(more or {})}, check=False)
+        except subprocess.TimeoutExpired:
+            return None, b"", b"it did not end"
+    return done.returncode, done.stdout, done.stderr
 
 
 def refused(told):
