@@ -1,4 +1,4 @@
-/* Reads and writes of a program that fail, end early or give little: see bench/streams. For each of the streams 0, 1 and 2 the
+/* Reads and writes of a program that fail, end early or give little: see test/streams. For each of the streams 0, 1 and 2 the
    variable STREAM0, STREAM1 or STREAM2 has a way, a blank, and the number of the call from which on it holds, counted from 1:
      fail     the call fails with EIO
      nothing  a write takes no byte; a read gives none, as at an end
