@@ -1,0 +1,84 @@
+"""Proves crates, several at one time: how many jobs there are, which crate goes first, and what is shown of it."""
+import os
+import sys
+from concurrent.futures import FIRST_COMPLETED, ThreadPoolExecutor, wait
+
+from tree import TOP
+
+MEMORY_OF_A_JOB = 2 << 30
+# More jobs of one crate gain nothing.
+MOST_JOBS_OF_A_CRATE = 4
+# How far the system may put a crate back behind others.
+LAST_RANK = 10
+
+
+def cores():
+    """The cores that this process may use."""
+    return len(os.sched_getaffinity(0))
+
+
+def most_jobs():
+    """Twice as many jobs as cores, as far as 2 GB of free memory for each allow."""
+    with open("/proc/meminfo", encoding="ascii") as lines:
+        free = next(int(it.split()[1]) << 10 for it in lines if it.startswith("MemAvailable"))
+    return max(1, min(2 * cores(), free // MEMORY_OF_A_JOB))
+
+
+def size(name):
+    """The bytes of a crate's sources, definitions and proofs, as a measure of its work."""
+    folders = [f"{TOP}/crates/{name}/{it}" for it in ("src", "specs", "proofs")]
+    return sum(os.path.getsize(f"{at}/{it}") for folder in folders for at, _, names in os.walk(folder) for it in names)
+
+
+def works_ahead(wanted, below):
+    """Each crate with the work of the longest chain that begins with it."""
+    ahead = {}
+
+    def of(name):
+        if name not in ahead:
+            ahead[name] = size(name) + max((of(it) for it in wanted if name in below[it]), default=0)
+        return ahead[name]
+
+    for name in wanted:
+        of(name)
+    return ahead
+
+
+def stood_on(name, below):
+    """The crates on which a crate stands, at any depth."""
+    return set(below[name]).union(*(stood_on(it, below) for it in below[name]))
+
+
+def crates_wanted(names, below):
+    """These crates with all on which they stand."""
+    for name in names:
+        if name not in below:
+            sys.exit(f"{os.path.basename(sys.argv[0])}: crates.txt has no crate {name}")
+    return set(names).union(*(stood_on(it, below) for it in names))
+
+
+def prove_all(wanted, most, below, prove):
+    """Proves the crates, the longest chain first, by so many jobs, and tells whether all are proved. `prove` takes a crate,
+    its jobs, and how far the system may put it back; it gives whether that went well, what was printed, and seconds."""
+    ahead = works_ahead(wanted, below)
+    left, running, done = sorted(wanted, key=lambda it: (-ahead[it], it)), {}, set()
+    with ThreadPoolExecutor(most) as pool:
+        while left or running:
+            for name in [it for it in left if done.issuperset(below[it])]:
+                idle = most - sum(jobs for _, jobs in running.values())
+                if idle < 1:
+                    break
+                left.remove(name)
+                jobs = min(MOST_JOBS_OF_A_CRATE, cores(), idle)
+                rank = 3 * sum(ahead[it] > ahead[name] for it, _ in running.values())
+                running[pool.submit(prove, name, jobs, min(rank, LAST_RANK))] = name, jobs
+            for it in wait(running, return_when=FIRST_COMPLETED).done:
+                name, _ = running.pop(it)
+                is_well, text, seconds = it.result()
+                if not is_well:
+                    sys.stderr.write(text.decode(errors="replace"))
+                    print(f"{name} is not proved", file=sys.stderr)
+                    return False
+                done.add(name)
+                print(f"{len(done)} of {len(wanted)}, {name}, {seconds:.0f} s", file=sys.stderr, flush=True)
+    return True
