@@ -61,7 +61,8 @@ def run(call, text=b"", more=None, limits=contextlib.nullcontext, seconds=MOST_S
     has. The status is none if the program didn't end in so many seconds."""
     with limits():
         try:
-            done = subprocess.run(call, input=text, capture_output=True, timeout=seconds, env={**os.environ, **(more or {})}, check=False)
+            done = subprocess.run(call, input=text, capture_output=True, timeout=seconds, check=False,
+                                  env={**os.environ, **(more or {})})
         except subprocess.TimeoutExpired:
             return None, b"", b"it did not end"
     return done.returncode, done.stdout, done.stderr
