@@ -1,4 +1,4 @@
--- what only helps contracts
+-- what must be believed
 pub mod Version
 pub mod Fields
 pub mod Document

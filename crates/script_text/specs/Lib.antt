@@ -1,2 +1,5 @@
--- what only helps contracts
+-- what must be believed
 pub mod Hexadecimal
+pub mod Lines
+-- what only helps contracts
+pub mod Rows

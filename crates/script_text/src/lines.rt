@@ -1,21 +1,36 @@
 //! The lines of a text, and its division into a plan and what follows it.
-ghost use Rattle.std.specs.Prelude.{◌<◌, length};
+ghost use Rattle.std.specs.Prelude.{◌≡◌, ◌<◌, length};
+ghost use Rattle.std.specs.Str.Lines.{strip_carriage_return};
+ghost use Rattle.script_text.specs.Lines.{line_of, after_line, IsDivided, asks_nothing};
 
 /// A line without its line feed and one carriage return before that, and what follows it.
 pub fn split_line(text: &[u8]) -> (&[u8], &[u8])
+    ensures line { result.0.now ≡ line_of text.now }
+    ensures rest { result.1.now ≡ after_line text.now }
     ensures shorter { 0 < length text.now → length result.1.now < length text.now }
 {
     match text.iter().position(|byte| *byte == b'\n') {
-        Some(end) => {
-            let line = &text[..end];
-            (line.strip_suffix(b"\r").unwrap_or(line), &text[end + 1..])
-        }
+        Some(end) => (without_return(&text[..end]), &text[end + 1..]),
         None => (text, &[]),
     }
 }
 
+// A line without one carriage return at its end.
+fn without_return(line: &[u8]) -> &[u8]
+    ensures { result.now ≡ strip_carriage_return line.now }
+{
+    let count = line.len();
+    if count > 0 && line[count - 1] == b'\r' {
+        &line[..count - 1]
+    } else {
+        line
+    }
+}
+
 /// What stands before and after the first line that is exactly `mark`; without one all stands before it.
-pub fn divide<'a>(text: &'a [u8], mark: &[u8]) -> (&'a [u8], &'a [u8]) {
+pub fn divide<'a>(text: &'a [u8], mark: &[u8]) -> (&'a [u8], &'a [u8])
+    ensures { IsDivided text.now mark.now result.0.now result.1.now }
+{
     let mut rest = text;
     while !rest.is_empty() {
         let (line, after) = split_line(rest);
@@ -28,6 +43,11 @@ pub fn divide<'a>(text: &'a [u8], mark: &[u8]) -> (&'a [u8], &'a [u8]) {
 }
 
 /// Whether a line asks for nothing: it is empty or begins with `#`.
-pub fn is_passed_over(line: &[u8]) -> bool {
-    matches!(line.first(), None | Some(b'#'))
+pub fn is_passed_over(line: &[u8]) -> bool
+    ensures { result ≡ asks_nothing line.now }
+{
+    match line {
+        [] => true,
+        [first, ..] => *first == b'#',
+    }
 }

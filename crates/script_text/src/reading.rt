@@ -1,4 +1,5 @@
 //! Reading a stream to its end.
+ghost use Rattle.std.specs.Prelude.{◌≡◌, IfOk, IfSome};
 
 use std::alloc::{AllocError, AllocFailed, Global};
 use std::io::Read;
@@ -34,7 +35,9 @@ impl<T: Drop> From<AllocFailed<T>> for ReadFault {
 ///
 /// `Failed` if a read fails or the end doesn't come within `MOST_READS` reads; `NoMemory` if what was read can't be
 /// kept.
-pub fn read_whole<R: Read>(alloc: Global, input: &mut R) -> Result<Vec<u8>, ReadFault> {
+pub fn read_whole<R: Read>(alloc: Global, input: &mut R) -> Result<Vec<u8>, ReadFault>
+    ensures { IfOk result (λ bytes. IfSome (R.remaining input.old) (λ left. bytes.items ≡ left)) }
+{
     let mut bytes = Vec::new(alloc);
     let mut piece = [0u8; 1024];
     for _ in 0..MOST_READS {
