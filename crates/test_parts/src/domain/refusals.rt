@@ -1,6 +1,6 @@
 //! Want of memory: a refused call changes nothing, and the next does what the first would have done.
 //!
-//! `bench/refusals` runs these tests while each allocation in turn is refused.
+//! `test/refusals` runs these tests while each allocation in turn is refused.
 use crate::domain::opening::{Plain, opened};
 use crate::domain::work::{ANN, run, word};
 use domain_core::{By, Committed, Entry, Event, Refusal, Reply, Ticket};
