@@ -1,6 +1,7 @@
 //! Why a run ends without its output.
-ghost use Rattle.std.specs.Prelude.{◌≡◌};
+ghost use Rattle.std.specs.Prelude.{◌≡◌, ◌⊎◌};
 ghost use Rattle.farm_program.specs.declared.failure.Failure.TheVariants.{Memory};
+ghost use Rattle.farm_program.specs.Statuses.{failure_status};
 
 use plan_checker::PlanFault;
 use script_text::{ReadFault, write_whole};
@@ -66,7 +67,9 @@ impl Failure {
     }
 
     /// The status of the process.
-    fn status(&self) -> u8 {
+    fn status(&self) -> u8
+        ensures { result ≡ failure_status self.now }
+    {
         match self {
             Failure::Words(_) | Failure::Arguments => 2,
             Failure::Plan { .. } => 3,
@@ -76,8 +79,11 @@ impl Failure {
         }
     }
 
-    /// Writes the text, and gives the status. Where the text can't be written the status stays.
-    pub fn report<E: Write>(&self, alloc: Global, errors: &mut E) -> u8 {
+    /// Writes the text, and gives the status: 5 if there is no memory for the text. Where the text can't be written the
+    /// status stays.
+    pub fn report<E: Write>(&self, alloc: Global, errors: &mut E) -> u8
+        ensures { (result ≡ failure_status self.now) ⊎ (result ≡ 5) }
+    {
         match format!(in alloc; "{self}") {
             Ok(text) => {
                 let _ = write_whole(errors, text.as_bytes());

@@ -1,13 +1,16 @@
 //! All users at a service, each in a thread of his own, and workers beside them.
-ghost use Rattle.std.specs.Prelude.{◌≤◌};
+ghost use Rattle.std.specs.Prelude.{◌≡◌, ◌≤◌, IfOk, length};
 ghost use Rattle.token_queue.specs.Passes.{AreItsPasses};
+ghost use Rattle.farm_service.specs.Closed.{AreDomainsOf, AreListed};
+ghost use Rattle.farm_service.specs.Passes.{fresh_passes};
+ghost use Rattle.farm_program.specs.Closing.{AreAllListed};
 
 use crate::configuration::Settings;
 use crate::failure::Failure;
 use crate::quantum::Quantum;
 use crate::script::Line;
 use crate::visits::{Visitor, visit, visitors_of};
-use farm_service::{NoGate, NoMemory, Opened, Service, UserPass, WorkerPass, work_all};
+use farm_service::{Closed, NoGate, NoMemory, Opened, Service, UserPass, WorkerPass, work_all};
 use plan_checker::AcceptedPlan;
 use std::alloc::Global;
 use std::sync::Wait;
@@ -63,14 +66,17 @@ fn meet<R: Threads + Wait + Sync>(
     rt: &R,
     alloc: Global,
     service: &Service,
-    quantum: Quantum,
+    settings: Settings,
     lines: &[Line],
     visitors: Vec<Visitor>,
     passes: Vec<WorkerPass>,
 ) -> (Shift, Vec<Visitor>)
-    requires { AreItsPasses service.now.plan service.now.queue passes.items }
+    requires passes { AreItsPasses service.now.plan service.now.queue passes.items }
+    requires workers { length passes.items ≡ settings.workers }
+    requires quantum { (1 ≤ settings.quantum) × (settings.quantum ≤ 4096) }
     ensures { AreItsPasses service.now.plan service.now.queue result.0.passes.items }
 {
+    let quantum = Quantum::of(settings.quantum);
     thread::join(
         rt,
         move ||
@@ -130,15 +136,27 @@ fn hand_out(visitors: &mut [Visitor], users: Vec<UserPass>) {
     }
 }
 
-// Closes the service, and gives the output lines of each user.
+/// A service that was closed, and what its users wrote.
+#[derive(Drop)]
+pub struct Ended {
+    /// What is left of the service.
+    pub closed: Closed,
+    /// The output lines of each user, in the order of the plan.
+    pub texts: Vec<String>,
+}
+
+// Closes the service with the passes of its workers and of all its users.
 fn close<R: Wait>(
     rt: &R,
     alloc: Global,
     service: Service,
     shift: Shift,
     left: Left,
-) -> Result<Vec<String>, Failure>
-    requires { AreItsPasses service.plan service.queue shift.passes.items }
+) -> Result<Ended, Failure>
+    requires workers { AreItsPasses service.plan service.queue shift.passes.items }
+    requires users { length left.passes.items ≡ length (fresh_passes service.plan) }
+    ensures domains { IfOk result (λ ended. AreDomainsOf service.plan ended.closed.domains.items) }
+    ensures users { IfOk result (λ ended. AreListed ended.closed.domains.items left.passes.items) }
 {
     let Left {
         passes: users,
@@ -146,24 +164,28 @@ fn close<R: Wait>(
         wanted,
     } = left;
     let Shift { passes, ended } = shift;
-    if service.close(rt, alloc, passes, users).is_err() || ended.is_err() || wanted {
+    let Ok(closed) = service.close(rt, alloc, passes, users) else {
+        return Err(Failure::Memory);
+    };
+    if ended.is_err() || wanted {
         return Err(Failure::Memory);
     }
-    Ok(texts)
+    Ok(Ended { closed, texts })
 }
 
-/// Runs the lines of a script on a service of the plan, and gives the output lines of each user, in the
-/// order of the plan. At the end the service is closed, so that what users were told is what the
-/// journals hold.
+/// Runs the lines of a script on a service of the plan, closes the service with the passes of all users, and gives
+/// what is left of it and the output lines of each user. So what users were told is what the journals hold.
 pub fn texts_on<R: Threads + Wait + Sync>(
     rt: &R,
     alloc: Global,
     plan: AcceptedPlan,
     lines: &[Line],
     settings: Settings,
-) -> Result<Vec<String>, Failure>
+) -> Result<Ended, Failure>
     requires workers { (1 ≤ settings.workers) × (settings.workers ≤ 8) }
     requires quantum { (1 ≤ settings.quantum) × (settings.quantum ≤ 4096) }
+    ensures domains { IfOk result (λ ended. AreDomainsOf plan ended.closed.domains.items) }
+    ensures users { IfOk result (λ ended. AreAllListed (length (fresh_passes plan)) ended.closed.domains.items) }
 {
     let mut visitors = visitors_of(alloc, &plan)?;
     let room = room_for(alloc, visitors.len())?;
@@ -176,9 +198,13 @@ pub fn texts_on<R: Threads + Wait + Sync>(
         users,
         operator: _,
     } = opened;
+    let count = users.len();
     hand_out(visitors.as_mut_slice(), users);
-    let quantum = Quantum::of(settings.quantum);
-    let (shift, visitors) = meet(rt, alloc, &service, quantum, lines, visitors, passes);
+    let (shift, visitors) = meet(rt, alloc, &service, settings, lines, visitors, passes);
     let left = left_by(visitors, room)?;
+    if left.passes.len() != count {
+        // Each user gives his pass back. Without it nothing would vouch for his lines.
+        return Err(Failure::Memory);
+    }
     close(rt, alloc, service, shift, left)
 }

@@ -1,7 +1,7 @@
 //! The program over its words and its streams.
 use crate::command_line::settings;
 use crate::failure::Failure;
-use crate::farm::texts_on;
+use crate::farm::{Ended, texts_on};
 use crate::script::lines_of;
 use clap::error::ErrorKind;
 use plan_checker::{AcceptedPlan, PlanFault, check, read_plan};
@@ -61,7 +61,8 @@ fn texts_of<R: Threads + Wait + Sync, S: AsStr, I: Read>(
     let (plan, script) = divide(text.as_slice(), b"---");
     let plan = accepted(alloc, plan)?;
     let lines = lines_of(alloc, &plan, script)?;
-    texts_on(rt, alloc, plan, lines.as_slice(), settings)
+    let Ended { texts, closed: _ } = texts_on(rt, alloc, plan, lines.as_slice(), settings)?;
+    Ok(texts)
 }
 
 /// The text of `--help`, where that is why the words give no settings.

@@ -7,7 +7,7 @@ use std::io::{Read, Write};
 use std::sync::Wait;
 use std::test::Fail;
 use std::thread::Threads;
-use test_plans::{ANN_ALONE, ANN_AND_BOB};
+use test_plans::{ANN_ALONE, ANN_AND_BOB, ANN_OF_THREE_EVENTS};
 
 /// Gives a text in pieces of at most `piece` bytes, and fails at one read.
 #[derive(Drop)]
@@ -215,6 +215,58 @@ fn cut_texts_are_refused_by_their_part(rt: HostRuntime) -> Result<(), Fail> {
             "{text:?}"
         );
     }
+    Ok(())
+}
+
+/// Refuses a HOST or NODE as it was written, a peek of three bytes, and results for which nobody asked the service. The
+/// code of the first boot gives one byte, that of the second three.
+#[test]
+fn lines_print_what_the_service_answered(rt: HostRuntime) -> Result<(), Fail> {
+    let alloc = rt.alloc();
+    for (plan, script, wanted) in [
+        (
+            ANN_ALONE,
+            "ann look 000\nann collect 00\nann reset 01\nann write 001 00\n",
+            "ann look 0 booting overruns 0 0 0 0\nann collect 0 -\nann reset 1 nosuch\nann write 1 nosuch\n",
+        ),
+        (
+            ANN_ALONE,
+            "ann config 01000703\nann boot 0 b524f22441fe21f5\nann look 0\nann reset 0\nann look 0\n",
+            "ann config -\nann boot 0 9\nann look 0 idle overruns 0 0 0 0\nann reset 0 ok\nann look 0 booting overruns 0 0 0 0\n",
+        ),
+        (
+            ANN_ALONE,
+            "ann config 01000703\nann boot 0 b524f22441fe24f22442fe24f22443fe21f5\nann peek 0 80000048\nann collect 0\n",
+            "ann config -\nann boot 0 19\nann peek 0 -\nann collect 0 -\n",
+        ),
+        (
+            ANN_ALONE,
+            "ann config 01000703\nann poke 0 80000048 12345678\nann write 0 0148000080\nann collect 0\n",
+            "ann config -\nann poke 0 9\nann write 0 5\nann collect 0 78563412\n",
+        ),
+        (
+            ANN_OF_THREE_EVENTS,
+            "ann config 000000\nann reset 0\nann write 0 00\nann boot 9 00\nann boot 9 0000\n",
+            "ann config -\nann reset 0 journalfull\nann write 0 journalfull\nann boot 9 refused 1\nann boot 9 nosuch\n",
+        ),
+    ] {
+        let text = format!(in alloc; "{plan}---\n{script}")?;
+        assert!(rt; gives(&rt, alloc, text.as_bytes(), 0, wanted, ""), "{script:?}");
+    }
+    Ok(())
+}
+
+/// A host that nobody joined takes 4,096 bytes.
+#[test]
+fn full_hosts_take_no_more(rt: HostRuntime) -> Result<(), Fail> {
+    let alloc = rt.alloc();
+    let mut text = format!(in alloc; "{ANN_ALONE}---\nann write 0 ")?;
+    for _ in 0..4097u16 {
+        text.push_str("05")?;
+    }
+    text.push_str("\nann write 0 05\nann boot 0 0505\n")?;
+    let wanted = "ann write 0 4096\nann write 0 0\nann boot 0 0\n";
+    assert!(rt; gives(&rt, alloc, text.as_bytes(), 0, wanted, ""));
     Ok(())
 }
 
