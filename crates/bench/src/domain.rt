@@ -55,6 +55,33 @@ const ROUNDS: u64 = 200_000;
 
 const ANN: By = By::User(0);
 
+/// What is measured.
+#[derive(Clone, Copy)]
+enum Work {
+    Pings,
+    Configs,
+    Steps,
+    /// Of a node.
+    Checkouts(u8),
+    Turns(u8),
+    /// Of node 1, whose last word was written.
+    CheckoutsUsed,
+    TurnsUsed,
+}
+
+/// All of it, by name.
+const WORKS: [(&str, Work); 9] = [
+    ("pings", Work::Pings),
+    ("configs", Work::Configs),
+    ("steps", Work::Steps),
+    ("checkouts-2048", Work::Checkouts(0)),
+    ("turns-2048", Work::Turns(0)),
+    ("checkouts-65536", Work::Checkouts(1)),
+    ("turns-65536", Work::Turns(1)),
+    ("checkouts-used", Work::CheckoutsUsed),
+    ("turns-used", Work::TurnsUsed),
+];
+
 type Plain = Domain<PlainOutputs>;
 
 // The domain of the plan, as it is opened.
@@ -102,6 +129,12 @@ fn send(domain: &mut Plain, bytes: &[u8]) -> Result<(), Refusal> {
         }
     }
     Ok(())
+}
+
+// Restarts the domain, writes node 1's last word, and lets both nodes loop.
+fn load_used(domain: &mut Plain) -> Result<(), Refusal> {
+    load(domain, &LAST_WORD_POKED)?;
+    send(domain, &LOOP)
 }
 
 // Steps node 0 until a Step doesn't run, at most so many times; how many ran.
@@ -189,50 +222,42 @@ fn turns(domain: &mut Plain, node: u8, count: u64) -> Result<u64, Refusal> {
     Ok(count)
 }
 
-// Tickets of a node, those that are dropped and those that come home, if they are asked for.
-fn tickets(
-    rt: &impl Print,
-    alloc: Global,
-    domain: &mut Plain,
-    node: u8,
-    memory: &str,
-    asked: Asked<'_>,
-) -> io::Result<()> {
-    let name = format!(in alloc; "checkouts-{memory}")?;
-    if asked.runs(name.as_str()) {
-        let done = checkouts(domain, node, asked.count).map_err(refused)?;
-        println!(rt; "{name}: {done}")?;
+// Does so many rounds of a work, in a domain that is restarted for it; how many were done.
+fn done(domain: &mut Plain, work: Work, count: u64) -> Result<u64, Refusal> {
+    match work {
+        Work::Pings => pings(domain, count),
+        Work::Configs => configs(domain, count),
+        Work::Steps => {
+            load(domain, &LOOP)?;
+            Ok(steps(domain, count))
+        }
+        Work::Checkouts(node) => {
+            load(domain, &LOOP)?;
+            checkouts(domain, node, count)
+        }
+        Work::Turns(node) => {
+            load(domain, &LOOP)?;
+            turns(domain, node, count)
+        }
+        Work::CheckoutsUsed => {
+            load_used(domain)?;
+            checkouts(domain, 1, count)
+        }
+        Work::TurnsUsed => {
+            load_used(domain)?;
+            turns(domain, 1, count)
+        }
     }
-    let name = format!(in alloc; "turns-{memory}")?;
-    if asked.runs(name.as_str()) {
-        let done = turns(domain, node, asked.count).map_err(refused)?;
-        println!(rt; "{name}: {done}")?;
-    }
-    Ok(())
 }
 
 /// Does COUNT rounds of each of those that are asked for.
 pub fn measure(rt: &impl Print, alloc: Global, asked: Asked<'_>) -> io::Result<()> {
-    let count = asked.count;
-    let mut domain = match opened(alloc) {
-        Ok(domain) => domain,
-        Err(fault) => return Err(failed(fault)),
-    };
-    if asked.runs("pings") {
-        let done = pings(&mut domain, count).map_err(refused)?;
-        println!(rt; "pings: {done}")?;
+    let mut domain = opened(alloc).map_err(failed)?;
+    for (name, work) in WORKS {
+        if asked.runs(name) {
+            let done = done(&mut domain, work, asked.count).map_err(refused)?;
+            println!(rt; "{name}: {done}")?;
+        }
     }
-    if asked.runs("configs") {
-        let done = configs(&mut domain, count).map_err(refused)?;
-        println!(rt; "configs: {done}")?;
-    }
-    load(&mut domain, &LOOP).map_err(refused)?;
-    if asked.runs("steps") {
-        println!(rt; "steps: {}", steps(&mut domain, count))?;
-    }
-    tickets(rt, alloc, &mut domain, 0, "2048", asked)?;
-    tickets(rt, alloc, &mut domain, 1, "65536", asked)?;
-    load(&mut domain, &LAST_WORD_POKED).map_err(refused)?;
-    send(&mut domain, &LOOP).map_err(refused)?;
-    tickets(rt, alloc, &mut domain, 1, "used", asked)
+    Ok(())
 }

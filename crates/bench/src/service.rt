@@ -31,6 +31,22 @@ const QUANTUM: u64 = 256;
 /// The most events of a journal.
 const MOST_EVENTS: u64 = 1 << 40;
 
+/// Turns by name: how many workers, how many domains, and how many nodes each of these has.
+const TURNS: [(&str, u8, u8, u8); 12] = [
+    ("steps-1-1", 1, 1, 1),
+    ("steps-2-1", 2, 1, 1),
+    ("steps-4-1", 4, 1, 1),
+    ("steps-8-1", 8, 1, 1),
+    ("steps-1-8", 1, 4, 2),
+    ("steps-2-8", 2, 4, 2),
+    ("steps-4-8", 4, 4, 2),
+    ("steps-8-8", 8, 4, 2),
+    ("steps-1-28", 1, 4, 7),
+    ("steps-2-28", 2, 4, 7),
+    ("steps-4-28", 4, 4, 7),
+    ("steps-8-28", 8, 4, 7),
+];
+
 // Counts the turns whose node came home.
 #[derive(Drop)]
 struct Counter {
@@ -65,7 +81,7 @@ fn active_users_of(
     service: &Service,
     users: Vec<UserPass>,
 ) -> Result<Vec<ActiveUser<'_>>, AllocError> {
-    let mut active_users = Vec::new(alloc);
+    let mut active_users = Vec::with_capacity(alloc, users.len())?;
     for pass in users {
         active_users.push(ActiveUser {
             session: service.session(pass),
@@ -85,6 +101,19 @@ fn answered(active_users: &[ActiveUser<'_>]) -> u64 {
 }
 
 // Users send configuration bytes at once; how many rounds were answered.
+fn send_all<R: Threads + Wait + Sync>(
+    rt: &R,
+    alloc: Global,
+    service: &Service,
+    users: Vec<UserPass>,
+    count: u64,
+) -> Result<u64, AllocError> {
+    let mut active_users = active_users_of(alloc, service, users)?;
+    send_each(rt, active_users.as_mut_slice(), count);
+    Ok(answered(active_users.as_slice()))
+}
+
+// The same of a service of this size.
 fn commands<R: Threads + Wait + Sync>(
     rt: &R,
     alloc: Global,
@@ -92,9 +121,7 @@ fn commands<R: Threads + Wait + Sync>(
     count: u64,
 ) -> Result<u64, AllocError> {
     let Opened { service, users, .. } = opened(rt, alloc, size, 1)?;
-    let mut active_users = active_users_of(alloc, &service, users)?;
-    send_each(rt, active_users.as_mut_slice(), count);
-    Ok(answered(active_users.as_slice()))
+    send_all(rt, alloc, &service, users, count)
 }
 
 // Each worker works in a thread of his own; how many turns' nodes came home.
@@ -122,6 +149,16 @@ fn work_each<R: Threads + Wait + Sync>(
     counter.done.load(Ordering::SeqCst)
 }
 
+// Each user boots the nodes of his domain; whether all are booted.
+fn boot_all<R: Wait>(rt: &R, service: &Service, users: Vec<UserPass>, size: Size) -> bool {
+    for pass in users {
+        if boot(rt, &mut service.session(pass), size).is_err() {
+            return false;
+        }
+    }
+    true
+}
+
 // Workers step the nodes; how many turns' nodes came home.
 fn turns<R: Threads + Wait + Sync>(
     rt: &R,
@@ -138,10 +175,8 @@ fn turns<R: Threads + Wait + Sync>(
         mut passes,
         ..
     } = opened(rt, alloc, size, workers)?;
-    for active_user in &mut active_users_of(alloc, &service, users)? {
-        if boot(rt, &mut active_user.session, size).is_err() {
-            return Err(AllocError);
-        }
+    if !boot_all(rt, &service, users, size) {
+        return Err(AllocError);
     }
     Ok(work_each(rt, &service, passes.as_mut_slice(), count))
 }
@@ -221,21 +256,19 @@ fn measure_turns<R: Print + Threads + Wait + Sync>(
     alloc: Global,
     asked: Asked<'_>,
 ) -> io::Result<()> {
-    for (nodes, domains, each) in [("1", 1, 1), ("8", 4, 2), ("28", 4, 7)] {
-        for (workers, number) in [("1", 1), ("2", 2), ("4", 4), ("8", 8)] {
-            let name = format!(in alloc; "steps-{workers}-{nodes}")?;
-            if asked.runs(name.as_str()) {
-                let size = Size {
-                    domains,
-                    nodes: each,
-                    users: 1,
-                    limit: MOST_EVENTS,
-                };
-                let done = turns(rt, alloc, size, number, asked.count)?;
-                match asked.name {
-                    Some(_) => println!(rt; "{name}: {done}")?,
-                    None => println!(rt; "{name}")?,
-                }
+    for (name, workers, domains, nodes) in TURNS {
+        if asked.runs(name) {
+            let size = Size {
+                domains,
+                nodes,
+                users: 1,
+                limit: MOST_EVENTS,
+            };
+            let done = turns(rt, alloc, size, workers.clamp(1, 8), asked.count)?;
+            if asked.name.is_some() {
+                println!(rt; "{name}: {done}")?;
+            } else {
+                println!(rt; "{name}")?;
             }
         }
     }

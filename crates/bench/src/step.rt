@@ -14,7 +14,7 @@ const START: u32 = 0x8000_0100;
 /// The workspace of a loop, of which the word behind the first is told at the end.
 const WORKSPACE: u32 = 0x8000_0200;
 
-static ARITHMETIC: [u8; 24] = [
+const ARITHMETIC: [u8; 24] = [
     0x40, 0xd0, // ldc 0; stl 0
     0x40, 0xd1, // ldc 0; stl 1
     0x70, 0x81, 0xd0, // ldl 0; adc 1; stl 0
@@ -25,7 +25,7 @@ static ARITHMETIC: [u8; 24] = [
     0x61, 0x0c, // j to ldl 0
 ];
 
-static MEMORY: [u8; 18] = [
+const MEMORY: [u8; 18] = [
     0x23, 0x10, 0xd0, // ldlp 48; stl 0
     0x40, 0x70, 0x23, 0xfb, // ldc 0; ldl 0; sb
     0x70, 0xf1, 0x83, // ldl 0; lb; adc 3
@@ -34,7 +34,7 @@ static MEMORY: [u8; 18] = [
     0x60, 0x01, // j to ldc 0
 ];
 
-static LEND: [u8; 18] = [
+const LEND: [u8; 18] = [
     0x40, 0xd2, // ldc 0; stl 2
     0x27, 0x2f, 0x2f, 0x2f, 0x2f, 0x2f, 0x2f, 0x4f, 0xd3, // ldc 7FFFFFFF; stl 3
     0x71, 0x81, 0xd1, // ldl 1; adc 1; stl 1
@@ -42,7 +42,7 @@ static LEND: [u8; 18] = [
 ];
 
 /// Two processes: the one counts and sends each number as a word through a soft channel, and the other takes it.
-static CHANNEL: [u8; 22] = [
+const CHANNEL: [u8; 22] = [
     0x24, 0xf2, 0xd5, // mint; stl 5, the channel
     0x48, 0x24, 0x10, 0xfd, // ldc 8; ldlp 64; startp
     0x71, 0x81, 0xd1, // ldl 1; adc 1; stl 1
@@ -53,7 +53,7 @@ static CHANNEL: [u8; 22] = [
 ];
 
 /// Marks the multiples of 2 to 31 in 1,024 bytes, again and again.
-static SIEVE: [u8; 44] = [
+const SIEVE: [u8; 44] = [
     0x28, 0x10, 0xd3, 0x40, 0xd1, // ldlp 128; stl 3; ldc 0; stl 1
     0x42, 0xd0, // ldc 2; stl 0
     0x70, 0x70, 0xf2, 0xd2, // ldl 0; ldl 0; bsub; stl 2
@@ -66,6 +66,15 @@ static SIEVE: [u8; 44] = [
     0x61, 0xa0, // cj to ldl 0
     0x71, 0x81, 0xd1, // ldl 1; adc 1; stl 1
     0x62, 0x09, // j to ldc 2
+];
+
+/// The loops, by name.
+const LOOPS: [(&str, &[u8]); 5] = [
+    ("arithmetic", &ARITHMETIC),
+    ("memory", &MEMORY),
+    ("lend", &LEND),
+    ("channel", &CHANNEL),
+    ("sieve", &SIEVE),
 ];
 
 // Steps until a step doesn't run, at most so many times; how many ran. Links are served before each byte. Its one caller has
@@ -95,20 +104,10 @@ fn run(rt: &impl Print, alloc: Global, name: &str, code: &[u8], count: u32) -> i
 /// Runs the loops that are asked for, COUNT bytes each, but no more than 2^32 - 1.
 pub fn measure(rt: &impl Print, alloc: Global, asked: Asked<'_>) -> io::Result<()> {
     let count = u32::try_from(asked.count).unwrap_or(u32::MAX);
-    if asked.runs("arithmetic") {
-        run(rt, alloc, "arithmetic", &ARITHMETIC, count)?;
-    }
-    if asked.runs("memory") {
-        run(rt, alloc, "memory", &MEMORY, count)?;
-    }
-    if asked.runs("lend") {
-        run(rt, alloc, "lend", &LEND, count)?;
-    }
-    if asked.runs("channel") {
-        run(rt, alloc, "channel", &CHANNEL, count)?;
-    }
-    if asked.runs("sieve") {
-        run(rt, alloc, "sieve", &SIEVE, count)?;
+    for (name, code) in LOOPS {
+        if asked.runs(name) {
+            run(rt, alloc, name, code, count)?;
+        }
     }
     Ok(())
 }

@@ -89,40 +89,62 @@ fn wire_all<O: Outputs>(outputs: &mut O) {
     }
 }
 
+// Loads and stores of outputs, if they are asked for under these names.
+fn measure_outputs<O: Outputs>(
+    rt: &impl Print,
+    outputs: &mut O,
+    names: [&str; 2],
+    asked: Asked<'_>,
+) -> io::Result<()> {
+    let [loading, storing] = names;
+    wire_all(outputs);
+    if asked.runs(loading) {
+        let sum = loads(outputs, asked.count);
+        println!(rt; "{loading}: sum {sum}")?;
+    }
+    if asked.runs(storing) {
+        let word = stores(outputs, asked.count);
+        println!(rt; "{storing}: word {word}")?;
+    }
+    Ok(())
+}
+
+// The same of outputs that aren't shared.
+fn measure_plain(rt: &impl Print, plan: &AcceptedPlan, asked: Asked<'_>) -> io::Result<()> {
+    if plan.domains() == 0 {
+        return Ok(());
+    }
+    let mut plain = PlainOutputs::unused(plan.ranges(0));
+    measure_outputs(rt, &mut plain, ["plain-loads", "plain-stores"], asked)
+}
+
+// Stores by a seat, while the operator surveys the output.
+fn both<R: Threads>(
+    rt: &R,
+    table: &SwitchTable,
+    seat: DomainSeat,
+    operator: OperatorSeat,
+    count: u64,
+) -> (u64, bool)
+    requires { surveyed_table operator ≡ table_of table.now }
+{
+    thread::join(
+        rt,
+        move || stored(seat, count),
+        move ||
+            requires { surveyed_table operator ≡ table_of table.now }
+        { rises(table, operator, 13, count) },
+    )
+}
+
 /// Does COUNT rounds of each of those that are asked for.
 pub fn measure<R: Print + Threads>(rt: &R, alloc: Global, asked: Asked<'_>) -> io::Result<()> {
-    let count = asked.count;
     let plan = plan_of(alloc, BOB_ALONE).map_err(failed)?;
-    let (table, mut seat, operator) = match opened(alloc, &plan) {
-        Ok(opened) => opened,
-        Err(fault) => return Err(failed(fault)),
-    };
-    wire_all(&mut seat);
-    if asked.runs("seat-loads") {
-        println!(rt; "seat-loads: sum {}", loads(&mut seat, count))?;
-    }
-    if asked.runs("seat-stores") {
-        println!(rt; "seat-stores: word {}", stores(&mut seat, count))?;
-    }
-    if plan.domains() == 1 {
-        let mut plain = PlainOutputs::unused(plan.ranges(0));
-        wire_all(&mut plain);
-        if asked.runs("plain-loads") {
-            println!(rt; "plain-loads: sum {}", loads(&mut plain, count))?;
-        }
-        if asked.runs("plain-stores") {
-            println!(rt; "plain-stores: word {}", stores(&mut plain, count))?;
-        }
-    }
+    let (table, mut seat, operator) = opened(alloc, &plan).map_err(failed)?;
+    measure_outputs(rt, &mut seat, ["seat-loads", "seat-stores"], asked)?;
+    measure_plain(rt, &plan, asked)?;
     if asked.runs("surveys-beside-stores") {
-        let shared = &table;
-        let (word, rises) = thread::join(
-            rt,
-            move || stored(seat, count),
-            move ||
-                requires { surveyed_table operator ≡ table_of shared.now }
-            { rises(shared, operator, 13, count) },
-        );
+        let (word, rises) = both(rt, &table, seat, operator, asked.count);
         println!(rt; "surveys-beside-stores: word {word}, counts rise {rises}")?;
     }
     Ok(())

@@ -10,9 +10,6 @@ use virtual_switch::ConfigReply;
 /// How many Steps of a node a round or a turn has at most.
 pub const QUANTUM: u64 = 256;
 
-/// How many rounds a settling has at most.
-const ROUNDS: u64 = 10_000;
-
 /// What a user does.
 #[derive(Clone, Copy)]
 pub enum Act {
@@ -20,20 +17,38 @@ pub enum Act {
     Config(&'static [u8]),
     /// Writes bytes to a host.
     Write(u8, &'static [u8]),
-    /// Writes a byte to a host so many times, and tells how often there was no such host.
-    Knock(u8, u16),
     /// Writes a byte to a host so many times.
-    Fill(u8, u16),
+    Fill(u8, usize),
+    /// The same, but that only what is refused is counted.
+    Knock(u8, usize),
     /// Reads a host so many times.
-    Read(u8, u16),
+    Read(u8, usize),
     /// Resets a node.
     Reset(u8),
     /// Looks at a node.
     Look(u8),
-    /// Settles.
-    Settle,
-    /// Settles for so many rounds at most.
-    Rounds(u64),
+    /// Settles by so many Steps, for so many rounds at most.
+    Rounds(u64, u64),
+}
+
+/// Settles.
+pub const SETTLE: Act = Act::Rounds(QUANTUM, 10_000);
+
+impl Act {
+    // What is asked in this place, none behind the last.
+    fn event(self, place: usize) -> Option<Event> {
+        match self {
+            Act::Config(bytes) => Some(Event::Config(*bytes.get(place)?)),
+            Act::Write(host, bytes) => Some(Event::Write(host, *bytes.get(place)?)),
+            Act::Fill(host, count) | Act::Knock(host, count) if place < count => {
+                Some(Event::Write(host, 0))
+            }
+            Act::Read(host, count) if place < count => Some(Event::Read(host)),
+            Act::Reset(node) if place == 0 => Some(Event::Reset(node)),
+            Act::Look(node) if place == 0 => Some(Event::Look(node)),
+            _ => None,
+        }
+    }
 }
 
 // Tells what a configuration byte was answered.
@@ -46,19 +61,18 @@ fn tell_config(said: &mut String, reply: ConfigReply) -> Result<(), AllocError> 
     }
 }
 
-// Tells what is seen of a node.
+// Tells what is seen of a node: its state, and the overruns of each link.
 fn tell_seen(said: &mut String, seen: Seen) -> Result<(), AllocError> {
     match seen.state {
         Activity::Booting => said.push_str(" booting")?,
         Activity::Running => said.push_str(" running")?,
         Activity::Idle => said.push_str(" idle")?,
-        Activity::Halted(fault) => {
-            let number = fault.number();
-            write!(said, " halted {number}")?;
-        }
+        Activity::Halted(fault) => write!(said, " halted {}", fault.number())?,
     }
-    let [first, second, third, fourth] = seen.overruns;
-    write!(said, " {first} {second} {third} {fourth}")
+    for overruns in seen.overruns {
+        write!(said, " {overruns}")?;
+    }
+    Ok(())
 }
 
 // Tells what a command was answered, where that says more than that it was done.
@@ -86,81 +100,31 @@ fn ask_once<R: Wait>(rt: &R, session: &mut Session<'_>, event: Event) -> Result<
     }
 }
 
-// Asks, and asks again where memory was wanting: what was refused has changed nothing.
-fn ask<R: Wait>(rt: &R, session: &mut Session<'_>, event: Event) -> Result<Reply, Refusal> {
+/// Asks, and asks again where memory was wanting: what was refused has changed nothing.
+pub fn ask<R: Wait>(rt: &R, session: &mut Session<'_>, event: Event) -> Result<Reply, Refusal> {
     match ask_once(rt, session, event) {
         Err(Refusal::NoMemory) => ask_once(rt, session, event),
         told => told,
     }
 }
 
-fn config<R: Wait>(
+/// Settles, and settles again where memory was wanting, by 1 to 4,096 Steps.
+pub fn settle<R: Wait>(
     rt: &R,
-    session: &mut Session<'_>,
-    bytes: &[u8],
-    said: &mut String,
-) -> Result<(), AllocError> {
-    for byte in bytes {
-        tell(said, ask(rt, session, Event::Config(*byte)))?;
-    }
-    Ok(())
-}
-
-fn write<R: Wait>(
-    rt: &R,
-    session: &mut Session<'_>,
-    host: u8,
-    bytes: &[u8],
-    said: &mut String,
-) -> Result<(), AllocError> {
-    for byte in bytes {
-        tell(said, ask(rt, session, Event::Write(host, *byte)))?;
-    }
-    Ok(())
-}
-
-fn knock<R: Wait>(
-    rt: &R,
-    session: &mut Session<'_>,
-    host: u8,
-    count: u16,
-    said: &mut String,
-) -> Result<(), AllocError> {
-    let mut refused = 0_u16;
-    for _ in 0..count {
-        if ask(rt, session, Event::Write(host, 1)) == Err(Refusal::NoSuch) {
-            refused = refused.saturating_add(1);
-        }
-    }
-    write!(said, " {refused} refused")
-}
-
-// Asks the same so many times.
-fn repeat<R: Wait>(
-    rt: &R,
-    session: &mut Session<'_>,
-    event: Event,
-    count: u16,
-    said: &mut String,
-) -> Result<(), AllocError> {
-    for _ in 0..count {
-        tell(said, ask(rt, session, event))?;
-    }
-    Ok(())
-}
-
-// Settles, and settles again where memory was wanting.
-fn settle<R: Wait>(
-    rt: &R,
-    session: &mut Session<'_>,
+    session: &Session<'_>,
+    quantum: u64,
     rounds: u64,
-    said: &mut String,
-) -> Result<(), AllocError> {
-    let settled = match session.settle(rt, QUANTUM, rounds) {
-        Err(Refusal::NoMemory) => session.settle(rt, QUANTUM, rounds),
+) -> Result<Settled, Refusal> {
+    let quantum = quantum.clamp(1, 4096);
+    match session.settle(rt, quantum, rounds) {
+        Err(Refusal::NoMemory) => session.settle(rt, quantum, rounds),
         told => told,
-    };
-    match settled {
+    }
+}
+
+// Tells how a settling ended, where it wasn't quiet.
+fn tell_settled(said: &mut String, told: Result<Settled, Refusal>) -> Result<(), AllocError> {
+    match told {
         Ok(Settled::Quiet) => Ok(()),
         Ok(Settled::Busy) => said.push_str(" busy"),
         Err(refusal) => write!(said, " {refusal}"),
@@ -174,28 +138,23 @@ pub fn perform<R: Wait>(
     act: Act,
     said: &mut String,
 ) -> Result<(), AllocError> {
-    match act {
-        Act::Config(bytes) => config(rt, session, bytes, said),
-        Act::Write(host, bytes) => write(rt, session, host, bytes, said),
-        Act::Knock(host, count) => knock(rt, session, host, count, said),
-        Act::Fill(host, count) => repeat(rt, session, Event::Write(host, 0), count, said),
-        Act::Read(host, count) => repeat(rt, session, Event::Read(host), count, said),
-        Act::Reset(node) => tell(said, ask(rt, session, Event::Reset(node))),
-        Act::Look(node) => tell(said, ask(rt, session, Event::Look(node))),
-        Act::Settle => settle(rt, session, ROUNDS, said),
-        Act::Rounds(rounds) => settle(rt, session, rounds, said),
+    if let Act::Rounds(quantum, rounds) = act {
+        return tell_settled(said, settle(rt, session, quantum, rounds));
     }
-}
-
-/// Does all, and tells what was answered.
-pub fn act_all<R: Wait>(
-    rt: &R,
-    session: &mut Session<'_>,
-    acts: &[Act],
-    said: &mut String,
-) -> Result<(), AllocError> {
-    for each in acts {
-        perform(rt, session, *each, said)?;
+    let mut refused = 0_u16;
+    for place in 0..usize::MAX {
+        let Some(event) = act.event(place) else {
+            break;
+        };
+        let told = ask(rt, session, event);
+        if !matches!(act, Act::Knock(..)) {
+            tell(said, told)?;
+        } else if told == Err(Refusal::NoSuch) {
+            refused = refused.saturating_add(1);
+        }
+    }
+    if refused > 0 {
+        write!(said, " {refused} refused")?;
     }
     Ok(())
 }

@@ -1,146 +1,156 @@
-//! Doing journals again, and comparing what is answered.
-ghost use Rattle.std.specs.Prelude.{◌<◌, IfSome, length};
+//! Doing journals again on one thread, and comparing what is answered.
+ghost use Rattle.std.specs.Prelude.{◌≡◌, ◌<◌, ◌↔◌, IsTrue, IfSome, Some, length, slice_get};
+ghost use Rattle.farm_core.specs.PlainFarm.{word_in};
 
-use crate::merge::{Merge, Turn};
-use domain_core::{By, Entry, Event, NoMemory, Refusal, Reply};
+use crate::draws::Draws;
+use crate::watch::Watch;
+use crossbar::Word;
+use domain_core::{By, Entry, Event, NoMemory, Refusal};
 use farm_core::PlainFarm;
-use farm_service::ClosedDomain;
+use farm_service::{Closed, ClosedDomain, Token};
 use plan_checker::AcceptedPlan;
 use std::alloc::Global;
-use t414_step::Stepped;
 
-/// What was compared, and how much of it was wrong.
-#[derive(Clone, Copy, Debug, PartialEq, Eq)]
-pub struct Comparison {
-    /// Events whose replies were compared.
-    pub events: u64,
-    /// Switch words that were compared, each at the end.
-    pub words: u64,
-    /// Replies and words that differ.
-    pub wrong: u64,
-}
+/// The most domains of a plan.
+const DOMAINS: usize = 16;
 
-impl Comparison {
-    /// Nothing was compared yet.
-    pub const NONE: Comparison = Comparison {
-        events: 0,
-        words: 0,
-        wrong: 0,
-    };
-
-    // One more reply.
-    fn event(&mut self, is_alike: bool) {
-        self.events = self.events.saturating_add(1);
-        self.wrong = self.wrong.saturating_add(u64::from(!is_alike));
-    }
-
-    // One more word.
-    fn word(&mut self, is_alike: bool) {
-        self.words = self.words.saturating_add(1);
-        self.wrong = self.wrong.saturating_add(u64::from(!is_alike));
+// Asks, and asks again where memory was wanting. The farm lists what it answers.
+fn ask(farm: &mut PlainFarm, domain: u8, by: By, event: Event) {
+    if farm.apply(domain, by, event) == Err(Refusal::NoMemory) {
+        let _ = farm.apply(domain, by, event);
     }
 }
 
-// Asks, and asks again where memory was wanting.
-fn ask(farm: &mut PlainFarm, domain: u8, by: By, event: Event) -> Result<Reply, Refusal> {
-    match farm.apply(domain, by, event) {
-        Err(Refusal::NoMemory) => farm.apply(domain, by, event),
-        answer => answer,
-    }
-}
-
-// Does an entry again. Each Step of a run but the last one must have run.
-fn compare_entry(farm: &mut PlainFarm, domain: u8, entry: Entry, comparison: &mut Comparison) {
+// Does what an entry says again, whatever was answered.
+fn do_entry(farm: &mut PlainFarm, domain: u8, entry: Entry) {
     match entry {
-        Entry::One { by, event, reply } => {
-            let answer = ask(farm, domain, by, event);
-            comparison.event(answer == Ok(reply));
-        }
+        Entry::One { by, event, .. } => ask(farm, domain, by, event),
         Entry::Run {
             by,
             node,
             count,
-            last,
+            ..
         } => {
-            for done in 1..=count {
-                let expected = if done == count { last } else { Stepped::Ran };
-                let answer = ask(farm, domain, by, Event::Step(node));
-                comparison.event(answer == Ok(Reply::Stepped(expected)));
+            for _step in 0..count {
+                ask(farm, domain, by, Event::Step(node));
             }
         }
     }
 }
 
-// What is left of a domain's journal.
-#[derive(Drop)]
-struct Rest<'a> {
-    domain: u8,
-    entries: &'a [Entry],
-}
-
-impl Rest<'_> {
-    // Does the entries of a turn.
-    fn compare(&mut self, farm: &mut PlainFarm, turn: Turn, comparison: &mut Comparison) {
-        let count = turn.entries.max(1).min(self.entries.len());
-        let (now, later) = self.entries.split_at(count);
-        for entry in now {
-            compare_entry(farm, self.domain, *entry, comparison);
-        }
-        self.entries = later;
-    }
-}
-
 // The place of the first journal from `place` on that isn't done, around the end.
-fn next_place(rests: &[Rest<'_>], place: usize) -> Option<usize>
-    ensures { IfSome result (λ found. found < length rests.now) }
+fn next_place(closed: &[ClosedDomain], done: &[usize; DOMAINS], place: usize) -> Option<usize>
+    ensures there { IfSome result (λ found. found < length closed.now) }
+    ensures within { IfSome result (λ found. found < 16) }
 {
-    let count = rests.len();
-    if count == 0 {
-        return None;
-    }
-    for step in 0..count {
-        let found = (place % count).saturating_add(step) % count;
-        if !rests[found].entries.is_empty() {
+    for step in 0..DOMAINS {
+        let found = (place % DOMAINS).saturating_add(step) % DOMAINS;
+        if let Some(domain) = closed.get(found)
+            && done[found] < domain.journal.len()
+        {
             return Some(found);
         }
     }
     None
 }
 
-/// Does the journals of a closed service again on one thread, merged so, and compares each reply and, at the end, each
-/// word.
+// Does up to 40 entries of a journal again, those behind the first that are done; how many are done then.
+fn do_turn(farm: &mut PlainFarm, closed: &ClosedDomain, done: usize, draws: &mut Draws) -> usize {
+    let count = draws.below(40) as usize + 1;
+    for entry in closed.journal.iter().skip(done).take(count) {
+        do_entry(farm, closed.domain, *entry);
+    }
+    done.saturating_add(count)
+}
+
+// Does the journals again, merged by chance.
+fn do_all(farm: &mut PlainFarm, closed: &[ClosedDomain], draws: &mut Draws) {
+    let mut done = [0usize; DOMAINS];
+    for _turn in 0..u64::MAX {
+        let first = draws.below(16) as usize;
+        let Some(place) = next_place(closed, &done, first) else {
+            break;
+        };
+        done[place] = do_turn(farm, &closed[place], done[place], draws);
+    }
+}
+
+// Whether two journals are equal.
+fn are_equal(one: &[Entry], other: &[Entry]) -> bool
+    ensures { IsTrue result ↔ (one.now ≡ other.now) }
+{
+    one == other
+}
+
+// Whether all domains have answered just what the journals list.
+fn are_journals(farm: &PlainFarm, closed: &[ClosedDomain]) -> bool {
+    for domain in closed {
+        match farm.journal(domain.domain) {
+            Some(journal) if are_equal(journal, domain.journal.as_slice()) => {}
+            _ => return false,
+        }
+    }
+    true
+}
+
+// Whether an output of a domain has this word.
+fn is_word(farm: &mut PlainFarm, domain: u8, output: u8, word: Word) -> bool
+    ensures word { IsTrue result ↔ (word_in (slice_get farm.old domain) output ≡ Some word) }
+    ensures same { farm.new ≡ farm.old }
+{
+    farm.domain_word(domain, output) == Some(word)
+}
+
+// Whether each output has the word that was left, and the one that the operator saw last.
+fn are_words(farm: &mut PlainFarm, closed: &[ClosedDomain], watch: &Watch) -> bool {
+    for domain in closed {
+        for (output, word) in (0u8..32).zip(domain.words.iter()) {
+            if !is_word(farm, domain.domain, output, *word) {
+                return false;
+            }
+        }
+    }
+    for (output, word) in (0u8..32).zip(watch.words.iter()) {
+        if farm.word(output) != *word {
+            return false;
+        }
+    }
+    true
+}
+
+// Whether these are the tokens of a plan, each once.
+fn are_tokens(plan: &AcceptedPlan, tokens: &[Token]) -> bool {
+    let mut count = 0_usize;
+    for domain in 0..plan.domains() {
+        for node in 0..plan.nodes(domain) {
+            if !tokens.contains(&Token { domain, node }) {
+                return false;
+            }
+            count = count.saturating_add(1);
+        }
+    }
+    count == tokens.len()
+}
+
+/// Whether what a closed service left is what the farm of its plan comes to on one thread: its journals, done again and
+/// merged by chance, are answered alike, its words are left, and were seen last, and each token is there once.
 ///
 /// # Errors
 ///
 /// `NoMemory`.
-pub fn compare<M: Merge>(
+pub fn is_alike(
     alloc: Global,
     plan: &AcceptedPlan,
-    closed: &[ClosedDomain],
-    merge: &mut M,
-) -> Result<Comparison, NoMemory> {
+    closed: &Closed,
+    watch: &Watch,
+    seed: u64,
+) -> Result<bool, NoMemory> {
+    let domains = closed.domains.as_slice();
     let mut farm = PlainFarm::open(alloc, plan)?;
-    let mut comparison = Comparison::NONE;
-    let mut rests = Vec::new(alloc);
-    let mut count = 0usize;
-    for domain in closed {
-        count = count.saturating_add(domain.journal.len());
-        rests.push(Rest {
-            domain: domain.domain,
-            entries: domain.journal.as_slice(),
-        })?;
-    }
-    for _ in 0..count {
-        let turn = merge.next();
-        match next_place(rests.as_slice(), turn.domain) {
-            Some(place) => rests[place].compare(&mut farm, turn, &mut comparison),
-            None => break,
-        }
-    }
-    for domain in closed {
-        for (output, word) in (0u8..=31).zip(domain.words.iter()) {
-            comparison.word(farm.domain_word(domain.domain, output) == Some(*word));
-        }
-    }
-    Ok(comparison)
+    do_all(&mut farm, domains, &mut Draws::new(seed));
+    Ok(
+        are_journals(&farm, domains)
+            && are_words(&mut farm, domains, watch)
+            && are_tokens(plan, closed.tokens.as_slice()),
+    )
 }

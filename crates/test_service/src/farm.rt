@@ -4,11 +4,13 @@ ghost use Rattle.std.specs.Prelude.{◌≡◌, ◌≤◌};
 ghost use Rattle.farm_service.specs.Services.{IsItsOperator};
 ghost use Rattle.token_queue.specs.Passes.{AreItsPasses};
 
+use crate::watch::Watch;
 use farm_service::{Closed, NotClosed, Opened, Service, UserPass, WorkerPass};
-use std::alloc::Global;
+use plan_checker::AcceptedPlan;
+use std::alloc::{AllocError, Global};
 use std::sync::Wait;
 use switch_table::OperatorSeat;
-use test_plans::plan_of;
+use test_plans::{Size, plan_of, sized_plan};
 
 /// A service with its workers' passes and its operator's seat.
 #[derive(Drop)]
@@ -20,66 +22,102 @@ pub struct Farm {
     ghost its_operator: { IsItsOperator service operator },
 }
 
+/// A plan of a trial.
+#[derive(Clone, Copy)]
+pub enum Ground {
+    /// That of a text.
+    Text(&'static str),
+    /// That of a size.
+    Sized(Size),
+}
+
+impl Ground {
+    // The plan, unless memory is wanting.
+    fn plan_once(self, alloc: Global) -> Option<AcceptedPlan> {
+        match self {
+            Ground::Text(text) => plan_of(alloc, text).ok(),
+            Ground::Sized(size) => sized_plan(alloc, size).ok(),
+        }
+    }
+
+    /// The plan, unless memory is wanting twice.
+    pub fn plan(self, alloc: Global) -> Option<AcceptedPlan> {
+        match self.plan_once(alloc) {
+            None => self.plan_once(alloc),
+            plan => plan,
+        }
+    }
+}
+
 // Opens once.
 fn open_once<R: Wait>(
     rt: &R,
     alloc: Global,
-    text: &str,
+    ground: Ground,
     workers: u8,
-) -> Option<(Farm, Vec<UserPass>)>
-    requires { (1 ≤ workers) × (workers ≤ 8) }
-{
-    let Ok(plan) = plan_of(alloc, text) else {
-        return None;
-    };
-    let Ok(opened) = Service::open(rt, alloc, plan, workers) else {
-        return None;
-    };
-    let Opened {
-        service,
-        passes,
-        users,
-        operator,
-    } = opened;
-    let farm = Farm {
-        service,
-        passes,
-        operator,
-    };
-    Some((farm, users))
+) -> Option<(Farm, Vec<UserPass>, Watch)> {
+    let plan = ground.plan(alloc)?;
+    let watch = Watch::of(&plan);
+    match Service::open(rt, alloc, plan, workers.clamp(1, 8)) {
+        Ok(
+            Opened {
+                service,
+                passes,
+                users,
+                operator,
+            },
+        ) => {
+            let farm = Farm {
+                service,
+                passes,
+                operator,
+            };
+            Some((farm, users, watch))
+        }
+        Err(_) => None,
+    }
 }
 
-/// The service of a plan's text, and its users' passes in plan order; `None` where the plan
-/// is refused, or memory is wanting twice.
+/// The service of a plan for 1 to 8 workers, its users' passes in plan order, and what an operator may see; `None` where
+/// memory is wanting twice.
 pub fn open<R: Wait>(
     rt: &R,
     alloc: Global,
-    text: &str,
+    ground: Ground,
     workers: u8,
-) -> Option<(Farm, Vec<UserPass>)>
-    requires { (1 ≤ workers) × (workers ≤ 8) }
-{
-    match open_once(rt, alloc, text, workers) {
-        None => open_once(rt, alloc, text, workers),
+) -> Option<(Farm, Vec<UserPass>, Watch)> {
+    match open_once(rt, alloc, ground, workers) {
+        None => open_once(rt, alloc, ground, workers),
         opened => opened,
     }
 }
 
-/// What is left of a farm, `None` where memory is wanting twice.
-pub fn close<R: Wait>(rt: &R, alloc: Global, farm: Farm, users: Vec<UserPass>) -> Option<Closed> {
+/// What is left of a farm.
+///
+/// # Errors
+///
+/// `AllocError` where memory is wanting twice.
+pub fn close<R: Wait>(
+    rt: &R,
+    alloc: Global,
+    farm: Farm,
+    users: Vec<UserPass>,
+) -> Result<Closed, AllocError> {
     let Farm {
         service,
         passes,
         operator: _,
     } = farm;
     match service.close(rt, alloc, passes, users) {
-        Ok(closed) => Some(closed),
+        Ok(closed) => Ok(closed),
         Err(
             NotClosed {
                 service,
                 passes,
                 users,
             },
-        ) => service.close(rt, alloc, passes, users).ok(),
+        ) => service
+            .close(rt, alloc, passes, users)
+            .map_err(|_| AllocError),
     }
 }

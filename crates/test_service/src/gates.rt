@@ -3,96 +3,128 @@
 use crate::acts::QUANTUM;
 use domain_core::{Committed, Refusal};
 use farm_service::{Gate, Service, Token, Turned};
-use std::sync::{Mutex, Wait};
+use std::sync::Wait;
+use std::sync::atomic::{AtomicBool, AtomicU64, Ordering};
 use std::thread;
 
+/// Which bursts are held.
+#[derive(Clone, Copy, PartialEq, Eq)]
+pub enum Hold {
+    /// None.
+    Nothing,
+    /// Every third, for a while, so that others change its node meanwhile.
+    EachThird,
+    /// Node 0's, until node 1 has come home from one.
+    First,
+}
+
 /// What a gate has seen.
-#[derive(Clone, Copy, Drop)]
+#[derive(Clone, Copy)]
 pub struct Seen {
-    /// How many bursts began, up to 255.
-    pub begun: u8,
+    /// How many bursts began.
+    pub begun: u64,
     /// Whether node 1 came home from its burst.
     pub committed: bool,
     /// Whether node 0 waited for it in vain.
     pub failed: bool,
 }
 
-/// Holds node 0's burst until node 1 has come home from one.
-#[derive(Drop)]
-pub struct HoldsFirst<'a> {
-    service: &'a Service,
-    seen: Mutex<Seen>,
+impl Seen {
+    /// Nothing.
+    pub const NOTHING: Seen = Seen {
+        begun: 0,
+        committed: false,
+        failed: false,
+    };
 }
 
-impl<'a> HoldsFirst<'a> {
+/// Holds bursts.
+#[derive(Drop)]
+pub struct Holding<'a> {
+    service: &'a Service,
+    hold: Hold,
+    begun: AtomicU64,
+    committed: AtomicBool,
+    failed: AtomicBool,
+}
+
+impl<'a> Holding<'a> {
     /// A gate that has seen nothing.
-    pub fn new(service: &'a Service) -> HoldsFirst<'a> {
-        HoldsFirst {
+    pub fn new(service: &'a Service, hold: Hold) -> Holding<'a> {
+        Holding {
             service,
-            seen: Mutex::new(Seen {
-                begun: 0,
-                committed: false,
-                failed: false,
-            }),
+            hold,
+            begun: AtomicU64::new(0),
+            committed: AtomicBool::new(false),
+            failed: AtomicBool::new(false),
         }
     }
 }
 
-impl HoldsFirst<'_> {
+impl Holding<'_> {
     /// What it has seen.
-    pub fn into_seen(self) -> Seen {
-        let HoldsFirst { service: _, seen } = self;
-        seen.into_inner()
-    }
-
-    // Notes that a burst began.
-    fn count<R: Wait>(&self, rt: &R) {
-        let mut seen = self.seen.lock(rt);
-        seen.begun = seen.begun.saturating_add(1);
+    pub fn seen(&self) -> Seen {
+        Seen {
+            begun: self.begun.load(Ordering::SeqCst),
+            committed: self.committed.load(Ordering::SeqCst),
+            failed: self.failed.load(Ordering::SeqCst),
+        }
     }
 
     // Waits for node 1's commit, for a million turns at most; whether it came.
-    fn is_released<R: Wait>(&self, rt: &R) -> bool {
+    fn is_released(&self) -> bool {
         for _turn in 0..1_000_000 {
             thread::yield_now();
-            if self.seen.lock(rt).committed {
+            if self.committed.load(Ordering::SeqCst) {
                 return true;
             }
         }
         false
     }
 
-    // A burst of node 1 that nobody is told of.
-    fn burst_second<R: Wait>(&self, rt: &R) -> Result<Committed, Refusal> {
-        let mut ticket = self.service.checkout(rt, 0, 1)?;
-        ticket.burst(QUANTUM);
-        self.service.commit(rt, ticket)
-    }
-
     // Holds node 0's burst. Where the other worker doesn't come, since no thread could be started for him, node 1's
-    // burst is done here in his place.
-    fn hold<R: Wait>(&self, rt: &R) {
-        if self.is_released(rt) {
+    // burst is done here in his place, and nobody is told of it.
+    fn hold_first<R: Wait>(&self, rt: &R) {
+        if self.is_released() {
             return;
         }
-        let is_done = self.burst_second(rt) == Ok(Committed::Done);
-        let mut seen = self.seen.lock(rt);
-        seen.committed = is_done;
-        seen.failed = !is_done;
+        if burst(rt, self.service, 0, 1) == Ok(Committed::Done) {
+            self.committed.store(true, Ordering::SeqCst);
+        } else {
+            self.failed.store(true, Ordering::SeqCst);
+        }
     }
 }
 
-impl Gate for HoldsFirst<'_> {
+/// A burst of a node that no gate is told of.
+pub fn burst<R: Wait>(
+    rt: &R,
+    service: &Service,
+    domain: u8,
+    node: u8,
+) -> Result<Committed, Refusal> {
+    let mut ticket = service.checkout(rt, domain, node)?;
+    ticket.burst(QUANTUM);
+    service.commit(rt, ticket)
+}
+
+impl Gate for Holding<'_> {
     fn begins<R: Wait>(&self, rt: &R, token: Token) {
-        self.count(rt);
-        if token.node == 0 {
-            self.hold(rt);
+        let before = self.begun.fetch_add(1, Ordering::SeqCst);
+        match self.hold {
+            Hold::EachThird if before % 3 == 0 => {
+                for _ in 0..20 {
+                    thread::yield_now();
+                }
+            }
+            Hold::First if token.node == 0 => self.hold_first(rt),
+            _ => {}
         }
     }
 
-    fn ended<R: Wait>(&self, rt: &R, token: Token, turned: &Result<Turned, Refusal>) {
+    fn ended<R: Wait>(&self, _rt: &R, token: Token, turned: &Result<Turned, Refusal>) {
         if token.node == 1 && *turned == Ok(Turned::CameHome) {
-            self.seen.lock(rt).committed = true;
+            self.committed.store(true, Ordering::SeqCst);
         }
     }
 }

@@ -5,30 +5,61 @@
 #![tactic(auto)]
 
 mod acts;
-mod alone;
-mod apart;
+mod chance;
 mod comparison;
-mod crew;
-mod crowd;
+mod draws;
 mod farm;
 mod gates;
-mod many;
-mod merge;
-mod round;
+mod losses;
+mod meeting;
 mod rows;
 mod soak;
+mod stages;
+mod telling;
 mod together;
 mod users;
+mod watch;
 
-use crate::alone::row;
+use crate::farm::Ground;
 use crate::rows::ROWS;
 use crate::soak::{short_soak, soak};
+use crate::stages::{Ended, Stage, Trial, run};
+use crate::telling::{Left, tell_left};
+use crate::together::{TOGETHER, Together};
 use std::alloc::{AllocError, Global};
 use std::sync::Wait;
 use std::thread::Threads;
 use std::{env, io};
 
-// Prints a row's name and what was told.
+// What a row tells.
+fn told<R: Threads + Wait + Sync>(
+    rt: &R,
+    alloc: Global,
+    ground: Ground,
+    workers: u8,
+    stages: &[Stage],
+    left: Left,
+) -> Result<String, AllocError> {
+    let trial = Trial {
+        ground,
+        workers,
+        stages,
+        seed: 1,
+    };
+    let Ended {
+        mut said,
+        watch,
+        closed,
+        ..
+    } = run(rt, alloc, trial)?;
+    let Some(plan) = ground.plan(alloc) else {
+        return Err(AllocError);
+    };
+    tell_left(alloc, &plan, &closed, &watch, left, &mut said)?;
+    Ok(said)
+}
+
+// Prints a row's name and what it tells.
 fn show(rt: &impl Print, name: &str, told: Result<String, AllocError>) -> io::Result<()> {
     match told {
         Ok(said) => {
@@ -41,42 +72,26 @@ fn show(rt: &impl Print, name: &str, told: Result<String, AllocError>) -> io::Re
 
 // A line for each row.
 fn tell_rows<R: Threads + Wait + Sync + Print>(rt: &R, alloc: Global) -> io::Result<()> {
-    for each in &ROWS {
-        show(rt, each.name, row(rt, alloc, each))?;
+    for row in &ROWS {
+        let stages = [Stage::Alone(row.acts)];
+        let ground = Ground::Text(row.plan);
+        show(
+            rt,
+            row.name,
+            told(rt, alloc, ground, 1, &stages, Left::Nothing),
+        )?;
     }
-    show(
-        rt,
-        "bob's journal at close",
-        together::bobs_journal(rt, alloc),
-    )?;
-    show(rt, "survey after bob's thread", together::survey(rt, alloc))?;
-    show(rt, "two domains at once", together::two_domains(rt, alloc))?;
-    show(
-        rt,
-        "two users of one domain at once",
-        together::one_domain(rt, alloc),
-    )?;
-    show(
-        rt,
-        "worker runs a program",
-        together::worker_runs(rt, alloc),
-    )?;
-    show(
-        rt,
-        "full journal ends a turn alone",
-        together::full_journal(rt, alloc),
-    )?;
-    show(
-        rt,
-        "one node waits for the other",
-        together::one_node_waits(rt, alloc),
-    )?;
-    show(rt, "stopped workers", together::stopped(rt, alloc))?;
-    show(
-        rt,
-        "sixteen users and eight workers",
-        crowd::crowd(rt, alloc),
-    )
+    for row in &TOGETHER {
+        let Together {
+            name,
+            ground,
+            workers,
+            stages,
+            left,
+        } = *row;
+        show(rt, name, told(rt, alloc, ground, workers, stages, left))?;
+    }
+    Ok(())
 }
 
 fn main(rt: HostRuntime) -> io::Result<()> {

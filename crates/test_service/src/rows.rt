@@ -1,6 +1,7 @@
-//! Rows that are done on one thread: what users do in turn, each in a session of his own.
+//! Rows of users who act one after another.
 
-use crate::acts::Act::{self, Config, Fill, Look, Read, Reset, Settle, Write};
+use crate::acts::Act::{self, Config, Fill, Look, Read, Reset, Write};
+use crate::acts::SETTLE;
 use test_plans::{ALL_PORTS, ANN_AND_BOB, ANN_OF_THREE_EVENTS, TWO_NODES};
 
 /// A row: its name, the plan, and which user, by his place in the plan, does what.
@@ -91,7 +92,7 @@ pub const ROWS: [Row; 15] = [
             (ANN, Config(&JOIN)),
             (ANN, Write(0, &POKE)),
             (ANN, Write(0, &PEEK)),
-            (ANN, Settle),
+            (ANN, SETTLE),
             (ANN, Read(0, 5)),
         ],
     },
@@ -101,10 +102,10 @@ pub const ROWS: [Row; 15] = [
         acts: &[
             (BOB, Config(&JOIN)),
             (BOB, Write(0, &[2, 0x21, 0xf5])),
-            (BOB, Settle),
+            (BOB, SETTLE),
             (BOB, Reset(0)),
             (BOB, Write(0, &PEEK)),
-            (BOB, Settle),
+            (BOB, SETTLE),
             (BOB, Read(0, 5)),
         ],
     },
@@ -114,7 +115,7 @@ pub const ROWS: [Row; 15] = [
         acts: &[
             (ANN, Config(&JOIN)),
             (ANN, Write(0, &SAYS_41)),
-            (ANN, Settle),
+            (ANN, SETTLE),
             (ANN, Read(0, 2)),
             (ANN, Look(0)),
             (BOB, Look(0)),
@@ -127,7 +128,7 @@ pub const ROWS: [Row; 15] = [
         acts: &[
             (ANN, Config(&JOIN)),
             (ANN, Write(0, &[6, 0x25, 0xf8, 0x24, 0xf2, 0x60, 0x8f])),
-            (ANN, Settle),
+            (ANN, SETTLE),
             (ANN, Look(0)),
         ],
     },
@@ -137,7 +138,7 @@ pub const ROWS: [Row; 15] = [
         acts: &[
             (ANN, Config(&JOIN)),
             (ANN, Write(0, &[2, 0x21, 0xf1])),
-            (ANN, Settle),
+            (ANN, SETTLE),
             (ANN, Look(0)),
         ],
     },
@@ -157,7 +158,7 @@ pub const ROWS: [Row; 15] = [
         acts: &[
             (ANN, Config(&[0, 3, 0, 0, 3, 1, 3])),
             (ANN, Write(0, &[5])),
-            (ANN, Settle),
+            (ANN, SETTLE),
             (ANN, Look(0)),
             (ANN, Look(1)),
             (ANN, Look(2)),

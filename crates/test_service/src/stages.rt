@@ -1,0 +1,275 @@
+//! What is done with a service, stage by stage.
+
+use crate::acts::Act;
+use crate::farm::{Ground, close, open};
+use crate::gates::{Hold, Seen, burst};
+use crate::meeting::{Meeting, Party, meet, work_here};
+use crate::users::{Doing, User, passes_of, users_of};
+use crate::watch::Watch;
+use domain_core::Committed;
+use farm_service::{Closed, Worked};
+use std::alloc::{AllocError, Global};
+use std::sync::Wait;
+use std::thread::Threads;
+
+/// A stage of a trial.
+#[derive(Clone, Copy)]
+pub enum Stage {
+    /// Users, by their places in the plan, act one after another, and what they are told follows.
+    Alone(&'static [(usize, Act)]),
+    /// Each user does what is listed in his place of the plan, all at once.
+    AtOnce(&'static [&'static [Act]]),
+    /// All workers work for so many turns.
+    Workers(u64),
+    /// The same for ten turns, while node 0's burst is held until node 1 came home from one.
+    Held,
+    /// Users, workers and the operator meet.
+    Meet(Meeting),
+    /// What a user was told since the last such stage follows, under a name.
+    Tell(usize, &'static str),
+    /// How many users were told this follows.
+    Count(&'static str),
+    /// The newest word that the operator saw of a physical output follows.
+    Word(u8),
+    /// This follows.
+    Say(&'static str),
+    /// The service is stopped.
+    Stop,
+    /// One worker works for so many turns; why he came back follows.
+    Work(u64),
+    /// Somebody does a burst of a node of a domain; what became of it follows.
+    Burst(u8, u8),
+    /// Whether node 1 came home in the last meeting, while node 0's burst was held, follows.
+    Committed,
+    /// How many bursts began in the last meeting follows.
+    Begun,
+}
+
+/// A service's trial.
+#[derive(Clone, Copy)]
+pub struct Trial<'a> {
+    pub ground: Ground,
+    /// How many workers there are, 1 to 8.
+    pub workers: u8,
+    pub stages: &'a [Stage],
+    /// What the users' draws hang on.
+    pub seed: u64,
+}
+
+/// What is left of a trial.
+#[derive(Drop)]
+pub struct Ended {
+    /// What was told.
+    pub said: String,
+    /// How many commands by chance were answered.
+    pub answered: u64,
+    pub watch: Watch,
+    pub closed: Closed,
+}
+
+// Why a worker came back.
+fn name_of(worked: Worked) -> &'static str {
+    match worked {
+        Worked::Turns => " turns",
+        Worked::Stopped => " stopped",
+        Worked::NoMemory => " no memory",
+    }
+}
+
+// How many users were told this.
+fn count_of(users: &[User], text: &str) -> usize {
+    let mut count = 0_usize;
+    for user in users {
+        if user.said.as_str() == text {
+            count = count.saturating_add(1);
+        }
+    }
+    count
+}
+
+// Users act one after another.
+fn act_alone<R: Wait>(
+    rt: &R,
+    party: &mut Party,
+    acts: &[(usize, Act)],
+    said: &mut String,
+) -> Result<(), AllocError> {
+    let farm = &party.farm;
+    let service = &farm.service;
+    for (place, act) in acts {
+        if let Some(user) = party.users.get_mut(*place) {
+            user.act(rt, service, *place, Doing::One(*act));
+            said.push_str(user.said.as_str())?;
+            user.said.clear();
+        }
+    }
+    Ok(())
+}
+
+// Tells what a user was told.
+fn tell_user(
+    users: &mut [User],
+    place: usize,
+    name: &str,
+    said: &mut String,
+) -> Result<(), AllocError> {
+    if let Some(user) = users.get_mut(place) {
+        let told = user.said.as_str();
+        write!(said, " {name}{told};")?;
+        user.said.clear();
+    }
+    Ok(())
+}
+
+// Tells what became of a burst of a node.
+fn tell_burst<R: Wait>(
+    rt: &R,
+    party: &Party,
+    domain: u8,
+    node: u8,
+    said: &mut String,
+) -> Result<(), AllocError> {
+    match burst(rt, &party.farm.service, domain, node) {
+        Ok(Committed::Done) => said.push_str(" done"),
+        Ok(Committed::Stale) => said.push_str(" stale"),
+        Err(refusal) => write!(said, " {refusal}"),
+    }
+}
+
+// Tells whether node 1 came home.
+fn tell_seen(seen: Seen, said: &mut String) -> Result<(), AllocError> {
+    let Seen {
+        committed,
+        failed,
+        ..
+    } = seen;
+    write!(said, " committed {committed}, failed {failed};")
+}
+
+// A stage in which nobody meets.
+fn tell<R: Wait>(
+    rt: &R,
+    party: &mut Party,
+    stage: Stage,
+    said: &mut String,
+) -> Result<(), AllocError> {
+    match stage {
+        Stage::Alone(acts) => act_alone(rt, party, acts, said),
+        Stage::Tell(place, name) => tell_user(party.users.as_mut_slice(), place, name, said),
+        Stage::Count(text) => {
+            let count = count_of(party.users.as_slice(), text);
+            write!(said, " {count}")
+        }
+        Stage::Word(output) => match party.watch.words.get(usize::from(output)) {
+            Some(word) => write!(said, " {:x}", word.bits),
+            None => Ok(()),
+        },
+        Stage::Say(text) => said.push_str(text),
+        Stage::Stop => {
+            party.farm.service.stop();
+            Ok(())
+        }
+        Stage::Burst(domain, node) => tell_burst(rt, party, domain, node, said),
+        Stage::Committed => tell_seen(party.seen, said),
+        Stage::Begun => write!(said, " {} begun;", party.seen.begun),
+        _ => Ok(()),
+    }
+}
+
+impl Stage {
+    // How all meet in it.
+    fn meeting(self) -> Option<Meeting> {
+        let (turns, hold, doing) = match self {
+            Stage::AtOnce(lists) => (0, Hold::Nothing, Doing::Listed(lists)),
+            Stage::Workers(turns) => (turns, Hold::Nothing, Doing::Same(&[])),
+            Stage::Held => (10, Hold::First, Doing::Same(&[])),
+            Stage::Meet(meeting) => return Some(meeting),
+            _ => return None,
+        };
+        Some(Meeting { turns, hold, doing })
+    }
+}
+
+// A stage.
+fn perform<R: Threads + Wait + Sync>(
+    rt: &R,
+    mut party: Party,
+    stage: Stage,
+    said: &mut String,
+) -> Party {
+    if let Some(meeting) = stage.meeting() {
+        return meet(rt, party, meeting);
+    }
+    if let Stage::Work(turns) = stage {
+        let (mut party, worked) = work_here(rt, party, turns);
+        party.wanted |= said.push_str(name_of(worked)).is_err();
+        return party;
+    }
+    party.wanted |= tell(rt, &mut party, stage, said).is_err();
+    party
+}
+
+// How many commands by chance were answered, and whether memory was wanting.
+fn sum_of(users: &[User]) -> (u64, bool) {
+    let mut answered = 0_u64;
+    let mut wanted = false;
+    for user in users {
+        answered = answered.saturating_add(user.answered);
+        wanted |= user.wanted;
+    }
+    (answered, wanted)
+}
+
+// Closes the service.
+fn end<R: Wait>(rt: &R, alloc: Global, party: Party, said: String) -> Result<Ended, AllocError> {
+    let Party {
+        farm,
+        users,
+        watch,
+        seen: _,
+        wanted,
+    } = party;
+    let (answered, wants) = sum_of(users.as_slice());
+    if wanted || wants {
+        return Err(AllocError);
+    }
+    let closed = match passes_of(alloc, users) {
+        Ok(passes) => close(rt, alloc, farm, passes)?,
+        Err(_) => return Err(AllocError),
+    };
+    Ok(Ended {
+        said,
+        answered,
+        watch,
+        closed,
+    })
+}
+
+/// Opens a service, goes through the stages, lets the operator survey what they left, and closes it.
+///
+/// # Errors
+///
+/// `AllocError` where memory is wanting.
+pub fn run<R: Threads + Wait + Sync>(
+    rt: &R,
+    alloc: Global,
+    trial: Trial<'_>,
+) -> Result<Ended, AllocError> {
+    let Some((farm, passes, watch)) = open(rt, alloc, trial.ground, trial.workers) else {
+        return Err(AllocError);
+    };
+    let mut said = String::new(alloc);
+    let mut party = Party {
+        farm,
+        users: users_of(alloc, passes, trial.seed)?,
+        watch,
+        seen: Seen::NOTHING,
+        wanted: false,
+    };
+    for stage in trial.stages {
+        party = perform(rt, party, *stage, &mut said);
+    }
+    // The operator surveys once more.
+    party = perform(rt, party, Stage::AtOnce(&[]), &mut said);
+    end(rt, alloc, party, said)
+}

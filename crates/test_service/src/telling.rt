@@ -1,0 +1,133 @@
+//! What a row tells of what a service left.
+
+use crate::comparison::is_alike;
+use crate::losses::{LOSSES, Loss};
+use crate::watch::Watch;
+use domain_core::Entry;
+use farm_service::{Closed, Token};
+use plan_checker::AcceptedPlan;
+use std::alloc::{AllocError, Global};
+
+/// What is told of what is left, after all was compared with the farm on one thread.
+#[derive(Clone, Copy, PartialEq, Eq)]
+pub enum Left {
+    /// Nothing.
+    Nothing,
+    /// How many tokens.
+    Tokens,
+    /// How many entries the second domain's journal has, the word of its output 5, and which tokens in which order.
+    Second,
+    /// How many Steps each node did, as the journals say.
+    Steps,
+    /// How many domains and tokens, and whether the farm on one thread came to the same.
+    Again,
+    /// Whether the comparison notices what is lost on purpose.
+    Losses,
+}
+
+// Of the second domain.
+fn tell_second(closed: &Closed, said: &mut String) -> Result<(), AllocError> {
+    if let Some(second) = closed.domains.get(1)
+        && let Some(word) = second.words.get(5)
+    {
+        let entries = second.journal.len();
+        write!(said, " {entries} entries, word {:x}, tokens", word.bits)?;
+        for token in closed.tokens.iter() {
+            write!(said, " {}.{}", token.domain, token.node)?;
+        }
+    }
+    Ok(())
+}
+
+// How many Steps of a node a journal has.
+fn steps_of(journal: &[Entry], node: u8) -> u64 {
+    let mut steps = 0_u64;
+    for entry in journal {
+        if let Entry::Run {
+            node: stepped,
+            count,
+            ..
+        } = *entry
+            && stepped == node
+        {
+            steps = steps.saturating_add(count);
+        }
+    }
+    steps
+}
+
+// Of each node.
+fn tell_steps(closed: &Closed, said: &mut String) -> Result<(), AllocError> {
+    for Token { domain, node } in closed.tokens.iter() {
+        if let Some(ended) = closed.domains.get(usize::from(*domain)) {
+            let steps = steps_of(ended.journal.as_slice(), *node);
+            write!(said, " {domain}.{node} {steps} Steps")?;
+        }
+    }
+    Ok(())
+}
+
+impl Loss {
+    // Its name.
+    fn name(self) -> &'static str {
+        match self {
+            Loss::Step => "Step",
+            Loss::Byte => "byte",
+            Loss::Token => "token",
+            Loss::Word => "word",
+        }
+    }
+}
+
+// Of each loss.
+fn tell_losses(
+    alloc: Global,
+    plan: &AcceptedPlan,
+    closed: &Closed,
+    watch: &Watch,
+    said: &mut String,
+) -> Result<(), AllocError> {
+    for loss in LOSSES {
+        let name = loss.name();
+        if loss.is_noticed(alloc, plan, closed, watch)? {
+            write!(said, " {name} noticed;")?;
+        } else {
+            write!(said, " {name} not noticed;")?;
+        }
+    }
+    Ok(())
+}
+
+/// Tells what is left, and where the farm on one thread comes to something else, or an operator saw a word that is not
+/// allowed.
+pub fn tell_left(
+    alloc: Global,
+    plan: &AcceptedPlan,
+    closed: &Closed,
+    watch: &Watch,
+    left: Left,
+    said: &mut String,
+) -> Result<(), AllocError> {
+    let alike = is_alike(alloc, plan, closed, watch, 1)?;
+    let (count, tokens) = (closed.domains.len(), closed.tokens.len());
+    match left {
+        Left::Nothing => {}
+        Left::Tokens => write!(said, " {tokens} tokens")?,
+        Left::Second => tell_second(closed, said)?,
+        Left::Steps => tell_steps(closed, said)?,
+        Left::Again => {
+            write!(
+                said,
+                " {count} domains, {tokens} tokens, done again alike: {alike}"
+            )?
+        }
+        Left::Losses => tell_losses(alloc, plan, closed, watch, said)?,
+    }
+    if !alike {
+        said.push_str(" not done again alike")?;
+    }
+    if watch.wrong > 0 {
+        said.push_str(" not allowed")?;
+    }
+    Ok(())
+}
