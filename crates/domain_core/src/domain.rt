@@ -158,7 +158,12 @@ impl<O: Outputs + Drop> Domain<O> {
         if has_moved(moved) {
             self.journal.reserve(1)?;
             self.machine.follow(route);
-            note(&mut self.journal, By::Farm, Event::Move(port), Reply::Moved(moved));
+            note(
+                &mut self.journal,
+                By::Farm,
+                Event::Move(port),
+                Reply::Moved(moved),
+            );
             self.recorded += 1;
         }
         Ok(Reply::Moved(moved))

@@ -1,7 +1,6 @@
 -- What closing a service vouches for, of what a call answers.
 use Rattle.std.proofs.Common.{◌≡◌, ℕ, List, length, Ok, Err}
-use Rattle.std.specs.Prelude.{IfOk}
-use Rattle.core.specs.declared.result.Result.{Result}
+use Rattle.std.specs.Prelude.{IfOk, Result}
 use Rattle.farm_service.specs.declared.closed.ClosedDomain.{ClosedDomain}
 use Rattle.farm_service.specs.Passes.{UserPassValue}
 use Rattle.farm_service.specs.Closed.{AreListed}

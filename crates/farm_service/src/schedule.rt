@@ -170,7 +170,8 @@ impl Schedule {
     /// nothing to do for long. Else it gives its core away if its last turn had nothing to do, so that users go first.
     pub fn make_way<R: Wait>(&self, rt: &R, workers_before: usize, idle_turns: u32) {
         let settling = self.settling.load(Ordering::SeqCst);
-        let is_crowded = settling.saturating_add(workers_before) >= self.cores.load(Ordering::SeqCst);
+        let is_crowded = settling.saturating_add(workers_before)
+            >= self.cores.load(Ordering::SeqCst);
         if settling > 0 && (is_crowded || idle_turns > IDLE_TURNS) {
             self.bed.park_timeout(rt, 0, Duration::from_millis(1));
         } else if idle_turns > 0 {

@@ -251,7 +251,10 @@ fn lines_print_what_the_service_answered(rt: HostRuntime) -> Result<(), Fail> {
         ),
     ] {
         let text = format!(in alloc; "{plan}---\n{script}")?;
-        assert!(rt; gives(&rt, alloc, text.as_bytes(), 0, wanted, ""), "{script:?}");
+        assert!(rt;
+            gives(&rt, alloc, text.as_bytes(), 0, wanted, ""),
+            "{script:?}"
+        );
     }
     Ok(())
 }

@@ -75,18 +75,11 @@ fn do_all(farm: &mut PlainFarm, closed: &[ClosedDomain], draws: &mut Draws) {
     }
 }
 
-// Whether two journals are equal.
-fn are_equal(one: &[Entry], other: &[Entry]) -> bool
-    ensures { IsTrue result ↔ (one.now ≡ other.now) }
-{
-    one == other
-}
-
 // Whether all domains have answered just what the journals list.
 fn are_journals(farm: &PlainFarm, closed: &[ClosedDomain]) -> bool {
     for domain in closed {
         match farm.journal(domain.domain) {
-            Some(journal) if are_equal(journal, domain.journal.as_slice()) => {}
+            Some(journal) if journal == domain.journal.as_slice() => {}
             _ => return false,
         }
     }

@@ -1,4 +1,4 @@
-use Rattle.std.proofs.Common.{length, rules, arith}
+use Rattle.std.proofs.Common.{length, arith}
 use Rattle.std.proofs.lemmas.Grind.{common_steps}
 use Rattle.farm_service.specs.Passes.{fresh_passes}
 use Rattle.farm_program.specs.declared.farm.Ended.{Ended}
