@@ -1,10 +1,10 @@
 //! What a user's session does for a command, and the result that its output line shows.
 use crate::quantum::Quantum;
-use crate::script::Command;
 use answer_text::{write_reply, write_seen};
 use bootstrap::{BootFault, boot_message, peek_message, poke_message, word_of};
 use domain_core::{Refusal, Reply};
 use farm_service::Session;
+use script_lines::Command;
 use std::alloc::Global;
 use std::sync::Wait;
 use virtual_switch::ConfigReply;

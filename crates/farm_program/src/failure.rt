@@ -4,23 +4,11 @@ ghost use Rattle.farm_program.specs.declared.failure.Failure.TheVariants.{Memory
 ghost use Rattle.farm_program.specs.Statuses.{failure_status};
 
 use plan_checker::PlanFault;
+use script_lines::{LineFault, ScriptFault};
 use script_text::{ReadFault, write_whole};
 use std::alloc::{AllocError, AllocFailed, Global};
 use std::io::{self, Write};
 use thiserror::Error;
-
-/// What is wrong with a script line, in the order of the tests.
-#[derive(Clone, Copy, Debug, PartialEq, Eq, Error)]
-pub enum LineFault {
-    #[error("user")]
-    User,
-    #[error("verb")]
-    Verb,
-    #[error("args")]
-    Args,
-    #[error("hex")]
-    Hex,
-}
 
 /// Why a run ends without its output, with the text for standard error.
 #[derive(Debug, Drop, Error)]
@@ -63,6 +51,14 @@ impl Failure {
             _ => Failure::Plan {
                 number: fault.number(),
             },
+        }
+    }
+
+    /// The script was refused.
+    pub fn of_script(fault: ScriptFault) -> Failure {
+        match fault {
+            ScriptFault::Line { number, fault } => Failure::Line { number, fault },
+            ScriptFault::NoMemory => Failure::Memory,
         }
     }
 

@@ -8,10 +8,10 @@ ghost use Rattle.farm_program.specs.Closing.{AreAllListed};
 use crate::configuration::Settings;
 use crate::failure::Failure;
 use crate::quantum::Quantum;
-use crate::script::Line;
-use crate::visits::{Visitor, visit, visitors_of};
+use crate::visits::{Visitor, hand_out_lines, visit, visitors_of};
 use farm_service::{Closed, NoGate, NoMemory, Opened, Service, UserPass, WorkerPass, work_all};
 use plan_checker::AcceptedPlan;
+use script_lines::ScriptLine;
 use std::alloc::Global;
 use std::sync::Wait;
 use std::thread;
@@ -44,7 +44,6 @@ fn visit_all<R: Threads + Wait + Sync>(
     alloc: Global,
     service: &Service,
     quantum: Quantum,
-    lines: &[Line],
     mut visitors: Vec<Visitor>,
 ) -> Vec<Visitor> {
     let threads = visitors.len().max(1);
@@ -53,7 +52,7 @@ fn visit_all<R: Threads + Wait + Sync>(
         visitors.as_mut_slice(),
         threads,
         &|_, visitor| {
-            visit(rt, alloc, service, quantum, lines, visitor);
+            visit(rt, alloc, service, quantum, visitor);
         },
     );
     service.stop();
@@ -67,7 +66,6 @@ fn meet<R: Threads + Wait + Sync>(
     alloc: Global,
     service: &Service,
     settings: Settings,
-    lines: &[Line],
     visitors: Vec<Visitor>,
     passes: Vec<WorkerPass>,
 ) -> (Shift, Vec<Visitor>)
@@ -83,7 +81,7 @@ fn meet<R: Threads + Wait + Sync>(
             requires { AreItsPasses service.now.plan service.now.queue passes.items }
             ensures { AreItsPasses service.entry.now.plan service.entry.now.queue result.passes.items }
         { work_on(rt, service, passes, quantum) },
-        move || visit_all(rt, alloc, service, quantum, lines, visitors),
+        move || visit_all(rt, alloc, service, quantum, visitors),
     )
 }
 
@@ -179,7 +177,7 @@ pub fn texts_on<R: Threads + Wait + Sync>(
     rt: &R,
     alloc: Global,
     plan: AcceptedPlan,
-    lines: &[Line],
+    lines: Vec<ScriptLine>,
     settings: Settings,
 ) -> Result<Ended, Failure>
     requires workers { (1 ≤ settings.workers) × (settings.workers ≤ 8) }
@@ -188,6 +186,7 @@ pub fn texts_on<R: Threads + Wait + Sync>(
     ensures users { IfOk result (λ ended. AreAllListed (length (fresh_passes plan)) ended.closed.domains.items) }
 {
     let mut visitors = visitors_of(alloc, &plan)?;
+    hand_out_lines(visitors.as_mut_slice(), lines)?;
     let room = room_for(alloc, visitors.len())?;
     let Ok(opened) = Service::open(rt, alloc, plan, settings.workers) else {
         return Err(Failure::Memory);
@@ -200,7 +199,7 @@ pub fn texts_on<R: Threads + Wait + Sync>(
     } = opened;
     let count = users.len();
     hand_out(visitors.as_mut_slice(), users);
-    let (shift, visitors) = meet(rt, alloc, &service, settings, lines, visitors, passes);
+    let (shift, visitors) = meet(rt, alloc, &service, settings, visitors, passes);
     let left = left_by(visitors, room)?;
     if left.passes.len() != count {
         // Each user gives his pass back. Without it nothing would vouch for his lines.

@@ -9,7 +9,6 @@ mod failure;
 mod farm;
 mod program;
 mod quantum;
-mod script;
 mod visits;
 
 pub use command_line::settings;

@@ -2,9 +2,10 @@
 use crate::command_line::settings;
 use crate::failure::Failure;
 use crate::farm::{Ended, texts_on};
-use crate::script::lines_of;
+use crate::visits::names_of;
 use clap::error::ErrorKind;
 use plan_checker::{AcceptedPlan, PlanFault, check, read_plan};
+use script_lines::{ScriptLine, read_script};
 use script_text::{WriteFailed, divide, read_whole, write_whole};
 use std::alloc::Global;
 use std::convert::AsStr;
@@ -61,7 +62,7 @@ fn texts_of<R: Threads + Wait + Sync, S: AsStr, I: Read>(
     let (plan, script) = divide(text.as_slice(), b"---");
     let plan = accepted(alloc, plan)?;
     let lines = lines_of(alloc, &plan, script)?;
-    let Ended { texts, closed: _ } = texts_on(rt, alloc, plan, lines.as_slice(), settings)?;
+    let Ended { texts, closed: _ } = texts_on(rt, alloc, plan, lines, settings)?;
     Ok(texts)
 }
 
@@ -76,6 +77,12 @@ fn help_of(alloc: Global, error: clap::Error) -> Result<Vec<String>, Failure> {
         }
         _ => Err(Failure::Words(error)),
     }
+}
+
+/// What the lines of a script ask, for which users of the plan.
+fn lines_of(alloc: Global, plan: &AcceptedPlan, script: &[u8]) -> Result<Vec<ScriptLine>, Failure> {
+    let names = names_of(alloc, plan)?;
+    read_script(alloc, names.as_slice(), script).map_err(Failure::of_script)
 }
 
 /// The plan that a text gives, where the checker accepts it.

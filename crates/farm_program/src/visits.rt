@@ -1,11 +1,11 @@
 //! Users, each in a session of his own, and what they write.
 use crate::acts::{result_of, settle};
 use crate::quantum::Quantum;
-use crate::script::{Command, Line};
 use answer_text::write_refusal;
 use domain_core::Refusal;
 use farm_service::{NoMemory, Service, Session, UserPass};
 use plan_checker::AcceptedPlan;
+use script_lines::{Command, ScriptLine};
 use std::alloc::Global;
 use std::sync::Wait;
 
@@ -18,6 +18,8 @@ pub struct Visitor {
     pub user: u8,
     /// His name in the plan.
     pub name: String,
+    /// What his lines ask, in order.
+    pub commands: Vec<Command>,
     /// His pass, while no session has it.
     pub pass: Option<UserPass>,
     /// His output lines so far.
@@ -35,6 +37,7 @@ pub fn visitors_of(alloc: Global, plan: &AcceptedPlan) -> Result<Vec<Visitor>, N
                 domain,
                 user,
                 name: String::from_str(alloc, plan.name(domain, user))?,
+                commands: Vec::new(alloc),
                 pass: None,
                 text: String::new(alloc),
                 wanted: false,
@@ -44,13 +47,34 @@ pub fn visitors_of(alloc: Global, plan: &AcceptedPlan) -> Result<Vec<Visitor>, N
     Ok(visitors)
 }
 
+/// Gives each user what his lines ask. A line's user is one of them, by his place.
+pub fn hand_out_lines(visitors: &mut [Visitor], lines: Vec<ScriptLine>) -> Result<(), NoMemory> {
+    for line in lines {
+        let ScriptLine { user, command } = line;
+        if let Some(visitor) = visitors.get_mut(user) {
+            visitor.commands.push(command)?;
+        }
+    }
+    Ok(())
+}
+
+/// The names of all users of a plan, in its order.
+pub fn names_of(alloc: Global, plan: &AcceptedPlan) -> Result<Vec<&str>, NoMemory> {
+    let mut names = Vec::new(alloc);
+    for domain in 0..plan.domains() {
+        for user in 0..plan.users(domain) {
+            names.push(plan.name(domain, user))?;
+        }
+    }
+    Ok(names)
+}
+
 /// A user's session: his lines of the script, in their order.
 pub fn visit<R: Wait>(
     rt: &R,
     alloc: Global,
     service: &Service,
     quantum: Quantum,
-    lines: &[Line],
     visitor: &mut Visitor,
 ) {
     // He has his pass: `Service::open` gives one for each user of the plan, in the order of the visitors. The field is
@@ -59,7 +83,7 @@ pub fn visit<R: Wait>(
         return;
     };
     let mut session = service.session(pass);
-    visitor.wanted = act_all(rt, alloc, &mut session, quantum, lines, visitor).is_err();
+    visitor.wanted = act_all(rt, alloc, &mut session, quantum, visitor).is_err();
     visitor.pass = Some(session.end());
 }
 
@@ -69,16 +93,19 @@ fn act_all<R: Wait>(
     alloc: Global,
     session: &mut Session<'_>,
     quantum: Quantum,
-    lines: &[Line],
     visitor: &mut Visitor,
 ) -> Result<(), NoMemory> {
-    for line in lines {
-        if line.domain == visitor.domain && line.user == visitor.user {
-            let told = result_of(rt, alloc, session, quantum, &line.command);
-            write_line(visitor, &line.command, told)?;
-            if matches!(settle(rt, session, quantum), Err(Refusal::NoMemory)) {
-                return Err(NoMemory);
-            }
+    let Visitor {
+        name,
+        commands,
+        text,
+        ..
+    } = visitor;
+    for command in commands.iter() {
+        let told = result_of(rt, alloc, session, quantum, command);
+        write_line(text, name.as_str(), command, told)?;
+        if matches!(settle(rt, session, quantum), Err(Refusal::NoMemory)) {
+            return Err(NoMemory);
         }
     }
     Ok(())
@@ -86,12 +113,12 @@ fn act_all<R: Wait>(
 
 // The output line of a command.
 fn write_line(
-    visitor: &mut Visitor,
+    text: &mut String,
+    name: &str,
     command: &Command,
     told: Result<String, Refusal>,
 ) -> Result<(), NoMemory> {
-    let Visitor { name, text, .. } = visitor;
-    let verb = command.verb();
+    let verb = command.verb().name();
     match command.place() {
         Some(number) => write!(text, "{name} {verb} {number} ")?,
         None => write!(text, "{name} {verb} ")?,

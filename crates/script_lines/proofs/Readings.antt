@@ -1,0 +1,124 @@
+-- What the reading of a word and of a script rests on.
+use Rattle.std.proofs.Common.{◌≡◌, ◌+◌, ◌<◌, ◌++◌, ℕ, List, Bool, cond, [], ◌∷◌, length, map, refl, sym, ap, ◌∙◌, true, false, not, inl, inr, subst, append-nil, append_assoc, length-append, arith}
+use Rattle.std.specs.Prelude.{slice_index, slice_get, Option, Some, None}
+use Rattle.std.specs.List.{AllZip, filter}
+use Rattle.std.specs.Str.{IsAscii, IsUtf8}
+use Rattle.std.specs.Str.Parse.{AllDigits}
+use Rattle.std.specs.Str.Lines.{lines}
+use Rattle.std.proofs.lemmas.Bool.{cases_lt}
+use Rattle.std.proofs.lemmas.List.{get_or_past}
+use Rattle.std.proofs.lemmas.List.Elements.{filter-append}
+use Rattle.std.proofs.lemmas.Str.{IsUtf8-from_ascii}
+use Rattle.std.proofs.lemmas.Str.Parse.{digit_at}
+use Rattle.script_text.specs.Lines.{asks_nothing, line_of, after_line}
+use Rattle.script_lines.specs.declared.script.ScriptLine.{ScriptLine}
+use Rattle.script_lines.specs.declared.fault.LineFault.{LineFault}
+use Rattle.script_lines.specs.Words.{words_in}
+use Rattle.script_lines.specs.Lines.{IsLineFault, IsUserName}
+use Rattle.script_lines.specs.Script.{IsScript, IsAsked, IsFirstFault, asking}
+use Rattle.script_lines.proofs.Splitting.{first_line}
+
+-- what two equal options hold
+some_is : (x y : List ℕ) → Some x ≡ Some y → x ≡ y
+some_is x y e = ap (held x) e
+  where
+    held : List ℕ → Option (List ℕ) → List ℕ
+    held d None = d
+    held d (Some z) = z
+
+-- decimal digits are UTF-8
+pub digits_are_utf8 : (word : List ℕ) → AllDigits 10 word → IsUtf8 word
+digits_are_utf8 word digits = IsUtf8-from_ascii word (λ i.
+    elim (cases_lt i (length word)) [
+      | inl inside ↦ let range = digit_at word i digits inside in omega (arith, range.1)
+      | inr past ↦ omega (arith, get_or_past word i 0 past)
+    ])
+
+-- the script up to this rest of its text asks just this, in so many lines
+pub record IsReadTo (names : List (List ℕ)) (text rest : List ℕ) (asked : List ScriptLine) (count : ℕ) : Type 0 where
+  pub before : List (List ℕ)
+  pub parts : lines text ≡ before ++ lines rest
+  pub readable : IsScript names before asked
+  pub counted : count ≡ length before
+
+pub read_at_start : (names : List (List ℕ)) (text : List ℕ) → IsReadTo names text text [] 0
+read_at_start names text = record { before = []; parts = refl; readable = tt; counted = refl }
+
+-- an empty rest has no lines, so all is read
+pub read_to_the_end : (names : List (List ℕ)) (text : List ℕ) (asked : List ScriptLine) (count : ℕ) → IsReadTo names text [] asked count
+    → IsScript names (lines text) asked
+read_to_the_end names text asked count read =
+    subst (λ ls. IsScript names ls asked) (sym (read.parts ∙ append-nil read.before)) read.readable
+
+asking_one : (line : List ℕ) (b : Bool) → asks_nothing line ≡ b → asking (line ∷ []) ≡ cond (not b) (line ∷ []) []
+asking_one line b e = ap (λ x. cond (not x) (line ∷ []) []) e
+
+zip_more : (names lines : List (List ℕ)) (asked : List ScriptLine) (line : List ℕ) (l : ScriptLine) → AllZip (IsAsked names) lines asked → IsAsked names line l
+    → AllZip (IsAsked names) (lines ++ line ∷ []) (asked ++ l ∷ [])
+zip_more names [] [] line l all one = (one, tt)
+zip_more names [] (k ∷ asked) line l all one = absurd all
+zip_more names (x ∷ lines) [] line l all one = absurd all
+zip_more names (x ∷ lines) (k ∷ asked) line l all one = (all.0, zip_more names lines asked line l all.1 one)
+
+-- a line that asks nothing is passed over
+pub read_past : (names : List (List ℕ)) (text rest after : List ℕ) (asked : List ScriptLine) (count : ℕ) → IsReadTo names text rest asked count → 0 < length rest
+    → asks_nothing (line_of rest) ≡ true → after ≡ after_line rest → IsReadTo names text after asked (count + 1)
+read_past names text rest after asked count read some nothing is =
+    let before = read.before in
+    record {
+      before = before ++ line_of rest ∷ [];
+      parts =
+          read.parts ∙ ap (λ ls. before ++ ls) (first_line rest some) ∙ sym (append_assoc before (line_of rest ∷ []) (lines (after_line rest)))
+          ∙ ap (λ t. (before ++ line_of rest ∷ []) ++ lines t) (sym is);
+      readable =
+          subst (λ ls. AllZip (IsAsked names) ls asked)
+          (sym (filter-append _ before (line_of rest ∷ []) ∙ ap (λ ls. asking before ++ ls) (asking_one (line_of rest) true nothing) ∙ append-nil (asking before)))
+          read.readable;
+      counted = omega (arith, read.counted, length-append before (line_of rest ∷ []));
+    }
+
+-- a line that asks something is the next
+pub read_more : (names : List (List ℕ)) (text rest after : List ℕ) (asked more : List ScriptLine) (l : ScriptLine) (count : ℕ) → IsReadTo names text rest asked count
+    → 0 < length rest → asks_nothing (line_of rest) ≡ false → IsAsked names (line_of rest) l → after ≡ after_line rest → more ≡ asked ++ l ∷ []
+    → IsReadTo names text after more (count + 1)
+read_more names text rest after asked more l count read some asks one is items =
+    let before = read.before in
+    record {
+      before = before ++ line_of rest ∷ [];
+      parts =
+          read.parts ∙ ap (λ ls. before ++ ls) (first_line rest some) ∙ sym (append_assoc before (line_of rest ∷ []) (lines (after_line rest)))
+          ∙ ap (λ t. (before ++ line_of rest ∷ []) ++ lines t) (sym is);
+      readable =
+          subst (AllZip (IsAsked names) (asking (before ++ line_of rest ∷ []))) (sym items)
+          (subst (λ ls. AllZip (IsAsked names) ls (asked ++ l ∷ []))
+          (sym (filter-append _ before (line_of rest ∷ []) ∙ ap (λ ls. asking before ++ ls) (asking_one (line_of rest) false asks)))
+          (zip_more names (asking before) asked (line_of rest) l read.readable one));
+      counted = omega (arith, read.counted, length-append before (line_of rest ∷ []));
+    }
+
+-- a line that is wrong is the first
+pub read_wrong : (names : List (List ℕ)) (text rest : List ℕ) (asked : List ScriptLine) (count : ℕ) (f : LineFault) → IsReadTo names text rest asked count
+    → 0 < length rest → asks_nothing (line_of rest) ≡ false → IsLineFault names (words_in (line_of rest)) f → IsFirstFault names (lines text) (count + 1) f
+read_wrong names text rest asked count f read some asks wrong =
+    record {
+      before = read.before;
+      line = line_of rest;
+      after = lines (after_line rest);
+      asked = asked;
+      parts = read.parts ∙ ap (λ ls. read.before ++ ls) (first_line rest some);
+      count = ap (λ n. n + 1) read.counted;
+      readable = read.readable;
+      asks = asks;
+      wrong = wrong;
+    }
+
+-- a name that isn't this one leaves no earlier place for it
+pub no_earlier_name : (names : List (List ℕ)) (name : List ℕ) (user : ℕ) (other : List ℕ) → ((k : ℕ) → k < user → ¬ IsUserName names name k) → IsUserName names other user
+    → ¬ (other ≡ name) → (k : ℕ) → k < user + 1 → ¬ IsUserName names name k
+no_earlier_name names name user other none here differs k lt is =
+    elim (cases_lt k user) [
+      | inl below ↦ none k below is
+      | inr past ↦
+          let same : user ≡ k = omega (arith, lt, past) in
+          differs (some_is other name (sym here ∙ ap (λ n. slice_get names n) same ∙ is))
+    ]

@@ -1,0 +1,49 @@
+//! What is wrong with a script.
+ghost use Rattle.std.specs.Prelude.{◌≡◌};
+ghost use Rattle.script_lines.specs.declared.fault.Unread.TheVariants.{NoMemory};
+
+use std::alloc::AllocError;
+use thiserror::Error;
+
+/// What is wrong with a script line, in the order of the tests.
+#[derive(Clone, Copy, Debug, PartialEq, Eq, Error)]
+pub enum LineFault {
+    /// The first word is no user's name.
+    #[error("user")]
+    User,
+    /// The second word is no verb, or there is none.
+    #[error("verb")]
+    Verb,
+    /// The verb takes another number of words, or the number of a host or node isn't a decimal number to 255.
+    #[error("args")]
+    Args,
+    /// Bytes aren't an even number of hexadecimal digits, at least two, or an address or word isn't eight of them.
+    #[error("hex")]
+    Hex,
+}
+
+/// Why a script isn't read.
+#[derive(Clone, Copy, Debug, PartialEq, Eq, Error)]
+pub enum ScriptFault {
+    /// A line is wrong: the first that is, with its number, from 1.
+    #[error("line {number}: {fault}")]
+    Line { number: u64, fault: LineFault },
+    /// There is no memory for the lines.
+    #[error("out of memory")]
+    NoMemory,
+}
+
+/// Why a line isn't read.
+#[derive(Clone, Copy, Debug, PartialEq, Eq)]
+pub(crate) enum Unread {
+    Faulty(LineFault),
+    NoMemory,
+}
+
+impl From<AllocError> for Unread {
+    ghost from_gives = { λ _ unread. unread ≡ NoMemory };
+
+    fn from(_error: AllocError) -> Unread {
+        Unread::NoMemory
+    }
+}

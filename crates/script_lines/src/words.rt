@@ -1,0 +1,49 @@
+//! The words of a line.
+ghost use Rattle.std.specs.Prelude.{◌≡◌, ◌∷◌, []};
+ghost use Rattle.std.specs.Prelude.{MatchOption};
+ghost use Rattle.script_lines.specs.Words.{words_in};
+
+use std::marker::Model;
+
+/// The words of a line that are still to be read. Contracts see them as a list.
+#[derive(Drop)]
+pub(crate) struct Words<'a> {
+    // None behind the last word.
+    rest: Option<&'a [u8]>,
+}
+
+impl<'a> Model for Words<'a> {
+    ghost use Rattle.std.specs.Prelude.{ℕ, List, []};
+    ghost use Rattle.std.specs.Option.{option_map_or};
+    ghost use Rattle.script_lines.specs.Words.{words_in};
+
+    ghost Value = { List (List ℕ) };
+
+    ghost view = { λ w. option_map_or (λ rest. words_in rest.now) w.rest [] };
+}
+
+impl<'a> Words<'a> {
+    /// The words of a line.
+    pub(crate) fn of(line: &'a [u8]) -> Words<'a>
+        ensures { result ≡ words_in line.now }
+    {
+        Words { rest: Some(line) }
+    }
+
+    /// Takes the next word.
+    pub(crate) fn take(&mut self) -> Option<&'a [u8]>
+        ensures { MatchOption result ((self.old ≡ []) × (self.new ≡ [])) (λ word. self.old ≡ word.now ∷ self.new) }
+    {
+        let line = self.rest?;
+        match line.iter().position(|byte| *byte == b' ') {
+            Some(end) => {
+                self.rest = Some(&line[end + 1..]);
+                Some(&line[..end])
+            }
+            None => {
+                self.rest = None;
+                Some(line)
+            }
+        }
+    }
+}
