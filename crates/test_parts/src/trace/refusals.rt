@@ -1,6 +1,6 @@
 //! Lines that are refused, and lines that a node can't answer.
 
-use node_trace::{TraceFault, trace};
+use node_trace::{LineFault, trace};
 use std::test::Fail;
 
 #[test]
@@ -31,9 +31,9 @@ fn wrong_lines_are_refused_by_their_number(rt: HostRuntime) {
         (" = -", 1),
     ] {
         let refused = trace(rt.alloc(), text.as_bytes()).err();
-        assert!(rt; refused == Some(TraceFault::Line(number)), "{text:?}");
+        assert!(rt; refused == Some(LineFault::Wrong(number)), "{text:?}");
     }
-    assert!(rt; trace(rt.alloc(), b"look\n\xff\n").err() == Some(TraceFault::Line(2)));
+    assert!(rt; trace(rt.alloc(), b"look\n\xff\n").err() == Some(LineFault::Wrong(2)));
 }
 
 #[test]
@@ -46,10 +46,10 @@ fn lines_have_their_numbers_and_what_they_expect(rt: HostRuntime) -> Result<(), 
         (4, "set A 1", "no registers", Some("no registers")),
         (5, "look", "booting overruns 0 0 0 0", None),
     ]) {
-        assert_eq!(rt; answered.line, line);
-        assert_eq!(rt; answered.asked.as_str(), asked);
+        assert_eq!(rt; answered.question.line, line);
+        assert_eq!(rt; answered.question.text, asked);
         assert_eq!(rt; answered.answer.as_str(), answer);
-        let given = answered.expected.as_ref().map(|text| text.as_str());
+        let given = answered.question.expected;
         assert_eq!(rt; given.unwrap_or(""), expected.unwrap_or(""));
         assert!(rt; answered.is_as_expected());
     }
