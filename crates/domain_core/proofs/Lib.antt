@@ -1,6 +1,7 @@
 pub mod Commits
 pub mod Histories
 pub mod Joined
+pub mod Kept
 pub mod Lists
 pub mod Meant
 pub mod Outcomes

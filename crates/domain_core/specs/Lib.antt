@@ -14,5 +14,6 @@ pub mod Answers
 pub mod Peek
 pub mod Laws
 -- what only helps contracts
+pub mod Entries
 pub mod Numbers
 pub mod Routes

@@ -17,7 +17,7 @@ ghost use Rattle.domain_core.specs.Ticket.{IsHome, Commits, fresh_ticket};
 
 use crate::NoMemory;
 use crate::event::{By, Event, Refusal, Reply};
-use crate::journal::{Entry, note, note_ticket};
+use crate::journal::Journal;
 use crate::machine::{Acted, Machine};
 use crate::moves::has_moved;
 use crate::ticket::Ticket;
@@ -43,7 +43,7 @@ pub enum Committed {
 #[derive(Drop)]
 pub struct Domain<O: Outputs> {
     machine: Machine<O>,
-    journal: Vec<Entry>,
+    journal: Journal,
     recorded: u64,
 }
 
@@ -54,9 +54,9 @@ impl<O: Outputs> Model for Domain<O> {
 
     ghost Value = { DomainValue };
 
-    ghost view = { λ d. record { machine = d.machine; journal = d.journal.items } };
+    ghost view = { λ d. record { machine = d.machine; journal = d.journal } };
 
-    ghost invariant = { λ d. IsMeant (record { machine = d.machine; journal = d.journal.items }) × (d.recorded ≡ length (expanded d.journal.items)) };
+    ghost invariant = { λ d. IsMeant (record { machine = d.machine; journal = d.journal }) × (d.recorded ≡ length (expanded d.journal)) };
 }
 
 impl<O: Outputs + Drop> Domain<O> {
@@ -77,7 +77,7 @@ impl<O: Outputs + Drop> Domain<O> {
         let machine = Machine::open(alloc, part, outputs)?;
         Ok(Domain {
             machine,
-            journal: Vec::new(alloc),
+            journal: Journal::new(alloc),
             recorded: 0,
         })
     }
@@ -123,14 +123,15 @@ impl<O: Outputs + Drop> Domain<O> {
         if self.recorded == self.machine.part().limit() {
             return Err(Refusal::JournalFull);
         }
-        if self.journal.reserve(1).is_err() {
+        let journal = &mut self.journal;
+        if journal.entries.reserve_for(event).is_err() {
             return Err(Refusal::NoMemory);
         }
         // A Step that isn't recorded changes nothing.
         bootstrap::quiet_step_changes_nothing();
         let Acted { reply, recorded } = self.machine.act(event);
         if recorded {
-            note(&mut self.journal, by, event, reply);
+            journal.entries.push_answer(by, event, reply);
             self.recorded += 1;
         }
         Ok(reply)
@@ -156,14 +157,12 @@ impl<O: Outputs + Drop> Domain<O> {
         let route = self.machine.route(port);
         let moved = route.answer();
         if has_moved(moved) {
-            self.journal.reserve(1)?;
+            let journal = &mut self.journal;
+            journal.entries.reserve()?;
             self.machine.follow(route);
-            note(
-                &mut self.journal,
-                By::Farm,
-                Event::Move(port),
-                Reply::Moved(moved),
-            );
+            journal
+                .entries
+                .push_answer(By::Farm, Event::Move(port), Reply::Moved(moved));
             self.recorded += 1;
         }
         Ok(Reply::Moved(moved))
@@ -240,15 +239,15 @@ impl<O: Outputs + Drop> Domain<O> {
     }
 
     /// What the domain answered, in order.
-    pub fn journal(&self) -> &[Entry]
+    pub fn journal(&self) -> &Journal
         ensures { result.now ≡ self.now.journal }
     {
-        self.journal.as_slice()
+        &self.journal
     }
 
     /// What the domain answered, in order, at its end.
-    pub fn into_journal(self) -> Vec<Entry>
-        ensures { result.items ≡ self.journal }
+    pub fn into_journal(self) -> Journal
+        ensures { result ≡ self.journal }
     {
         let Domain {
             journal,
@@ -327,7 +326,8 @@ impl<O: Outputs + Drop> Domain<O> {
         if self.machine.part().limit() - self.recorded < ticket.steps() {
             return Err(Refusal::JournalFull);
         }
-        if self.journal.reserve(1).is_err() {
+        let journal = &mut self.journal;
+        if journal.entries.reserve().is_err() {
             return Err(Refusal::NoMemory);
         }
         // A Step keeps the size of memory.
@@ -340,7 +340,7 @@ impl<O: Outputs + Drop> Domain<O> {
         let steps = ticket.steps();
         let last = ticket.last();
         self.machine.take_home(ticket);
-        note_ticket(&mut self.journal, number, steps, last);
+        journal.entries.push_ticket(number, steps, last);
         self.recorded += steps;
         Ok(Committed::Done)
     }

@@ -1,11 +1,11 @@
-//! The entries of a journal.
-ghost use Rattle.std.specs.Prelude.{◌≡◌, ◌<◌, ◌≤◌, ◌+◌, ◌^◌, ◌++◌, ◌∷◌, [], ℕ, IsTrue, length, vec_len, vec_capacity};
-ghost use Rattle.domain_core.specs.declared.journal.Entry.TheVariants.{Run};
-ghost use Rattle.domain_core.specs.Journal.{expanded, steps};
-ghost use Rattle.t414_step.specs.declared.stepping.Stepped.TheVariants.{Ran};
-ghost use Rattle.domain_core.specs.Ticket.{steps_told};
+//! What a domain answered, in order.
+ghost use Rattle.std.specs.Prelude.{◌≡◌, ◌++◌, ◌∷◌, [], ◌↔◌, IsTrue, length, slice_get, is_ok, if◌then◌else◌};
 
+use crate::NoMemory;
+use crate::entries::Entries;
 use crate::event::{By, Event, Reply};
+use std::alloc::Global;
+use std::marker::Model;
 use t414_step::Stepped;
 
 /// An entry of a journal.
@@ -33,71 +33,62 @@ pub enum Entry {
     },
 }
 
-/// Notes an answered event, where there is room.
-#[tactic(auto, using(crate::proofs::Runs::expanded_one))]
-pub(crate) fn note(journal: &mut Vec<Entry>, by: By, event: Event, reply: Reply)
-    requires room { vec_len journal.old < vec_capacity journal.old }
-    requires few { length (expanded journal.old.items) < 2 ^ 40 }
-    ensures { expanded journal.new.items ≡ expanded journal.old.items ++ record { call = record { by = by; event = event }; reply = reply } ∷ [] }
-{
-    match (event, reply) {
-        (Event::Step(node), Reply::Stepped(last)) => note_steps(journal, by, node, 1, last),
-        _ => journal.push_reserved(Entry::One { by, event, reply }),
-    }
+/// What a domain answered, in order: a list of entries. Each takes 16 bytes, and a look 24 more.
+#[derive(Drop)]
+pub struct Journal {
+    pub(crate) entries: Entries,
 }
 
-// Lets a run of the same node go on, if the entry is one that may; whether it is.
-fn goes_on(entry: &mut Entry, by: By, node: u8, count: u64, last: Stepped) -> bool
-    requires { (before : ℕ) → entry.old ≡ Run by node before Ran → before + count ≤ 2 ^ 40 }
-    ensures grown { IsTrue result → (before : ℕ) × (entry.old ≡ Run by node before Ran) × (entry.new ≡ Run by node (before + count) last) }
-    ensures same { ¬ IsTrue result → entry.new ≡ entry.old }
-{
-    if let Entry::Run {
-        by: asked,
-        node: stepped,
-        count: before,
-        last: answer,
-    } = entry
+impl Model for Journal {
+    ghost use Rattle.std.specs.Prelude.{List};
+    ghost use Rattle.domain_core.specs.declared.journal.Entry.{Entry};
+
+    ghost Value = { List Entry };
+
+    ghost view = { λ j. j.entries.entries };
+}
+
+impl Journal {
+    /// An empty journal. It takes no memory yet.
+    pub fn new(alloc: Global) -> Journal
+        ensures { result ≡ [] }
     {
-        if *answer == Stepped::Ran && *asked == by && *stepped == node {
-            *before += count;
-            *answer = last;
-            return true;
+        Journal {
+            entries: Entries::new(alloc),
         }
     }
-    false
-}
 
-/// Notes so many Steps of a node, of which the last answered `last` and all others `Ran`, where there is room.
-#[tactic(auto, using(crate::proofs::Runs::expanded_grown, crate::proofs::Runs::expanded_new, crate::proofs::Runs::count_below))]
-pub(crate) fn note_steps(journal: &mut Vec<Entry>, by: By, node: u8, count: u64, last: Stepped)
-    requires room { vec_len journal.old < vec_capacity journal.old }
-    requires few { length (expanded journal.old.items) + count ≤ 2 ^ 40 }
-    ensures { expanded journal.new.items ≡ expanded journal.old.items ++ steps by node count last }
-{
-    if count == 0 {
-        return;
-    }
-    if let Some(entry) = journal.last_mut()
-        && goes_on(entry, by, node, count, last)
+    /// How many entries it has.
+    pub fn len(&self) -> usize
+        ensures { result ≡ length self.now }
     {
-        return;
+        self.entries.len()
     }
-    journal.push_reserved(Entry::Run {
-        by,
-        node,
-        count,
-        last,
-    });
-}
 
-/// Notes the Steps of a ticket, of which the last answered `last`, where there is room.
-pub(crate) fn note_ticket(journal: &mut Vec<Entry>, node: u8, count: u64, last: Option<Stepped>)
-    requires room { vec_len journal.old < vec_capacity journal.old }
-    requires few { length (expanded journal.old.items) + count ≤ 2 ^ 40 }
-    ensures { expanded journal.new.items ≡ expanded journal.old.items ++ steps_told node count last }
-{
-    if let Some(last) = last {
-        note_steps(journal, By::Farm, node, count, last);
+    /// Whether it has no entry.
+    pub fn is_empty(&self) -> bool
+        ensures { IsTrue result ↔ (self.now ≡ []) }
+    {
+        self.entries.len() == 0
+    }
+
+    /// The entry at a place, counted from 0, or `None` if it has fewer.
+    pub fn get(&self, index: usize) -> Option<Entry>
+        ensures { result ≡ slice_get self.now index }
+    {
+        self.entries.get(index)
+    }
+
+    /// Appends an entry. After `NoMemory` the journal is what it was.
+    pub fn push(&mut self, entry: Entry) -> Result<(), NoMemory>
+        ensures { self.new ≡ (if is_ok result then self.old ++ entry ∷ [] else self.old) }
+    {
+        self.entries.push(entry)
+    }
+    /// Makes it as it was when it was new.
+    pub fn clear(&mut self)
+        ensures { self.new ≡ [] }
+    {
+        self.entries.clear();
     }
 }

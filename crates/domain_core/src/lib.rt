@@ -5,6 +5,7 @@
 mod device;
 mod devices;
 mod domain;
+mod entries;
 mod event;
 mod host;
 mod journal;
@@ -18,7 +19,7 @@ pub use device::Device;
 pub use domain::{Committed, Domain};
 pub use event::{By, Event, Moved, Refusal, Reply};
 pub use host::{Host, QUEUE_BYTES};
-pub use journal::Entry;
+pub use journal::{Entry, Journal};
 pub use laws::peek_answers_the_word;
 pub use std::alloc::AllocError as NoMemory;
 pub use table::device_at;

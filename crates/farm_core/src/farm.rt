@@ -18,7 +18,7 @@ ghost use Rattle.farm_core.specs.Words.{HasRow, IsUnused, HaveAWhole};
 
 use crossbar::laws::switches_say_their_words;
 use crossbar::{PlainOutputs, Word};
-use domain_core::{By, Committed, Domain, Entry, Event, NoMemory, Refusal, Reply, Ticket};
+use domain_core::{By, Committed, Domain, Event, Journal, NoMemory, Refusal, Reply, Ticket};
 use plan_rules::AcceptedPlan;
 use std::alloc::Global;
 use std::marker::Model;
@@ -210,7 +210,7 @@ impl PlainFarm {
     }
 
     /// What a domain answered, in order; `None` where there is no such domain.
-    pub fn journal(&self, domain: u8) -> Option<&[Entry]>
+    pub fn journal(&self, domain: u8) -> Option<&Journal>
         ensures { option_copied result ≡ journal_in (slice_get self.now domain) }
     {
         match self.domains.get(usize::from(domain)) {

@@ -1,0 +1,67 @@
+-- How a journal keeps its entries: small ones, and apart from them what looks saw.
+use Rattle.std.specs.Prelude.{ℕ, ◌<◌, List, [], length, slice_index_or}
+use Rattle.bootstrap.specs.declared.seen.Activity.TheVariants.{Booting}
+use Rattle.bootstrap.specs.declared.seen.Seen.{Seen}
+use Rattle.domain_core.specs.declared.entries.SmallEntry.{SmallEntry}
+use Rattle.domain_core.specs.declared.entries.SmallEntry.TheVariants.{One, Look, Run}
+use Rattle.domain_core.specs.declared.entries.SmallReply.{SmallReply}
+use Rattle.domain_core.specs.declared.entries.SmallReply.TheVariants as small
+use Rattle.domain_core.specs.declared.event.Event.{Event}
+use Rattle.domain_core.specs.declared.event.Event.TheVariants as event
+use Rattle.domain_core.specs.declared.event.Reply.{Reply}
+use Rattle.domain_core.specs.declared.event.Reply.TheVariants as reply
+use Rattle.domain_core.specs.declared.journal.Entry.{Entry}
+use Rattle.domain_core.specs.declared.journal.Entry.TheVariants as entry
+
+-- what contracts see of the entries: themselves, and for how many more entries and how many more looks there is room
+pub record EntriesValue : Type 0 where
+  pub entries : List Entry
+  pub room : ℕ
+  pub look_room : ℕ
+
+-- the reply that a small one stands for
+abbrev pub reply_of : SmallReply → Reply
+reply_of (small.Config answer) = reply.Config answer
+reply_of small.Written = reply.Written
+reply_of small.Full = reply.Full
+reply_of (small.Read byte) = reply.Read byte
+reply_of small.Reset = reply.Reset
+reply_of (small.Stepped answer) = reply.Stepped answer
+reply_of (small.Moved answer) = reply.Moved answer
+
+-- what stands at a place where no look is kept
+abbrev pub no_look : Seen
+no_look = record { state = Booting; overruns = [] }
+
+-- the entry that a small one stands for: that of a look has the place of what was seen
+abbrev pub entry_of : List Seen → SmallEntry → Entry
+entry_of seen (One by asked answer) = entry.One by asked (reply_of answer)
+entry_of seen (Look by asked place) = entry.One by asked (reply.Look (slice_index_or seen place no_look))
+entry_of seen (Run by node last count) = entry.Run by node count last
+
+-- what a look saw is kept at its place
+abbrev pub IsKept : List Seen → SmallEntry → Type 0
+IsKept seen (One by asked answer) = Unit {0}
+IsKept seen (Look by asked place) = place < length seen
+IsKept seen (Run by node last count) = Unit {0}
+
+-- there is room for what the event sees, if it is a look
+abbrev pub HasRoomToLook : Event → ℕ → Type 0
+HasRoomToLook (event.Config byte) room = Unit {0}
+HasRoomToLook (event.Write host byte) room = Unit {0}
+HasRoomToLook (event.Read host) room = Unit {0}
+HasRoomToLook (event.Reset node) room = Unit {0}
+HasRoomToLook (event.Look node) room = 0 < room
+HasRoomToLook (event.Step node) room = Unit {0}
+HasRoomToLook (event.Move port) room = Unit {0}
+
+-- there is room for what the reply shows, if it is that to a look
+abbrev pub HasRoomToShow : Reply → ℕ → Type 0
+HasRoomToShow (reply.Config answer) room = Unit {0}
+HasRoomToShow reply.Written room = Unit {0}
+HasRoomToShow reply.Full room = Unit {0}
+HasRoomToShow (reply.Read byte) room = Unit {0}
+HasRoomToShow reply.Reset room = Unit {0}
+HasRoomToShow (reply.Look seen) room = 0 < room
+HasRoomToShow (reply.Stepped answer) room = Unit {0}
+HasRoomToShow (reply.Moved answer) room = Unit {0}
