@@ -13,24 +13,24 @@ use Rattle.domain_core.specs.declared.event.Event.{Event}
 use Rattle.domain_core.specs.declared.event.Reply.TheVariants as reply
 use Rattle.domain_core.specs.declared.journal.Entry.{Entry}
 use Rattle.domain_core.specs.declared.journal.Entry.TheVariants as entry
-use Rattle.domain_core.specs.Entries.{no_look, entry_of, IsKept}
+use Rattle.domain_core.specs.Entries.{no_look, entry_of, IsStored}
 use Rattle.domain_core.specs.Journal.{expanded, steps}
 use Rattle.domain_core.proofs.Runs.{run_has_room, run_goes_on}
 
 -- an entry that is kept stays the same
-still : (seen more : List Seen) (e : SmallEntry) → IsKept seen e → entry_of (seen ++ more) e ≡ entry_of seen e
+still : (seen more : List Seen) (e : SmallEntry) → IsStored seen e → entry_of (seen ++ more) e ≡ entry_of seen e
 still seen more (One by asked answer) kept = refl
 still seen more (Look by asked place) kept = ap (λ (s : Seen). let e : Entry = entry.One by asked (reply.Look s) in e) (get_or_append_left seen more no_look place kept)
 still seen more (Run by node last count) kept = refl
 
-pub all_still : (seen more : List Seen) (small : List SmallEntry) → All (IsKept seen) small → map (entry_of (seen ++ more)) small ≡ map (entry_of seen) small
+pub all_still : (seen more : List Seen) (small : List SmallEntry) → All (IsStored seen) small → map (entry_of (seen ++ more)) small ≡ map (entry_of seen) small
 all_still seen more [] kept = refl
 all_still seen more (e ∷ small) kept =
-    ap (λ (first : Entry). first ∷ map (entry_of (seen ++ more)) small) (still seen more e (All-head (IsKept seen) e small kept))
-    ∙ ap (λ (rest : List Entry). entry_of seen e ∷ rest) (all_still seen more small (All-tail (IsKept seen) e small kept))
+    ap (λ (first : Entry). first ∷ map (entry_of (seen ++ more)) small) (still seen more e (All-head (IsStored seen) e small kept))
+    ∙ ap (λ (rest : List Entry). entry_of seen e ∷ rest) (all_still seen more small (All-tail (IsStored seen) e small kept))
 
 -- a look, and what it saw
-pub look_pushed : (seen : List Seen) (small : List SmallEntry) (by : By) (asked : Event) (s : Seen) → All (IsKept seen) small
+pub look_pushed : (seen : List Seen) (small : List SmallEntry) (by : By) (asked : Event) (s : Seen) → All (IsStored seen) small
     → map (entry_of (seen ++ s ∷ [])) (small ++ Look by asked (length seen) ∷ []) ≡ map (entry_of seen) small ++ entry.One by asked (reply.Look s) ∷ []
 look_pushed seen small by asked s kept =
     map-append (entry_of (seen ++ s ∷ [])) small (Look by asked (length seen) ∷ [])

@@ -40,10 +40,10 @@ entry_of seen (Look by asked place) = entry.One by asked (reply.Look (slice_inde
 entry_of seen (Run by node last count) = entry.Run by node count last
 
 -- what a look saw is kept at its place
-abbrev pub IsKept : List Seen → SmallEntry → Type 0
-IsKept seen (One by asked answer) = Unit {0}
-IsKept seen (Look by asked place) = place < length seen
-IsKept seen (Run by node last count) = Unit {0}
+abbrev pub IsStored : List Seen → SmallEntry → Type 0
+IsStored seen (One by asked answer) = Unit {0}
+IsStored seen (Look by asked place) = place < length seen
+IsStored seen (Run by node last count) = Unit {0}
 
 -- there is room for what the event sees, if it is a look
 abbrev pub HasRoomToLook : Event → ℕ → Type 0

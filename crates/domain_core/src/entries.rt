@@ -117,13 +117,13 @@ pub(crate) struct Entries {
 impl Model for Entries {
     ghost use Rattle.std.specs.Prelude.{◌-◌, map, vec_len, vec_capacity};
     ghost use Rattle.std.specs.List.{All};
-    ghost use Rattle.domain_core.specs.Entries.{EntriesValue, entry_of, IsKept};
+    ghost use Rattle.domain_core.specs.Entries.{EntriesValue, entry_of, IsStored};
 
     ghost Value = { EntriesValue };
 
     ghost view = { λ e. record { entries = map (entry_of e.seen.items) e.small.items; room = vec_capacity e.small - vec_len e.small; look_room = vec_capacity e.seen - vec_len e.seen } };
 
-    ghost invariant = { λ e. All (IsKept e.seen.items) e.small.items };
+    ghost invariant = { λ e. All (IsStored e.seen.items) e.small.items };
 }
 
 impl Entries {

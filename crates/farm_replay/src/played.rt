@@ -134,10 +134,12 @@ impl Played {
     }
 
     fn journal(&self, domain: u8, text: &mut String) -> Result<(), Refusal> {
-        let entries = self.farm.journal(domain).ok_or(Refusal::NoSuch)?;
-        for entry in entries {
-            write_entry(text, *entry)?;
-            text.push_str("\n")?;
+        let journal = self.farm.journal(domain).ok_or(Refusal::NoSuch)?;
+        for index in 0..journal.len() {
+            if let Some(entry) = journal.get(index) {
+                write_entry(text, entry)?;
+                text.push_str("\n")?;
+            }
         }
         text.push_str("end")?;
         Ok(())

@@ -62,7 +62,7 @@ length_more xs x = omega (arith, length-append xs (x ∷ []))
 
 -- a domain more
 one_more : (plan : List DomainData) (of : DomainData) (domains : List DomainValue) (d : DomainValue) (closed : List ClosedDomain) (c : ClosedDomain) → AreEnds plan domains closed
-    → place_of of ≡ own_place d → IsMeant d → HasRow d → c.domain ≡ length plan → c.journal.items ≡ d.journal → c.words.items ≡ d.machine.switch.words
+    → place_of of ≡ own_place d → IsMeant d → HasRow d → c.domain ≡ length plan → c.journal ≡ d.journal → c.words.items ≡ d.machine.switch.words
     → AreEnds (plan ++ of ∷ []) (domains ++ d ∷ []) (closed ++ c ∷ [])
 one_more plan of domains d closed c before place meant row number journal words = record {
   places = map-append own_place domains (d ∷ []) ∙ (λ i. before.places i ++ sym place i ∷ []) ∙ sym (map-append place_of plan (of ∷ []));

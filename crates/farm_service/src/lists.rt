@@ -7,8 +7,8 @@ ghost use Rattle.farm_service.specs.Closed.{IsListed, AreListed};
 use crate::closed::ClosedDomain;
 use crate::pass::UserPass;
 use crate::told::{Told, command_in};
-use domain_core::Entry;
 use domain_core::laws::journals_add_up;
+use domain_core::{Entry, Journal};
 
 // Whether a listed command is this one, with this reply.
 fn is_same(told: &Told, command: &Told) -> bool
@@ -36,15 +36,17 @@ fn listed_after(entry: &Entry, user: u8, told: &[Told], listed: usize) -> Option
 }
 
 // Whether a user's commands in a journal are those of a list.
-#[tactic(auto, using(crate::proofs::Listings::more_listed))]
-fn lists(journal: &[Entry], user: u8, told: &[Told]) -> bool
+fn lists(journal: &Journal, user: u8, told: &[Told]) -> bool
     ensures { result ≡ true → commands_of user (expanded journal.now) ≡ told.now }
 {
     // What is appended to a journal comes after what it stands for.
     journals_add_up();
     let mut listed = 0;
-    for entry in journal {
-        match listed_after(entry, user, told, listed) {
+    for index in 0..journal.len() {
+        let Some(entry) = journal.get(index) else {
+            return false;
+        };
+        match listed_after(&entry, user, told, listed) {
             Some(after) => listed = after,
             None => return false,
         }
@@ -57,7 +59,7 @@ fn is_listed(closed: &[ClosedDomain], pass: &UserPass) -> bool
     ensures { result ≡ true → IsListed closed.now pass.now }
 {
     match closed.get(usize::from(pass.domain())) {
-        Some(domain) => lists(domain.journal.as_slice(), pass.user(), pass.told()),
+        Some(domain) => lists(&domain.journal, pass.user(), pass.told()),
         None => true,
     }
 }

@@ -5,7 +5,7 @@ ghost use Rattle.farm_core.specs.PlainFarm.{word_in};
 use crate::draws::Draws;
 use crate::watch::Watch;
 use crossbar::Word;
-use domain_core::{By, Entry, Event, NoMemory, Refusal};
+use domain_core::{By, Entry, Event, Journal, NoMemory, Refusal};
 use farm_core::PlainFarm;
 use farm_service::{Closed, ClosedDomain, Token};
 use plan_checker::AcceptedPlan;
@@ -57,10 +57,13 @@ fn next_place(closed: &[ClosedDomain], done: &[usize; DOMAINS], place: usize) ->
 // Does up to 40 entries of a journal again, those behind the first that are done; how many are done then.
 fn do_turn(farm: &mut PlainFarm, closed: &ClosedDomain, done: usize, draws: &mut Draws) -> usize {
     let count = draws.below(40) as usize + 1;
-    for entry in closed.journal.iter().skip(done).take(count) {
-        do_entry(farm, closed.domain, *entry);
+    let end = done.saturating_add(count);
+    for index in done..end {
+        if let Some(entry) = closed.journal.get(index) {
+            do_entry(farm, closed.domain, entry);
+        }
     }
-    done.saturating_add(count)
+    end
 }
 
 // Does the journals again, merged by chance.
@@ -75,11 +78,21 @@ fn do_all(farm: &mut PlainFarm, closed: &[ClosedDomain], draws: &mut Draws) {
     }
 }
 
+// Whether two journals have the same entries.
+fn is_same(journal: &Journal, other: &Journal) -> bool {
+    for index in 0..journal.len() {
+        if journal.get(index) != other.get(index) {
+            return false;
+        }
+    }
+    journal.len() == other.len()
+}
+
 // Whether all domains have answered just what the journals list.
 fn are_journals(farm: &PlainFarm, closed: &[ClosedDomain]) -> bool {
     for domain in closed {
         match farm.journal(domain.domain) {
-            Some(journal) if journal == domain.journal.as_slice() => {}
+            Some(journal) if is_same(journal, &domain.journal) => {}
             _ => return false,
         }
     }

@@ -3,7 +3,7 @@
 use crate::comparison::is_alike;
 use crate::watch::Watch;
 use crossbar::Word;
-use domain_core::{Entry, Event, NoMemory, Reply};
+use domain_core::{Entry, Event, Journal, NoMemory, Reply};
 use farm_service::{Closed, ClosedDomain, Token};
 use plan_checker::AcceptedPlan;
 use std::alloc::Global;
@@ -49,16 +49,17 @@ impl Loss {
     }
 
     // A journal after the loss, which is but one.
-    fn journal(self, alloc: Global, journal: &[Entry]) -> Result<Vec<Entry>, NoMemory> {
-        let mut left = Vec::with_capacity(alloc, journal.len())?;
+    fn journal(self, alloc: Global, journal: &Journal) -> Result<Journal, NoMemory> {
+        let mut left = Journal::new(alloc);
         let mut is_lost = false;
-        for entry in journal {
+        for index in 0..journal.len() {
+            let entry = journal.get(index);
             let kept = if is_lost {
-                Some(*entry)
+                entry
             } else {
-                self.left_of(*entry)
+                entry.and_then(|entry| self.left_of(entry))
             };
-            is_lost |= kept != Some(*entry);
+            is_lost |= kept != entry;
             if let Some(entry) = kept {
                 left.push(entry)?;
             }
@@ -85,7 +86,7 @@ impl Loss {
         for domain in closed.domains.iter() {
             domains.push(ClosedDomain {
                 domain: domain.domain,
-                journal: self.journal(alloc, domain.journal.as_slice())?,
+                journal: self.journal(alloc, &domain.journal)?,
                 words: self.words(alloc, domain.words.as_slice())?,
             })?;
         }

@@ -109,10 +109,10 @@ struct Rounds {
 fn count_of(closed: &Closed) -> (u64, u64) {
     let (mut events, mut words) = (0_u64, 0_u64);
     for domain in closed.domains.iter() {
-        for entry in domain.journal.iter() {
-            let count = match *entry {
-                Entry::One { .. } => 1,
-                Entry::Run { count, .. } => count,
+        for index in 0..domain.journal.len() {
+            let count = match domain.journal.get(index) {
+                Some(Entry::Run { count, .. }) => count,
+                _ => 1,
             };
             events = events.saturating_add(count);
         }

@@ -3,7 +3,7 @@
 use crate::comparison::is_alike;
 use crate::losses::{LOSSES, Loss};
 use crate::watch::Watch;
-use domain_core::Entry;
+use domain_core::{Entry, Journal};
 use farm_service::{Closed, Token};
 use plan_checker::AcceptedPlan;
 use std::alloc::{AllocError, Global};
@@ -40,14 +40,14 @@ fn tell_second(closed: &Closed, said: &mut String) -> Result<(), AllocError> {
 }
 
 // How many Steps of a node a journal has.
-fn steps_of(journal: &[Entry], node: u8) -> u64 {
+fn steps_of(journal: &Journal, node: u8) -> u64 {
     let mut steps = 0_u64;
-    for entry in journal {
-        if let Entry::Run {
+    for index in 0..journal.len() {
+        if let Some(Entry::Run {
             node: stepped,
             count,
             ..
-        } = *entry
+        }) = journal.get(index)
             && stepped == node
         {
             steps = steps.saturating_add(count);
@@ -60,7 +60,7 @@ fn steps_of(journal: &[Entry], node: u8) -> u64 {
 fn tell_steps(closed: &Closed, said: &mut String) -> Result<(), AllocError> {
     for Token { domain, node } in closed.tokens.iter() {
         if let Some(ended) = closed.domains.get(usize::from(*domain)) {
-            let steps = steps_of(ended.journal.as_slice(), *node);
+            let steps = steps_of(&ended.journal, *node);
             write!(said, " {domain}.{node} {steps} Steps")?;
         }
     }

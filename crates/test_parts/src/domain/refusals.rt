@@ -3,7 +3,7 @@
 //! `test/refusals` runs these tests while each allocation in turn is refused.
 use crate::domain::opening::{Plain, opened};
 use crate::domain::work::{ANN, run, word};
-use domain_core::{By, Committed, Entry, Event, Refusal, Reply, Ticket};
+use domain_core::{By, Committed, Entry, Event, Journal, Refusal, Reply, Ticket};
 use plan_checker::{AcceptedPlan, PlanFault};
 use std::alloc::Global;
 use std::process::Abort;
@@ -20,6 +20,10 @@ struct Sight {
     quiet: bool,
 }
 
+fn last_of(journal: &Journal) -> Option<Entry> {
+    journal.get(journal.len().checked_sub(1)?)
+}
+
 fn shown(domain: &mut Plain) -> Sight {
     let mut words = [None; 8];
     for output in 0..8u8 {
@@ -27,7 +31,7 @@ fn shown(domain: &mut Plain) -> Sight {
     }
     Sight {
         entries: domain.journal().len(),
-        last: domain.journal().last().copied(),
+        last: last_of(domain.journal()),
         words,
         quiet: domain.quiet(),
     }
@@ -123,11 +127,15 @@ fn refused_calls_change_nothing(rt: HostRuntime) -> Result<(), Fail> {
     assert!(rt; come_home_again(&rt, &mut domain, 100) == Ok(Committed::Done));
     assert_eq!(rt; domain.journal().len(), 17);
     assert_eq!(rt; domain.recorded(), 116);
-    let last = domain.journal().last().copied();
+    let last = last_of(domain.journal());
     assert!(rt; last == Some(run(0, 100, Stepped::Ran)));
     let mut untroubled = loaded_again(&rt, rt.alloc())?;
     assert!(rt; come_home_again(&rt, &mut untroubled, 100) == Ok(Committed::Done));
-    assert_eq!(rt; domain.journal(), untroubled.journal());
+    assert_eq!(rt; untroubled.journal().len(), 17);
+    for index in 0..17 {
+        let entry = domain.journal().get(index);
+        assert!(rt; entry.is_some() && entry == untroubled.journal().get(index));
+    }
     assert!(rt; shown(&mut domain) == shown(&mut untroubled));
     let seen = asked_again(&rt, &mut domain, ANN, Event::Look(0));
     assert!(rt; seen.is_ok() && seen == untroubled.apply(ANN, Event::Look(0)));
