@@ -12,7 +12,7 @@ use std::alloc::Global;
 use std::thread::Threads;
 use std::{io, thread};
 use switch_table::{DomainSeat, OperatorSeat, SwitchTable};
-use test_plans::{BOB_ALONE, plan_of};
+use test_plans::{BOB_AT_PORT_8, plan_of};
 
 // The table of the plan, the seat of its domain, and the operator's.
 fn opened(
@@ -139,7 +139,7 @@ fn both<R: Threads>(
 
 /// Does COUNT rounds of each of those that are asked for.
 pub fn measure<R: Print + Threads>(rt: &R, alloc: Global, asked: Asked<'_>) -> io::Result<()> {
-    let plan = plan_of(alloc, BOB_ALONE).map_err(failed)?;
+    let plan = plan_of(alloc, BOB_AT_PORT_8).map_err(failed)?;
     let (table, mut seat, operator) = opened(alloc, &plan).map_err(failed)?;
     measure_outputs(rt, &mut seat, ["seat-loads", "seat-stores"], asked)?;
     measure_plain(rt, &plan, asked)?;

@@ -1,17 +1,8 @@
-//! What only typed calls show of the parts of the farm, a module for each part; all other worked rows of them are texts of the
-//! lab. All but `table::farm`, which opens tables, is tests.
+//! What only typed calls show of the parts of the farm: that a call out of memory changes nothing and takes nothing from the
+//! calls after it, which `test/refusals` tries for each allocation. Tests alone; all other worked rows are texts.
 #![tactic(auto)]
 
 #[cfg(test)]
-mod domain;
+mod farm;
 #[cfg(test)]
-mod node;
-#[cfg(test)]
-mod plan;
-#[cfg(test)]
-mod switch;
-pub mod table;
-#[cfg(test)]
-mod trace;
-#[cfg(test)]
-mod word;
+mod parts;

@@ -53,8 +53,8 @@ memory = 4096
 links = [0, -1, -1, -1]
 "#;
 
-/// Ann alone, at ports 24 to 31.
-pub const ANN_ALONE: &str = r#"
+/// One domain, ann's, at ports 24 to 31.
+pub const ANN_AT_PORT_24: &str = r#"
 version = 1
 [[domain]]
 name = "ann"
@@ -67,8 +67,8 @@ memory = 4096
 links = [0, -1, -1, -1]
 "#;
 
-/// Bob alone, at ports 8 to 15.
-pub const BOB_ALONE: &str = r#"
+/// One domain, bob's, at ports 8 to 15.
+pub const BOB_AT_PORT_8: &str = r#"
 version = 1
 [[domain]]
 name = "bob"
@@ -110,45 +110,6 @@ links = [0, -1, -1, -1]
 [[domain.node]]
 memory = 2048
 links = [1, -1, -1, -1]
-"#;
-
-/// Ann alone, at ports 24 to 27 and then 4 to 7.
-pub const ANN_IN_TWO_RANGES: &str = r#"
-version = 2
-[[domain]]
-name = "ann"
-range = [[24, 27], [4, 7]]
-limit = 1000000
-host = [7]
-[[domain.node]]
-memory = 4096
-links = [0, -1, -1, -1]
-"#;
-
-/// One domain has ports 16 to 19, and then ports 0 to 3.
-pub const TWO_RANGES: &str = r#"
-version = 2
-[[domain]]
-name = "ann"
-range = [[16, 19], [0, 3]]
-limit = 1000000
-host = [7]
-[[domain.node]]
-memory = 4096
-links = [0, -1, -1, -1]
-"#;
-
-/// Ann alone, at ports 4 to 7 and then 0 to 3.
-pub const EXCHANGED_RANGES: &str = r#"
-version = 2
-[[domain]]
-name = "ann"
-range = [[4, 7], [0, 3]]
-limit = 1000000
-host = [7]
-[[domain.node]]
-memory = 4096
-links = [0, -1, -1, -1]
 "#;
 
 /// Ann and cas share a domain: host 0 is ann's, host 1 is cas's.

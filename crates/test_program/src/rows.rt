@@ -7,7 +7,7 @@ use std::io::{Read, Write};
 use std::sync::Wait;
 use std::test::Fail;
 use std::thread::Threads;
-use test_plans::{ANN_ALONE, ANN_AND_BOB, ANN_OF_THREE_EVENTS};
+use test_plans::{ANN_AND_BOB, ANN_AT_PORT_24, ANN_OF_THREE_EVENTS};
 
 /// Gives a text in pieces of at most `piece` bytes, and fails at one read.
 #[derive(Drop)]
@@ -191,23 +191,35 @@ fn cut_texts_are_refused_by_their_part(rt: HostRuntime) -> Result<(), Fail> {
         ("", "version = 1\n", 3, "", "plan: 2\n"),
         ("", "version = 1\n[[domain", 3, "", "plan: 1\n"),
         ("", "version = 1\ndomain = []\n---\nann", 3, "", "plan: 3\n"),
-        (ANN_ALONE, "", 0, "", ""),
+        (ANN_AT_PORT_24, "", 0, "", ""),
         (ANN_AND_BOB, "", 0, "", ""),
-        (ANN_ALONE, "--", 3, "", "plan: 1\n"),
-        (ANN_ALONE, "---", 0, "", ""),
-        (ANN_ALONE, "---\r", 3, "", "plan: 1\n"),
-        (ANN_ALONE, "---\nan", 4, "", "line 1: user\n"),
-        (ANN_ALONE, "---\nann", 4, "", "line 1: verb\n"),
-        (ANN_ALONE, "---\nann config", 4, "", "line 1: args\n"),
-        (ANN_ALONE, "---\nann config 010", 4, "", "line 1: hex\n"),
+        (ANN_AT_PORT_24, "--", 3, "", "plan: 1\n"),
+        (ANN_AT_PORT_24, "---", 0, "", ""),
+        (ANN_AT_PORT_24, "---\r", 3, "", "plan: 1\n"),
+        (ANN_AT_PORT_24, "---\nan", 4, "", "line 1: user\n"),
+        (ANN_AT_PORT_24, "---\nann", 4, "", "line 1: verb\n"),
+        (ANN_AT_PORT_24, "---\nann config", 4, "", "line 1: args\n"),
         (
-            ANN_ALONE,
+            ANN_AT_PORT_24,
+            "---\nann config 010",
+            4,
+            "",
+            "line 1: hex\n",
+        ),
+        (
+            ANN_AT_PORT_24,
             "---\r\n#\n\nann poke 256 0 g\r\n",
             4,
             "",
             "line 3: args\n",
         ),
-        (ANN_ALONE, "---\nann config 0205", 0, "ann config 00\n", ""),
+        (
+            ANN_AT_PORT_24,
+            "---\nann config 0205",
+            0,
+            "ann config 00\n",
+            "",
+        ),
     ] {
         let text = format!(in alloc; "{plan}{rest}")?;
         assert!(rt;
@@ -225,22 +237,22 @@ fn lines_print_what_the_service_answered(rt: HostRuntime) -> Result<(), Fail> {
     let alloc = rt.alloc();
     for (plan, script, wanted) in [
         (
-            ANN_ALONE,
+            ANN_AT_PORT_24,
             "ann look 000\nann collect 00\nann reset 01\nann write 001 00\n",
             "ann look 0 booting overruns 0 0 0 0\nann collect 0 -\nann reset 1 nosuch\nann write 1 nosuch\n",
         ),
         (
-            ANN_ALONE,
+            ANN_AT_PORT_24,
             "ann config 01000703\nann boot 0 b524f22441fe21f5\nann look 0\nann reset 0\nann look 0\n",
             "ann config -\nann boot 0 9\nann look 0 idle overruns 0 0 0 0\nann reset 0 ok\nann look 0 booting overruns 0 0 0 0\n",
         ),
         (
-            ANN_ALONE,
+            ANN_AT_PORT_24,
             "ann config 01000703\nann boot 0 b524f22441fe24f22442fe24f22443fe21f5\nann peek 0 80000048\nann collect 0\n",
             "ann config -\nann boot 0 19\nann peek 0 -\nann collect 0 -\n",
         ),
         (
-            ANN_ALONE,
+            ANN_AT_PORT_24,
             "ann config 01000703\nann poke 0 80000048 12345678\nann write 0 0148000080\nann collect 0\n",
             "ann config -\nann poke 0 9\nann write 0 5\nann collect 0 78563412\n",
         ),
@@ -263,7 +275,7 @@ fn lines_print_what_the_service_answered(rt: HostRuntime) -> Result<(), Fail> {
 #[test]
 fn full_hosts_take_no_more(rt: HostRuntime) -> Result<(), Fail> {
     let alloc = rt.alloc();
-    let mut text = format!(in alloc; "{ANN_ALONE}---\nann write 0 ")?;
+    let mut text = format!(in alloc; "{ANN_AT_PORT_24}---\nann write 0 ")?;
     for _ in 0..4097u16 {
         text.push_str("05")?;
     }
@@ -296,7 +308,7 @@ fn words_are_refused_or_helped(rt: HostRuntime) {
 #[test]
 fn failing_reads_are_told(rt: HostRuntime) -> Result<(), Fail> {
     let alloc = rt.alloc();
-    let text = format!(in alloc; "{ANN_ALONE}---\nann config 0100\n")?;
+    let text = format!(in alloc; "{ANN_AT_PORT_24}---\nann config 0100\n")?;
     for at in 0..=text.len() as u64 {
         let mut input = source_of(text.as_bytes(), 1, at);
         let mut output = sink_of(rt.alloc(), 9, NEVER, NEVER);

@@ -1,4 +1,0 @@
-//! The link switch, over the outputs of plans.
-
-mod rows;
-mod switches;
