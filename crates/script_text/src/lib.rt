@@ -1,15 +1,27 @@
-//! What the programs read and write: whole streams, lines, bytes as hexadecimal digits, and lines with the answers that a
-//! text expects of them.
+//! What the programs read and write: whole streams, lines with their numbers, words and what they spell, and lines with the
+//! answers that a text expects of them.
 #![tactic(auto)]
 
+mod fault;
 mod hexadecimal;
 mod lines;
+mod names;
+mod numbered;
+mod numbers;
+mod questions;
 mod reading;
-mod rows;
+mod words;
+mod writer;
 mod writing;
 
+pub use fault::{LineFault, WordFault};
 pub use hexadecimal::{HexFault, bytes_of};
 pub use lines::{divide, is_passed_over, split_line};
+pub use names::value_named;
+pub use numbered::{NumberedLine, numbered_lines};
+pub use numbers::{decimal_number, hexadecimal_word};
+pub use questions::{Answered, Question, read_questions};
 pub use reading::{MOST_READS, ReadFault, read_whole};
-pub use rows::{Answered, owned, split_expected};
+pub use words::Words;
+pub use writer::TextWriter;
 pub use writing::{WriteFailed, write_whole};

@@ -2,13 +2,13 @@
 ghost use Rattle.std.specs.Prelude.{◌≤◌, IfOk, length};
 ghost use Rattle.t414_assembly.specs.Program.{IsImage};
 
-use crate::fault::{Expected, Position, TextFault};
+use crate::cursor::Cursor;
+use crate::fault::{Expected, Mismatch, Position, TextFault};
 use crate::layout::{Image, LayoutFault, lay_out};
-use crate::parsing::{Reader, Stop};
+use crate::parsing::Reader;
 use crate::statement::Statement;
-use crate::token::{Wrong, after_blanks};
-use script_text::split_line;
-use std::alloc::{AllocFailed, Global};
+use script_text::{NumberedLine, numbered_lines};
+use std::alloc::{AllocError, Global};
 
 /// A program that was read from a text, and its bytes.
 #[derive(Drop)]
@@ -21,6 +21,14 @@ pub struct Assembly {
     pub image: Image,
 }
 
+impl Assembly {
+    /// How many bytes stand before the line of this index, from 0; none before one behind the last.
+    pub fn start_of_line(&self, index: usize) -> u32 {
+        let place = self.lines.as_slice().get(index).copied().unwrap_or(0);
+        self.image.starts.as_slice().get(place).copied().unwrap_or(0)
+    }
+}
+
 /// Assembles a text, whose first byte stands at `origin`.
 ///
 /// A fault says where something else was expected: first what isn't written as it should be, then labels that aren't
@@ -29,19 +37,22 @@ pub fn assemble(alloc: Global, origin: u32, text: &[u8]) -> Result<Assembly, Tex
     requires { origin ≤ 0xffff_0000 }
     ensures { IfOk result (λ made. IsImage origin made.statements.items made.image.starts.items (length made.statements.items) made.image.bytes.items) }
 {
+    let source = numbered_lines(alloc, text)?;
     let mut reader = Reader::new(alloc);
-    read_lines(alloc, &mut reader, text)?;
+    read_lines(alloc, &mut reader, source.as_slice())?;
     reader.begin_again();
-    let lines = read_lines(alloc, &mut reader, text)?;
-    let statements = reader.into_statements();
+    let lines = read_lines(alloc, &mut reader, source.as_slice())?;
+    let statements = reader.into_statements()?;
     match lay_out(alloc, origin, statements.as_slice()) {
         Ok(image) => Ok(Assembly {
             statements,
             lines,
             image,
         }),
-        Err(LayoutFault::TooLong(place)) => Err(too_long(text, lines.as_slice(), place)),
-        Err(LayoutFault::NoMemory) => Err(TextFault::NoMemory),
+        Err(LayoutFault::TooLong(place)) => {
+            Err(too_long(source.as_slice(), lines.as_slice(), place))
+        }
+        Err(LayoutFault::NoMemory) => Err(TextFault::Memory(AllocError)),
     }
 }
 
@@ -49,23 +60,16 @@ pub fn assemble(alloc: Global, origin: u32, text: &[u8]) -> Result<Assembly, Tex
 fn read_lines<'a>(
     alloc: Global,
     reader: &mut Reader<'a>,
-    text: &'a [u8],
+    source: &[NumberedLine<'a>],
 ) -> Result<Vec<usize>, TextFault> {
     let mut lines = Vec::new(alloc);
-    let mut rest = text;
-    while !rest.is_empty() {
+    for line in source {
         lines.push(reader.count())?;
-        let number = lines.len();
-        let (line, after) = split_line(rest);
-        if std::str::from_utf8(line).is_err() {
-            return Err(fault_at(number, line, line.len(), Expected::Text));
+        if line.as_str().is_err() {
+            return Err(fault_before(*line, line.text.len(), Expected::Text));
         }
-        match reader.read_line(line) {
-            Ok(()) => rest = after,
-            Err(Stop::Wrong(Wrong { expected, left })) => {
-                return Err(fault_at(number, line, left, expected));
-            }
-            Err(Stop::NoMemory) => return Err(TextFault::NoMemory),
+        if let Some(Mismatch { expected, left }) = reader.read_line(line.text) {
+            return Err(fault_before(*line, left, expected));
         }
     }
     lines.push(reader.count())?;
@@ -73,25 +77,33 @@ fn read_lines<'a>(
 }
 
 /// A fault before the last `left` bytes of a line.
-pub fn fault_at(number: usize, line: &[u8], left: usize, expected: Expected) -> TextFault {
-    let before = line.get(..line.len().saturating_sub(left)).unwrap_or(line);
-    let column = before.iter().filter(|byte| **byte & 0xc0 != 0x80).count();
+pub fn fault_before(line: NumberedLine<'_>, left: usize, expected: Expected) -> TextFault {
+    let before = line.text.len().saturating_sub(left);
+    let characters = line
+        .text
+        .iter()
+        .take(before)
+        .filter(|byte| **byte & 0xc0 != 0x80);
     TextFault::Wrong(
         Position {
-            line: number as u64,
-            column: (column as u64).saturating_add(1),
+            line: line.number,
+            column: (characters.count() as u64).saturating_add(1),
         },
         expected,
     )
 }
 
 // The statement of a place, as what is too much.
-fn too_long(text: &[u8], lines: &[usize], place: usize) -> TextFault {
+fn too_long(source: &[NumberedLine<'_>], lines: &[usize], place: usize) -> TextFault {
     let number = lines.iter().filter(|count| **count <= place).count();
-    let mut rest = text;
-    for _ in 1..number {
-        rest = split_line(rest).1;
-    }
-    let line = split_line(rest).0;
-    fault_at(number, line, after_blanks(line).len(), Expected::Length)
+    let line = match source.get(number.saturating_sub(1)) {
+        Some(line) => *line,
+        None => NumberedLine {
+            number: 1,
+            text: &[],
+        },
+    };
+    let mut cursor = Cursor::of(line.text);
+    cursor.skip_blanks();
+    fault_before(line, cursor.left(), Expected::Length)
 }

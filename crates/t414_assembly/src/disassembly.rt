@@ -61,7 +61,7 @@ fn prefix(byte: u8) -> Instruction
 // The first instruction of bytes, if it ends within as many as one can have.
 fn read(bytes: &[u8]) -> Option<Instruction> {
     let mut operand = 0;
-    for byte in bytes.iter().take(8) {
+    for byte in bytes.get(..8).unwrap_or(bytes) {
         operand = accumulate(operand, *byte);
         let (function, _) = decode(*byte);
         if !is_prefix(function) {

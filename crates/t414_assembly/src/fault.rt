@@ -1,6 +1,6 @@
 //! What is wrong with a text.
 
-use std::alloc::{AllocError, AllocFailed};
+use std::alloc::AllocError;
 use std::fmt;
 use thiserror::Error;
 
@@ -68,6 +68,13 @@ pub struct Position {
     pub column: u64,
 }
 
+/// Something else is expected before the last `left` bytes of a line.
+#[derive(Clone, Copy)]
+pub struct Mismatch {
+    pub expected: Expected,
+    pub left: usize,
+}
+
 /// Why a text is no program, or no bytes.
 #[derive(Clone, Copy, Debug, PartialEq, Eq, Error)]
 pub enum TextFault {
@@ -75,17 +82,5 @@ pub enum TextFault {
     #[error("{0}: {1}")]
     Wrong(Position, Expected),
     #[error("out of memory")]
-    NoMemory,
-}
-
-impl From<AllocError> for TextFault {
-    fn from(_error: AllocError) -> TextFault {
-        TextFault::NoMemory
-    }
-}
-
-impl<T: Drop> From<AllocFailed<T>> for TextFault {
-    fn from(_error: AllocFailed<T>) -> TextFault {
-        TextFault::NoMemory
-    }
+    Memory(#[from(alloc)] AllocError),
 }

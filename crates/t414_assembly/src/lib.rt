@@ -3,6 +3,7 @@
 
 mod assembling;
 mod codes;
+mod cursor;
 mod digits;
 mod disassembly;
 mod fault;
@@ -15,19 +16,19 @@ mod printing;
 mod shortest;
 mod spelling;
 mod statement;
-mod token;
 mod writing;
 
 pub use assembling::{Assembly, assemble};
 pub use codes::{byte_of, is_prefix};
+pub use cursor::operand_of;
 pub use digits::{bytes_of_digits, code_as_text};
 pub use disassembly::{Instruction, disassemble};
 pub use fault::{Expected, Position, TextFault};
 pub use laws::reassembled_code_is_the_same;
 pub use layout::{Image, LayoutFault, lay_out};
 pub use loading::{BOOTED, LOADED, loader};
-pub use mnemonics::{function_name, function_named, operation_name, operation_named};
-pub use printing::{hexadecimal, instructions_as_text, listing, pokes};
+pub use mnemonics::{Mnemonic, mnemonic_named};
+pub use printing::{hexadecimal, instructions_as_text, listing, pokes, write_instruction};
 pub use shortest::spell;
 pub use spelling::Spelling;
 pub use statement::{Operand, Statement};

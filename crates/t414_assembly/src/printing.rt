@@ -2,21 +2,20 @@
 
 use crate::assembling::Assembly;
 use crate::disassembly::Instruction;
+use crate::loading::LOADED;
 use crate::mnemonics::{function_name, operation_name};
-use script_text::split_line;
+use script_text::{TextWriter, numbered_lines};
 use std::alloc::{AllocError, Global};
-use t414_decode::{Function, operation};
+use t414_decode::Function;
 
 // How many bytes a line of a listing shows.
 const BYTES_A_LINE: usize = 8;
 
 /// Two hexadecimal digits for each byte.
 pub fn hexadecimal(alloc: Global, bytes: &[u8]) -> Result<String, AllocError> {
-    let mut text = String::new(alloc);
-    for byte in bytes {
-        write!(text, "{byte:02x}")?;
-    }
-    Ok(text)
+    let mut text = TextWriter::new(alloc);
+    text.push_bytes(bytes);
+    text.finish()
 }
 
 /// Each line of a text behind the address and the bytes of its statements, eight bytes a line.
@@ -26,85 +25,50 @@ pub fn listing(
     assembly: &Assembly,
     text: &[u8],
 ) -> Result<String, AllocError> {
-    let mut listed = String::new(alloc);
-    let mut rest = text;
-    for pair in assembly.lines.windows(2) {
-        let (line, after) = split_line(rest);
-        rest = after;
-        let (first, last) = match pair {
-            [first, last] => (start_of(assembly, *first), start_of(assembly, *last)),
-            _ => (0, 0),
-        };
-        let bytes = assembly
-            .image
-            .bytes
-            .as_slice()
-            .get(first..last)
-            .unwrap_or(&[]);
-        let source = std::str::from_utf8(line).unwrap_or("");
-        list_line(&mut listed, origin, first, bytes, source)?;
+    let mut listed = TextWriter::new(alloc);
+    for (index, line) in numbered_lines(alloc, text)?.iter().enumerate() {
+        let first = assembly.start_of_line(index);
+        let last = assembly.start_of_line(index.saturating_add(1));
+        let code = assembly.image.bytes.as_slice();
+        let bytes = code.get(first as usize..last as usize);
+        let address = origin.wrapping_add(first);
+        let source = line.as_str().unwrap_or("");
+        list_line(&mut listed, address, bytes.unwrap_or(&[]), source);
     }
-    Ok(listed)
+    listed.finish()
 }
 
-// How many bytes stand before a place.
-fn start_of(assembly: &Assembly, place: usize) -> usize {
-    match assembly.image.starts.as_slice().get(place) {
-        Some(start) => *start as usize,
-        None => 0,
-    }
-}
-
-fn list_line(
-    listed: &mut String,
-    origin: u32,
-    start: usize,
-    bytes: &[u8],
-    source: &str,
-) -> Result<(), AllocError> {
-    let address = u64::from(origin).saturating_add(start as u64);
+// A line of a text beside the bytes of its statements.
+fn list_line(listed: &mut TextWriter, address: u32, bytes: &[u8], source: &str) {
     let head = bytes.get(..BYTES_A_LINE).unwrap_or(bytes);
-    list_bytes(listed, address, head)?;
+    list_bytes(listed, address, head);
     if !source.is_empty() {
-        list_source(listed, head.len(), source)?;
+        for place in head.len()..BYTES_A_LINE {
+            listed.push(if place == 0 { "  " } else { "   " });
+        }
+        listed.push("  ");
+        listed.push(source);
     }
-    listed.push_str("\n")?;
-    list_rest(listed, address, bytes)
-}
-
-// The bytes behind those of the first line.
-fn list_rest(listed: &mut String, start: u64, bytes: &[u8]) -> Result<(), AllocError> {
-    let mut address = start;
-    for row in bytes
-        .get(BYTES_A_LINE..)
-        .unwrap_or(&[])
-        .chunks(BYTES_A_LINE)
-    {
-        address = address.saturating_add(BYTES_A_LINE as u64);
-        list_bytes(listed, address, row)?;
-        listed.push_str("\n")?;
+    listed.push("\n");
+    let mut address = address;
+    for row in bytes[head.len()..].chunks(BYTES_A_LINE) {
+        address = address.wrapping_add(BYTES_A_LINE as u32);
+        list_bytes(listed, address, row);
+        listed.push("\n");
     }
-    Ok(())
-}
-
-// A text behind the bytes of its line, of which so many are shown.
-fn list_source(listed: &mut String, shown: usize, source: &str) -> Result<(), AllocError> {
-    for place in shown..BYTES_A_LINE {
-        listed.push_str(if place == 0 { "  " } else { "   " })?;
-    }
-    write!(listed, "  {source}")
 }
 
 // An address and the bytes that stand there.
-fn list_bytes(listed: &mut String, address: u64, bytes: &[u8]) -> Result<(), AllocError> {
-    write!(listed, "{address:08x}  ")?;
-    for (place, byte) in bytes.iter().enumerate() {
-        if place > 0 {
-            listed.push_str(" ")?;
-        }
-        write!(listed, "{byte:02x}")?;
+fn list_bytes(listed: &mut TextWriter, address: u32, bytes: &[u8]) {
+    listed.push_word(address);
+    listed.push(" ");
+    if bytes.is_empty() {
+        listed.push(" ");
     }
-    Ok(())
+    for byte in bytes {
+        listed.push(" ");
+        listed.push_byte(*byte);
+    }
 }
 
 /// The lines of a script that load code longer than a boot takes: a poke for each word of the code from `LOADED` on, and
@@ -116,25 +80,43 @@ pub fn pokes(
     boot: &[u8],
     code: &[u8],
 ) -> Result<String, AllocError> {
-    let mut script = String::new(alloc);
-    let mut address = u64::from(crate::loading::LOADED);
+    let mut script = TextWriter::new(alloc);
+    let mut address = LOADED;
     for word in code.chunks(4) {
-        write!(script, "{user} poke {host} {address:08x} ")?;
-        push_word(&mut script, word)?;
-        address = address.saturating_add(4);
+        begin_line(&mut script, user, " poke ", host);
+        script.push_word(address);
+        script.push(" ");
+        for place in (0..4usize).rev() {
+            script.push_byte(word.get(place).copied().unwrap_or(0));
+        }
+        script.push("\n");
+        address = address.wrapping_add(4);
     }
-    let digits = hexadecimal(alloc, boot)?;
-    write!(script, "{user} boot {host} {digits}\n")?;
-    Ok(script)
+    begin_line(&mut script, user, " boot ", host);
+    script.push_bytes(boot);
+    script.push("\n");
+    script.finish()
 }
 
-// The word of up to four bytes, of which the first is the least significant, and the end of its line.
-fn push_word(script: &mut String, bytes: &[u8]) -> Result<(), AllocError> {
-    for place in (0..4usize).rev() {
-        let byte = bytes.get(place).copied().unwrap_or(0);
-        write!(script, "{byte:02x}")?;
+fn begin_line(script: &mut TextWriter, user: &str, command: &str, host: &str) {
+    script.push(user);
+    script.push(command);
+    script.push(host);
+    script.push(" ");
+}
+
+/// Writes an instruction as the assembler reads it: an operation by its name, and any other function with its operand, a
+/// signed decimal number.
+pub fn write_instruction(text: &mut TextWriter, instruction: Instruction) {
+    let Instruction { function, operand } = instruction;
+    match (function, operation_name(operand)) {
+        (Function::Operate, Some(name)) => text.push(name),
+        _ => {
+            text.push(function_name(function));
+            text.push(" ");
+            text.push_signed(i64::from(operand.cast_signed()));
+        }
     }
-    script.push_str("\n")
 }
 
 /// Instructions as text, one a line.
@@ -142,27 +124,21 @@ pub fn instructions_as_text(
     alloc: Global,
     instructions: &[Instruction],
 ) -> Result<String, AllocError> {
-    let mut text = String::new(alloc);
+    let mut text = TextWriter::new(alloc);
     for instruction in instructions {
-        let Instruction { function, operand } = *instruction;
-        match (function, operation(operand)) {
-            (Function::Operate, Some(found)) => text.push_str(operation_name(found))?,
-            _ => {
-                let name = function_name(function);
-                let number = operand.cast_signed();
-                write!(text, "{name} {number}")?;
-            }
-        }
-        text.push_str("\n")?;
+        write_instruction(&mut text, *instruction);
+        text.push("\n");
     }
-    Ok(text)
+    text.finish()
 }
 
 /// Bytes as text, one a line.
 pub fn bytes_as_text(alloc: Global, bytes: &[u8]) -> Result<String, AllocError> {
-    let mut text = String::new(alloc);
+    let mut text = TextWriter::new(alloc);
     for byte in bytes {
-        write!(text, "byte #{byte:02x}\n")?;
+        text.push("byte #");
+        text.push_byte(*byte);
+        text.push("\n");
     }
-    Ok(text)
+    text.finish()
 }

@@ -1,0 +1,244 @@
+//! A line that is read from its head: names, numbers and characters.
+
+use crate::fault::{Expected, Mismatch};
+use script_text::{decimal_number, hexadecimal_word};
+
+/// What is left of a line. Once something else is expected than what stands there nothing is left, and `mismatch` tells
+/// what was expected first: until then what is read is right, and after that it is 0 or empty.
+#[derive(Clone, Copy)]
+pub struct Cursor<'a> {
+    rest: &'a [u8],
+    mismatch: Option<Mismatch>,
+}
+
+impl<'a> Cursor<'a> {
+    /// A whole line.
+    pub fn of(line: &'a [u8]) -> Cursor<'a> {
+        Cursor {
+            rest: line,
+            mismatch: None,
+        }
+    }
+
+    /// What was expected in place of what stands in the line.
+    pub fn mismatch(&self) -> Option<Mismatch> {
+        self.mismatch
+    }
+
+    /// How many bytes are left.
+    pub fn left(&self) -> usize {
+        self.rest.len()
+    }
+
+    /// Something else is expected than what stands here.
+    pub fn refuse(&mut self, expected: Expected) {
+        self.refuse_before(expected, self.rest.len());
+    }
+
+    /// Something else is expected before the last `left` bytes of the line.
+    pub fn refuse_before(&mut self, expected: Expected, left: usize) {
+        if self.mismatch.is_none() {
+            self.mismatch = Some(Mismatch { expected, left });
+        }
+        self.rest = &[];
+    }
+
+    /// The next byte, which stays.
+    pub fn first(&self) -> Option<u8> {
+        self.rest.first().copied()
+    }
+
+    /// Whether a comment begins here.
+    pub fn is_at_comment(&self) -> bool {
+        self.rest.starts_with(b"--")
+    }
+
+    /// Passes over blanks and tabs.
+    pub fn skip_blanks(&mut self) {
+        let end = self.rest.iter().position(|byte| !matches!(*byte, b' ' | b'\t'));
+        self.rest = &self.rest[end.unwrap_or(self.rest.len())..];
+    }
+
+    /// Passes over blanks, and tells whether nothing or a comment follows.
+    pub fn is_at_end(&mut self) -> bool {
+        self.skip_blanks();
+        self.rest.is_empty() || self.is_at_comment()
+    }
+
+    /// Takes the next byte if it is this one, and tells whether it was.
+    pub fn take_if(&mut self, byte: u8) -> bool {
+        match self.rest {
+            [first, rest @ ..] if *first == byte => {
+                self.rest = rest;
+                true
+            }
+            _ => false,
+        }
+    }
+
+    fn take_first(&mut self) -> Option<u8> {
+        let (first, rest) = self.rest.split_first()?;
+        self.rest = rest;
+        Some(*first)
+    }
+
+    // The next bytes, at most so many, which are ASCII.
+    fn take_text(&mut self, count: usize) -> &'a str {
+        let (head, rest) = self.rest.split_at(count.min(self.rest.len()));
+        self.rest = rest;
+        std::str::from_utf8(head).unwrap_or("")
+    }
+
+    /// The name that stands here, empty if there is none: a letter or `_`, and then letters, digits, `_` and `.`.
+    pub fn take_name(&mut self) -> &'a str {
+        match self.rest.first() {
+            Some(b'a'..=b'z' | b'A'..=b'Z' | b'_') => self.take_text(name_length(self.rest)),
+            _ => "",
+        }
+    }
+
+    /// A decimal number from -2147483648 to 4294967295, or one to eight hexadecimal digits behind `#`, or a character
+    /// between `'`, as a word.
+    pub fn take_word(&mut self) -> u32 {
+        word_of(self.take_number())
+    }
+
+    fn take_number(&mut self) -> i64 {
+        if self.take_if(b'#') {
+            i64::from(self.take_hexadecimal())
+        } else if self.take_if(b'\'') {
+            i64::from(self.take_quoted())
+        } else if self.take_if(b'-') {
+            self.take_decimal(0x8000_0000).saturating_neg()
+        } else {
+            self.take_decimal(0xffff_ffff)
+        }
+    }
+
+    /// A number between two others, both included, as a word; `expected` is expected in place of any other.
+    pub fn take_word_within(&mut self, least: i64, most: i64, expected: Expected) -> u32 {
+        let left = self.left();
+        let mut attempt = *self;
+        let number = attempt.take_number();
+        if attempt.mismatch.is_some() || number < least || most < number {
+            self.refuse_before(expected, left);
+            return 0;
+        }
+        *self = attempt;
+        word_of(number)
+    }
+
+    fn take_decimal(&mut self, most: u64) -> i64 {
+        let left = self.left();
+        let digits = self.take_text(digits_length(self.rest));
+        match decimal_number(digits) {
+            Some(number) if number <= most => i64::try_from(number).unwrap_or(0),
+            _ => {
+                self.refuse_before(Expected::Number, left);
+                0
+            }
+        }
+    }
+
+    fn take_hexadecimal(&mut self) -> u32 {
+        let left = self.left();
+        let digits = self.take_text(hexadecimal_length(self.rest));
+        match hexadecimal_word(digits) {
+            Some(number) => number,
+            None => {
+                self.refuse_before(Expected::Hexadecimal, left);
+                0
+            }
+        }
+    }
+
+    // A character before its closing quote.
+    fn take_quoted(&mut self) -> u8 {
+        if self.first() == Some(b'\'') {
+            self.refuse(Expected::Character);
+        }
+        let character = self.take_character();
+        if !self.take_if(b'\'') {
+            self.refuse(Expected::Quote);
+        }
+        character
+    }
+
+    /// A character of ASCII: one that is printed, a tab, or `*` and what says another.
+    ///
+    /// Source: occam 2, the escapes of characters.
+    pub fn take_character(&mut self) -> u8 {
+        let left = self.left();
+        match self.take_first() {
+            Some(b'*') => self.take_escape(),
+            Some(byte) if matches!(byte, b'\t' | b' '..=b'~') => byte,
+            Some(_) => {
+                self.refuse_before(Expected::Character, left);
+                0
+            }
+            None => {
+                self.refuse(Expected::Quote);
+                0
+            }
+        }
+    }
+
+    fn take_escape(&mut self) -> u8 {
+        let left = self.left();
+        match self.take_first() {
+            Some(b'n') => b'\n',
+            Some(b'c') => b'\r',
+            Some(b't') => b'\t',
+            Some(b's') => b' ',
+            Some(b'#') => self.take_code(),
+            Some(byte) if matches!(byte, b'\'' | b'"' | b'*') => byte,
+            _ => {
+                self.refuse_before(Expected::Character, left);
+                0
+            }
+        }
+    }
+
+    // A character by its code in two hexadecimal digits.
+    fn take_code(&mut self) -> u8 {
+        let left = self.left();
+        let digits = self.take_text(2);
+        match hexadecimal_word(digits) {
+            Some(code) if code < 0x100 && digits.len() == 2 => code as u8,
+            _ => {
+                self.refuse_before(Expected::Character, left);
+                0
+            }
+        }
+    }
+}
+
+fn name_length(text: &[u8]) -> usize {
+    text.iter()
+        .position(|byte| !(byte.is_ascii_alphanumeric() || matches!(*byte, b'_' | b'.')))
+        .unwrap_or(text.len())
+}
+
+fn digits_length(text: &[u8]) -> usize {
+    text.iter()
+        .position(|byte| !byte.is_ascii_digit())
+        .unwrap_or(text.len())
+}
+
+fn hexadecimal_length(text: &[u8]) -> usize {
+    text.iter()
+        .position(|byte| !byte.is_ascii_hexdigit())
+        .unwrap_or(text.len())
+}
+
+// A number modulo 2^32.
+fn word_of(number: i64) -> u32 {
+    u32::try_from(number.rem_euclid(0x1_0000_0000)).unwrap_or(0)
+}
+
+/// The operand that a word spells, as the assembler reads it; `None` if it is no number.
+pub fn operand_of(word: &str) -> Option<u32> {
+    let mut cursor = Cursor::of(word.as_bytes());
+    let operand = cursor.take_word();
+    (cursor.mismatch.is_none() && cursor.rest.is_empty()).then_some(operand)
+}
