@@ -1,7 +1,8 @@
 //! Why a text isn't replayed.
 
 use plan_checker::PlanFault;
-use std::alloc::{AllocError, AllocFailed};
+use script_text::LineFault;
+use std::alloc::AllocError;
 use thiserror::Error;
 
 /// Why a text isn't replayed. None of its lines is then.
@@ -10,31 +11,27 @@ pub enum ReplayFault {
     /// A plan is refused, with the number of its smallest fault.
     #[error("plan: {0}")]
     Plan(u8),
-    /// A line is wrong. The line after its farm's `---` is 1.
+    /// The line of this number in the whole text is wrong.
     #[error("line {0}")]
     Line(u64),
-    /// Memory is wanted.
     #[error("memory")]
-    NoMemory,
-}
-
-impl From<AllocError> for ReplayFault {
-    fn from(_error: AllocError) -> ReplayFault {
-        ReplayFault::NoMemory
-    }
-}
-
-impl<T: Drop> From<AllocFailed<T>> for ReplayFault {
-    fn from(_error: AllocFailed<T>) -> ReplayFault {
-        ReplayFault::NoMemory
-    }
+    Memory(#[from(alloc)] AllocError),
 }
 
 impl From<PlanFault> for ReplayFault {
     fn from(fault: PlanFault) -> ReplayFault {
         match fault {
-            PlanFault::NoMemory => ReplayFault::NoMemory,
+            PlanFault::NoMemory => ReplayFault::Memory(AllocError),
             _ => ReplayFault::Plan(fault.number()),
+        }
+    }
+}
+
+impl From<LineFault> for ReplayFault {
+    fn from(fault: LineFault) -> ReplayFault {
+        match fault {
+            LineFault::Wrong(line) => ReplayFault::Line(line),
+            LineFault::Memory(error) => ReplayFault::Memory(error),
         }
     }
 }

@@ -1,12 +1,12 @@
 //! A farm on one thread that is asked for single events, line by line: the rows of a text, and what a user tries.
 #![tactic(auto)]
 
-mod asked;
+mod answer_list;
 mod fault;
-mod folded;
-mod lines;
-mod played;
-mod texts;
+mod open_farm;
+mod reading;
+mod replaying;
+mod request;
 
 pub use fault::ReplayFault;
-pub use texts::{ReplayedFarm, replay, replay_farm};
+pub use replaying::{Replayed, ReplayedFarm, replay};

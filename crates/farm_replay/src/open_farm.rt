@@ -1,79 +1,78 @@
 //! A farm with its tickets, and what it answers.
 ghost use Rattle.std.specs.Prelude.{◌↔◌, ◌<◌, IsTrue, length};
 
-use crate::asked::{Asked, OfDomain};
-use crate::folded::Folded;
+use crate::answer_list::AnswerList;
+use crate::request::{DomainRequest, Request};
 use answer_text::{write_entry, write_refusal, write_reply};
 use crossbar::{PORTS, Word};
 use domain_core::{By, Committed, Event, NoMemory, Refusal, Ticket};
 use farm_core::PlainFarm;
 use plan_checker::AcceptedPlan;
+use script_text::TextWriter;
 use std::alloc::Global;
 
 /// A farm, and the tickets that it gave, each until it is spent.
 #[derive(Drop)]
-pub struct Played {
+pub struct OpenFarm {
     alloc: Global,
     farm: PlainFarm,
     tickets: Vec<Option<Ticket>>,
 }
 
-impl Played {
+impl OpenFarm {
     /// The farm of a plan as it is opened.
-    pub fn open(alloc: Global, plan: &AcceptedPlan) -> Result<Played, NoMemory> {
-        Ok(Played {
+    pub fn open(alloc: Global, plan: &AcceptedPlan) -> Result<OpenFarm, NoMemory> {
+        Ok(OpenFarm {
             alloc,
             farm: PlainFarm::open(alloc, plan)?,
             tickets: Vec::new(alloc),
         })
     }
 
-    /// Adds the answers to what a line asks.
+    /// Adds the answers to a request.
     pub fn answer(
         &mut self,
         plan: &AcceptedPlan,
-        asked: &Asked,
-        answers: &mut Folded,
+        request: &Request,
+        answers: &mut AnswerList,
     ) -> Result<(), NoMemory> {
-        let mut text = String::new(self.alloc);
-        let answered = match asked {
-            Asked::Reopen => {
-                *self = Played::open(self.alloc, plan)?;
-                text.push_str("opened")?;
-                Ok(())
+        let mut text = TextWriter::new(self.alloc);
+        match request {
+            Request::Reopen => {
+                *self = OpenFarm::open(self.alloc, plan)?;
+                text.push("opened");
             }
-            Asked::Words => {
-                self.write_words(&mut text)?;
-                Ok(())
+            Request::Words => self.write_words(&mut text),
+            Request::Events(domain, by, events) => {
+                return self.answer_events(*domain, *by, events.as_slice(), answers);
             }
-            Asked::OfDomain(domain, OfDomain::Events(by, events)) => {
-                return self.events(*domain, *by, events.as_slice(), answers);
+            Request::Domain(domain, request) => {
+                if let Err(refusal) = self.write_answer(*domain, *request, &mut text) {
+                    let written = write_refusal(text.as_mut_string(), refusal);
+                    text.note(written);
+                }
             }
-            Asked::OfDomain(domain, asked) => self.answer_of(*domain, asked, &mut text),
-        };
-        if let Err(refusal) = answered {
-            write_refusal(&mut text, refusal)?;
         }
-        answers.push(text)
+        answers.push(text.finish()?);
+        Ok(())
     }
 
-    fn answer_of(
+    fn write_answer(
         &mut self,
         domain: u8,
-        asked: &OfDomain,
-        text: &mut String,
+        request: DomainRequest,
+        text: &mut TextWriter,
     ) -> Result<(), Refusal> {
-        match asked {
-            OfDomain::Events(..) => Ok(()),
-            OfDomain::Quiet => self.quiet(domain, text),
-            OfDomain::Word(output) => self.word(domain, *output, text),
-            OfDomain::Recorded => self.recorded(domain, text),
-            OfDomain::Restart => self.restart(domain, text),
-            OfDomain::Journal => self.journal(domain, text),
-            OfDomain::Checkout(node) => self.checkout(domain, *node, text),
-            OfDomain::Burst(ticket, steps) => self.burst(domain, *ticket, *steps, text),
-            OfDomain::Commit(ticket) => self.commit(domain, *ticket, text),
-            OfDomain::Settle(quantum, rounds) => self.settle(domain, *quantum, *rounds, text),
+        match request {
+            DomainRequest::Quiet => self.write_quiet(domain, text),
+            DomainRequest::Word(output) => self.write_word(domain, output, text),
+            DomainRequest::Recorded => self.write_recorded(domain, text),
+            DomainRequest::Restart => self.restart(domain, text),
+            DomainRequest::Journal => self.write_journal(domain, text),
+            DomainRequest::Checkout(node) => self.checkout(domain, node, text),
+            DomainRequest::Burst(ticket, steps) => self.burst(domain, ticket, steps, text),
+            DomainRequest::Commit(ticket) => self.commit(domain, ticket, text),
+            DomainRequest::Settle(quantum, rounds) => self.settle(domain, quantum, rounds, text),
         }
     }
 
@@ -83,12 +82,12 @@ impl Played {
         usize::from(domain) < self.farm.domains()
     }
 
-    fn events(
+    fn answer_events(
         &mut self,
         domain: u8,
         by: By,
         events: &[Event],
-        answers: &mut Folded,
+        answers: &mut AnswerList,
     ) -> Result<(), NoMemory> {
         for event in events {
             let mut answer = String::new(self.alloc);
@@ -96,58 +95,61 @@ impl Played {
                 Ok(reply) => write_reply(&mut answer, reply)?,
                 Err(refusal) => write_refusal(&mut answer, refusal)?,
             }
-            answers.push(answer)?;
+            answers.push(answer);
         }
         Ok(())
     }
 
-    fn quiet(&mut self, domain: u8, text: &mut String) -> Result<(), Refusal> {
+    fn write_quiet(&mut self, domain: u8, text: &mut TextWriter) -> Result<(), Refusal> {
         if !self.has(domain) {
             return Err(Refusal::NoSuch);
         }
-        let quiet = self.farm.quiet(domain);
-        write!(text, "{quiet}")?;
+        text.push(if self.farm.quiet(domain) { "true" } else { "false" });
         Ok(())
     }
 
-    fn word(&mut self, domain: u8, output: u8, text: &mut String) -> Result<(), Refusal> {
-        let Some(word) = self.farm.domain_word(domain, output) else {
-            return Err(Refusal::NoSuch);
-        };
-        write!(text, "{:x}", word.bits)?;
+    fn write_word(
+        &mut self,
+        domain: u8,
+        output: u8,
+        text: &mut TextWriter,
+    ) -> Result<(), Refusal> {
+        let word = self.farm.domain_word(domain, output).ok_or(Refusal::NoSuch)?;
+        text.push_hexadecimal(word.bits);
         Ok(())
     }
 
-    fn recorded(&self, domain: u8, text: &mut String) -> Result<(), Refusal> {
-        let recorded = self.farm.recorded(domain).ok_or(Refusal::NoSuch)?;
-        write!(text, "{recorded}")?;
+    fn write_recorded(&self, domain: u8, text: &mut TextWriter) -> Result<(), Refusal> {
+        text.push_decimal(self.farm.recorded(domain).ok_or(Refusal::NoSuch)?);
         Ok(())
     }
 
-    fn restart(&mut self, domain: u8, text: &mut String) -> Result<(), Refusal> {
+    fn restart(&mut self, domain: u8, text: &mut TextWriter) -> Result<(), Refusal> {
         if !self.has(domain) {
             return Err(Refusal::NoSuch);
         }
         self.farm.restart(domain);
-        text.push_str("restarted")?;
+        text.push("restarted");
         Ok(())
     }
 
-    fn journal(&self, domain: u8, text: &mut String) -> Result<(), Refusal> {
+    fn write_journal(&self, domain: u8, text: &mut TextWriter) -> Result<(), Refusal> {
         let journal = self.farm.journal(domain).ok_or(Refusal::NoSuch)?;
         for index in 0..journal.len() {
             if let Some(entry) = journal.get(index) {
-                write_entry(text, entry)?;
-                text.push_str("\n")?;
+                let written = write_entry(text.as_mut_string(), entry);
+                text.note(written);
+                text.push("\n");
             }
         }
-        text.push_str("end")?;
+        text.push("end");
         Ok(())
     }
 
-    fn checkout(&mut self, domain: u8, node: u8, text: &mut String) -> Result<(), Refusal> {
+    fn checkout(&mut self, domain: u8, node: u8, text: &mut TextWriter) -> Result<(), Refusal> {
         let ticket = self.farm.checkout(domain, node)?;
-        write!(text, "ticket {}", self.tickets.len())?;
+        text.push("ticket ");
+        text.push_decimal(self.tickets.len() as u64);
         match self.tickets.push(Some(ticket)) {
             Ok(()) => Ok(()),
             Err(_) => Err(Refusal::NoMemory),
@@ -167,23 +169,23 @@ impl Played {
         domain: u8,
         ticket: usize,
         steps: u64,
-        text: &mut String,
+        text: &mut TextWriter,
     ) -> Result<(), Refusal> {
         let Some(ticket) = self.held(domain, ticket)? else {
             return Err(Refusal::NoSuch);
         };
         ticket.burst(steps);
-        write!(text, "{}", ticket.steps())?;
+        text.push_decimal(ticket.steps());
         Ok(())
     }
 
-    fn commit(&mut self, domain: u8, ticket: usize, text: &mut String) -> Result<(), Refusal> {
+    fn commit(&mut self, domain: u8, ticket: usize, text: &mut TextWriter) -> Result<(), Refusal> {
         let Some(ticket) = self.held(domain, ticket)?.take() else {
             return Err(Refusal::NoSuch);
         };
         match self.farm.commit(domain, ticket)? {
-            Committed::Done => text.push_str("done")?,
-            Committed::Stale => text.push_str("stale")?,
+            Committed::Done => text.push("done"),
+            Committed::Stale => text.push("stale"),
         }
         Ok(())
     }
@@ -194,23 +196,18 @@ impl Played {
         domain: u8,
         quantum: u64,
         rounds: u64,
-        text: &mut String,
+        text: &mut TextWriter,
     ) -> Result<(), Refusal> {
         if !self.has(domain) {
             return Err(Refusal::NoSuch);
         }
         for _ in 0..rounds {
             if self.is_quiet(domain) {
-                text.push_str("quiet")?;
-                return Ok(());
+                break;
             }
             self.round(domain, quantum)?;
         }
-        text.push_str(if self.is_quiet(domain) {
-            "quiet"
-        } else {
-            "busy"
-        })?;
+        text.push(if self.is_quiet(domain) { "quiet" } else { "busy" });
         Ok(())
     }
 
@@ -248,18 +245,19 @@ impl Played {
     }
 
     // Each physical output whose word isn't 0, with its word.
-    fn write_words(&mut self, text: &mut String) -> Result<(), NoMemory> {
-        for (output, word) in self.words().iter().enumerate() {
+    fn write_words(&mut self, text: &mut TextWriter) {
+        for (output, word) in (0..PORTS).zip(self.words().iter()) {
             if *word != Word::UNUSED {
                 if !text.is_empty() {
-                    text.push_str(" ")?;
+                    text.push(" ");
                 }
-                write!(text, "{output}:{:x}", word.bits)?;
+                text.push_decimal(u64::from(output));
+                text.push(":");
+                text.push_hexadecimal(word.bits);
             }
         }
         if text.is_empty() {
-            text.push_str("-")?;
+            text.push("-");
         }
-        Ok(())
     }
 }

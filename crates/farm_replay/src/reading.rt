@@ -1,28 +1,9 @@
 //! Reading a line.
 
-use crate::asked::{Asked, OfDomain};
+use crate::request::{DomainRequest, RepeatedRequest, Request};
 use domain_core::{By, Event};
-use script_text::{HexFault, bytes_of};
-use std::alloc::{AllocError, AllocFailed, Global};
-
-/// Why a line asks nothing.
-#[derive(Clone, Copy)]
-pub enum Unread {
-    Wrong,
-    NoMemory,
-}
-
-impl From<AllocError> for Unread {
-    fn from(_error: AllocError) -> Unread {
-        Unread::NoMemory
-    }
-}
-
-impl<T: Drop> From<AllocFailed<T>> for Unread {
-    fn from(_error: AllocFailed<T>) -> Unread {
-        Unread::NoMemory
-    }
-}
+use script_text::{WordFault, Words, decimal_number};
+use std::alloc::{AllocError, Global};
 
 /// The most times that one line is asked.
 const MOST_TIMES: u64 = 1_000_000;
@@ -30,174 +11,190 @@ const MOST_TIMES: u64 = 1_000_000;
 /// The greatest quantum, in Steps.
 const MOST_QUANTUM: u64 = 4096;
 
-/// How often a line asks, and what. Its words stand between single blanks.
-pub fn asked_in(alloc: Global, line: &str) -> Result<(u64, Asked), Unread> {
-    let words: Vec<&str> = line.split(' ').collect(alloc)?;
-    match words.as_slice() {
-        [count, "times", words @ ..] => {
-            let times = number(count, MOST_TIMES)?;
-            Ok((times, asked_by(alloc, words)?))
+// The word behind the number of a domain.
+#[derive(Clone, Copy)]
+enum Verb {
+    Quiet,
+    Word,
+    Recorded,
+    Restart,
+    Journal,
+    Checkout,
+    Burst,
+    Commit,
+    Settle,
+    Events(EventVerb),
+}
+
+// The word that asks for events.
+#[derive(Clone, Copy)]
+enum EventVerb {
+    One(EventKind),
+    Moves,
+    Configs,
+    Writes,
+}
+
+#[derive(Clone, Copy)]
+enum EventKind {
+    Step,
+    Move,
+    Config,
+    Write,
+    Read,
+    Reset,
+    Look,
+}
+
+const VERBS: [(&str, Verb); 19] = [
+    ("quiet", Verb::Quiet),
+    ("word", Verb::Word),
+    ("recorded", Verb::Recorded),
+    ("restart", Verb::Restart),
+    ("journal", Verb::Journal),
+    ("checkout", Verb::Checkout),
+    ("burst", Verb::Burst),
+    ("commit", Verb::Commit),
+    ("settle", Verb::Settle),
+    ("moves", Verb::Events(EventVerb::Moves)),
+    ("configs", Verb::Events(EventVerb::Configs)),
+    ("writes", Verb::Events(EventVerb::Writes)),
+    ("step", Verb::Events(EventVerb::One(EventKind::Step))),
+    ("move", Verb::Events(EventVerb::One(EventKind::Move))),
+    ("config", Verb::Events(EventVerb::One(EventKind::Config))),
+    ("write", Verb::Events(EventVerb::One(EventKind::Write))),
+    ("read", Verb::Events(EventVerb::One(EventKind::Read))),
+    ("reset", Verb::Events(EventVerb::One(EventKind::Reset))),
+    ("look", Verb::Events(EventVerb::One(EventKind::Look))),
+];
+
+/// What a line asks, and how often. `Wrong` if a word of it is wrong or missing, or one stands behind its end.
+pub fn read_request(alloc: Global, line: &str) -> Result<RepeatedRequest, WordFault> {
+    let mut words = Words::of(line);
+    let times = read_times(&mut words);
+    let request = read_once(alloc, &mut words)?;
+    words.finish(RepeatedRequest { times, request })
+}
+
+// The number before `times`, if the line begins so.
+fn read_times(words: &mut Words) -> u64 {
+    let mut ahead = *words;
+    let _ = ahead.take();
+    if ahead.peek() != "times" {
+        return 1;
+    }
+    let times = words.decimal(MOST_TIMES);
+    let _ = words.take();
+    times
+}
+
+fn read_once(alloc: Global, words: &mut Words) -> Result<Request, AllocError> {
+    if words.take_if("words") {
+        return Ok(Request::Words);
+    }
+    if words.take_if("reopen") {
+        return Ok(Request::Reopen);
+    }
+    let domain = words.small_decimal();
+    Ok(match words.named(&VERBS, Verb::Quiet) {
+        Verb::Quiet => Request::Domain(domain, DomainRequest::Quiet),
+        Verb::Word => Request::Domain(domain, DomainRequest::Word(words.small_decimal())),
+        Verb::Recorded => Request::Domain(domain, DomainRequest::Recorded),
+        Verb::Restart => Request::Domain(domain, DomainRequest::Restart),
+        Verb::Journal => Request::Domain(domain, DomainRequest::Journal),
+        Verb::Checkout => Request::Domain(domain, DomainRequest::Checkout(words.small_decimal())),
+        Verb::Burst => Request::Domain(domain, read_burst(words)),
+        Verb::Commit => Request::Domain(domain, DomainRequest::Commit(read_ticket(words))),
+        Verb::Settle => Request::Domain(domain, read_settle(words)),
+        Verb::Events(verb) => {
+            let events = read_events(alloc, verb, words)?;
+            Request::Events(domain, read_asker(usual_asker(verb), words), events)
         }
-        words => Ok((1, asked_by(alloc, words)?)),
+    })
+}
+
+fn read_burst(words: &mut Words) -> DomainRequest {
+    DomainRequest::Burst(read_ticket(words), words.decimal(u64::MAX))
+}
+
+fn read_ticket(words: &mut Words) -> usize {
+    words.decimal(u64::MAX) as usize
+}
+
+fn read_settle(words: &mut Words) -> DomainRequest {
+    let quantum = words.decimal(MOST_QUANTUM);
+    if quantum == 0 {
+        words.reject();
+    }
+    DomainRequest::Settle(quantum, words.decimal(u64::MAX))
+}
+
+// Who asks if the line doesn't say it: the farm steps and moves, and user 0 asks for the rest.
+fn usual_asker(verb: EventVerb) -> By {
+    match verb {
+        EventVerb::Moves | EventVerb::One(EventKind::Step | EventKind::Move) => By::Farm,
+        _ => By::User(0),
     }
 }
 
-fn asked_by(alloc: Global, words: &[&str]) -> Result<Asked, Unread> {
-    match words {
-        ["words"] => Ok(Asked::Words),
-        ["reopen"] => Ok(Asked::Reopen),
-        [domain, words @ ..] => Ok(Asked::OfDomain(byte_number(domain)?, of_domain(alloc, words)?)),
-        [] => Err(Unread::Wrong),
-    }
-}
-
-fn of_domain(alloc: Global, words: &[&str]) -> Result<OfDomain, Unread> {
-    match words {
-        ["quiet"] => Ok(OfDomain::Quiet),
-        ["recorded"] => Ok(OfDomain::Recorded),
-        ["restart"] => Ok(OfDomain::Restart),
-        ["journal"] => Ok(OfDomain::Journal),
-        ["word", output] => Ok(OfDomain::Word(byte_number(output)?)),
-        ["checkout", node] => Ok(OfDomain::Checkout(byte_number(node)?)),
-        ["burst", ticket, steps] => Ok(OfDomain::Burst(place(ticket)?, number(steps, u64::MAX)?)),
-        ["commit", ticket] => Ok(OfDomain::Commit(place(ticket)?)),
-        ["settle", quantum, rounds] => settled(quantum, rounds),
-        _ => {
-            let (by, words) = asker(words)?;
-            events_of(alloc, by, words)
-        }
-    }
-}
-
-// Who asks, if the last word says so, and the words before it.
-fn asker<'a, 'b>(words: &'a [&'b str]) -> Result<(Option<By>, &'a [&'b str]), Unread> {
-    let Some((last, before)) = words.split_last() else {
-        return Err(Unread::Wrong);
+// Who asks, if the next word says so behind `@`.
+fn read_asker(usual: By, words: &mut Words) -> By {
+    let Some(name) = words.peek().strip_prefix("@") else {
+        return usual;
     };
-    match last.strip_prefix('@') {
-        Some("farm") => Ok((Some(By::Farm), before)),
-        Some(user) => Ok((Some(By::User(byte_number(user)?)), before)),
-        None => Ok((None, words)),
+    let _ = words.take();
+    if name == "farm" {
+        return By::Farm;
+    }
+    match decimal_number(name) {
+        Some(user) if user < 0x100 => By::User(user as u8),
+        _ => {
+            words.reject();
+            usual
+        }
     }
 }
 
-// Events that are asked by the line's asker, or else by who asks for such usually.
-fn events_of(alloc: Global, by: Option<By>, words: &[&str]) -> Result<OfDomain, Unread> {
+// The events that a verb asks for, of which a plural asks for several.
+fn read_events(
+    alloc: Global,
+    verb: EventVerb,
+    words: &mut Words,
+) -> Result<Vec<Event>, AllocError> {
     let mut events = Vec::new(alloc);
-    let usual = push_events(alloc, words, &mut events)?;
-    Ok(OfDomain::Events(by.unwrap_or(usual), events))
-}
-
-// Adds the events that are asked. Usually the farm steps and moves, and user 0 asks in all other cases. A plural asks for
-// several, one after another.
-fn push_events(alloc: Global, words: &[&str], events: &mut Vec<Event>) -> Result<By, Unread> {
-    match words {
-        ["moves", ports @ ..] => {
-            for port in ports {
-                events.push(Event::Move(byte_number(port)?))?;
+    match verb {
+        EventVerb::One(kind) => events.push(read_event(kind, words))?,
+        EventVerb::Moves => {
+            for _ in 0..words.count() {
+                if words.peek().starts_with("@") {
+                    break;
+                }
+                events.push(Event::Move(words.small_decimal()))?;
             }
-            Ok(By::Farm)
         }
-        ["configs", digits] => {
-            for byte in &bytes_in(alloc, digits)? {
+        EventVerb::Configs => {
+            for byte in &words.bytes(alloc)? {
                 events.push(Event::Config(*byte))?;
             }
-            Ok(By::User(0))
         }
-        ["writes", host, digits] => {
-            push_writes(alloc, byte_number(host)?, digits, events)?;
-            Ok(By::User(0))
-        }
-        words => {
-            let (by, event) = event_of(words)?;
-            events.push(event)?;
-            Ok(by)
+        EventVerb::Writes => {
+            let host = words.small_decimal();
+            for byte in &words.bytes(alloc)? {
+                events.push(Event::Write(host, *byte))?;
+            }
         }
     }
+    Ok(events)
 }
 
-fn push_writes(
-    alloc: Global,
-    host: u8,
-    digits: &str,
-    events: &mut Vec<Event>,
-) -> Result<(), Unread> {
-    for byte in &bytes_in(alloc, digits)? {
-        events.push(Event::Write(host, *byte))?;
-    }
-    Ok(())
-}
-
-// A single event, and who asks for it usually.
-fn event_of(words: &[&str]) -> Result<(By, Event), Unread> {
-    match words {
-        ["step", node] => Ok((By::Farm, Event::Step(byte_number(node)?))),
-        ["move", port] => Ok((By::Farm, Event::Move(byte_number(port)?))),
-        words => Ok((By::User(0), command_of(words)?)),
-    }
-}
-
-// A user's command.
-fn command_of(words: &[&str]) -> Result<Event, Unread> {
-    match words {
-        ["config", byte] => Ok(Event::Config(one_byte(byte)?)),
-        ["write", host, byte] => Ok(Event::Write(byte_number(host)?, one_byte(byte)?)),
-        ["read", host] => Ok(Event::Read(byte_number(host)?)),
-        ["reset", node] => Ok(Event::Reset(byte_number(node)?)),
-        ["look", node] => Ok(Event::Look(byte_number(node)?)),
-        _ => Err(Unread::Wrong),
-    }
-}
-
-fn settled(quantum: &str, rounds: &str) -> Result<OfDomain, Unread> {
-    let quantum = number(quantum, MOST_QUANTUM)?;
-    if quantum == 0 {
-        return Err(Unread::Wrong);
-    }
-    Ok(OfDomain::Settle(quantum, number(rounds, u64::MAX)?))
-}
-
-// The number that decimal digits spell, if it is at most so great.
-fn number(word: &str, most: u64) -> Result<u64, Unread> {
-    if !word.bytes().all(|byte| byte.is_ascii_digit()) {
-        return Err(Unread::Wrong);
-    }
-    match word.parse::<u64>() {
-        Ok(number) if number <= most => Ok(number),
-        _ => Err(Unread::Wrong),
-    }
-}
-
-fn byte_number(word: &str) -> Result<u8, Unread> {
-    match u8::try_from(number(word, 255)?) {
-        Ok(number) => Ok(number),
-        Err(_) => Err(Unread::Wrong),
-    }
-}
-
-fn place(word: &str) -> Result<usize, Unread> {
-    match usize::try_from(number(word, u64::MAX)?) {
-        Ok(place) => Ok(place),
-        Err(_) => Err(Unread::Wrong),
-    }
-}
-
-// The byte that two hexadecimal digits spell.
-fn one_byte(word: &str) -> Result<u8, Unread> {
-    match u8::from_str_radix(word, 16) {
-        Ok(byte) if word.len() == 2 && are_hexadecimal(word) => Ok(byte),
-        _ => Err(Unread::Wrong),
-    }
-}
-
-fn are_hexadecimal(word: &str) -> bool {
-    word.bytes().all(|byte| byte.is_ascii_hexdigit())
-}
-
-fn bytes_in(alloc: Global, digits: &str) -> Result<Vec<u8>, Unread> {
-    match bytes_of(alloc, digits) {
-        Ok(bytes) => Ok(bytes),
-        Err(HexFault::NotHex) => Err(Unread::Wrong),
-        Err(HexFault::NoMemory) => Err(Unread::NoMemory),
+fn read_event(kind: EventKind, words: &mut Words) -> Event {
+    match kind {
+        EventKind::Step => Event::Step(words.small_decimal()),
+        EventKind::Move => Event::Move(words.small_decimal()),
+        EventKind::Config => Event::Config(words.byte()),
+        EventKind::Write => Event::Write(words.small_decimal(), words.byte()),
+        EventKind::Read => Event::Read(words.small_decimal()),
+        EventKind::Reset => Event::Reset(words.small_decimal()),
+        EventKind::Look => Event::Look(words.small_decimal()),
     }
 }

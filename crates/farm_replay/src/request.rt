@@ -2,22 +2,29 @@
 
 use domain_core::{By, Event};
 
-/// What a line asks of a farm.
+/// What a line asks of a farm, and how often.
 #[derive(Drop)]
-pub enum Asked {
+pub struct RepeatedRequest {
+    pub times: u64,
+    pub request: Request,
+}
+
+/// What is asked of a farm.
+#[derive(Drop)]
+pub enum Request {
     /// The words of all physical outputs.
     Words,
     /// A fresh farm of the same plan, with no tickets.
     Reopen,
-    /// Something of a domain.
-    OfDomain(u8, OfDomain),
+    /// Events of a domain by one asker, one after another.
+    Events(u8, By, Vec<Event>),
+    /// Something else of a domain.
+    Domain(u8, DomainRequest),
 }
 
-/// What a line asks of a domain.
-#[derive(Drop)]
-pub enum OfDomain {
-    /// Events by one asker, one after another.
-    Events(By, Vec<Event>),
+/// What is asked of a domain beside events.
+#[derive(Clone, Copy)]
+pub enum DomainRequest {
     /// Whether no Step and no Move would be recorded.
     Quiet,
     /// The word of a virtual output.
