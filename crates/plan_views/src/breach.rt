@@ -1,112 +1,149 @@
 //! Where a plan that can be read breaks a rule.
 
-use crate::names::{domain_name, push_quoted};
-use plan_checker::{DomainPlan, PlanFault, RangePlan};
+use crate::names::{write_domain_name, write_place, write_quoted};
+use plan_checker::{DomainPlan, PlanFault};
 use plan_rules::rules::{
     has_limit, has_node_count, has_range_count, has_user_count, has_wired_link, is_memory_size,
     is_name, is_range, is_wired,
 };
+use script_text::TextWriter;
 use std::alloc::{AllocError, Global};
 
-/// What is said of a place, if the rule is broken there.
-type Breach = Result<Option<String>, AllocError>;
-
-/// The first place at which the domains break the rule of this fault, and what would be right there.
-pub fn breach_of(alloc: Global, domains: &[DomainPlan], fault: PlanFault) -> Breach {
+/// The first place at which the domains break the rule of this fault, and what would be right there; `None` if no domain
+/// breaks it.
+pub fn breach_of(
+    alloc: Global,
+    domains: &[DomainPlan],
+    fault: PlanFault,
+) -> Result<Option<String>, AllocError> {
+    let mut text = TextWriter::new(alloc);
     match fault {
         PlanFault::DomainCount => {
-            let count = domains.len();
-            Ok(Some(format!(in alloc; "the plan has {count} domains, and 1 to 16 are possible")?))
+            write_place(&mut text, "the plan has ", domains.len());
+            text.push(" domains, and 1 to 16 are possible");
         }
-        PlanFault::NameTwice => name_twice(alloc, domains),
-        PlanFault::SharedPort => shared_port(alloc, domains),
-        _ => {
+        PlanFault::NameTwice => {
+            write_name_twice(&mut text, names_of(alloc, domains)?.as_slice());
+        }
+        PlanFault::SharedPort => {
+            write_shared_port(&mut text, ranges_of(alloc, domains)?.as_slice());
+        }
+        fault => {
             for (number, domain) in domains.iter().enumerate() {
                 let said = breach_in(alloc, domain, fault)?;
-                if let Some(said) = said {
-                    let name = domain_name(alloc, number, domain)?;
-                    return Ok(Some(format!(in alloc; "{name}{said}")?));
+                if !said.is_empty() {
+                    write_domain_name(&mut text, number, domain);
+                    text.push(said.as_str());
+                    break;
                 }
             }
-            Ok(None)
         }
     }
+    let text = text.finish()?;
+    Ok(if text.is_empty() { None } else { Some(text) })
 }
 
-// What is said of a domain that breaks a rule for single domains, after its name.
-fn breach_in(alloc: Global, domain: &DomainPlan, fault: PlanFault) -> Breach {
+// What is said of a domain that breaks a rule for single domains, after its name; nothing if it doesn't break it.
+fn breach_in(alloc: Global, domain: &DomainPlan, fault: PlanFault) -> Result<String, AllocError> {
+    let mut text = TextWriter::new(alloc);
     match fault {
-        PlanFault::Name => wrong_name(alloc, domain),
-        PlanFault::Range => wrong_range(alloc, domain),
+        PlanFault::Name => write_wrong_name(&mut text, domain),
+        PlanFault::Range => write_wrong_range(&mut text, domain),
         PlanFault::NodeCount if !has_node_count(domain) => {
-            counted(alloc, domain.nodes.len(), "nodes", "1 to 8")
+            write_count(&mut text, domain.nodes.len(), " nodes, and 1 to 8");
         }
-        PlanFault::Memory => wrong_memory(alloc, domain),
-        PlanFault::Port => wrong_port(alloc, domain),
-        PlanFault::PortTwice => port_twice(alloc, domain),
-        PlanFault::HostCount => wrong_hosts(alloc, domain),
-        PlanFault::UnwiredNode => unwired_node(alloc, domain),
+        PlanFault::Memory => write_wrong_memory(&mut text, domain),
+        PlanFault::Port => {
+            write_wrong_port(&mut text, count_of(domain), uses_of(alloc, domain)?.as_slice());
+        }
+        PlanFault::PortTwice => write_port_twice(&mut text, uses_of(alloc, domain)?.as_slice()),
+        PlanFault::HostCount => write_wrong_hosts(&mut text, domain),
+        PlanFault::UnwiredNode => write_unwired_node(&mut text, domain),
         PlanFault::Limit if !has_limit(domain) => {
-            let limit = domain.limit;
-            Ok(Some(format!(in alloc;
-                ": the limit {limit} isn't 1 to 1099511627776 recorded events"
-            )?))
+            text.push(": the limit ");
+            text.push_signed(domain.limit);
+            text.push(" isn't 1 to 1099511627776 recorded events");
         }
         PlanFault::RangeCount if !has_range_count(domain) => {
-            counted(alloc, domain.ranges.len(), "ranges", "1 to 4")
+            write_count(&mut text, domain.ranges.len(), " ranges, and 1 to 4");
         }
         PlanFault::UserCount if !has_user_count(domain) => {
-            counted(alloc, domain.users.len(), "users", "1 to 4")
+            write_count(&mut text, domain.users.len(), " users, and 1 to 4");
         }
-        _ => Ok(None),
+        _ => {}
     }
+    text.finish()
 }
 
-fn counted(alloc: Global, count: usize, what: &str, possible: &str) -> Breach {
-    Ok(Some(format!(in alloc; " has {count} {what}, and {possible} are possible")?))
+fn write_count(text: &mut TextWriter, count: usize, possible: &str) {
+    write_place(text, " has ", count);
+    text.push(possible);
+    text.push(" are possible");
 }
 
-fn wrong_name(alloc: Global, domain: &DomainPlan) -> Breach {
+fn write_wrong_name(text: &mut TextWriter, domain: &DomainPlan) {
     for (number, user) in domain.users.iter().enumerate() {
         if !is_name(user.name.as_str()) {
-            let mut text = format!(in alloc; ", user {number}: the name \"")?;
-            push_quoted(&mut text, user.name.as_str())?;
-            text.push_str("\" isn't 1 to 32 characters of a to z, 0 to 9 and hyphen")?;
-            return Ok(Some(text));
+            write_place(text, ", user ", number);
+            text.push(": the name \"");
+            write_quoted(text, user.name.as_str());
+            text.push("\" isn't 1 to 32 characters of a to z, 0 to 9 and hyphen");
+            break;
         }
     }
-    Ok(None)
 }
 
-fn wrong_range(alloc: Global, domain: &DomainPlan) -> Breach {
+fn write_wrong_range(text: &mut TextWriter, domain: &DomainPlan) {
     for (number, range) in domain.ranges.iter().enumerate() {
         if !is_range(range) {
-            let RangePlan { first, last } = range;
-            return Ok(Some(format!(in alloc;
-                ", range {number}: {first} to {last} isn't a range of ports, which go from 0 to 31"
-            )?));
+            write_place(text, ", range ", number);
+            text.push(": ");
+            text.push_signed(range.first);
+            text.push(" to ");
+            text.push_signed(range.last);
+            text.push(" isn't a range of ports, which go from 0 to 31");
+            break;
         }
     }
-    Ok(None)
 }
 
-fn wrong_memory(alloc: Global, domain: &DomainPlan) -> Breach {
+fn write_wrong_memory(text: &mut TextWriter, domain: &DomainPlan) {
     for (number, node) in domain.nodes.iter().enumerate() {
         if !is_memory_size(node.memory) {
-            let memory = node.memory;
-            return Ok(Some(format!(in alloc;
-                ", node {number}: a memory of {memory} bytes isn't a multiple of 4 from 2048 to 65536"
-            )?));
+            write_place(text, ", node ", number);
+            text.push(": a memory of ");
+            text.push_signed(node.memory);
+            text.push(" bytes isn't a multiple of 4 from 2048 to 65536");
+            break;
         }
     }
-    Ok(None)
 }
 
-// A virtual port that a domain uses, and the words for what stands on it.
-#[derive(Drop)]
+// What stands on a virtual port: a host of a user, or a link of a node.
+#[derive(Clone, Copy)]
+enum PlannedDevice {
+    Host { user: usize, host: usize },
+    Link { node: usize, link: usize },
+}
+
+fn write_device(text: &mut TextWriter, device: PlannedDevice) {
+    match device {
+        PlannedDevice::Host { user, host } => {
+            write_place(text, "user ", user);
+            write_place(text, "'s host ", host);
+        }
+        PlannedDevice::Link { node, link } => {
+            write_place(text, "node ", node);
+            write_place(text, "'s link ", link);
+        }
+    }
+}
+
+// A virtual port that a domain uses, and what stands on it.
+#[derive(Clone, Copy)]
 struct Use {
     port: i64,
-    device: String,
+    device: PlannedDevice,
 }
 
 // The uses of a domain's ports: its hosts' through its users, and then its wired links'.
@@ -114,7 +151,7 @@ fn uses_of(alloc: Global, domain: &DomainPlan) -> Result<Vec<Use>, AllocError> {
     let mut uses = Vec::new(alloc);
     for (user, plan) in domain.users.iter().enumerate() {
         for (host, port) in plan.hosts.iter().enumerate() {
-            let device = format!(in alloc; "user {user}'s host {host}")?;
+            let device = PlannedDevice::Host { user, host };
             uses.push(Use {
                 port: *port,
                 device,
@@ -124,7 +161,7 @@ fn uses_of(alloc: Global, domain: &DomainPlan) -> Result<Vec<Use>, AllocError> {
     for (node, plan) in domain.nodes.iter().enumerate() {
         for (link, port) in plan.links.iter().enumerate() {
             if is_wired(*port) {
-                let device = format!(in alloc; "node {node}'s link {link}")?;
+                let device = PlannedDevice::Link { node, link };
                 uses.push(Use {
                     port: *port,
                     device,
@@ -143,95 +180,136 @@ fn count_of(domain: &DomainPlan) -> i64 {
     })
 }
 
-fn wrong_port(alloc: Global, domain: &DomainPlan) -> Breach {
-    let count = count_of(domain);
-    for Use { port, device } in &uses_of(alloc, domain)? {
-        if !(0..count).contains(port) {
-            let last = count.saturating_sub(1);
-            return Ok(Some(format!(in alloc;
-                ": {device} is at port {port}, and the domain's virtual ports are 0 to {last}"
-            )?));
+fn write_wrong_port(text: &mut TextWriter, count: i64, uses: &[Use]) {
+    for wrong in uses {
+        if !(0..count).contains(&wrong.port) {
+            text.push(": ");
+            write_device(text, wrong.device);
+            text.push(" is at port ");
+            text.push_signed(wrong.port);
+            text.push(", and the domain's virtual ports are 0 to ");
+            text.push_signed(count.saturating_sub(1));
+            break;
         }
     }
-    Ok(None)
 }
 
-fn port_twice(alloc: Global, domain: &DomainPlan) -> Breach {
-    let uses = uses_of(alloc, domain)?;
+fn write_port_twice(text: &mut TextWriter, uses: &[Use]) {
     for (number, later) in uses.iter().enumerate() {
-        for earlier in &uses.as_slice()[..number] {
-            if earlier.port == later.port {
-                let (first, second, port) = (&earlier.device, &later.device, later.port);
-                return Ok(Some(format!(in alloc;
-                    ": {first} and {second} are both at virtual port {port}, which holds one of them"
-                )?));
-            }
+        if let Some(earlier) = uses[..number].iter().find(|it| it.port == later.port) {
+            text.push(": ");
+            write_device(text, earlier.device);
+            text.push(" and ");
+            write_device(text, later.device);
+            text.push(" are both at virtual port ");
+            text.push_signed(later.port);
+            text.push(", which holds one of them");
+            break;
         }
     }
-    Ok(None)
 }
 
-fn wrong_hosts(alloc: Global, domain: &DomainPlan) -> Breach {
+fn write_wrong_hosts(text: &mut TextWriter, domain: &DomainPlan) {
+    let mut hosts = 0usize;
     for (number, user) in domain.users.iter().enumerate() {
         if user.hosts.is_empty() {
-            let mut text = format!(in alloc; ", user {number}: ")?;
-            push_quoted(&mut text, user.name.as_str())?;
-            text.push_str(" has no host, and needs one at least")?;
-            return Ok(Some(text));
+            write_place(text, ", user ", number);
+            text.push(": ");
+            write_quoted(text, user.name.as_str());
+            text.push(" has no host, and needs one at least");
+            return;
         }
+        hosts = hosts.saturating_add(user.hosts.len());
     }
-    let hosts = domain.users.iter().fold(0usize, |hosts, user| {
-        hosts.saturating_add(user.hosts.len())
-    });
     if hosts > 4 {
-        return counted(alloc, hosts, "hosts", "4 at most");
+        write_count(text, hosts, " hosts, and 4 at most");
     }
-    Ok(None)
 }
 
-fn unwired_node(alloc: Global, domain: &DomainPlan) -> Breach {
+fn write_unwired_node(text: &mut TextWriter, domain: &DomainPlan) {
     for (number, node) in domain.nodes.iter().enumerate() {
         if !has_wired_link(node) {
-            return Ok(Some(format!(in alloc;
-                ", node {number}: no link is wired, and one at least needs a virtual port"
-            )?));
+            write_place(text, ", node ", number);
+            text.push(": no link is wired, and one at least needs a virtual port");
+            break;
         }
     }
-    Ok(None)
 }
 
-// The first two users of the plan with one name.
-fn name_twice(alloc: Global, domains: &[DomainPlan]) -> Breach {
-    let mut earlier: Vec<(usize, usize, &str)> = Vec::new(alloc);
+// A user's name, and where it stands.
+#[derive(Clone, Copy)]
+struct PlannedName<'a> {
+    domain: usize,
+    user: usize,
+    name: &'a str,
+}
+
+fn names_of(alloc: Global, domains: &[DomainPlan]) -> Result<Vec<PlannedName<'_>>, AllocError> {
+    let mut names = Vec::new(alloc);
     for (domain, plan) in domains.iter().enumerate() {
         for (user, user_plan) in plan.users.iter().enumerate() {
             let name = user_plan.name.as_str();
-            if let Some((first, number, _)) = earlier.iter().find(|it| it.2 == name) {
-                return Ok(Some(format!(in alloc;
-                    "domain {domain}, user {user}: the name {name} is that of user {number} of domain {first} already"
-                )?));
-            }
-            earlier.push((domain, user, name))?;
+            names.push(PlannedName { domain, user, name })?;
         }
     }
-    Ok(None)
+    Ok(names)
+}
+
+// The first two users of the plan with one name.
+fn write_name_twice(text: &mut TextWriter, names: &[PlannedName]) {
+    for (number, later) in names.iter().enumerate() {
+        if let Some(earlier) = names[..number].iter().find(|it| it.name == later.name) {
+            write_place(text, "domain ", later.domain);
+            write_place(text, ", user ", later.user);
+            text.push(": the name ");
+            text.push(later.name);
+            write_place(text, " is that of user ", earlier.user);
+            write_place(text, " of domain ", earlier.domain);
+            text.push(" already");
+            break;
+        }
+    }
+}
+
+// A range of ports, and where it stands.
+#[derive(Clone, Copy)]
+struct PlannedRange {
+    domain: usize,
+    number: usize,
+    first: i64,
+    last: i64,
+}
+
+fn ranges_of(alloc: Global, domains: &[DomainPlan]) -> Result<Vec<PlannedRange>, AllocError> {
+    let mut ranges = Vec::new(alloc);
+    for (domain, plan) in domains.iter().enumerate() {
+        for (number, range) in plan.ranges.iter().enumerate() {
+            ranges.push(PlannedRange {
+                domain,
+                number,
+                first: range.first,
+                last: range.last,
+            })?;
+        }
+    }
+    Ok(ranges)
 }
 
 // The first two ranges of the plan that have a port in common.
-fn shared_port(alloc: Global, domains: &[DomainPlan]) -> Breach {
-    let mut earlier: Vec<(usize, usize, &RangePlan)> = Vec::new(alloc);
-    for (domain, plan) in domains.iter().enumerate() {
-        for (number, range) in plan.ranges.iter().enumerate() {
-            for (owner, place, other) in &earlier {
-                let port = range.first.max(other.first);
-                if port <= range.last.min(other.last) {
-                    return Ok(Some(format!(in alloc;
-                        "domain {domain}, range {number}: port {port} is in range {place} of domain {owner} already"
-                    )?));
-                }
+fn write_shared_port(text: &mut TextWriter, ranges: &[PlannedRange]) {
+    for (index, later) in ranges.iter().enumerate() {
+        for earlier in &ranges[..index] {
+            let port = later.first.max(earlier.first);
+            if port <= later.last.min(earlier.last) {
+                write_place(text, "domain ", later.domain);
+                write_place(text, ", range ", later.number);
+                text.push(": port ");
+                text.push_signed(port);
+                write_place(text, " is in range ", earlier.number);
+                write_place(text, " of domain ", earlier.domain);
+                text.push(" already");
+                return;
             }
-            earlier.push((domain, number, range))?;
         }
     }
-    Ok(None)
 }

@@ -1,11 +1,13 @@
 //! The switch of a farm as a drawing.
 ghost use Rattle.std.specs.Prelude.{◌<◌, length};
 
+use self::Piece::{Number, Text};
 use crate::NoMemory;
 use crate::ports::{PortView, port_view};
 use crate::table::write_device;
 use crossbar::{Connection, PORTS, Word};
 use plan_checker::AcceptedPlan;
+use script_text::TextWriter;
 use std::alloc::Global;
 
 /// The width and height of the square of an input and an output, in pixels.
@@ -23,27 +25,47 @@ const LEGEND: u32 = 60;
 ///
 /// `words` are the switch words of the physical outputs, from 0; an output without one is drawn as disconnected.
 pub fn draw(alloc: Global, plan: &AcceptedPlan, words: &[Word]) -> Result<String, NoMemory> {
-    let mut svg = String::new(alloc);
+    let mut svg = TextWriter::new(alloc);
     let side = NAMES + SQUARE * u32::from(PORTS) + 10;
-    let height = side + LEGEND;
-    write!(
-        svg,
-        "<svg xmlns=\"http://www.w3.org/2000/svg\" width=\"{side}\" height=\"{height}\""
-    )?;
-    svg.push_str(" font-family=\"sans-serif\" font-size=\"11\">\n")?;
-    svg.push_str("<rect width=\"100%\" height=\"100%\" fill=\"white\"/>\n")?;
+    push_all(
+        &mut svg,
+        &[
+            Text("<svg xmlns=\"http://www.w3.org/2000/svg\" width=\""),
+            Number(side),
+            Text("\" height=\""),
+            Number(side + LEGEND),
+            Text("\" font-family=\"sans-serif\" font-size=\"11\">\n"),
+            Text("<rect width=\"100%\" height=\"100%\" fill=\"white\"/>\n"),
+        ],
+    );
     for domain in 0..plan.domains() {
-        draw_domain(&mut svg, plan, domain)?;
+        draw_domain(&mut svg, plan, domain);
     }
-    draw_grid(&mut svg)?;
+    draw_grid(&mut svg);
     for (output, word) in (0u8..PORTS).zip(words.iter()) {
         if let Some(connection) = word.connection() {
-            draw_connection(&mut svg, output, connection)?;
+            draw_connection(&mut svg, output, connection);
         }
     }
-    draw_legend(&mut svg, side)?;
-    svg.push_str("</svg>\n")?;
-    Ok(svg)
+    draw_legend(&mut svg, side);
+    svg.push("</svg>\n");
+    svg.finish()
+}
+
+// A piece of the drawing's text.
+#[derive(Clone, Copy)]
+enum Piece<'a> {
+    Text(&'a str),
+    Number(u32),
+}
+
+fn push_all(svg: &mut TextWriter, pieces: &[Piece]) {
+    for piece in pieces {
+        match *piece {
+            Text(text) => svg.push(text),
+            Number(number) => svg.push_decimal(u64::from(number)),
+        }
+    }
 }
 
 // The place at which the column or row of a port begins.
@@ -54,7 +76,7 @@ fn place(port: u8) -> u32
 }
 
 // The squares of a domain, and the names of its ports.
-fn draw_domain(svg: &mut String, plan: &AcceptedPlan, domain: u8) -> Result<(), NoMemory>
+fn draw_domain(svg: &mut TextWriter, plan: &AcceptedPlan, domain: u8)
     requires { domain < length plan.now }
 {
     let numbering = plan.ports(domain);
@@ -63,105 +85,186 @@ fn draw_domain(svg: &mut String, plan: &AcceptedPlan, domain: u8) -> Result<(), 
         let port = port_view(plan, domain, number);
         for column in 0..numbering.count() {
             let (x, y) = (place(numbering.physical(column)), place(port.physical));
-            write!(
-                svg,
-                "<rect x=\"{x}\" y=\"{y}\" width=\"{SQUARE}\" height=\"{SQUARE}\""
-            )?;
-            write!(svg, " fill=\"hsl({hue}, 70%, 88%)\"/>\n")?;
+            draw_square(svg, x, y, hue);
         }
-        draw_name(svg, plan, domain, number, port)?;
+        draw_name(svg, plan, domain, number, port);
     }
-    Ok(())
+}
+
+fn draw_square(svg: &mut TextWriter, x: u32, y: u32, hue: u32) {
+    push_all(
+        svg,
+        &[
+            Text("<rect x=\""),
+            Number(x),
+            Text("\" y=\""),
+            Number(y),
+            Text("\" width=\""),
+            Number(SQUARE),
+            Text("\" height=\""),
+            Number(SQUARE),
+            Text("\" fill=\"hsl("),
+            Number(hue),
+            Text(", 70%, 88%)\"/>\n"),
+        ],
+    );
 }
 
 // The name of a port, beside its row and above its column.
-fn draw_name(
-    svg: &mut String,
-    plan: &AcceptedPlan,
-    domain: u8,
-    number: u8,
-    port: PortView,
-) -> Result<(), NoMemory>
+fn draw_name(svg: &mut TextWriter, plan: &AcceptedPlan, domain: u8, number: u8, port: PortView)
     requires { domain < length plan.now }
 {
     let end = NAMES - 30;
     let middle = place(port.physical) + 13;
-    write!(
+    push_all(
         svg,
-        "<text text-anchor=\"end\" transform=\"translate({end} {middle})\">"
-    )?;
-    write!(svg, "domain {domain} output {number}: ")?;
-    write_device(svg, plan, domain, port.device)?;
-    write!(
+        &[
+            Text("<text text-anchor=\"end\" transform=\"translate("),
+            Number(end),
+            Text(" "),
+            Number(middle),
+            Text(")\">"),
+        ],
+    );
+    push_port_name(svg, domain, " output ", number);
+    write_device(svg, plan, domain, port.device);
+    push_all(
         svg,
-        "</text>\n<text text-anchor=\"start\" transform=\"translate({middle} {end}) rotate(-90)\">"
-    )?;
-    write!(svg, "domain {domain} input {number}: ")?;
-    write_device(svg, plan, domain, port.device)?;
-    svg.push_str("</text>\n")
+        &[
+            Text("</text>\n<text text-anchor=\"start\" transform=\"translate("),
+            Number(middle),
+            Text(" "),
+            Number(end),
+            Text(") rotate(-90)\">"),
+        ],
+    );
+    push_port_name(svg, domain, " input ", number);
+    write_device(svg, plan, domain, port.device);
+    svg.push("</text>\n");
+}
+
+fn push_port_name(svg: &mut TextWriter, domain: u8, what: &str, number: u8) {
+    push_all(
+        svg,
+        &[
+            Text("domain "),
+            Number(u32::from(domain)),
+            Text(what),
+            Number(u32::from(number)),
+            Text(": "),
+        ],
+    );
 }
 
 // The lines between the squares, and the numbers of the ports.
-fn draw_grid(svg: &mut String) -> Result<(), NoMemory> {
+fn draw_grid(svg: &mut TextWriter) {
     let end = place(PORTS);
     for line in 0..=PORTS {
         let at = place(line);
-        write!(
+        push_all(
             svg,
-            "<path d=\"M{NAMES} {at}H{end}M{at} {NAMES}V{end}\" stroke=\"#bbb\"/>\n"
-        )?;
+            &[
+                Text("<path d=\"M"),
+                Number(NAMES),
+                Text(" "),
+                Number(at),
+                Text("H"),
+                Number(end),
+                Text("M"),
+                Number(at),
+                Text(" "),
+                Number(NAMES),
+                Text("V"),
+                Number(end),
+                Text("\" stroke=\"#bbb\"/>\n"),
+            ],
+        );
     }
     for port in 0..PORTS {
         let middle = place(port) + SQUARE / 2;
-        let (row, edge) = (middle + 4, NAMES - 8);
-        write!(
-            svg,
-            "<text text-anchor=\"end\" x=\"{edge}\" y=\"{row}\" fill=\"#666\">{port}</text>\n"
-        )?;
-        write!(
-            svg,
-            "<text text-anchor=\"middle\" x=\"{middle}\" y=\"{edge}\" fill=\"#666\">{port}</text>\n"
-        )?;
+        draw_number(svg, "end", NAMES - 8, middle + 4, port);
+        draw_number(svg, "middle", middle, NAMES - 8, port);
     }
-    Ok(())
+}
+
+// The number of a port, at a row or a column.
+fn draw_number(svg: &mut TextWriter, anchor: &str, x: u32, y: u32, port: u8) {
+    push_all(
+        svg,
+        &[
+            Text("<text text-anchor=\""),
+            Text(anchor),
+            Text("\" x=\""),
+            Number(x),
+            Text("\" y=\""),
+            Number(y),
+            Text("\" fill=\"#666\">"),
+            Number(u32::from(port)),
+            Text("</text>\n"),
+        ],
+    );
 }
 
 // A dot where an input drives an output.
-fn draw_connection(svg: &mut String, output: u8, connection: Connection) -> Result<(), NoMemory> {
+fn draw_connection(svg: &mut TextWriter, output: u8, connection: Connection) {
     let Connection { input, ready } = connection;
     let (x, y) = (place(input) + SQUARE / 2, place(output) + SQUARE / 2);
-    let (fill, state) = if ready {
-        ("#222", "ready")
-    } else {
-        ("white", "not ready")
-    };
-    write!(
+    draw_dot(svg, x, y, ready);
+    push_all(
         svg,
-        "<circle cx=\"{x}\" cy=\"{y}\" r=\"5\" stroke=\"#222\" stroke-width=\"2\" fill=\"{fill}\">"
-    )?;
-    write!(
-        svg,
-        "<title>input {input} drives output {output}, {state}</title></circle>\n"
-    )
+        &[
+            Text("><title>input "),
+            Number(u32::from(input)),
+            Text(" drives output "),
+            Number(u32::from(output)),
+            Text(if ready { ", ready" } else { ", not ready" }),
+            Text("</title></circle>\n"),
+        ],
+    );
 }
 
-fn draw_legend(svg: &mut String, top: u32) -> Result<(), NoMemory> {
-    let (dots, words) = (top.saturating_add(10), top.saturating_add(14));
-    let (second_dot, second_words) = (top.saturating_add(32), top.saturating_add(36));
-    write!(
+// A dot but for its end: a full one if the output is ready.
+fn draw_dot(svg: &mut TextWriter, x: u32, y: u32, ready: bool) {
+    push_all(
         svg,
-        "<circle cx=\"20\" cy=\"{dots}\" r=\"5\" stroke=\"#222\" stroke-width=\"2\" fill=\"#222\"/>\n"
-    )?;
-    write!(
+        &[
+            Text("<circle cx=\""),
+            Number(x),
+            Text("\" cy=\""),
+            Number(y),
+            Text("\" r=\"5\" stroke=\"#222\" stroke-width=\"2\" fill=\""),
+            Text(if ready { "#222" } else { "white" }),
+            Text("\""),
+        ],
+    );
+}
+
+fn draw_legend(svg: &mut TextWriter, top: u32) {
+    draw_legend_line(
         svg,
-        "<text x=\"34\" y=\"{words}\">the input of the column drives the output of the row, which is ready</text>\n"
-    )?;
-    write!(
+        top.saturating_add(10),
+        true,
+        "the input of the column drives the output of the row, which is ready",
+    );
+    draw_legend_line(
         svg,
-        "<circle cx=\"20\" cy=\"{second_dot}\" r=\"5\" stroke=\"#222\" stroke-width=\"2\" fill=\"white\"/>\n"
-    )?;
-    write!(
+        top.saturating_add(32),
+        false,
+        "the same, but the output isn't ready",
+    );
+}
+
+// A dot and what it means.
+fn draw_legend_line(svg: &mut TextWriter, y: u32, ready: bool, meaning: &str) {
+    draw_dot(svg, 20, y, ready);
+    push_all(
         svg,
-        "<text x=\"34\" y=\"{second_words}\">the same, but the output isn't ready</text>\n"
-    )
+        &[
+            Text("/>\n<text x=\"34\" y=\""),
+            Number(y.saturating_add(4)),
+            Text("\">"),
+            Text(meaning),
+            Text("</text>\n"),
+        ],
+    );
 }

@@ -1,33 +1,35 @@
 //! The words for the places of a plan.
 
 use plan_checker::DomainPlan;
-use std::alloc::{AllocError, Global};
+use script_text::TextWriter;
 
-/// A domain by its number, with the names of its users: `domain 0 (ann, bob)`.
-pub fn domain_name(
-    alloc: Global,
-    number: usize,
-    domain: &DomainPlan,
-) -> Result<String, AllocError> {
-    let mut text = format!(in alloc; "domain {number}")?;
+/// Appends a domain by its number, with the names of its users: `domain 0 (ann, bob)`.
+pub fn write_domain_name(text: &mut TextWriter, number: usize, domain: &DomainPlan) {
+    write_place(text, "domain ", number);
     for (user, plan) in domain.users.iter().enumerate() {
-        text.push_str(if user == 0 { " (" } else { ", " })?;
-        push_quoted(&mut text, plan.name.as_str())?;
+        text.push(if user == 0 { " (" } else { ", " });
+        write_quoted(text, plan.name.as_str());
     }
     if !domain.users.is_empty() {
-        text.push_str(")")?;
+        text.push(")");
     }
-    Ok(text)
+}
+
+/// Appends what a place is, and its number.
+pub fn write_place(text: &mut TextWriter, what: &str, number: usize) {
+    text.push(what);
+    text.push_decimal(number as u64);
 }
 
 /// Appends a name that may hold anything. What isn't a printable character of ASCII is escaped.
-pub fn push_quoted(text: &mut String, name: &str) -> Result<(), AllocError> {
+pub fn write_quoted(text: &mut TextWriter, name: &str) {
     for letter in name.chars() {
         if letter.is_ascii_graphic() || letter == ' ' {
-            text.push(letter)?;
+            text.push_letter(letter);
         } else {
-            write!(text, "\\u{{{:x}}}", u32::from(letter))?;
+            text.push("\\u{");
+            text.push_hexadecimal(u64::from(u32::from(letter)));
+            text.push("}");
         }
     }
-    Ok(())
 }

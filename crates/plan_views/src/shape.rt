@@ -1,11 +1,9 @@
 //! Where a text isn't TOML, or a document isn't a plan's.
 
-use crate::names::push_quoted;
+use crate::names::{write_place, write_quoted};
+use script_text::TextWriter;
 use std::alloc::{AllocError, Global};
 use toml::{Table, Value};
-
-/// What is said of the first place that is wrong, if one is.
-type Misfit = Result<Option<String>, AllocError>;
 
 /// The kinds of values that a field of a plan may have.
 #[derive(Clone, Copy)]
@@ -69,8 +67,8 @@ const USER: [Field; 2] = [("name", Kind::Text), ("host", Kind::Integers)];
 
 const NODE: [Field; 2] = [("memory", Kind::Integer), ("links", Kind::FourIntegers)];
 
-/// Where the text isn't UTF-8 or isn't TOML.
-pub fn unread(alloc: Global, text: &[u8]) -> Misfit {
+/// Where the text isn't UTF-8 or isn't TOML; `None` if it is a document.
+pub fn unread(alloc: Global, text: &[u8]) -> Result<Option<String>, AllocError> {
     let Ok(text) = std::str::from_utf8(text) else {
         return Ok(Some(String::from_str(alloc, "the text isn't UTF-8")?));
     };
@@ -79,35 +77,62 @@ pub fn unread(alloc: Global, text: &[u8]) -> Misfit {
         Err(error) if error.is_memory() => Err(AllocError),
         Err(error) => {
             let told = format!(in alloc; "{error}")?;
-            let mut reason = String::new(alloc);
-            for line in told.lines() {
-                if !reason.is_empty() {
-                    reason.push_str(": ")?;
-                }
-                reason.push_str(line)?;
-            }
-            Ok(Some(reason))
+            Ok(Some(joined(alloc, told.as_str())?))
         }
     }
 }
 
+// The lines of a text as one.
+fn joined(alloc: Global, text: &str) -> Result<String, AllocError> {
+    let mut joined = TextWriter::new(alloc);
+    for line in text.lines() {
+        if !joined.is_empty() {
+            joined.push(": ");
+        }
+        joined.push(line);
+    }
+    joined.finish()
+}
+
 /// The first field of a document that a plan doesn't have so: one that is missing, unknown or of a wrong kind.
-pub fn misshapen(alloc: Global, text: &[u8]) -> Misfit {
+pub fn misshapen(alloc: Global, text: &[u8]) -> Result<Option<String>, AllocError> {
     let Ok(text) = std::str::from_utf8(text) else {
         return Ok(None);
     };
     match toml::table_from_str(alloc, text) {
-        Ok(document) => misfit_of_document(alloc, &document),
+        Ok(document) => {
+            let mut misfit = TextWriter::new(alloc);
+            write_document_misfit(&mut misfit, &document);
+            let misfit = misfit.finish()?;
+            Ok(if misfit.is_empty() { None } else { Some(misfit) })
+        }
         Err(error) if error.is_memory() => Err(AllocError),
         Err(_) => Ok(None),
     }
 }
 
-fn misfit_of_document(alloc: Global, document: &Table) -> Misfit {
-    let found = misfit_of_table(alloc, document, &PLAN, "the plan")?;
-    if found.is_some() {
-        return Ok(found);
+// Where a table stands: the plan, a domain, or a user or a node of one.
+#[derive(Clone, Copy)]
+enum Place {
+    Plan,
+    Domain(usize),
+    Item(usize, &'static str, usize),
+}
+
+fn write_table_place(misfit: &mut TextWriter, place: Place) {
+    match place {
+        Place::Plan => misfit.push("the plan"),
+        Place::Domain(domain) => write_place(misfit, "domain ", domain),
+        Place::Item(domain, what, number) => {
+            write_place(misfit, "domain ", domain);
+            write_place(misfit, what, number);
+        }
     }
+}
+
+// Writes the first misfit of a document, if it has one.
+fn write_document_misfit(misfit: &mut TextWriter, document: &Table) {
+    write_table_misfit(misfit, document, &PLAN, Place::Plan);
     let version = document
         .get("version")
         .and_then(Value::as_integer)
@@ -117,78 +142,86 @@ fn misfit_of_document(alloc: Global, document: &Table) -> Misfit {
         2 => &DOMAIN_TWO,
         3 => &DOMAIN_THREE,
         _ => {
-            return Ok(Some(format!(in alloc;
-                "the version is {version}, and 1, 2 and 3 are known"
-            )?));
+            if misfit.is_empty() {
+                misfit.push("the version is ");
+                misfit.push_signed(version);
+                misfit.push(", and 1, 2 and 3 are known");
+            }
+            return;
         }
     };
-    let domains = document.get("domain").and_then(Value::as_array);
-    let Some(domains) = domains else {
-        return Ok(None);
-    };
-    for (number, domain) in domains.iter().enumerate() {
-        let place = format!(in alloc; "domain {number}")?;
-        let found = misfit_of_domain(alloc, domain, fields, place.as_str())?;
-        if found.is_some() {
-            return Ok(found);
-        }
+    for (number, domain) in items_of(document.get("domain")).iter().enumerate() {
+        write_value_misfit(misfit, domain, fields, Place::Domain(number));
+        write_items_misfit(misfit, domain, &USER, "user", number);
+        write_items_misfit(misfit, domain, &NODE, "node", number);
     }
-    Ok(None)
 }
 
-// What is wrong in a domain: in its fields, and then in those of its users and nodes.
-fn misfit_of_domain(alloc: Global, domain: &Value, fields: &[Field], place: &str) -> Misfit {
-    let found = misfit_of_fields(alloc, domain, fields, place)?;
-    if found.is_some() {
-        return Ok(found);
+// The items of an array; none if the value is something else.
+fn items_of(value: Option<&Value>) -> &[Value] {
+    match value.and_then(Value::as_array) {
+        Some(items) => items.as_slice(),
+        None => &[],
     }
-    for (name, fields) in [("user", &USER), ("node", &NODE)] {
-        let Some(items) = domain.get(name).and_then(Value::as_array) else {
-            continue;
-        };
-        for (number, item) in items.iter().enumerate() {
-            let place = format!(in alloc; "{place}, {name} {number}")?;
-            let found = misfit_of_fields(alloc, item, fields, place.as_str())?;
-            if found.is_some() {
-                return Ok(found);
+}
+
+// Writes the first misfit of a domain's users or nodes, if none is written yet.
+fn write_items_misfit(
+    misfit: &mut TextWriter,
+    domain: &Value,
+    fields: &[Field],
+    name: &'static str,
+    number: usize,
+) {
+    let what = if name == "user" { ", user " } else { ", node " };
+    for (item_number, item) in items_of(domain.get(name)).iter().enumerate() {
+        write_value_misfit(misfit, item, fields, Place::Item(number, what, item_number));
+    }
+}
+
+// Writes the first misfit of a value that is to be a table, if none is written yet.
+fn write_value_misfit(misfit: &mut TextWriter, value: &Value, fields: &[Field], place: Place) {
+    match value.as_table() {
+        Some(table) => write_table_misfit(misfit, table, fields, place),
+        None => {
+            if misfit.is_empty() {
+                write_table_place(misfit, place);
+                misfit.push(" isn't a table");
             }
         }
     }
-    Ok(None)
 }
 
-// The first field that a table lacks, has of a wrong kind or has too much.
-fn misfit_of_fields(alloc: Global, value: &Value, fields: &[Field], place: &str) -> Misfit {
-    let Some(table) = value.as_table() else {
-        return Ok(Some(format!(in alloc; "{place} isn't a table")?));
-    };
-    misfit_of_table(alloc, table, fields, place)
-}
-
-fn misfit_of_table(alloc: Global, table: &Table, fields: &[Field], place: &str) -> Misfit {
+// Writes the first field that a table lacks, has of a wrong kind or has too much, if no misfit is written yet.
+fn write_table_misfit(misfit: &mut TextWriter, table: &Table, fields: &[Field], place: Place) {
     for (name, kind) in fields {
-        let words = kind.words();
+        if !misfit.is_empty() {
+            return;
+        }
         match table.get(*name) {
-            None => {
-                return Ok(Some(format!(in alloc;
-                    "{place}: the field `{name}` is missing, {words}"
-                )?));
-            }
+            None => write_field_misfit(misfit, place, name, "` is missing, ", *kind),
             Some(value) if !has_kind(value, *kind) => {
-                return Ok(Some(format!(in alloc; "{place}: the field `{name}` isn't {words}")?));
+                write_field_misfit(misfit, place, name, "` isn't ", *kind);
             }
             Some(_) => {}
         }
     }
     for name in table.keys() {
-        if !fields.iter().any(|field| name.as_str() == field.0) {
-            let mut text = format!(in alloc; "{place}: there is no field `")?;
-            push_quoted(&mut text, name.as_str())?;
-            text.push_str("`")?;
-            return Ok(Some(text));
+        if misfit.is_empty() && !fields.iter().any(|field| name.as_str() == field.0) {
+            write_table_place(misfit, place);
+            misfit.push(": there is no field `");
+            write_quoted(misfit, name.as_str());
+            misfit.push("`");
         }
     }
-    Ok(None)
+}
+
+fn write_field_misfit(misfit: &mut TextWriter, place: Place, name: &str, wrong: &str, kind: Kind) {
+    write_table_place(misfit, place);
+    misfit.push(": the field `");
+    misfit.push(name);
+    misfit.push(wrong);
+    misfit.push(kind.words());
 }
 
 fn has_kind(value: &Value, kind: Kind) -> bool {

@@ -6,78 +6,95 @@ use crate::ports::{PortView, port_view};
 use crossbar::PortRange;
 use domain_core::Device;
 use plan_checker::{AcceptedPlan, Part};
+use script_text::TextWriter;
 use std::alloc::Global;
 
 /// Describes each domain of a plan: its users, physical ports, limit and nodes, and then a row for each virtual port with
 /// the physical port and the device that is joined there.
 pub fn table_of(alloc: Global, plan: &AcceptedPlan) -> Result<String, NoMemory> {
-    let mut text = String::new(alloc);
+    let mut text = TextWriter::new(alloc);
     for domain in 0..plan.domains() {
         if domain > 0 {
-            text.push_str("\n")?;
+            text.push("\n");
         }
-        write_heading(&mut text, plan, domain)?;
-        write_ports(&mut text, plan, domain)?;
+        write_heading(&mut text, plan, domain);
+        write_ports(&mut text, plan, domain);
     }
-    Ok(text)
+    text.finish()
 }
 
-fn write_heading(text: &mut String, plan: &AcceptedPlan, domain: u8) -> Result<(), NoMemory>
+fn write_heading(text: &mut TextWriter, plan: &AcceptedPlan, domain: u8)
     requires { domain < length plan.now }
 {
     let part = plan.part(domain);
-    write!(text, "domain {domain}\nusers:")?;
+    text.push("domain ");
+    text.push_decimal(u64::from(domain));
+    text.push("\nusers:");
     for user in 0..plan.users(domain) {
-        text.push_str(if user == 0 { " " } else { ", " })?;
-        text.push_str(plan.name(domain, user))?;
+        text.push(if user == 0 { " " } else { ", " });
+        text.push(plan.name(domain, user));
     }
-    text.push_str("\nports:")?;
+    text.push("\nports:");
     for (number, range) in plan.ranges(domain).into_iter().flatten().enumerate() {
-        text.push_str(if number == 0 { " " } else { ", " })?;
-        let PortRange { first, last } = range;
-        write!(text, "{first} to {last}")?;
+        text.push(if number == 0 { " " } else { ", " });
+        write_range(text, range);
     }
-    write!(text, "\nlimit: {} events\n", part.limit())?;
+    text.push("\nlimit: ");
+    text.push_decimal(part.limit());
+    text.push(" events\n");
     for (number, node) in part.nodes().iter().enumerate() {
-        write!(text, "node {number}: {} bytes\n", node.memory)?;
+        text.push("node ");
+        text.push_decimal(number as u64);
+        text.push(": ");
+        text.push_decimal(u64::from(node.memory));
+        text.push(" bytes\n");
     }
-    Ok(())
 }
 
-fn write_ports(text: &mut String, plan: &AcceptedPlan, domain: u8) -> Result<(), NoMemory>
+fn write_range(text: &mut TextWriter, range: PortRange) {
+    text.push_decimal(u64::from(range.first));
+    text.push(" to ");
+    text.push_decimal(u64::from(range.last));
+}
+
+fn write_ports(text: &mut TextWriter, plan: &AcceptedPlan, domain: u8)
     requires { domain < length plan.now }
 {
-    text.push_str("virtual  physical  device\n")?;
+    text.push("virtual  physical  device\n");
     for number in 0..plan.ports(domain).count() {
         let PortView { physical, device } = port_view(plan, domain, number);
-        write!(text, "{number:7}  {physical:8}  ")?;
-        write_device(text, plan, domain, device)?;
-        text.push_str("\n")?;
+        let written = write!(text.as_mut_string(), "{number:7}  {physical:8}  ");
+        text.note(written);
+        write_device(text, plan, domain, device);
+        text.push("\n");
     }
-    Ok(())
 }
 
 /// Appends the device that is joined to a port of a domain, with the owner's name if it is a host; `-` if there is none.
 pub fn write_device(
-    text: &mut String,
+    text: &mut TextWriter,
     plan: &AcceptedPlan,
     domain: u8,
     device: Option<Device>,
-) -> Result<(), NoMemory>
+)
     requires { domain < length plan.now }
 {
     match device {
-        None => text.push_str("-"),
-        Some(Device::Link { node, link }) => write!(text, "node {node}, link {}", link as u8),
+        None => text.push("-"),
+        Some(Device::Link { node, link }) => {
+            text.push("node ");
+            text.push_decimal(u64::from(node));
+            text.push(", link ");
+            text.push_decimal(link as u64);
+        }
         Some(Device::Host(host)) => {
-            write!(text, "host {host}")?;
-            match owner(plan.part(domain), host) {
-                Some(user) if user < plan.users(domain) => write!(
-                    text,
-                    " of {}",
-                    plan.name(domain, user)
-                ),
-                _ => Ok(()),
+            text.push("host ");
+            text.push_decimal(u64::from(host));
+            if let Some(user) = owner(plan.part(domain), host) {
+                if user < plan.users(domain) {
+                    text.push(" of ");
+                    text.push(plan.name(domain, user));
+                }
             }
         }
     }
