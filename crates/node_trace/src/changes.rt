@@ -5,29 +5,51 @@ use crate::snapshot::Snapshot;
 use bootstrap::Node;
 use link_channels::{FourLinks, Link};
 use node_memory::{MEMORY_START, Memory};
-use os_link::LinkEnd;
-use std::alloc::AllocError;
+use script_text::TextWriter;
 use t414_step::Cpu;
 
 /// The most words that a memory has.
 const MOST_WORDS: u32 = 16_384;
 
+/// A value of a node.
+#[derive(Clone, Copy, PartialEq, Eq)]
+enum Value {
+    Word(u32),
+    Count(u32),
+    Flag(bool),
+    Byte(Option<u8>),
+    /// Where a message goes on, and how many bytes are left.
+    Message(u32, u32),
+}
+
+/// A value with its name.
+#[derive(Clone, Copy)]
+struct Field {
+    name: &'static str,
+    value: Value,
+}
+
+impl Field {
+    fn new(name: &'static str, value: Value) -> Field {
+        Field { name, value }
+    }
+}
+
 /// Writes a blank, a name and a value for each thing that changed. After so many bytes of instructions Iptr is expected
 /// that much further, the count of bytes that much greater, to 1,024, and O to be 0: they are left out where they are so.
-pub fn write_changes(
-    text: &mut String,
-    before: &Snapshot,
-    node: &Node,
-    bytes: u32,
-) -> Result<(), AllocError> {
+pub fn write_changes(text: &mut TextWriter, before: &Snapshot, node: &Node, bytes: u32) {
     if let Some(new) = node.registers() {
         match before.registers {
-            Some(old) => write_registers(text, &after_bytes(old, bytes), &new, false)?,
-            None => write_all_registers(text, &new)?,
+            Some(old) => write_differing(
+                text,
+                &register_fields(&after_bytes(old, bytes)),
+                &register_fields(&new),
+            ),
+            None => write_all_registers(text, &new),
         }
     }
-    write_memory(text, &before.memory, node.memory())?;
-    write_links(text, &before.links, &node.links().four())
+    write_memory(text, &before.memory, node.memory());
+    write_links(text, &before.links, &node.links().four());
 }
 
 // The registers after so many bytes of instructions that change no others.
@@ -44,139 +66,96 @@ fn after_bytes(registers: Cpu, bytes: u32) -> Cpu {
 }
 
 /// Writes all registers.
-pub fn write_all_registers(text: &mut String, registers: &Cpu) -> Result<(), AllocError> {
-    write_registers(text, registers, registers, true)
-}
-
-// Writes the registers that differ from others, or all.
-fn write_registers(text: &mut String, old: &Cpu, new: &Cpu, all: bool) -> Result<(), AllocError> {
-    let words = [
-        ("Iptr", old.instruction, new.instruction),
-        ("W", old.workspace, new.workspace),
-        ("A", old.a, new.a),
-        ("B", old.b, new.b),
-        ("C", old.c, new.c),
-        ("O", old.operand, new.operand),
-    ];
-    write_words(text, &words, all)?;
-    write_count(text, "bytes", all || old.bytes != new.bytes, new.bytes)?;
-    let words = [
-        ("Front", old.queue.front, new.queue.front),
-        ("Back", old.queue.back, new.queue.back),
-    ];
-    write_words(text, &words, all)?;
-    write_flags(text, old, new, all)
-}
-
-fn write_flags(text: &mut String, old: &Cpu, new: &Cpu, all: bool) -> Result<(), AllocError> {
-    write_flag(text, "Error", all || old.error != new.error, new.error)?;
-    let differs = all || old.halt_on_error != new.halt_on_error;
-    write_flag(text, "HaltOnError", differs, new.halt_on_error)?;
-    write_flag(
-        text,
-        "running",
-        all || old.running != new.running,
-        new.running,
-    )
-}
-
-// Writes the words that differ, or all: each has a name, and what it was and is.
-fn write_words(text: &mut String, words: &[(&str, u32, u32)], all: bool) -> Result<(), AllocError> {
-    for (name, old, new) in words {
-        write_word(text, name, all || old != new, *new)?;
-    }
-    Ok(())
-}
-
-fn write_word(text: &mut String, name: &str, differs: bool, new: u32) -> Result<(), AllocError> {
-    if differs {
-        write!(text, " {name} {new:08x}")?;
-    }
-    Ok(())
-}
-
-fn write_count(text: &mut String, name: &str, differs: bool, new: u32) -> Result<(), AllocError> {
-    if differs {
-        write!(text, " {name} {new}")?;
-    }
-    Ok(())
-}
-
-fn write_flag(text: &mut String, name: &str, differs: bool, new: bool) -> Result<(), AllocError> {
-    write_count(text, name, differs, u32::from(new))
-}
-
-fn write_byte(
-    text: &mut String,
-    name: &str,
-    differs: bool,
-    new: Option<u8>,
-) -> Result<(), AllocError> {
-    match new {
-        Some(byte) if differs => write!(text, " {name} {byte:02x}"),
-        None if differs => write!(text, " {name} -"),
-        _ => Ok(()),
+pub fn write_all_registers(text: &mut TextWriter, registers: &Cpu) {
+    for field in &register_fields(registers) {
+        write_field(text, *field);
     }
 }
 
-fn write_memory(text: &mut String, old: &Memory, new: &Memory) -> Result<(), AllocError> {
+fn register_fields(registers: &Cpu) -> [Field; 12] {
+    [
+        Field::new("Iptr", Value::Word(registers.instruction)),
+        Field::new("W", Value::Word(registers.workspace)),
+        Field::new("A", Value::Word(registers.a)),
+        Field::new("B", Value::Word(registers.b)),
+        Field::new("C", Value::Word(registers.c)),
+        Field::new("O", Value::Word(registers.operand)),
+        Field::new("bytes", Value::Count(registers.bytes)),
+        Field::new("Front", Value::Word(registers.queue.front)),
+        Field::new("Back", Value::Word(registers.queue.back)),
+        Field::new("Error", Value::Flag(registers.error)),
+        Field::new("HaltOnError", Value::Flag(registers.halt_on_error)),
+        Field::new("running", Value::Flag(registers.running)),
+    ]
+}
+
+fn link_fields(link: &Link) -> [Field; 9] {
+    let (input, output) = (&link.end.input, &link.end.output);
+    [
+        Field::new("sends", Value::Byte(link.end.latch.byte)),
+        Field::new("acknowledges", Value::Flag(link.end.latch.acknowledge)),
+        Field::new("holds", Value::Byte(input.buffer)),
+        Field::new("overruns", Value::Count(input.overruns)),
+        Field::new("awaits", Value::Flag(output.awaits)),
+        Field::new("acknowledged", Value::Flag(output.acknowledged)),
+        Field::new("input", Value::Message(link.input_pointer, link.input_count)),
+        Field::new("output", Value::Message(link.output_pointer, link.output_count)),
+        Field::new("watched", Value::Flag(link.watched)),
+    ]
+}
+
+// Writes the new fields whose values differ from the old.
+fn write_differing(text: &mut TextWriter, old: &[Field], new: &[Field]) {
+    for (old, new) in old.iter().zip(new.iter()) {
+        if old.value != new.value {
+            write_field(text, *new);
+        }
+    }
+}
+
+fn write_field(text: &mut TextWriter, field: Field) {
+    text.push(" ");
+    text.push(field.name);
+    text.push(" ");
+    match field.value {
+        Value::Word(word) => text.push_word(word),
+        Value::Count(count) => text.push_decimal(u64::from(count)),
+        Value::Flag(flag) => text.push(if flag { "1" } else { "0" }),
+        Value::Byte(Some(byte)) => text.push_byte(byte),
+        Value::Byte(None) => text.push("-"),
+        Value::Message(pointer, count) => {
+            text.push_word(pointer);
+            text.push(" ");
+            text.push_decimal(u64::from(count));
+        }
+    }
+}
+
+fn write_memory(text: &mut TextWriter, old: &Memory, new: &Memory) {
     for index in 0..MOST_WORDS {
         let address = MEMORY_START.wrapping_add(index.wrapping_mul(4));
         let Ok(word) = new.word(address) else {
             break;
         };
         if old.word(address) != Ok(word) {
-            write!(text, " word {address:08x} {word:08x}")?;
+            text.push(" word ");
+            text.push_word(address);
+            text.push(" ");
+            text.push_word(word);
         }
     }
-    Ok(())
 }
 
-fn write_links(text: &mut String, old: &FourLinks, new: &FourLinks) -> Result<(), AllocError> {
-    write_link(text, "0", &old.zero, &new.zero)?;
-    write_link(text, "1", &old.one, &new.one)?;
-    write_link(text, "2", &old.two, &new.two)?;
-    write_link(text, "3", &old.three, &new.three)
+fn write_links(text: &mut TextWriter, old: &FourLinks, new: &FourLinks) {
+    write_link(text, " link 0", &old.zero, &new.zero);
+    write_link(text, " link 1", &old.one, &new.one);
+    write_link(text, " link 2", &old.two, &new.two);
+    write_link(text, " link 3", &old.three, &new.three);
 }
 
-fn write_link(text: &mut String, number: &str, old: &Link, new: &Link) -> Result<(), AllocError> {
-    if new.same(old) {
-        return Ok(());
+fn write_link(text: &mut TextWriter, name: &str, old: &Link, new: &Link) {
+    if !new.same(old) {
+        text.push(name);
+        write_differing(text, &link_fields(old), &link_fields(new));
     }
-    write!(text, " link {number}")?;
-    write_end(text, &old.end, &new.end)?;
-    let was = (old.input_pointer, old.input_count);
-    write_message(text, "input", was, (new.input_pointer, new.input_count))?;
-    let was = (old.output_pointer, old.output_count);
-    write_message(text, "output", was, (new.output_pointer, new.output_count))?;
-    write_flag(text, "watched", old.watched != new.watched, new.watched)
-}
-
-// Writes where a message goes on and how many bytes are left, where that differs.
-fn write_message(
-    text: &mut String,
-    name: &str,
-    old: (u32, u32),
-    new: (u32, u32),
-) -> Result<(), AllocError> {
-    if old == new {
-        return Ok(());
-    }
-    let (pointer, count) = new;
-    write!(text, " {name} {pointer:08x} {count}")
-}
-
-fn write_end(text: &mut String, old: &LinkEnd, new: &LinkEnd) -> Result<(), AllocError> {
-    let (sent, sends) = (old.latch.byte, new.latch.byte);
-    write_byte(text, "sends", sent != sends, sends)?;
-    let (had, has) = (old.latch.acknowledge, new.latch.acknowledge);
-    write_flag(text, "acknowledges", had != has, has)?;
-    let (held, holds) = (old.input.buffer, new.input.buffer);
-    write_byte(text, "holds", held != holds, holds)?;
-    let (few, many) = (old.input.overruns, new.input.overruns);
-    write_count(text, "overruns", few != many, many)?;
-    let (awaited, awaits) = (old.output.awaits, new.output.awaits);
-    write_flag(text, "awaits", awaited != awaits, awaits)?;
-    let (was, is) = (old.output.acknowledged, new.output.acknowledged);
-    write_flag(text, "acknowledged", was != is, is)
 }

@@ -1,10 +1,10 @@
 //! The lines of a text, each read as what it asks for.
 
-use crate::codes::{push_bytes, read_instruction};
-use crate::settings::Settings;
-use crate::words::{Refused, Words};
-use bootstrap::{LinkNumber, Packet};
-use std::alloc::Global;
+use crate::codes::read_instruction;
+use crate::settings::{Settings, read_link};
+use bootstrap::{LinkNumber, Packet, is_memory_size};
+use script_text::{WordFault, Words, value_named};
+use std::alloc::{AllocError, Global};
 
 /// What a line asks for.
 #[derive(Drop)]
@@ -17,14 +17,23 @@ pub enum Command {
     Set(Settings),
     /// Instructions on a node of their own.
     Try(Settings),
+    /// The instructions that bytes spell.
+    Decode(Vec<u8>),
+    /// Something that is seen of the node.
+    Ask(Query),
     /// Steps, each told.
     Step(u64),
-    /// Steps up to one that would not be recorded, told together.
-    Run(u64),
-    /// A packet arrives at a link.
-    Deliver(LinkNumber, Packet),
     /// Takes the packet that leaves a link next.
     Take(LinkNumber),
+    /// A host asks by link 0 for a word of memory.
+    Peek(u32),
+    /// Something whose changes are told.
+    Change(Change),
+}
+
+/// What is asked of a node and changes nothing.
+#[derive(Clone, Copy)]
+pub enum Query {
     /// What is seen of the node.
     Look,
     /// Whether the next Step would not be recorded.
@@ -33,7 +42,18 @@ pub enum Command {
     Registers,
     /// A word of memory.
     Word(u32),
+}
+
+/// What is done to a node.
+#[derive(Drop)]
+pub enum Change {
+    /// Steps up to one that would not be recorded, told together.
+    Run(u64),
+    /// A packet arrives at a link.
+    Deliver(LinkNumber, Packet),
+    /// The node is reset, and its memory stays.
     Reset,
+    /// The node is reset, and its memory is zero.
     Clear,
     /// A host sends bytes by a link.
     Send(LinkNumber, Vec<u8>),
@@ -41,109 +61,147 @@ pub enum Command {
     Boot(LinkNumber, Vec<u8>),
     /// A host takes a byte from a link.
     Receive(LinkNumber),
-    /// A host asks by link 0 for a word of memory.
-    Peek(u32),
     /// A host stores a word of memory by link 0.
     Poke(u32, u32),
-    /// The instructions that bytes spell.
-    Decode(Vec<u8>),
 }
 
-/// What a line asks for. `Word` where a word of it is wrong or missing, or one stands behind its end.
-pub fn read_command(alloc: Global, line: &str) -> Result<Command, Refused> {
+// The first word of a line.
+#[derive(Clone, Copy)]
+enum Verb {
+    Node,
+    Open,
+    Set,
+    Try,
+    Decode,
+    Look,
+    Quiet,
+    Registers,
+    Word,
+    Step,
+    Take,
+    Peek,
+    Run,
+    Deliver,
+    Reset,
+    Clear,
+    Send,
+    Boot,
+    Receive,
+    Poke,
+}
+
+const VERBS: [(&str, Verb); 20] = [
+    ("node", Verb::Node),
+    ("open", Verb::Open),
+    ("set", Verb::Set),
+    ("try", Verb::Try),
+    ("decode", Verb::Decode),
+    ("look", Verb::Look),
+    ("quiet", Verb::Quiet),
+    ("registers", Verb::Registers),
+    ("word", Verb::Word),
+    ("step", Verb::Step),
+    ("take", Verb::Take),
+    ("peek", Verb::Peek),
+    ("run", Verb::Run),
+    ("deliver", Verb::Deliver),
+    ("reset", Verb::Reset),
+    ("clear", Verb::Clear),
+    ("send", Verb::Send),
+    ("boot", Verb::Boot),
+    ("receive", Verb::Receive),
+    ("poke", Verb::Poke),
+];
+
+// What the kind of a packet is called.
+#[derive(Clone, Copy)]
+enum PacketKind {
+    Byte,
+    Acknowledge,
+}
+
+const PACKET_KINDS: [(&str, PacketKind); 2] = [
+    ("byte", PacketKind::Byte),
+    ("acknowledge", PacketKind::Acknowledge),
+];
+
+/// What a line asks for. `Wrong` if a word of it is wrong or missing, or one stands behind its end.
+pub fn read_command(alloc: Global, line: &str) -> Result<Command, WordFault> {
     let mut words = Words::of(line);
-    let name = words.take()?;
-    let command = match name {
-        "node" => {
-            let size = words.size()?;
-            Command::Node(size, Settings::read(alloc, &mut words, false)?)
-        }
-        "open" => Command::Open(words.size()?),
-        "set" => Command::Set(Settings::read(alloc, &mut words, false)?),
-        "try" => {
-            let settings = Settings::read(alloc, &mut words, true)?;
-            if settings.code.is_empty() {
-                return Err(Refused::Word);
-            }
-            Command::Try(settings)
-        }
-        "send" | "boot" | "decode" => read_bytes(alloc, name, &mut words)?,
-        name => read_question(name, &mut words)?,
+    let verb = value_named(&VERBS, words.take()).ok_or(WordFault::Wrong)?;
+    let command = read_behind(alloc, verb, &mut words)?;
+    words.finish(command)
+}
+
+// What a line asks for whose first word was read.
+fn read_behind(alloc: Global, verb: Verb, words: &mut Words) -> Result<Command, AllocError> {
+    Ok(match verb {
+        Verb::Node => Command::Node(read_size(words), Settings::read(alloc, words, false)?),
+        Verb::Open => Command::Open(read_size(words)),
+        Verb::Set => Command::Set(Settings::read(alloc, words, false)?),
+        Verb::Try => Command::Try(read_trial(alloc, words)?),
+        Verb::Decode => Command::Decode(words.bytes(alloc)?),
+        Verb::Look => Command::Ask(Query::Look),
+        Verb::Quiet => Command::Ask(Query::Quiet),
+        Verb::Registers => Command::Ask(Query::Registers),
+        Verb::Word => Command::Ask(Query::Word(words.hexadecimal())),
+        Verb::Step => Command::Step(read_steps(words)),
+        Verb::Take => Command::Take(read_link(words)),
+        Verb::Peek => Command::Peek(words.hexadecimal()),
+        Verb::Run => Command::Change(Change::Run(words.decimal(u64::MAX))),
+        Verb::Deliver => Command::Change(Change::Deliver(read_link(words), read_packet(words))),
+        Verb::Reset => Command::Change(Change::Reset),
+        Verb::Clear => Command::Change(Change::Clear),
+        Verb::Send => Command::Change(Change::Send(read_link(words), words.bytes(alloc)?)),
+        Verb::Boot => Command::Change(Change::Boot(read_link(words), read_code(alloc, words)?)),
+        Verb::Receive => Command::Change(Change::Receive(read_link(words))),
+        Verb::Poke => Command::Change(Change::Poke(words.hexadecimal(), words.hexadecimal())),
+    })
+}
+
+// How many bytes of memory a node has: a multiple of 4 from 2,048 to 65,536, or 4,096 if no number stands here.
+fn read_size(words: &mut Words) -> usize {
+    let [b'0'..=b'9', ..] = words.peek().as_bytes() else {
+        return 4096;
     };
-    words.end()?;
-    Ok(command)
-}
-
-// A line with bytes: those that are sent, code that is sent, or code that is to be named.
-fn read_bytes(alloc: Global, name: &str, words: &mut Words) -> Result<Command, Refused> {
-    let mut bytes = Vec::new(alloc);
-    match name {
-        "send" => {
-            let link = words.link()?;
-            push_bytes(words.take()?, &mut bytes)?;
-            Ok(Command::Send(link, bytes))
-        }
-        "boot" => {
-            let link = words.link()?;
-            read_code(words, &mut bytes)?;
-            Ok(Command::Boot(link, bytes))
-        }
-        _ => {
-            push_bytes(words.take()?, &mut bytes)?;
-            Ok(Command::Decode(bytes))
-        }
+    let size = words.decimal(65_536) as usize;
+    if !is_memory_size(size) {
+        words.reject();
     }
+    size
 }
 
-// Instructions, as long as there are some.
-fn read_code(words: &mut Words, code: &mut Vec<u8>) -> Result<(), Refused> {
-    for _ in 0..u64::MAX {
-        if !read_instruction(words, code)? {
+// Instructions, one at least, and what the node has besides.
+fn read_trial(alloc: Global, words: &mut Words) -> Result<Settings, AllocError> {
+    let settings = Settings::read(alloc, words, true)?;
+    if settings.code.is_empty() {
+        words.reject();
+    }
+    Ok(settings)
+}
+
+// Instructions up to the end of the line.
+fn read_code(alloc: Global, words: &mut Words) -> Result<Vec<u8>, AllocError> {
+    let mut code = Vec::new(alloc);
+    for _ in 0..words.count() {
+        if !read_instruction(alloc, words, &mut code)? {
             break;
         }
     }
-    Ok(())
+    Ok(code)
 }
 
-// A line of few words.
-fn read_question(name: &str, words: &mut Words) -> Result<Command, Refused> {
-    match name {
-        "look" => Ok(Command::Look),
-        "quiet" => Ok(Command::Quiet),
-        "registers" => Ok(Command::Registers),
-        "reset" => Ok(Command::Reset),
-        "clear" => Ok(Command::Clear),
-        "take" | "receive" | "deliver" => read_host(name, words),
-        "step" => Ok(Command::Step(count_or_one(words)?)),
-        "run" => Ok(Command::Run(words.count()?)),
-        "word" => Ok(Command::Word(words.hexadecimal()?)),
-        "peek" => Ok(Command::Peek(words.hexadecimal()?)),
-        "poke" => Ok(Command::Poke(words.hexadecimal()?, words.hexadecimal()?)),
-        _ => Err(Refused::Word),
+fn read_steps(words: &mut Words) -> u64 {
+    if words.is_empty() {
+        1
+    } else {
+        words.decimal(u64::MAX)
     }
 }
 
-// What a host does at a link.
-fn read_host(name: &str, words: &mut Words) -> Result<Command, Refused> {
-    let link = words.link()?;
-    match name {
-        "take" => Ok(Command::Take(link)),
-        "receive" => Ok(Command::Receive(link)),
-        _ => Ok(Command::Deliver(link, read_packet(words)?)),
-    }
-}
-
-fn count_or_one(words: &mut Words) -> Result<u64, Refused> {
-    if words.peek().is_none() {
-        return Ok(1);
-    }
-    words.count()
-}
-
-fn read_packet(words: &mut Words) -> Result<Packet, Refused> {
-    match words.take()? {
-        "byte" => Ok(Packet::Byte(words.byte()?)),
-        "acknowledge" => Ok(Packet::Ack),
-        _ => Err(Refused::Word),
+fn read_packet(words: &mut Words) -> Packet {
+    match words.named(&PACKET_KINDS, PacketKind::Acknowledge) {
+        PacketKind::Byte => Packet::Byte(words.byte()),
+        PacketKind::Acknowledge => Packet::Ack,
     }
 }

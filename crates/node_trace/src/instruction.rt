@@ -3,48 +3,49 @@
 use bootstrap::Node;
 use link_channels::Links;
 use node_memory::{Fault, Memory};
+use script_text::TextWriter;
 use std::alloc::AllocError;
-use t414_assembly::{function_name, operation_name};
-use t414_decode::{Function, decode, operation};
+use t414_assembly::{Instruction, write_instruction};
+use t414_decode::{Function, decode};
 use t414_step::Cpu;
 
 /// An instruction byte: its address, and the operand register before it.
 #[derive(Clone, Copy)]
-pub struct Instruction {
+pub struct InstructionByte {
     pub address: u32,
     pub byte: u8,
     pub operand: u32,
 }
 
-impl Instruction {
-    /// The byte that the node's next Step does, after its links were served. `None` where a Step does none: the node
+impl InstructionByte {
+    /// The byte that the node's next Step does, after its links were served. `None` if a Step does none: the node
     /// doesn't run, no process can go on, or a fault comes before the byte.
-    pub fn next(node: &Node) -> Result<Option<Instruction>, AllocError> {
+    pub fn next(node: &Node) -> Result<Option<InstructionByte>, AllocError> {
         let Some(mut registers) = node.registers() else {
             return Ok(None);
         };
         let mut memory = node.memory().copy()?;
         let mut links = node.links().copy();
-        Ok(found(&mut registers, &mut memory, &mut links).unwrap_or(None))
+        Ok(find_next(&mut registers, &mut memory, &mut links).unwrap_or(None))
     }
 
     /// Writes the name and the operand; an operation by its name alone.
-    pub fn write(&self, text: &mut String) -> Result<(), AllocError> {
+    pub fn write(self, text: &mut TextWriter) {
         let (function, nibble) = decode(self.byte);
         let operand = match function {
             Function::Prefix | Function::NegativePrefix => u32::from(nibble),
             _ => self.operand | u32::from(nibble),
         };
-        write_instruction(text, function, operand)
+        write_instruction(text, Instruction { function, operand });
     }
 }
 
 // Serves the links, and finds the byte that is done then.
-fn found(
+fn find_next(
     registers: &mut Cpu,
     memory: &mut Memory,
     links: &mut Links,
-) -> Result<Option<Instruction>, Fault> {
+) -> Result<Option<InstructionByte>, Fault> {
     links.serve_all(memory, &mut registers.queue)?;
     let (address, operand) = if registers.running {
         (registers.instruction, registers.operand)
@@ -56,22 +57,9 @@ fn found(
         (memory.word(workspace.wrapping_sub(4))?, 0)
     };
     let byte = memory.byte(address)?;
-    Ok(Some(Instruction {
+    Ok(Some(InstructionByte {
         address,
         byte,
         operand,
     }))
-}
-
-/// Writes a function and its operand, or an operation by its name alone.
-pub fn write_instruction(
-    text: &mut String,
-    function: Function,
-    operand: u32,
-) -> Result<(), AllocError> {
-    if let (Function::Operate, Some(found)) = (function, operation(operand)) {
-        return text.push_str(operation_name(found));
-    }
-    let name = function_name(function);
-    write!(text, "{name} {operand:x}")
 }

@@ -1,7 +1,7 @@
 //! One node from a text: each line puts something into it or has it do Steps, and is answered by all that changed.
 //!
 //! A text stands alone: `node` opens a node that runs, `open` one that boots, and `try` does one instruction on a node of
-//! its own. Instructions have the handbook's names, words are hexadecimal, counts decimal.
+//! its own. Instructions are written as for the assembler, words are hexadecimal, counts decimal.
 #![tactic(auto)]
 
 mod boot;
@@ -12,10 +12,11 @@ mod instruction;
 mod packets;
 mod performing;
 mod settings;
+mod sizes;
 mod snapshot;
 mod tracing;
 mod trial;
-mod words;
 
 pub use crate::boot::{BootTraceFault, trace_boot};
-pub use crate::tracing::{TraceFault, trace};
+pub use crate::tracing::trace;
+pub use script_text::LineFault;

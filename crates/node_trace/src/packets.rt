@@ -1,14 +1,17 @@
 //! Packets, and what a host at a link does with them.
 
 use bootstrap::{LinkNumber, Node, Packet, peek_message, poke_message, word_of};
-use std::alloc::AllocError;
+use script_text::TextWriter;
 
 /// Writes a packet, or `none`.
-pub fn write_packet(text: &mut String, packet: Option<Packet>) -> Result<(), AllocError> {
+pub fn write_packet(text: &mut TextWriter, packet: Option<Packet>) {
     match packet {
-        Some(Packet::Byte(byte)) => write!(text, "byte {byte:02x}"),
-        Some(Packet::Ack) => text.push_str("acknowledge"),
-        None => text.push_str("none"),
+        Some(Packet::Byte(byte)) => {
+            text.push("byte ");
+            text.push_byte(byte);
+        }
+        Some(Packet::Ack) => text.push("acknowledge"),
+        None => text.push("none"),
     }
 }
 

@@ -1,17 +1,19 @@
 //! What the lines do, and how they are answered.
 
 use crate::changes::{write_all_registers, write_changes};
-use crate::commands::Command;
-use crate::instruction::{Instruction, write_instruction};
+use crate::commands::{Change, Command, Query};
+use crate::instruction::InstructionByte;
 use crate::packets::{peek, poke, receive, send, write_packet};
 use crate::settings::Settings;
+use crate::sizes::memory_size;
 use crate::snapshot::Snapshot;
 use crate::trial::write_trial;
-use crate::words::memory_size;
 use answer_text::{write_seen, write_stepped};
 use bootstrap::{BootFault, CODE_START, Cpu, Links, Memory, NoMemory, Node, Stepped, boot_message};
 use process_queue::Queue;
+use script_text::TextWriter;
 use std::alloc::Global;
+use t414_assembly::{Instruction, write_instruction};
 use t414_decode::{Function, accumulate, decode};
 
 /// The workspace of the process on a fresh node.
@@ -19,7 +21,7 @@ const WORKSPACE: u32 = 0x8000_0200;
 
 /// A fresh node that runs: its memory is zero, its links have done nothing, A, B and C are 0, W is 80000200, Iptr 80000048
 /// where code begins, and the queue is empty.
-pub fn fresh(alloc: Global, size: usize) -> Result<Node, NoMemory> {
+pub fn open_running(alloc: Global, size: usize) -> Result<Node, NoMemory> {
     let registers = Cpu {
         instruction: CODE_START,
         workspace: WORKSPACE,
@@ -37,8 +39,9 @@ pub fn fresh(alloc: Global, size: usize) -> Result<Node, NoMemory> {
     Ok(Node::running(memory, Links::new(), registers))
 }
 
-/// A text, or `-` if it is empty.
+/// A text without the blank before it and behind it, or `-` if it is empty.
 pub fn or_dash(alloc: Global, text: &str) -> Result<String, NoMemory> {
+    let text = text.trim();
     String::from_str(alloc, if text.is_empty() { "-" } else { text })
 }
 
@@ -47,168 +50,154 @@ pub fn perform(
     alloc: Global,
     node: Node,
     command: &Command,
-    text: &mut String,
+    text: &mut TextWriter,
 ) -> Result<Node, NoMemory> {
+    let mut node = node;
     match command {
-        Command::Node(size, settings) => put(fresh(alloc, *size)?, settings, text),
-        Command::Open(size) => {
-            text.push_str("-")?;
-            Node::open(alloc, memory_size(*size))
+        Command::Node(size, settings) => {
+            return Ok(put(open_running(alloc, *size)?, settings, text));
         }
-        Command::Set(settings) => put(node, settings, text),
-        Command::Try(settings) => {
-            write_trial(alloc, settings, text)?;
-            Ok(node)
+        Command::Open(size) => return Node::open(alloc, memory_size(*size)),
+        Command::Set(settings) => return Ok(put(node, settings, text)),
+        Command::Try(settings) => write_trial(alloc, settings, text)?,
+        Command::Decode(bytes) => write_decoded(bytes.as_slice(), text),
+        Command::Ask(query) => write_answer(&node, *query, text),
+        Command::Step(count) => write_steps(&mut node, *count, text)?,
+        Command::Take(link) => write_packet(text, node.take(*link)),
+        Command::Peek(address) => match peek(&mut node, *address) {
+            Some(word) => text.push_word(word),
+            None => text.push("none"),
+        },
+        Command::Change(change) => {
+            let before = Snapshot::of(&node)?;
+            make_change(alloc, &mut node, change, text)?;
+            write_changes(text, &before, &node, 0);
         }
-        Command::Decode(bytes) => {
-            write_decoded(bytes.as_slice(), text)?;
-            Ok(node)
-        }
-        command => {
-            let mut node = node;
-            if !ask(&node, command, text)? {
-                act(alloc, &mut node, command, text)?;
-            }
-            Ok(node)
-        }
-    }
-}
-
-// Puts settings into a node.
-fn put(node: Node, settings: &Settings, text: &mut String) -> Result<Node, NoMemory> {
-    let (node, stored) = settings.put(node);
-    match stored {
-        None => text.push_str("no registers")?,
-        Some(Ok(())) => text.push_str("-")?,
-        Some(Err(fault)) => write_stepped(text, Stepped::Fault(fault))?,
     }
     Ok(node)
 }
 
-// Answers a question that changes nothing; whether it was one.
-fn ask(node: &Node, command: &Command, text: &mut String) -> Result<bool, NoMemory> {
-    match command {
-        Command::Look => write_seen(text, node.look())?,
-        Command::Quiet => text.push_str(if node.quiet() { "quiet" } else { "not quiet" })?,
-        Command::Registers => match node.registers() {
-            Some(registers) => write_all_registers(text, &registers)?,
-            None => text.push_str("no registers")?,
-        },
-        Command::Word(address) => match node.memory().word(*address) {
-            Ok(word) => write!(text, "{word:08x}")?,
-            Err(fault) => write_stepped(text, Stepped::Fault(fault))?,
-        },
-        _ => return Ok(false),
-    }
-    Ok(true)
+/// Writes what a Step answered.
+pub fn push_stepped(text: &mut TextWriter, stepped: Stepped) {
+    let written = write_stepped(text.as_mut_string(), stepped);
+    text.note(written);
 }
 
-// Does what may change a node, and writes what was answered, and all that changed unless the answer says it.
-fn act(
-    alloc: Global,
-    node: &mut Node,
-    command: &Command,
-    text: &mut String,
-) -> Result<(), NoMemory> {
-    match command {
-        Command::Step(count) => write_steps(node, *count, text),
-        Command::Take(link) => write_packet(text, node.take(*link)),
-        Command::Peek(address) => match peek(node, *address) {
-            Some(word) => write!(text, "{word:08x}"),
-            None => text.push_str("none"),
-        },
-        command => {
-            let before = Snapshot::of(node)?;
-            change(alloc, node, command, text)?;
-            write_changes(text, &before, node, 0)
+// Puts settings into a node.
+fn put(node: Node, settings: &Settings, text: &mut TextWriter) -> Node {
+    let (node, stored) = settings.put(node);
+    match stored {
+        None => text.push("no registers"),
+        Some(Ok(())) => {}
+        Some(Err(fault)) => push_stepped(text, Stepped::Fault(fault)),
+    }
+    node
+}
+
+// Answers what changes nothing.
+fn write_answer(node: &Node, query: Query, text: &mut TextWriter) {
+    match query {
+        Query::Look => {
+            let written = write_seen(text.as_mut_string(), node.look());
+            text.note(written);
         }
+        Query::Quiet => text.push(if node.quiet() { "quiet" } else { "not quiet" }),
+        Query::Registers => match node.registers() {
+            Some(registers) => write_all_registers(text, &registers),
+            None => text.push("no registers"),
+        },
+        Query::Word(address) => match node.memory().word(address) {
+            Ok(word) => text.push_word(word),
+            Err(fault) => push_stepped(text, Stepped::Fault(fault)),
+        },
     }
 }
 
 // Changes a node, and writes what was answered beside the changes.
-fn change(
+fn make_change(
     alloc: Global,
     node: &mut Node,
-    command: &Command,
-    text: &mut String,
+    change: &Change,
+    text: &mut TextWriter,
 ) -> Result<(), NoMemory> {
-    match command {
-        Command::Run(count) => run(node, *count, text)?,
-        Command::Deliver(link, packet) => node.deliver(*link, *packet),
-        Command::Reset => node.reset(),
-        Command::Clear => node.clear(),
-        Command::Send(link, bytes) => send(node, *link, bytes.as_slice()),
-        Command::Boot(link, code) => match boot_message(alloc, code.as_slice()) {
+    match change {
+        Change::Run(count) => run(node, *count, text),
+        Change::Deliver(link, packet) => node.deliver(*link, *packet),
+        Change::Reset => node.reset(),
+        Change::Clear => node.clear(),
+        Change::Send(link, bytes) => send(node, *link, bytes.as_slice()),
+        Change::Boot(link, code) => match boot_message(alloc, code.as_slice()) {
             Ok(message) => send(node, *link, message.as_slice()),
             Err(BootFault::NoMemory) => return Err(NoMemory),
             Err(fault) => {
-                let number = fault.number();
-                write!(text, "refused {number}")?;
+                text.push("refused ");
+                text.push_decimal(u64::from(fault.number()));
             }
         },
-        Command::Receive(link) => match receive(node, *link) {
-            Some(byte) => write!(text, "{byte:02x}")?,
-            None => text.push_str("none")?,
+        Change::Receive(link) => match receive(node, *link) {
+            Some(byte) => text.push_byte(byte),
+            None => text.push("none"),
         },
-        Command::Poke(address, word) => poke(node, *address, *word),
-        _ => {}
+        Change::Poke(address, word) => poke(node, *address, *word),
     }
     Ok(())
 }
 
 // Does Steps up to one that would not be recorded, and writes how many, and what the last answered.
-fn run(node: &mut Node, count: u64, text: &mut String) -> Result<(), NoMemory> {
+fn run(node: &mut Node, count: u64, text: &mut TextWriter) {
     let burst = node.burst(count);
-    let steps = burst.steps;
-    write!(text, "{steps}")?;
+    text.push_decimal(burst.steps);
     if let Some(last) = burst.last {
-        text.push_str(" ")?;
-        write_stepped(text, last)?;
+        text.push(" ");
+        push_stepped(text, last);
     }
-    Ok(())
 }
 
 // Does Steps up to one that doesn't run, each of which has a line: its instruction, what it answered, what changed.
-fn write_steps(node: &mut Node, count: u64, text: &mut String) -> Result<(), NoMemory> {
+fn write_steps(node: &mut Node, count: u64, text: &mut TextWriter) -> Result<(), NoMemory> {
     for number in 0..count {
         if number != 0 {
-            text.push_str("\n")?;
+            text.push("\n");
         }
-        if write_step(node, text)? != Stepped::Ran {
+        let next = InstructionByte::next(node)?;
+        if write_step(node, next, text)? != Stepped::Ran {
             break;
         }
     }
     Ok(())
 }
 
-/// Does one Step, and writes its instruction, what it answered and what changed.
-pub fn write_step(node: &mut Node, text: &mut String) -> Result<Stepped, NoMemory> {
+/// Does one Step, which does this instruction byte, and writes the instruction, what it answered and what changed.
+pub fn write_step(
+    node: &mut Node,
+    next: Option<InstructionByte>,
+    text: &mut TextWriter,
+) -> Result<Stepped, NoMemory> {
     let before = Snapshot::of(node)?;
-    let instruction = Instruction::next(node)?;
     let stepped = node.step();
-    if let Some(instruction) = instruction {
-        instruction.write(text)?;
-        text.push_str(" ")?;
+    if let Some(instruction) = next {
+        instruction.write(text);
+        text.push(" ");
     }
-    write_stepped(text, stepped)?;
-    write_changes(text, &before, node, u32::from(instruction.is_some()))?;
+    push_stepped(text, stepped);
+    write_changes(text, &before, node, u32::from(next.is_some()));
     Ok(stepped)
 }
 
-// Writes the instructions that bytes spell, each with its whole operand.
-fn write_decoded(bytes: &[u8], text: &mut String) -> Result<(), NoMemory> {
+// Writes the instructions that bytes spell, each with its whole operand, and what a last prefix leaves in O.
+fn write_decoded(bytes: &[u8], text: &mut TextWriter) {
     let mut operand = 0;
     for byte in bytes {
         let (function, _) = decode(*byte);
         operand = accumulate(operand, *byte);
         if !matches!(function, Function::Prefix | Function::NegativePrefix) {
-            write_instruction(text, function, operand)?;
-            text.push_str(" ")?;
+            write_instruction(text, Instruction { function, operand });
+            text.push(" ");
             operand = 0;
         }
     }
     if operand != 0 {
-        write!(text, "O {operand:08x}")?;
+        text.push("O ");
+        text.push_word(operand);
     }
-    Ok(())
 }

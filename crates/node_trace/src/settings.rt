@@ -1,10 +1,10 @@
 //! What a line puts into a node: registers, flags, words of memory, code, and what stands at links.
 
 use crate::codes::read_instruction;
-use crate::words::{Refused, Words};
-use bootstrap::{Cpu, Fault, LinkNumber, Links, Memory, Node};
+use bootstrap::{Cpu, Fault, LinkNumber, Links, Memory, Node, link_of};
 use link_channels::Link;
-use std::alloc::Global;
+use script_text::Words;
+use std::alloc::{AllocError, Global};
 
 /// One thing that is put into a node.
 #[derive(Clone, Copy)]
@@ -80,29 +80,28 @@ impl Settings {
         }
     }
 
-    /// Reads settings to the end of a line. After `code` stand instructions, and so they do at once where `begins_with_code`.
+    /// Reads settings to the end of a line. After `code` stand instructions, and so they do at once if `begins_with_code`.
     pub fn read(
         alloc: Global,
         words: &mut Words,
         begins_with_code: bool,
-    ) -> Result<Settings, Refused> {
+    ) -> Result<Settings, AllocError> {
         let mut read = Settings::none(alloc);
         let mut is_code = begins_with_code;
         let mut link = None;
-        for _ in 0..u64::MAX {
-            if words.peek().is_none() {
+        for _ in 0..words.count() {
+            if words.is_empty() {
                 break;
             }
-            if is_code && read_instruction(words, &mut read.code)? {
+            if is_code && read_instruction(alloc, words, &mut read.code)? {
                 continue;
             }
-            match words.take()? {
-                "code" => is_code = true,
-                "link" => link = Some(words.link()?),
-                name => {
-                    let setting = read_setting(name, link, words)?;
-                    read.settings.push(setting)?;
-                }
+            if words.take_if("code") {
+                is_code = true;
+            } else if words.take_if("link") {
+                link = Some(read_link(words));
+            } else {
+                read.settings.push(read_setting(link, words))?;
             }
         }
         Ok(read)
@@ -193,69 +192,91 @@ fn put_link_flag(link: &mut Link, flag: LinkFlag, value: bool) {
     }
 }
 
-// One setting whose name was read.
-fn read_setting(
-    name: &str,
-    link: Option<LinkNumber>,
-    words: &mut Words,
-) -> Result<Setting, Refused> {
-    if let Some(register) = register_named(name) {
-        return Ok(Setting::Register(register, words.hexadecimal()?));
-    }
-    if let Some(flag) = flag_named(name) {
-        return Ok(Setting::Flag(flag, words.flag()?));
-    }
-    match (name, link) {
-        ("bytes", _) => Ok(Setting::Bytes(words.small_count()?)),
-        ("word", _) => Ok(Setting::Word(words.hexadecimal()?, words.hexadecimal()?)),
-        (_, Some(number)) => Ok(Setting::AtLink(number, read_link_setting(name, words)?)),
-        _ => Err(Refused::Word),
+/// The number of a link, 0 to 3.
+pub fn read_link(words: &mut Words) -> LinkNumber {
+    link_of(words.decimal(3) as u8)
+}
+
+// What the name of a setting stands for.
+#[derive(Clone, Copy)]
+enum Field {
+    Register(Register),
+    Flag(Flag),
+    Bytes,
+    Word,
+    AtLink(LinkField),
+}
+
+#[derive(Clone, Copy)]
+enum LinkField {
+    Sends,
+    Holds,
+    Overruns,
+    Flag(LinkFlag),
+    Input,
+    Output,
+}
+
+const FIELDS: [(&str, Field); 22] = [
+    ("Iptr", Field::Register(Register::Instruction)),
+    ("W", Field::Register(Register::Workspace)),
+    ("A", Field::Register(Register::A)),
+    ("B", Field::Register(Register::B)),
+    ("C", Field::Register(Register::C)),
+    ("O", Field::Register(Register::Operand)),
+    ("Front", Field::Register(Register::Front)),
+    ("Back", Field::Register(Register::Back)),
+    ("Error", Field::Flag(Flag::Error)),
+    ("HaltOnError", Field::Flag(Flag::HaltOnError)),
+    ("running", Field::Flag(Flag::Running)),
+    ("bytes", Field::Bytes),
+    ("word", Field::Word),
+    ("sends", Field::AtLink(LinkField::Sends)),
+    ("holds", Field::AtLink(LinkField::Holds)),
+    ("overruns", Field::AtLink(LinkField::Overruns)),
+    ("acknowledges", Field::AtLink(LinkField::Flag(LinkFlag::Acknowledges))),
+    ("awaits", Field::AtLink(LinkField::Flag(LinkFlag::Awaits))),
+    ("acknowledged", Field::AtLink(LinkField::Flag(LinkFlag::Acknowledged))),
+    ("watched", Field::AtLink(LinkField::Flag(LinkFlag::Watched))),
+    ("input", Field::AtLink(LinkField::Input)),
+    ("output", Field::AtLink(LinkField::Output)),
+];
+
+// One setting. A field of a link is wrong before a link is named.
+fn read_setting(link: Option<LinkNumber>, words: &mut Words) -> Setting {
+    match words.named(&FIELDS, Field::Bytes) {
+        Field::Register(register) => Setting::Register(register, words.hexadecimal()),
+        Field::Flag(flag) => Setting::Flag(flag, words.flag()),
+        Field::Bytes => Setting::Bytes(read_count(words)),
+        Field::Word => Setting::Word(words.hexadecimal(), words.hexadecimal()),
+        Field::AtLink(field) => {
+            let number = words.or_reject(link, LinkNumber::Zero);
+            Setting::AtLink(number, read_link_setting(field, words))
+        }
     }
 }
 
-fn register_named(name: &str) -> Option<Register> {
-    match name {
-        "Iptr" => Some(Register::Instruction),
-        "W" => Some(Register::Workspace),
-        "A" => Some(Register::A),
-        "B" => Some(Register::B),
-        "C" => Some(Register::C),
-        "O" => Some(Register::Operand),
-        "Front" => Some(Register::Front),
-        "Back" => Some(Register::Back),
-        _ => None,
+fn read_link_setting(field: LinkField, words: &mut Words) -> LinkSetting {
+    match field {
+        LinkField::Sends => LinkSetting::Sends(read_byte_or_none(words)),
+        LinkField::Holds => LinkSetting::Holds(read_byte_or_none(words)),
+        LinkField::Overruns => LinkSetting::Overruns(read_count(words)),
+        LinkField::Flag(flag) => LinkSetting::Flag(flag, words.flag()),
+        LinkField::Input => LinkSetting::Input(words.hexadecimal(), read_count(words)),
+        LinkField::Output => LinkSetting::Output(words.hexadecimal(), read_count(words)),
     }
 }
 
-fn flag_named(name: &str) -> Option<Flag> {
-    match name {
-        "Error" => Some(Flag::Error),
-        "HaltOnError" => Some(Flag::HaltOnError),
-        "running" => Some(Flag::Running),
-        _ => None,
-    }
+// A decimal count below 2^32.
+fn read_count(words: &mut Words) -> u32 {
+    words.decimal(u64::from(u32::MAX)) as u32
 }
 
-fn read_link_setting(name: &str, words: &mut Words) -> Result<LinkSetting, Refused> {
-    if let Some(flag) = link_flag_named(name) {
-        return Ok(LinkSetting::Flag(flag, words.flag()?));
-    }
-    match name {
-        "sends" => Ok(LinkSetting::Sends(words.byte_or_none()?)),
-        "holds" => Ok(LinkSetting::Holds(words.byte_or_none()?)),
-        "overruns" => Ok(LinkSetting::Overruns(words.small_count()?)),
-        "input" => Ok(LinkSetting::Input(words.hexadecimal()?, words.small_count()?)),
-        "output" => Ok(LinkSetting::Output(words.hexadecimal()?, words.small_count()?)),
-        _ => Err(Refused::Word),
-    }
-}
-
-fn link_flag_named(name: &str) -> Option<LinkFlag> {
-    match name {
-        "acknowledges" => Some(LinkFlag::Acknowledges),
-        "awaits" => Some(LinkFlag::Awaits),
-        "acknowledged" => Some(LinkFlag::Acknowledged),
-        "watched" => Some(LinkFlag::Watched),
-        _ => None,
+// A byte, or `-` for none.
+fn read_byte_or_none(words: &mut Words) -> Option<u8> {
+    if words.take_if("-") {
+        None
+    } else {
+        Some(words.byte())
     }
 }

@@ -1,71 +1,71 @@
 //! Instructions on a node of their own, as a row of the handbook has them.
 
 use crate::changes::write_changes;
-use crate::performing::{fresh, or_dash};
+use crate::performing::{open_running, or_dash, push_stepped};
 use crate::settings::{Flag, Setting, Settings};
 use crate::snapshot::Snapshot;
-use answer_text::write_stepped;
 use bootstrap::{Node, Stepped};
+use script_text::TextWriter;
 use std::alloc::{AllocError, Global};
 
 /// Does the instructions of a line on a fresh node, and writes what they changed. They are done once more with HaltOnError
-/// set: where that halts by fault 3 a line `halts` follows, and where it differs otherwise a line says how.
+/// set: if that halts by fault 3 a line `halts` follows, and if it differs otherwise a line says how.
 pub fn write_trial(
     alloc: Global,
     settings: &Settings,
-    text: &mut String,
+    text: &mut TextWriter,
 ) -> Result<(), AllocError> {
     let has_flag = settings
         .settings
         .iter()
         .any(|it| matches!(it, Setting::Flag(Flag::HaltOnError, true)));
     let first = outcome(alloc, settings, false)?;
-    text.push_str(first.as_str())?;
+    text.push(first.as_str());
     if has_flag {
         return Ok(());
     }
     let second = outcome(alloc, settings, true)?;
-    write_second(text, first.as_str(), second.as_str())
-}
-
-// Writes what came with HaltOnError set, where it isn't what came first.
-fn write_second(text: &mut String, first: &str, second: &str) -> Result<(), AllocError> {
-    if second == "fault 3" {
-        return text.push_str("\nhalts");
-    }
-    if second != first {
-        text.push_str("\nwith HaltOnError ")?;
-        text.push_str(second)?;
-    }
+    write_second(text, first.as_str(), second.as_str());
     Ok(())
 }
 
-// What the instructions come to, with HaltOnError set first where that is asked for.
+// Writes what came with HaltOnError set, if it isn't what came first.
+fn write_second(text: &mut TextWriter, first: &str, second: &str) {
+    if second == "fault 3" {
+        text.push("\nhalts");
+    } else if second != first {
+        text.push("\nwith HaltOnError ");
+        text.push(second);
+    }
+}
+
+// What the instructions come to, with HaltOnError set first if that is asked for.
 fn outcome(alloc: Global, settings: &Settings, halts: bool) -> Result<String, AllocError> {
-    let mut text = String::new(alloc);
-    let (node, stored) = settings.put(fresh(alloc, 4096)?);
+    let mut text = TextWriter::new(alloc);
+    let (node, stored) = settings.put(open_running(alloc, 4096)?);
     if let Some(Err(fault)) = stored {
-        write_stepped(&mut text, Stepped::Fault(fault))?;
-        return Ok(text);
+        push_stepped(&mut text, Stepped::Fault(fault));
+        return text.finish();
     }
     let mut node = if halts { halting(node) } else { node };
     write_code_done(&mut text, &mut node, settings.code.as_slice())?;
-    or_dash(alloc, text.as_str().trim_start())
+    or_dash(alloc, text.finish()?.as_str())
 }
 
 // Does a Step for each byte of code, to one that doesn't run, and writes what they changed.
-fn write_code_done(text: &mut String, node: &mut Node, code: &[u8]) -> Result<(), AllocError> {
+fn write_code_done(text: &mut TextWriter, node: &mut Node, code: &[u8]) -> Result<(), AllocError> {
     let before = Snapshot::of(node)?;
     let mut bytes = 0u32;
     for _ in code {
         let stepped = node.step();
         if stepped != Stepped::Ran {
-            write_stepped(text, stepped)?;
+            push_stepped(text, stepped);
             break;
         }
         bytes = bytes.saturating_add(1);
     }
-    write_changes(text, &before, node, bytes)
+    write_changes(text, &before, node, bytes);
+    Ok(())
 }
 
 // The node with HaltOnError set.
