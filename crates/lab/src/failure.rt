@@ -1,9 +1,9 @@
 //! Why the lab ends without its output.
 
 use farm_replay::ReplayFault;
-use node_trace::{BootTraceFault, TraceFault};
+use node_trace::BootTraceFault;
 use plan_views::PlanRefusal;
-use script_text::{ReadFault, write_whole};
+use script_text::{LineFault, ReadFault, write_whole};
 use std::alloc::{AllocError, AllocFailed, Global};
 use std::fmt;
 use std::io::{self, Write};
@@ -15,6 +15,8 @@ pub enum Failure {
     /// `clap` refuses the words.
     Words(clap::Error),
     Arguments,
+    /// The words name no subcommand.
+    Subcommand,
     Code,
     /// A plan is refused, with the number of its fault.
     Plan(u8),
@@ -38,6 +40,7 @@ impl fmt::Display for Failure {
         match self {
             Failure::Words(error) => write!(f, "{error}"),
             Failure::Arguments => f.write_str("error: an argument isn't UTF-8\n"),
+            Failure::Subcommand => f.write_str("error: a subcommand is missing\n"),
             Failure::Code => {
                 f.write_str("error: the code is not 2 to 255 bytes in hexadecimal digits\n")
             }
@@ -80,7 +83,7 @@ impl Failure {
     // The status of the process.
     fn status(&self) -> u8 {
         match self {
-            Failure::Words(_) | Failure::Arguments | Failure::Code => 2,
+            Failure::Words(_) | Failure::Arguments | Failure::Subcommand | Failure::Code => 2,
             Failure::Plan(_) | Failure::RefusedPlan(_) => 3,
             Failure::Line(_) | Failure::Text(_) | Failure::Length(_) | Failure::Poked(_) => 4,
             Failure::Memory => 5,
@@ -124,12 +127,21 @@ impl From<ReadFault> for Failure {
     }
 }
 
+impl From<LineFault> for Failure {
+    fn from(fault: LineFault) -> Failure {
+        match fault {
+            LineFault::Wrong(line) => Failure::Line(line),
+            LineFault::Memory(_) => Failure::Memory,
+        }
+    }
+}
+
 impl From<ReplayFault> for Failure {
     fn from(fault: ReplayFault) -> Failure {
         match fault {
             ReplayFault::Plan(number) => Failure::Plan(number),
             ReplayFault::Line(number) => Failure::Line(number),
-            ReplayFault::NoMemory => Failure::Memory,
+            ReplayFault::Memory(_) => Failure::Memory,
         }
     }
 }
@@ -143,20 +155,11 @@ impl From<PlanRefusal> for Failure {
     }
 }
 
-impl From<TraceFault> for Failure {
-    fn from(fault: TraceFault) -> Failure {
-        match fault {
-            TraceFault::Line(number) => Failure::Line(number),
-            TraceFault::NoMemory => Failure::Memory,
-        }
-    }
-}
-
 impl From<BootTraceFault> for Failure {
     fn from(fault: BootTraceFault) -> Failure {
         match fault {
             BootTraceFault::Length => Failure::Code,
-            BootTraceFault::NoMemory => Failure::Memory,
+            BootTraceFault::Memory(_) => Failure::Memory,
         }
     }
 }
@@ -164,7 +167,7 @@ impl From<BootTraceFault> for Failure {
 impl From<TextFault> for Failure {
     fn from(fault: TextFault) -> Failure {
         match fault {
-            TextFault::NoMemory => Failure::Memory,
+            TextFault::Memory(_) => Failure::Memory,
             TextFault::Wrong(_, _) => Failure::Text(fault),
         }
     }

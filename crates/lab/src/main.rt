@@ -8,7 +8,7 @@ mod plans;
 mod reports;
 mod rows;
 
-use crate::command_line::{Asked, asked_of};
+use crate::command_line::{Request, read_words};
 use crate::failure::Failure;
 use crate::reports::{Report, report_of};
 use crate::rows::report_rows;
@@ -37,12 +37,12 @@ fn words_of(rt: &HostRuntime) -> Result<Vec<String>, Failure> {
 fn report(rt: &HostRuntime) -> Result<Report, Failure> {
     let alloc = rt.alloc();
     let words = words_of(rt)?;
-    match asked_of(alloc, words.as_slice())? {
-        Asked::Help(text) => Ok(Report { text, status: 0 }),
-        Asked::Rows(files) => report_rows(rt, files.as_slice()),
-        asked => {
+    match read_words(alloc, words.as_slice())? {
+        Request::Help(text) => Ok(Report { text, status: 0 }),
+        Request::Rows(files) => report_rows(rt, files.as_slice()),
+        Request::Read(reading) => {
             let text = read_whole(alloc, &mut rt.reader())?;
-            report_of(alloc, &asked, text.as_slice())
+            report_of(alloc, &reading, text.as_slice())
         }
     }
 }

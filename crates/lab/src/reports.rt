@@ -1,13 +1,13 @@
 //! What goes to standard output.
 
-use crate::assembly::{assembled, disassembled};
-use crate::command_line::Asked;
+use crate::assembly::{print_assembled, print_disassembled};
+use crate::command_line::Reading;
 use crate::failure::Failure;
-use farm_replay::{replay, replay_farm};
+use farm_replay::replay;
 use node_trace::{trace, trace_boot};
 use plan_views::{accepted, draw, table_of};
-use script_text::{Answered, divide};
-use std::alloc::Global;
+use script_text::{Answered, TextWriter, divide};
+use std::alloc::{AllocError, Global};
 
 /// A text for standard output, and the status of the process.
 #[derive(Drop)]
@@ -16,39 +16,40 @@ pub struct Report {
     pub status: u8,
 }
 
-/// What lines are answered, each answer on lines of its own.
-pub fn report_of(alloc: Global, asked: &Asked, text: &[u8]) -> Result<Report, Failure> {
-    let text = match asked {
-        Asked::Boot(code, steps) => trace_boot(alloc, code.as_slice(), u64::from(*steps))?,
-        Asked::Plan => shown(alloc, text)?,
-        Asked::Draw => drawn(alloc, text)?,
-        Asked::Assemble(wanted) => assembled(alloc, wanted, text)?,
-        Asked::Disassemble => disassembled(alloc, text)?,
-        Asked::Trace => text_of(alloc, trace(alloc, text)?)?,
-        _ => text_of(alloc, replay(alloc, text)?)?,
+/// What standard input comes to.
+pub fn report_of(alloc: Global, reading: &Reading, text: &[u8]) -> Result<Report, Failure> {
+    let text = match reading {
+        Reading::Replay => print_answers(alloc, replay(alloc, text)?.answers.as_slice())?,
+        Reading::Plan => print_plan(alloc, text)?,
+        Reading::Draw => print_drawing(alloc, text)?,
+        Reading::Trace => print_answers(alloc, trace(alloc, text)?.as_slice())?,
+        Reading::Boot(code, steps) => trace_boot(alloc, code.as_slice(), u64::from(*steps))?,
+        Reading::Assemble(options) => print_assembled(alloc, *options, text)?,
+        Reading::Disassemble => print_disassembled(alloc, text)?,
     };
     Ok(Report { text, status: 0 })
 }
 
 // The plan of a text as a table.
-fn shown(alloc: Global, text: &[u8]) -> Result<String, Failure> {
+fn print_plan(alloc: Global, text: &[u8]) -> Result<String, Failure> {
     let plan = accepted(alloc, divide(text, b"---").0)?;
     Ok(table_of(alloc, &plan)?)
 }
 
 // The switch of the last farm of a text.
-fn drawn(alloc: Global, text: &[u8]) -> Result<String, Failure> {
-    match replay_farm(alloc, text)? {
+fn print_drawing(alloc: Global, text: &[u8]) -> Result<String, Failure> {
+    match replay(alloc, text)?.last {
         Some(farm) => Ok(draw(alloc, &farm.plan, farm.words.as_slice())?),
         None => Ok(String::new(alloc)),
     }
 }
 
-fn text_of(alloc: Global, answers: Vec<Answered>) -> Result<String, Failure> {
-    let mut text = String::new(alloc);
+// What lines are answered, each answer on lines of its own.
+fn print_answers(alloc: Global, answers: &[Answered]) -> Result<String, AllocError> {
+    let mut text = TextWriter::new(alloc);
     for answered in answers {
-        text.push_str(answered.answer.as_str())?;
-        text.push_str("\n")?;
+        text.push(answered.answer.as_str());
+        text.push("\n");
     }
-    Ok(text)
+    text.finish()
 }

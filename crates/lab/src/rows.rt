@@ -4,39 +4,46 @@ use crate::assembly::try_programs;
 use crate::failure::Failure;
 use crate::plans::try_plans;
 use crate::reports::Report;
-use farm_replay::replay;
+use farm_replay::{Replayed, replay};
 use node_trace::trace;
-use script_text::Answered;
-use std::alloc::{AllocError, Global};
+use script_text::{Answered, TextWriter};
+use std::alloc::Global;
 use std::fs;
 
 /// Compares the rows of files. Each wrong row has a line that names its file and line, what it asked, the answer and
 /// what was expected; each file has a line that counts. The status is 1 if a row is wrong or a file has none.
 pub fn report_rows(rt: &HostRuntime, files: &[&str]) -> Result<Report, Failure> {
-    let mut text = String::new(rt.alloc());
+    let mut text = TextWriter::new(rt.alloc());
     let mut status = 0;
     for file in files {
         if !report_file(rt, file, &mut text)? {
             status = 1;
         }
     }
+    let text = text.finish()?;
     Ok(Report { text, status })
 }
 
 // Compares the rows of a file, and tells whether there are rows and all are right.
-fn report_file(rt: &HostRuntime, file: &str, text: &mut String) -> Result<bool, Failure> {
+fn report_file(rt: &HostRuntime, file: &str, text: &mut TextWriter) -> Result<bool, Failure> {
     match fs::read(rt, file) {
         Ok(bytes) => {
-            let answers = answers_in(rt.alloc(), file, bytes.as_slice())?;
-            Ok(compare(text, file, answers.as_slice())?)
+            let answers = answer_rows(rt.alloc(), file, bytes.as_slice())?;
+            Ok(compare(text, file, answers.as_slice()))
         }
         Err(error) => Err(Failure::of_input(&error)),
     }
 }
 
-fn answers_in(alloc: Global, file: &str, text: &[u8]) -> Result<Vec<Answered>, Failure> {
+// The answers to the rows of a file, which its name tells how to read.
+fn answer_rows<'a>(
+    alloc: Global,
+    file: &str,
+    text: &'a [u8],
+) -> Result<Vec<Answered<'a>>, Failure> {
     if file.ends_with(".replay") {
-        Ok(replay(alloc, text)?)
+        let Replayed { answers, last: _ } = replay(alloc, text)?;
+        Ok(answers)
     } else if file.ends_with(".plans") {
         try_plans(alloc, text)
     } else if file.ends_with(".assembly") {
@@ -47,33 +54,36 @@ fn answers_in(alloc: Global, file: &str, text: &[u8]) -> Result<Vec<Answered>, F
 }
 
 // Notes the wrong rows of a file and how many it has, and tells whether there are rows and all are right.
-fn compare(text: &mut String, file: &str, answers: &[Answered]) -> Result<bool, AllocError> {
+fn compare(text: &mut TextWriter, file: &str, answers: &[Answered]) -> bool {
     let (mut rows, mut wrong): (u64, u64) = (0, 0);
     for answered in answers {
-        let Some(expected) = &answered.expected else {
+        let Some(expected) = answered.question.expected else {
             continue;
         };
         rows = rows.saturating_add(1);
         if !answered.is_as_expected() {
             wrong = wrong.saturating_add(1);
-            note_wrong(text, file, answered, expected.as_str())?;
+            note_wrong(text, file, answered, expected);
         }
     }
-    write!(text, "{file}: {rows} rows, {wrong} wrong\n")?;
-    Ok(rows > 0 && wrong == 0)
+    text.push(file);
+    text.push(": ");
+    text.push_decimal(rows);
+    text.push(" rows, ");
+    text.push_decimal(wrong);
+    text.push(" wrong\n");
+    rows > 0 && wrong == 0
 }
 
-fn note_wrong(
-    text: &mut String,
-    file: &str,
-    answered: &Answered,
-    expected: &str,
-) -> Result<(), AllocError> {
-    let Answered {
-        line,
-        asked,
-        answer,
-        ..
-    } = answered;
-    write!(text, "{file}:{line}: {asked} = {answer}, not {expected}\n")
+fn note_wrong(text: &mut TextWriter, file: &str, answered: &Answered, expected: &str) {
+    text.push(file);
+    text.push(":");
+    text.push_decimal(answered.question.line);
+    text.push(": ");
+    text.push(answered.question.text);
+    text.push(" = ");
+    text.push(answered.answer.as_str());
+    text.push(", not ");
+    text.push(expected);
+    text.push("\n");
 }
