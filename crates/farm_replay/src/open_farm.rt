@@ -90,31 +90,37 @@ impl OpenFarm {
         answers: &mut AnswerList,
     ) -> Result<(), NoMemory> {
         for event in events {
-            let mut answer = String::new(self.alloc);
-            match self.farm.apply(domain, by, *event) {
-                Ok(reply) => write_reply(&mut answer, reply)?,
-                Err(refusal) => write_refusal(&mut answer, refusal)?,
-            }
-            answers.push(answer);
+            answers.push(self.answer_event(domain, by, *event)?);
         }
         Ok(())
+    }
+
+    fn answer_event(&mut self, domain: u8, by: By, event: Event) -> Result<String, NoMemory> {
+        let mut answer = String::new(self.alloc);
+        let written = match self.farm.apply(domain, by, event) {
+            Ok(reply) => write_reply(&mut answer, reply),
+            Err(refusal) => write_refusal(&mut answer, refusal),
+        };
+        written.map(|()| answer)
     }
 
     fn write_quiet(&mut self, domain: u8, text: &mut TextWriter) -> Result<(), Refusal> {
         if !self.has(domain) {
             return Err(Refusal::NoSuch);
         }
-        text.push(if self.farm.quiet(domain) { "true" } else { "false" });
+        text.push(if self.farm.quiet(domain) {
+            "true"
+        } else {
+            "false"
+        });
         Ok(())
     }
 
-    fn write_word(
-        &mut self,
-        domain: u8,
-        output: u8,
-        text: &mut TextWriter,
-    ) -> Result<(), Refusal> {
-        let word = self.farm.domain_word(domain, output).ok_or(Refusal::NoSuch)?;
+    fn write_word(&mut self, domain: u8, output: u8, text: &mut TextWriter) -> Result<(), Refusal> {
+        let word = self
+            .farm
+            .domain_word(domain, output)
+            .ok_or(Refusal::NoSuch)?;
         text.push_hexadecimal(word.bits);
         Ok(())
     }
@@ -207,7 +213,11 @@ impl OpenFarm {
             }
             self.round(domain, quantum)?;
         }
-        text.push(if self.is_quiet(domain) { "quiet" } else { "busy" });
+        text.push(if self.is_quiet(domain) {
+            "quiet"
+        } else {
+            "busy"
+        });
         Ok(())
     }
 

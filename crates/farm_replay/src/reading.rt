@@ -161,28 +161,41 @@ fn read_events(
     verb: EventVerb,
     words: &mut Words,
 ) -> Result<Vec<Event>, AllocError> {
-    let mut events = Vec::new(alloc);
     match verb {
-        EventVerb::One(kind) => events.push(read_event(kind, words))?,
-        EventVerb::Moves => {
-            for _ in 0..words.count() {
-                if words.peek().starts_with("@") {
-                    break;
-                }
-                events.push(Event::Move(words.small_decimal()))?;
-            }
+        EventVerb::One(kind) => Vec::from_slice(alloc, &[read_event(kind, words)]),
+        EventVerb::Moves => read_moves(alloc, words),
+        EventVerb::Configs => read_configs(alloc, words),
+        EventVerb::Writes => read_writes(alloc, words),
+    }
+}
+
+// A Move of each port, up to the asker.
+fn read_moves(alloc: Global, words: &mut Words) -> Result<Vec<Event>, AllocError> {
+    let mut events = Vec::new(alloc);
+    for _ in 0..words.count() {
+        if words.peek().starts_with("@") {
+            break;
         }
-        EventVerb::Configs => {
-            for byte in &words.bytes(alloc)? {
-                events.push(Event::Config(*byte))?;
-            }
-        }
-        EventVerb::Writes => {
-            let host = words.small_decimal();
-            for byte in &words.bytes(alloc)? {
-                events.push(Event::Write(host, *byte))?;
-            }
-        }
+        events.push(Event::Move(words.small_decimal()))?;
+    }
+    Ok(events)
+}
+
+fn read_configs(alloc: Global, words: &mut Words) -> Result<Vec<Event>, AllocError> {
+    let bytes = words.bytes(alloc)?;
+    let mut events = Vec::new(alloc);
+    for byte in &bytes {
+        events.push(Event::Config(*byte))?;
+    }
+    Ok(events)
+}
+
+fn read_writes(alloc: Global, words: &mut Words) -> Result<Vec<Event>, AllocError> {
+    let host = words.small_decimal();
+    let bytes = words.bytes(alloc)?;
+    let mut events = Vec::new(alloc);
+    for byte in &bytes {
+        events.push(Event::Write(host, *byte))?;
     }
     Ok(events)
 }

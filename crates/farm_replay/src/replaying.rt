@@ -115,20 +115,40 @@ fn play<'a>(
     script: Script<'a>,
     answers: &mut Vec<Answered<'a>>,
 ) -> Result<ReplayedFarm, NoMemory> {
+    let words = answer_script(alloc, &script, answers)?;
     let Script {
         plan,
-        questions,
-        requests,
+        questions: _,
+        requests: _,
     } = script;
-    let mut farm = OpenFarm::open(alloc, &plan)?;
-    for (question, request) in questions.iter().zip(requests.iter()) {
+    Ok(ReplayedFarm { plan, words })
+}
+
+// Asks a farm the lines of its script, and gives the words of its outputs after them.
+fn answer_script<'a>(
+    alloc: Global,
+    script: &Script<'a>,
+    answers: &mut Vec<Answered<'a>>,
+) -> Result<[Word; PORTS as usize], NoMemory> {
+    let mut farm = OpenFarm::open(alloc, &script.plan)?;
+    answer_all(alloc, script, &mut farm, answers)?;
+    Ok(farm.words())
+}
+
+fn answer_all<'a>(
+    alloc: Global,
+    script: &Script<'a>,
+    farm: &mut OpenFarm,
+    answers: &mut Vec<Answered<'a>>,
+) -> Result<(), NoMemory> {
+    for (question, request) in script.questions.iter().zip(script.requests.iter()) {
+        let answer = answer_times(alloc, &script.plan, farm, request)?;
         answers.push(Answered {
             question: *question,
-            answer: answer_times(alloc, &plan, &mut farm, request)?,
+            answer,
         })?;
     }
-    let words = farm.words();
-    Ok(ReplayedFarm { plan, words })
+    Ok(())
 }
 
 // The answers of a request, as often as it is asked.

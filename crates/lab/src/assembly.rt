@@ -79,10 +79,7 @@ pub fn try_programs(alloc: Global, text: &[u8]) -> Result<Vec<Answered<'_>>, Fai
     answer_all(alloc, questions.as_slice())
 }
 
-fn answer_all<'a>(
-    alloc: Global,
-    questions: &[Question<'a>],
-) -> Result<Vec<Answered<'a>>, Failure> {
+fn answer_all<'a>(alloc: Global, questions: &[Question<'a>]) -> Result<Vec<Answered<'a>>, Failure> {
     let mut answers = Vec::new(alloc);
     for question in questions {
         let answered = match question.text.strip_prefix("hex ") {

@@ -130,8 +130,12 @@ fn with_arguments<'a>(
 ) -> Result<Command<'a>, AllocError> {
     let command = Command::new(alloc, name).about(subcommand.about());
     match subcommand {
-        Subcommand::Trace => command.arg(boot_argument(alloc))?.arg(steps_argument(alloc)),
-        Subcommand::Assemble => command.arg(listing_argument(alloc))?.arg(pokes_argument(alloc)),
+        Subcommand::Trace => command
+            .arg(boot_argument(alloc))?
+            .arg(steps_argument(alloc)),
+        Subcommand::Assemble => command
+            .arg(listing_argument(alloc))?
+            .arg(pokes_argument(alloc)),
         Subcommand::Rows => command.arg(files_argument(alloc)),
         Subcommand::Replay | Subcommand::Plan | Subcommand::Draw | Subcommand::Disassemble => {
             Ok(command)

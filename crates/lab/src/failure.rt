@@ -1,7 +1,7 @@
 //! Why the lab ends without its output.
 
 use farm_replay::ReplayFault;
-use node_trace::BootTraceFault;
+use node_trace::BootFault;
 use plan_views::PlanRefusal;
 use script_text::{LineFault, ReadFault, write_whole};
 use std::alloc::{AllocError, AllocFailed, Global};
@@ -155,11 +155,11 @@ impl From<PlanRefusal> for Failure {
     }
 }
 
-impl From<BootTraceFault> for Failure {
-    fn from(fault: BootTraceFault) -> Failure {
+impl From<BootFault> for Failure {
+    fn from(fault: BootFault) -> Failure {
         match fault {
-            BootTraceFault::Length => Failure::Code,
-            BootTraceFault::Memory(_) => Failure::Memory,
+            BootFault::TooShort | BootFault::TooLong => Failure::Code,
+            BootFault::NoMemory => Failure::Memory,
         }
     }
 }

@@ -129,8 +129,7 @@ fn change_plan(alloc: Global, base: &str, line: u64, text: &str) -> Result<Strin
             Some(text) => {
                 let new = line.strip_prefix("with:").ok_or(Failure::Line(number))?;
                 let new = new.strip_prefix(" ").unwrap_or(new);
-                plan = replace_once(alloc, plan.as_str(), text, new)?
-                    .ok_or(Failure::Line(number))?;
+                plan = replace_once(alloc, plan.as_str(), text, new)?.ok_or(Failure::Line(number))?;
                 None
             }
             None => Some(line.strip_prefix("replace: ").ok_or(Failure::Line(number))?),

@@ -3,7 +3,7 @@
 use crate::assembly::{print_assembled, print_disassembled};
 use crate::command_line::Reading;
 use crate::failure::Failure;
-use farm_replay::replay;
+use farm_replay::{Replayed, replay};
 use node_trace::{trace, trace_boot};
 use plan_views::{accepted, draw, table_of};
 use script_text::{Answered, TextWriter, divide};
@@ -38,7 +38,8 @@ fn print_plan(alloc: Global, text: &[u8]) -> Result<String, Failure> {
 
 // The switch of the last farm of a text.
 fn print_drawing(alloc: Global, text: &[u8]) -> Result<String, Failure> {
-    match replay(alloc, text)?.last {
+    let Replayed { answers: _, last } = replay(alloc, text)?;
+    match last {
         Some(farm) => Ok(draw(alloc, &farm.plan, farm.words.as_slice())?),
         None => Ok(String::new(alloc)),
     }

@@ -6,29 +6,14 @@ use crate::performing::write_step;
 use bootstrap::{BootFault, LinkNumber, Node, Packet, Stepped, boot_message, number_of};
 use script_text::TextWriter;
 use std::alloc::{AllocError, Global};
-use thiserror::Error;
-
-/// Why code isn't traced.
-#[derive(Clone, Copy, Debug, PartialEq, Eq, Error)]
-pub enum BootTraceFault {
-    /// The code can't be sent as a boot message, as it is shorter than 2 bytes or longer than 255.
-    #[error("code is 2 to 255 bytes long")]
-    Length,
-    /// There is no memory for the node or for the answers.
-    #[error("out of memory")]
-    Memory(#[from(alloc)] AllocError),
-}
 
 /// Boots a node of 4,096 bytes with code by link 0, and gives a line for each Step that follows, up to so many, to the
 /// first that is idle, or to a fault: the address of the instruction, the instruction, and what changed.
 ///
 /// Packets that leave a link have lines of their own. A host at each link takes them, and acknowledges each byte.
-pub fn trace_boot(alloc: Global, code: &[u8], steps: u64) -> Result<String, BootTraceFault> {
-    let message = boot_message(alloc, code).map_err(|fault| match fault {
-        BootFault::NoMemory => BootTraceFault::Memory(AllocError),
-        BootFault::TooShort | BootFault::TooLong => BootTraceFault::Length,
-    })?;
-    Ok(trace_message(alloc, message.as_slice(), steps)?)
+pub fn trace_boot(alloc: Global, code: &[u8], steps: u64) -> Result<String, BootFault> {
+    let message = boot_message(alloc, code)?;
+    trace_message(alloc, message.as_slice(), steps).map_err(|_| BootFault::NoMemory)
 }
 
 // Traces a node that a boot message boots.

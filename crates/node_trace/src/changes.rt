@@ -98,8 +98,14 @@ fn link_fields(link: &Link) -> [Field; 9] {
         Field::new("overruns", Value::Count(input.overruns)),
         Field::new("awaits", Value::Flag(output.awaits)),
         Field::new("acknowledged", Value::Flag(output.acknowledged)),
-        Field::new("input", Value::Message(link.input_pointer, link.input_count)),
-        Field::new("output", Value::Message(link.output_pointer, link.output_count)),
+        Field::new(
+            "input",
+            Value::Message(link.input_pointer, link.input_count),
+        ),
+        Field::new(
+            "output",
+            Value::Message(link.output_pointer, link.output_count),
+        ),
         Field::new("watched", Value::Flag(link.watched)),
     ]
 }

@@ -17,6 +17,7 @@ mod snapshot;
 mod tracing;
 mod trial;
 
-pub use crate::boot::{BootTraceFault, trace_boot};
+pub use crate::boot::trace_boot;
 pub use crate::tracing::trace;
+pub use bootstrap::BootFault;
 pub use script_text::LineFault;

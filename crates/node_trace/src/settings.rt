@@ -234,9 +234,15 @@ const FIELDS: [(&str, Field); 22] = [
     ("sends", Field::AtLink(LinkField::Sends)),
     ("holds", Field::AtLink(LinkField::Holds)),
     ("overruns", Field::AtLink(LinkField::Overruns)),
-    ("acknowledges", Field::AtLink(LinkField::Flag(LinkFlag::Acknowledges))),
+    (
+        "acknowledges",
+        Field::AtLink(LinkField::Flag(LinkFlag::Acknowledges)),
+    ),
     ("awaits", Field::AtLink(LinkField::Flag(LinkFlag::Awaits))),
-    ("acknowledged", Field::AtLink(LinkField::Flag(LinkFlag::Acknowledged))),
+    (
+        "acknowledged",
+        Field::AtLink(LinkField::Flag(LinkFlag::Acknowledged)),
+    ),
     ("watched", Field::AtLink(LinkField::Flag(LinkFlag::Watched))),
     ("input", Field::AtLink(LinkField::Input)),
     ("output", Field::AtLink(LinkField::Output)),

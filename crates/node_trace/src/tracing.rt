@@ -2,6 +2,7 @@
 
 use crate::commands::{Command, read_command};
 use crate::performing::{open_running, or_dash, perform};
+use bootstrap::Node;
 use script_text::{Answered, LineFault, Question, TextWriter, read_questions};
 use std::alloc::{AllocError, Global};
 
@@ -35,13 +36,20 @@ fn answer_all<'a>(
     let mut answers = Vec::new(alloc);
     let mut node = open_running(alloc, 4096)?;
     for (question, command) in questions.iter().zip(commands.iter()) {
-        let mut text = TextWriter::new(alloc);
-        node = perform(alloc, node, command, &mut text)?;
-        let text = text.finish()?;
+        let (after, answer) = answer(alloc, node, command)?;
+        node = after;
         answers.push(Answered {
             question: *question,
-            answer: or_dash(alloc, text.as_str())?,
+            answer,
         })?;
     }
     Ok(answers)
+}
+
+// Does what a line asks for on a node, and gives it as it is then, with the answer.
+fn answer(alloc: Global, node: Node, command: &Command) -> Result<(Node, String), AllocError> {
+    let mut text = TextWriter::new(alloc);
+    let node = perform(alloc, node, command, &mut text)?;
+    let answer = or_dash(alloc, text.finish()?.as_str())?;
+    Ok((node, answer))
 }

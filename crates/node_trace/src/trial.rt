@@ -42,14 +42,23 @@ fn write_second(text: &mut TextWriter, first: &str, second: &str) {
 // What the instructions come to, with HaltOnError set first if that is asked for.
 fn outcome(alloc: Global, settings: &Settings, halts: bool) -> Result<String, AllocError> {
     let mut text = TextWriter::new(alloc);
-    let (node, stored) = settings.put(open_running(alloc, 4096)?);
+    write_outcome(&mut text, open_running(alloc, 4096)?, settings, halts)?;
+    or_dash(alloc, text.finish()?.as_str())
+}
+
+fn write_outcome(
+    text: &mut TextWriter,
+    node: Node,
+    settings: &Settings,
+    halts: bool,
+) -> Result<(), AllocError> {
+    let (node, stored) = settings.put(node);
     if let Some(Err(fault)) = stored {
-        push_stepped(&mut text, Stepped::Fault(fault));
-        return text.finish();
+        push_stepped(text, Stepped::Fault(fault));
+        return Ok(());
     }
     let mut node = if halts { halting(node) } else { node };
-    write_code_done(&mut text, &mut node, settings.code.as_slice())?;
-    or_dash(alloc, text.finish()?.as_str())
+    write_code_done(text, &mut node, settings.code.as_slice())
 }
 
 // Does a Step for each byte of code, to one that doesn't run, and writes what they changed.

@@ -54,7 +54,11 @@ fn breach_in(alloc: Global, domain: &DomainPlan, fault: PlanFault) -> Result<Str
         }
         PlanFault::Memory => write_wrong_memory(&mut text, domain),
         PlanFault::Port => {
-            write_wrong_port(&mut text, count_of(domain), uses_of(alloc, domain)?.as_slice());
+            write_wrong_port(
+                &mut text,
+                count_of(domain),
+                uses_of(alloc, domain)?.as_slice(),
+            );
         }
         PlanFault::PortTwice => write_port_twice(&mut text, uses_of(alloc, domain)?.as_slice()),
         PlanFault::HostCount => write_wrong_hosts(&mut text, domain),

@@ -104,7 +104,11 @@ pub fn misshapen(alloc: Global, text: &[u8]) -> Result<Option<String>, AllocErro
             let mut misfit = TextWriter::new(alloc);
             write_document_misfit(&mut misfit, &document);
             let misfit = misfit.finish()?;
-            Ok(if misfit.is_empty() { None } else { Some(misfit) })
+            Ok(if misfit.is_empty() {
+                None
+            } else {
+                Some(misfit)
+            })
         }
         Err(error) if error.is_memory() => Err(AllocError),
         Err(_) => Ok(None),

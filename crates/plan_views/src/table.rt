@@ -26,19 +26,34 @@ pub fn table_of(alloc: Global, plan: &AcceptedPlan) -> Result<String, NoMemory> 
 fn write_heading(text: &mut TextWriter, plan: &AcceptedPlan, domain: u8)
     requires { domain < length plan.now }
 {
-    let part = plan.part(domain);
     text.push("domain ");
     text.push_decimal(u64::from(domain));
+    write_users(text, plan, domain);
+    write_ranges(text, plan, domain);
+    write_limit_and_nodes(text, plan.part(domain));
+}
+
+fn write_users(text: &mut TextWriter, plan: &AcceptedPlan, domain: u8)
+    requires { domain < length plan.now }
+{
     text.push("\nusers:");
     for user in 0..plan.users(domain) {
         text.push(if user == 0 { " " } else { ", " });
         text.push(plan.name(domain, user));
     }
+}
+
+fn write_ranges(text: &mut TextWriter, plan: &AcceptedPlan, domain: u8)
+    requires { domain < length plan.now }
+{
     text.push("\nports:");
     for (number, range) in plan.ranges(domain).into_iter().flatten().enumerate() {
         text.push(if number == 0 { " " } else { ", " });
         write_range(text, range);
     }
+}
+
+fn write_limit_and_nodes(text: &mut TextWriter, part: &Part) {
     text.push("\nlimit: ");
     text.push_decimal(part.limit());
     text.push(" events\n");
@@ -71,12 +86,7 @@ fn write_ports(text: &mut TextWriter, plan: &AcceptedPlan, domain: u8)
 }
 
 /// Appends the device that is joined to a port of a domain, with the owner's name if it is a host; `-` if there is none.
-pub fn write_device(
-    text: &mut TextWriter,
-    plan: &AcceptedPlan,
-    domain: u8,
-    device: Option<Device>,
-)
+pub fn write_device(text: &mut TextWriter, plan: &AcceptedPlan, domain: u8, device: Option<Device>)
     requires { domain < length plan.now }
 {
     match device {

@@ -70,16 +70,19 @@ pub fn accepted(alloc: Global, text: &[u8]) -> Result<AcceptedPlan, PlanRefusal>
 
 // The first place of a refused plan that has the fault. If none is found the fault is said of the plan as a whole.
 fn reason_of(alloc: Global, text: &[u8], fault: PlanFault) -> Result<String, AllocError> {
-    let place = match fault {
-        PlanFault::Text => unread(alloc, text)?,
-        PlanFault::Shape => misshapen(alloc, text)?,
-        _ => match read_plan(alloc, text) {
-            Ok(plan) => breach_of(alloc, plan.domains.as_slice(), fault)?,
-            Err(_) => None,
-        },
-    };
-    match place {
+    match place_of(alloc, text, fault)? {
         Some(reason) => Ok(reason),
         None => format!(in alloc; "{fault}"),
+    }
+}
+
+fn place_of(alloc: Global, text: &[u8], fault: PlanFault) -> Result<Option<String>, AllocError> {
+    match fault {
+        PlanFault::Text => unread(alloc, text),
+        PlanFault::Shape => misshapen(alloc, text),
+        _ => match read_plan(alloc, text) {
+            Ok(plan) => breach_of(alloc, plan.domains.as_slice(), fault),
+            Err(_) => Ok(None),
+        },
     }
 }

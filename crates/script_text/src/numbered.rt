@@ -28,7 +28,10 @@ impl<'a> NumberedLine<'a> {
 }
 
 /// All lines of a text, in their order. Behind its last line feed stands a line only if it isn't empty.
-pub fn numbered_lines<'a>(alloc: Global, text: &'a [u8]) -> Result<Vec<NumberedLine<'a>>, AllocError>
+pub fn numbered_lines<'a>(
+    alloc: Global,
+    text: &'a [u8],
+) -> Result<Vec<NumberedLine<'a>>, AllocError>
     ensures lines { IfOk result (λ lines. (k : ℕ) → IfSome (slice_get lines.items k) (λ line. IsLine text.now k line.text.now)) }
     ensures numbers { IfOk result (λ lines. (k : ℕ) → IfSome (slice_get lines.items k) (λ line. line.number ≡ k + 1)) }
     ensures whole { IfOk result (λ lines. from_line (length lines.items) text.now ≡ []) }

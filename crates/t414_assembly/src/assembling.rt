@@ -25,7 +25,12 @@ impl Assembly {
     /// How many bytes stand before the line of this index, from 0; none before one behind the last.
     pub fn start_of_line(&self, index: usize) -> u32 {
         let place = self.lines.as_slice().get(index).copied().unwrap_or(0);
-        self.image.starts.as_slice().get(place).copied().unwrap_or(0)
+        self.image
+            .starts
+            .as_slice()
+            .get(place)
+            .copied()
+            .unwrap_or(0)
     }
 }
 

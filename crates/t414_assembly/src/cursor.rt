@@ -55,7 +55,10 @@ impl<'a> Cursor<'a> {
 
     /// Passes over blanks and tabs.
     pub fn skip_blanks(&mut self) {
-        let end = self.rest.iter().position(|byte| !matches!(*byte, b' ' | b'\t'));
+        let end = self
+            .rest
+            .iter()
+            .position(|byte| !matches!(*byte, b' ' | b'\t'));
         self.rest = &self.rest[end.unwrap_or(self.rest.len())..];
     }
 

@@ -8,7 +8,8 @@ use t414_decode::{Function, decode};
 //
 // Source: Transputer instruction set handbook, direct functions.
 const FUNCTIONS: [&str; 16] = [
-    "j", "ldlp", "pfix", "ldnl", "ldc", "ldnlp", "nfix", "ldl", "adc", "call", "cj", "ajw", "eqc", "stl", "stnl", "opr",
+    "j", "ldlp", "pfix", "ldnl", "ldc", "ldnlp", "nfix", "ldl", "adc", "call", "cj", "ajw", "eqc",
+    "stl", "stnl", "opr",
 ];
 
 // The names of the operations, and their codes.
