@@ -139,20 +139,21 @@ fn usual_asker(verb: EventVerb) -> By {
 
 // Who asks, if the next word says so behind `@`.
 fn read_asker(usual: By, words: &mut Words) -> By {
-    let Some(name) = words.peek().strip_prefix("@") else {
-        return usual;
-    };
-    let _ = words.take();
-    if name == "farm" {
-        return By::Farm;
-    }
-    match decimal_number(name) {
-        Some(user) if user < 0x100 => By::User(user as u8),
-        _ => {
-            words.reject();
-            usual
+    match words.peek().strip_prefix("@") {
+        Some(name) => {
+            let _ = words.take();
+            words.or_reject(asker_named(name), usual)
         }
+        None => usual,
     }
+}
+
+fn asker_named(name: &str) -> Option<By> {
+    if name == "farm" {
+        return Some(By::Farm);
+    }
+    let user = u8::try_from(decimal_number(name)?).ok()?;
+    Some(By::User(user))
 }
 
 // The events that a verb asks for, of which a plural asks for several.

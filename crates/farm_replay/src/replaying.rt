@@ -49,15 +49,26 @@ pub struct Replayed<'a> {
 /// The first fault of the text is answered: `Plan` if a plan is refused, and `Line` if a line asks nothing that there
 /// is; `Memory` if memory is wanted anywhere.
 pub fn replay(alloc: Global, text: &[u8]) -> Result<Replayed<'_>, ReplayFault> {
-    let scripts = read_scripts(alloc, text)?;
-    let mut replayed = Replayed {
-        answers: Vec::new(alloc),
-        last: None,
-    };
-    for script in scripts {
-        replayed.last = Some(play(alloc, script, &mut replayed.answers)?);
+    let mut scripts = read_scripts(alloc, text)?;
+    let mut answers = Vec::new(alloc);
+    let mut words = [Word::UNUSED; PORTS as usize];
+    for script in &scripts {
+        words = answer_script(alloc, script, &mut answers)?;
     }
-    Ok(replayed)
+    let last = match scripts.pop() {
+        Some(script) => Some(replayed_farm(script, words)),
+        None => None,
+    };
+    Ok(Replayed { answers, last })
+}
+
+fn replayed_farm(script: Script<'_>, words: [Word; PORTS as usize]) -> ReplayedFarm {
+    let Script {
+        plan,
+        questions: _,
+        requests: _,
+    } = script;
+    ReplayedFarm { plan, words }
 }
 
 fn read_scripts(alloc: Global, text: &[u8]) -> Result<Vec<Script<'_>>, ReplayFault> {
@@ -107,21 +118,6 @@ fn read_requests(
         }
     }
     Ok(requests)
-}
-
-// Asks the farm of a script its lines, and gives it as they left it.
-fn play<'a>(
-    alloc: Global,
-    script: Script<'a>,
-    answers: &mut Vec<Answered<'a>>,
-) -> Result<ReplayedFarm, NoMemory> {
-    let words = answer_script(alloc, &script, answers)?;
-    let Script {
-        plan,
-        questions: _,
-        requests: _,
-    } = script;
-    Ok(ReplayedFarm { plan, words })
 }
 
 // Asks a farm the lines of its script, and gives the words of its outputs after them.

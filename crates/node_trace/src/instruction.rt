@@ -47,19 +47,26 @@ fn find_next(
     links: &mut Links,
 ) -> Result<Option<InstructionByte>, Fault> {
     links.serve_all(memory, &mut registers.queue)?;
-    let (address, operand) = if registers.running {
-        (registers.instruction, registers.operand)
-    } else {
-        let Some(process) = registers.queue.take(memory)? else {
-            return Ok(None);
-        };
-        let workspace = process & 0xffff_fffc;
-        (memory.word(workspace.wrapping_sub(4))?, 0)
-    };
-    let byte = memory.byte(address)?;
-    Ok(Some(InstructionByte {
-        address,
-        byte,
-        operand,
-    }))
+    match next_place(registers, memory)? {
+        Some((address, operand)) => Ok(Some(InstructionByte {
+            address,
+            byte: memory.byte(address)?,
+            operand,
+        })),
+        None => Ok(None),
+    }
+}
+
+// Where the current process goes on, or the first of the queue, and the operand register there.
+fn next_place(registers: &mut Cpu, memory: &mut Memory) -> Result<Option<(u32, u32)>, Fault> {
+    if registers.running {
+        return Ok(Some((registers.instruction, registers.operand)));
+    }
+    match registers.queue.take(memory)? {
+        Some(process) => {
+            let workspace = process & 0xffff_fffc;
+            Ok(Some((memory.word(workspace.wrapping_sub(4))?, 0)))
+        }
+        None => Ok(None),
+    }
 }

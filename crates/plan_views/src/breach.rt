@@ -18,29 +18,40 @@ pub fn breach_of(
 ) -> Result<Option<String>, AllocError> {
     let mut text = TextWriter::new(alloc);
     match fault {
-        PlanFault::DomainCount => {
-            write_place(&mut text, "the plan has ", domains.len());
-            text.push(" domains, and 1 to 16 are possible");
-        }
+        PlanFault::DomainCount => write_wrong_count(&mut text, domains.len()),
         PlanFault::NameTwice => {
             write_name_twice(&mut text, names_of(alloc, domains)?.as_slice());
         }
         PlanFault::SharedPort => {
             write_shared_port(&mut text, ranges_of(alloc, domains)?.as_slice());
         }
-        fault => {
-            for (number, domain) in domains.iter().enumerate() {
-                let said = breach_in(alloc, domain, fault)?;
-                if !said.is_empty() {
-                    write_domain_name(&mut text, number, domain);
-                    text.push(said.as_str());
-                    break;
-                }
-            }
-        }
+        fault => write_breach(alloc, &mut text, domains, fault)?,
     }
     let text = text.finish()?;
     Ok(if text.is_empty() { None } else { Some(text) })
+}
+
+fn write_wrong_count(text: &mut TextWriter, count: usize) {
+    write_place(text, "the plan has ", count);
+    text.push(" domains, and 1 to 16 are possible");
+}
+
+// The first domain that breaks a rule for single domains, and how it does.
+fn write_breach(
+    alloc: Global,
+    text: &mut TextWriter,
+    domains: &[DomainPlan],
+    fault: PlanFault,
+) -> Result<(), AllocError> {
+    for (number, domain) in domains.iter().enumerate() {
+        let said = breach_in(alloc, domain, fault)?;
+        if !said.is_empty() {
+            write_domain_name(text, number, domain);
+            text.push(said.as_str());
+            break;
+        }
+    }
+    Ok(())
 }
 
 // What is said of a domain that breaks a rule for single domains, after its name; nothing if it doesn't break it.

@@ -199,25 +199,40 @@ fn write_value_misfit(misfit: &mut TextWriter, value: &Value, fields: &[Field], 
 // Writes the first field that a table lacks, has of a wrong kind or has too much, if no misfit is written yet.
 fn write_table_misfit(misfit: &mut TextWriter, table: &Table, fields: &[Field], place: Place) {
     for (name, kind) in fields {
-        if !misfit.is_empty() {
-            return;
-        }
-        match table.get(*name) {
-            None => write_field_misfit(misfit, place, name, "` is missing, ", *kind),
-            Some(value) if !has_kind(value, *kind) => {
-                write_field_misfit(misfit, place, name, "` isn't ", *kind);
-            }
-            Some(_) => {}
+        if misfit.is_empty() {
+            write_wanted_field(misfit, table.get(*name), name, *kind, place);
         }
     }
     for name in table.keys() {
         if misfit.is_empty() && !fields.iter().any(|field| name.as_str() == field.0) {
-            write_table_place(misfit, place);
-            misfit.push(": there is no field `");
-            write_quoted(misfit, name.as_str());
-            misfit.push("`");
+            write_unknown_field(misfit, name.as_str(), place);
         }
     }
+}
+
+// Writes that a field is missing or of a wrong kind, if it is.
+fn write_wanted_field(
+    misfit: &mut TextWriter,
+    value: Option<&Value>,
+    name: &str,
+    kind: Kind,
+    place: Place,
+) {
+    match value {
+        None => write_field_misfit(misfit, place, name, "` is missing, ", kind),
+        Some(value) => {
+            if !has_kind(value, kind) {
+                write_field_misfit(misfit, place, name, "` isn't ", kind);
+            }
+        }
+    }
+}
+
+fn write_unknown_field(misfit: &mut TextWriter, name: &str, place: Place) {
+    write_table_place(misfit, place);
+    misfit.push(": there is no field `");
+    write_quoted(misfit, name);
+    misfit.push("`");
 }
 
 fn write_field_misfit(misfit: &mut TextWriter, place: Place, name: &str, wrong: &str, kind: Kind) {

@@ -81,17 +81,18 @@ pub fn read_questions<'a>(
     let mut questions = Vec::new(alloc);
     for line in &numbered_lines(alloc, text)? {
         if !is_passed_over(line.text) {
-            let number = line.number.saturating_add(before);
-            questions.push(read_question(NumberedLine {
-                number,
-                text: line.text,
-            })?)?;
+            questions.push(read_question(*line, before)?)?;
         }
     }
     Ok(questions)
 }
 
-fn read_question(line: NumberedLine<'_>) -> Result<Question<'_>, LineFault> {
+// The question of a line behind so many others.
+fn read_question(line: NumberedLine<'_>, before: u64) -> Result<Question<'_>, LineFault> {
+    let line = NumberedLine {
+        number: line.number.saturating_add(before),
+        text: line.text,
+    };
     let whole = line.as_str()?;
     let (text, expected) = match whole.split_once(" = ") {
         Some((text, expected)) => (text, Some(expected)),

@@ -43,11 +43,7 @@ pub fn assemble(alloc: Global, origin: u32, text: &[u8]) -> Result<Assembly, Tex
     ensures { IfOk result (λ made. IsImage origin made.statements.items made.image.starts.items (length made.statements.items) made.image.bytes.items) }
 {
     let source = numbered_lines(alloc, text)?;
-    let mut reader = Reader::new(alloc);
-    read_lines(alloc, &mut reader, source.as_slice())?;
-    reader.begin_again();
-    let lines = read_lines(alloc, &mut reader, source.as_slice())?;
-    let statements = reader.into_statements()?;
+    let (statements, lines) = read_program(alloc, source.as_slice())?;
     match lay_out(alloc, origin, statements.as_slice()) {
         Ok(image) => Ok(Assembly {
             statements,
@@ -59,6 +55,18 @@ pub fn assemble(alloc: Global, origin: u32, text: &[u8]) -> Result<Assembly, Tex
         }
         Err(LayoutFault::NoMemory) => Err(TextFault::Memory(AllocError)),
     }
+}
+
+// The statements of all lines, and how many of them stand before each line and behind the last.
+fn read_program(
+    alloc: Global,
+    source: &[NumberedLine<'_>],
+) -> Result<(Vec<Statement>, Vec<usize>), TextFault> {
+    let mut reader = Reader::new(alloc);
+    read_lines(alloc, &mut reader, source)?;
+    reader.begin_again();
+    let lines = read_lines(alloc, &mut reader, source)?;
+    Ok((reader.into_statements()?, lines))
 }
 
 // Reads all lines, and tells how many statements stand before each and behind the last.
