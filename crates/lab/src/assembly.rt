@@ -4,8 +4,8 @@ use crate::failure::Failure;
 use script_text::{Answered, Question, TextWriter, read_questions};
 use std::alloc::{AllocError, Global};
 use t414_assembly::{
-    BOOTED, LOADED, MOST_CODE, assemble, bytes_of_digits, code_as_text, hexadecimal, listing,
-    loader, pokes,
+    Assembly, BOOTED, Image, LOADED, MOST_CODE, assemble, bytes_of_digits, code_as_text,
+    hexadecimal, listing, loader, pokes,
 };
 
 /// How assembled code is printed.
@@ -82,33 +82,53 @@ pub fn try_programs(alloc: Global, text: &[u8]) -> Result<Vec<Answered<'_>>, Fai
 fn answer_all<'a>(alloc: Global, questions: &[Question<'a>]) -> Result<Vec<Answered<'a>>, Failure> {
     let mut answers = Vec::new(alloc);
     for question in questions {
-        let answered = match question.text.strip_prefix("hex ") {
-            Some(digits) => print_disassembled(alloc, digits.as_bytes()),
-            None => answer_program(alloc, question.text),
-        };
+        let answer = answer_row(alloc, question.text)?;
         answers.push(Answered {
             question: *question,
-            answer: without_end(alloc, answered)?,
+            answer,
         })?;
     }
     Ok(answers)
 }
 
+fn answer_row(alloc: Global, row: &str) -> Result<String, Failure> {
+    let answered = match row.strip_prefix("hex ") {
+        Some(digits) => print_disassembled(alloc, digits.as_bytes()),
+        None => answer_program(alloc, row),
+    };
+    without_end(alloc, answered)
+}
+
 // The code of a program in digits, or that its disassembly isn't the same code.
 fn answer_program(alloc: Global, row: &str) -> Result<String, Failure> {
+    let code = code_of(alloc, lines_of(alloc, row)?.as_bytes())?;
+    let disassembled = code_as_text(alloc, code.as_slice())?;
+    let again = code_of(alloc, disassembled.as_bytes())?;
+    if again == code {
+        return Ok(hexadecimal(alloc, code.as_slice())?);
+    }
+    Ok(String::from_str(alloc, "its disassembly is other code")?)
+}
+
+// The lines that ` / ` divides.
+fn lines_of(alloc: Global, row: &str) -> Result<String, AllocError> {
     let mut text = TextWriter::new(alloc);
     for line in row.split(" / ") {
         text.push(line);
         text.push("\n");
     }
-    let made = assemble(alloc, BOOTED, text.finish()?.as_bytes())?;
-    let code = made.image.bytes.as_slice();
-    let disassembled = code_as_text(alloc, code)?;
-    let again = assemble(alloc, BOOTED, disassembled.as_bytes())?;
-    if again.image.bytes.as_slice() == code {
-        return Ok(hexadecimal(alloc, code)?);
-    }
-    Ok(String::from_str(alloc, "its disassembly is other code")?)
+    text.finish()
+}
+
+// The code of a text that a boot takes.
+fn code_of(alloc: Global, text: &[u8]) -> Result<Vec<u8>, Failure> {
+    let Assembly {
+        statements: _,
+        lines: _,
+        image,
+    } = assemble(alloc, BOOTED, text)?;
+    let Image { bytes, starts: _ } = image;
+    Ok(bytes)
 }
 
 // An answer without the line feed at its end, or a fault as it is told.

@@ -1,28 +1,8 @@
 //! Plans that stand in files, each with what the checker is to answer.
 
-use crate::failure::Failure;
 use plan_views::{PlanRefusal, accepted};
-use script_text::{Answered, Question, TextWriter, numbered_lines};
+use script_text::{Answered, LineFault, Question, TextWriter, numbered_lines};
 use std::alloc::{AllocError, Global};
-
-// A heading, the number of its line, and the lines that follow it up to the next heading, joined by line feeds.
-#[derive(Drop)]
-struct Block<'a> {
-    line: u64,
-    heading: &'a str,
-    text: TextWriter,
-}
-
-impl<'a> Block<'a> {
-    // A block of which no line is read yet.
-    fn new(alloc: Global, line: u64, heading: &'a str) -> Block<'a> {
-        Block {
-            line,
-            heading,
-            text: TextWriter::new(alloc),
-        }
-    }
-}
 
 // What a heading says: what is expected, and why, and whether the plan is the base of those that follow.
 #[derive(Clone, Copy)]
@@ -37,60 +17,83 @@ struct Heading<'a> {
 /// `replace: OLD` has a line `with: NEW` after it, and OLD stands exactly once in the plan so far; empty lines are
 /// passed over. What stands below `=== # ...` or before the first heading is a remark.
 ///
-/// `Line` if a line isn't UTF-8 or a change can't be made.
-pub fn try_plans(alloc: Global, text: &[u8]) -> Result<Vec<Answered<'_>>, Failure> {
-    let mut base = String::new(alloc);
-    let mut answers = Vec::new(alloc);
-    for block in read_blocks(alloc, text)? {
-        let Block {
-            line,
-            heading,
-            text,
-        } = block;
-        if heading.starts_with("#") {
-            continue;
-        }
-        let heading = read_heading(heading);
-        let changes = text.finish()?;
-        let plan = change_plan(alloc, base.as_str(), line, changes.as_str())?;
-        answers.push(try_plan(alloc, line, heading, plan.as_str())?)?;
-        if heading.is_base {
-            base = plan;
+/// `Wrong` if a line isn't UTF-8 or a change can't be made.
+pub fn try_plans(alloc: Global, text: &[u8]) -> Result<Vec<Answered<'_>>, LineFault> {
+    let lines = read_lines(alloc, text)?;
+    let mut trials = Trials {
+        base: String::new(alloc),
+        answers: Vec::new(alloc),
+    };
+    for (index, line) in lines.iter().enumerate() {
+        if let Some(heading) = line.strip_prefix("=== ") {
+            let below = lines_below(lines.as_slice(), index);
+            trials.try_block(alloc, number_of(index), heading, below)?;
         }
     }
-    Ok(answers)
+    Ok(trials.answers)
 }
 
-fn read_blocks(alloc: Global, text: &[u8]) -> Result<Vec<Block<'_>>, Failure> {
-    let mut blocks = Vec::new(alloc);
-    let mut block = Block::new(alloc, 0, "#");
-    for numbered in &numbered_lines(alloc, text)? {
-        let line = numbered.as_str()?;
-        if let Some(heading) = line.strip_prefix("=== ") {
-            blocks.push(block)?;
-            block = Block::new(alloc, numbered.number, heading);
-        } else {
-            block.text.push(line);
-            block.text.push("\n");
-        }
+fn read_lines(alloc: Global, text: &[u8]) -> Result<Vec<&str>, LineFault> {
+    let mut lines = Vec::new(alloc);
+    for line in &numbered_lines(alloc, text)? {
+        lines.push(line.as_str()?)?;
     }
-    blocks.push(block)?;
-    Ok(blocks)
+    Ok(lines)
+}
+
+// The number of the line of this index.
+fn number_of(index: usize) -> u64 {
+    (index as u64).saturating_add(1)
+}
+
+// The lines below the heading of this index, up to the next heading.
+fn lines_below<'a>(lines: &'a [&'a str], index: usize) -> &'a [&'a str] {
+    let Some(below) = lines.get(index.saturating_add(1)..) else {
+        return &[];
+    };
+    match below.iter().position(|line| line.starts_with("=== ")) {
+        Some(count) => &below[..count],
+        None => below,
+    }
+}
+
+// What the plans so far were answered, and the plan that the next may change.
+#[derive(Drop)]
+struct Trials<'a> {
+    base: String,
+    answers: Vec<Answered<'a>>,
+}
+
+impl<'a> Trials<'a> {
+    // Tries the plan of the lines below a heading, whose line has this number, if they aren't a remark.
+    fn try_block(
+        &mut self,
+        alloc: Global,
+        number: u64,
+        heading: &'a str,
+        lines: &[&str],
+    ) -> Result<(), LineFault> {
+        if heading.starts_with("#") {
+            return Ok(());
+        }
+        let heading = read_heading(heading);
+        let plan = plan_of(alloc, self.base.as_str(), number, lines)?;
+        self.answers
+            .push(try_plan(alloc, number, heading, plan.as_str())?)?;
+        if heading.is_base {
+            self.base = plan;
+        }
+        Ok(())
+    }
 }
 
 fn read_heading(text: &str) -> Heading<'_> {
     let (expected, why) = text.split_once(" - ").unwrap_or((text, "a plan"));
-    match expected.strip_prefix("base ") {
-        Some(expected) => Heading {
-            expected,
-            why,
-            is_base: true,
-        },
-        None => Heading {
-            expected,
-            why,
-            is_base: false,
-        },
+    let base = expected.strip_prefix("base ");
+    Heading {
+        expected: base.unwrap_or(expected),
+        why,
+        is_base: base.is_some(),
     }
 }
 
@@ -100,7 +103,7 @@ fn try_plan<'a>(
     line: u64,
     heading: Heading<'a>,
     plan: &str,
-) -> Result<Answered<'a>, Failure> {
+) -> Result<Answered<'a>, AllocError> {
     let tells_why = !heading.is_base && heading.expected.starts_with("plan: ");
     Ok(Answered {
         question: Question {
@@ -112,37 +115,65 @@ fn try_plan<'a>(
     })
 }
 
-// The plan of a block whose heading stands in this line: its text, or the changed base.
-fn change_plan(alloc: Global, base: &str, line: u64, text: &str) -> Result<String, Failure> {
-    if !text.starts_with("replace: ") {
-        return Ok(String::from_str(alloc, text)?);
+// The plan below a heading, whose line has this number: the lines there, or the changed base.
+fn plan_of(alloc: Global, base: &str, number: u64, lines: &[&str]) -> Result<String, LineFault> {
+    match lines.first() {
+        Some(line) if line.starts_with("replace: ") => changed_plan(alloc, base, number, lines),
+        _ => Ok(joined(alloc, lines)?),
     }
+}
+
+fn joined(alloc: Global, lines: &[&str]) -> Result<String, AllocError> {
+    let mut text = TextWriter::new(alloc);
+    for line in lines {
+        text.push(line);
+        text.push("\n");
+    }
+    text.finish()
+}
+
+// The base after the changes of lines, before which stands the line of this number.
+fn changed_plan(
+    alloc: Global,
+    base: &str,
+    number: u64,
+    lines: &[&str],
+) -> Result<String, LineFault> {
     let mut plan = String::from_str(alloc, base)?;
     let mut old = None;
-    let mut number = line;
-    for line in text.lines() {
+    let mut number = number;
+    for line in lines {
         number = number.saturating_add(1);
-        if line.is_empty() {
-            continue;
+        if !line.is_empty() {
+            old = change(alloc, &mut plan, old, line, number)?;
         }
-        old = match old {
-            Some(text) => {
-                let new = line.strip_prefix("with:").ok_or(Failure::Line(number))?;
-                let new = new.strip_prefix(" ").unwrap_or(new);
-                plan = replace_once(alloc, plan.as_str(), text, new)?.ok_or(Failure::Line(number))?;
-                None
-            }
-            None => Some(line.strip_prefix("replace: ").ok_or(Failure::Line(number))?),
-        };
     }
     match old {
-        Some(_) => Err(Failure::Line(number)),
+        Some(_) => Err(LineFault::Wrong(number)),
         None => Ok(plan),
     }
 }
 
+// Reads a line that says what is replaced, or by what; then it is. What is to be replaced by the next line.
+fn change<'a>(
+    alloc: Global,
+    plan: &mut String,
+    old: Option<&str>,
+    line: &'a str,
+    number: u64,
+) -> Result<Option<&'a str>, LineFault> {
+    let wrong = LineFault::Wrong(number);
+    let Some(text) = old else {
+        return Ok(Some(line.strip_prefix("replace: ").ok_or(wrong)?));
+    };
+    let new = line.strip_prefix("with:").ok_or(wrong)?;
+    let new = new.strip_prefix(" ").unwrap_or(new);
+    *plan = replaced_once(alloc, plan.as_str(), text, new)?.ok_or(wrong)?;
+    Ok(None)
+}
+
 // The plan with `new` in the place of `old`, if that stands in it exactly once.
-fn replace_once(
+fn replaced_once(
     alloc: Global,
     plan: &str,
     old: &str,
@@ -162,13 +193,23 @@ fn replace_once(
 
 // What the checker answers: `accepted`, or the number of the plan's fault, or, if that is asked, the line that says where
 // and why the plan is refused.
-fn answer_plan(alloc: Global, plan: &str, tells_why: bool) -> Result<String, Failure> {
+fn answer_plan(alloc: Global, plan: &str, tells_why: bool) -> Result<String, AllocError> {
     match accepted(alloc, plan.as_bytes()) {
-        Ok(_) => Ok(String::from_str(alloc, "accepted")?),
-        Err(PlanRefusal::NoMemory) => Err(Failure::Memory),
-        Err(PlanRefusal::Refused { fault, .. }) if !tells_why => {
-            Ok(format!(in alloc; "{}", fault.number())?)
+        Ok(_) => String::from_str(alloc, "accepted"),
+        Err(refusal) => tell_refusal(alloc, &refusal, tells_why),
+    }
+}
+
+fn tell_refusal(
+    alloc: Global,
+    refusal: &PlanRefusal,
+    tells_why: bool,
+) -> Result<String, AllocError> {
+    match refusal {
+        PlanRefusal::NoMemory => Err(AllocError),
+        PlanRefusal::Refused { fault, .. } if !tells_why => {
+            format!(in alloc; "{}", fault.number())
         }
-        Err(refusal) => Ok(format!(in alloc; "{refusal}")?),
+        refusal => format!(in alloc; "{refusal}"),
     }
 }

@@ -45,7 +45,7 @@ fn answer_rows<'a>(
         let Replayed { answers, last: _ } = replay(alloc, text)?;
         Ok(answers)
     } else if file.ends_with(".plans") {
-        try_plans(alloc, text)
+        Ok(try_plans(alloc, text)?)
     } else if file.ends_with(".assembly") {
         try_programs(alloc, text)
     } else {
