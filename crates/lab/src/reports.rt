@@ -18,16 +18,30 @@ pub struct Report {
 
 /// What standard input comes to.
 pub fn report_of(alloc: Global, reading: &Reading, text: &[u8]) -> Result<Report, Failure> {
-    let text = match reading {
-        Reading::Replay => print_answers(alloc, replay(alloc, text)?.answers.as_slice())?,
-        Reading::Plan => print_plan(alloc, text)?,
-        Reading::Draw => print_drawing(alloc, text)?,
-        Reading::Trace => print_answers(alloc, trace(alloc, text)?.as_slice())?,
-        Reading::Boot(code, steps) => trace_boot(alloc, code.as_slice(), u64::from(*steps))?,
-        Reading::Assemble(options) => print_assembled(alloc, *options, text)?,
-        Reading::Disassemble => print_disassembled(alloc, text)?,
-    };
+    let text = print_reading(alloc, reading, text)?;
     Ok(Report { text, status: 0 })
+}
+
+fn print_reading(alloc: Global, reading: &Reading, text: &[u8]) -> Result<String, Failure> {
+    match reading {
+        Reading::Replay => print_replayed(alloc, text),
+        Reading::Plan => print_plan(alloc, text),
+        Reading::Draw => print_drawing(alloc, text),
+        Reading::Trace => print_traced(alloc, text),
+        Reading::Boot(code, steps) => Ok(trace_boot(alloc, code.as_slice(), u64::from(*steps))?),
+        Reading::Assemble(options) => print_assembled(alloc, *options, text),
+        Reading::Disassemble => print_disassembled(alloc, text),
+    }
+}
+
+fn print_replayed(alloc: Global, text: &[u8]) -> Result<String, Failure> {
+    let Replayed { answers, last: _ } = replay(alloc, text)?;
+    Ok(print_answers(alloc, answers.as_slice())?)
+}
+
+fn print_traced(alloc: Global, text: &[u8]) -> Result<String, Failure> {
+    let answers = trace(alloc, text)?;
+    Ok(print_answers(alloc, answers.as_slice())?)
 }
 
 // The plan of a text as a table.
