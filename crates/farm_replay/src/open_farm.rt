@@ -1,5 +1,8 @@
 //! A farm with its tickets, and what it answers.
-ghost use Rattle.std.specs.Prelude.{◌↔◌, ◌<◌, IsTrue, length};
+ghost use Rattle.std.specs.Prelude.{◌↔◌, ◌<◌, IsTrue, IfOk, IfSome, OnOk, length, string_bytes};
+ghost use Rattle.farm_core.specs.Places.{places_of};
+ghost use Rattle.farm_replay.specs.Plain.{event_calls, events_asked};
+ghost use Rattle.farm_replay.specs.Answering.{ShowsCall, AnswersCalls, IsOpenedFarm};
 
 use crate::answer_list::AnswerList;
 use crate::request::{DomainRequest, Request};
@@ -7,6 +10,7 @@ use answer_text::{write_entry, write_refusal, write_reply};
 use crossbar::{PORTS, Word};
 use domain_core::{By, Committed, Event, NoMemory, Refusal, Ticket};
 use farm_core::PlainFarm;
+use farm_core::laws::runs_add_up;
 use plan_checker::AcceptedPlan;
 use script_text::TextWriter;
 use std::alloc::Global;
@@ -21,7 +25,9 @@ pub struct OpenFarm {
 
 impl OpenFarm {
     /// The farm of a plan as it is opened.
-    pub fn open(alloc: Global, plan: &AcceptedPlan) -> Result<OpenFarm, NoMemory> {
+    pub fn open(alloc: Global, plan: &AcceptedPlan) -> Result<OpenFarm, NoMemory>
+        ensures opening { IfOk result (λ farm. IsOpenedFarm (places_of plan.now) farm.farm) }
+    {
         Ok(OpenFarm {
             alloc,
             farm: PlainFarm::open(alloc, plan)?,
@@ -35,7 +41,9 @@ impl OpenFarm {
         plan: &AcceptedPlan,
         request: &Request,
         answers: &mut AnswerList,
-    ) -> Result<(), NoMemory> {
+    ) -> Result<(), NoMemory>
+        ensures plain { OnOk result (IfSome (events_asked request.now) (λ calls. AnswersCalls calls self.old.farm self.new.farm answers.old answers.new)) }
+    {
         let mut text = TextWriter::new(self.alloc);
         match request {
             Request::Reopen => {
@@ -53,8 +61,7 @@ impl OpenFarm {
                 }
             }
         }
-        answers.push(text.finish()?);
-        Ok(())
+        answers.push(text.finish()?)
     }
 
     fn write_answer(
@@ -88,33 +95,45 @@ impl OpenFarm {
         by: By,
         events: &[Event],
         answers: &mut AnswerList,
-    ) -> Result<(), NoMemory> {
+    ) -> Result<(), NoMemory>
+        ensures calls { OnOk result (AnswersCalls (event_calls domain by events.now) self.old.farm self.new.farm answers.old answers.new) }
+    {
+        // A run of calls and then of others is the run of all.
+        runs_add_up();
         for event in events {
-            let mut answer = String::new(self.alloc);
-            match self.farm.apply(domain, by, *event) {
-                Ok(reply) => write_reply(&mut answer, reply)?,
-                Err(refusal) => write_refusal(&mut answer, refusal)?,
-            }
-            answers.push(answer);
+            answers.push(self.answer_event(domain, by, *event)?)?;
         }
         Ok(())
+    }
+
+    fn answer_event(&mut self, domain: u8, by: By, event: Event) -> Result<String, NoMemory>
+        ensures call { IfOk result (λ text. ShowsCall (domain, record { by = by; event = event }) self.old.farm self.new.farm (string_bytes text)) }
+    {
+        let mut answer = String::new(self.alloc);
+        match self.farm.apply(domain, by, event) {
+            Ok(reply) => write_reply(&mut answer, reply)?,
+            Err(refusal) => write_refusal(&mut answer, refusal)?,
+        }
+        Ok(answer)
     }
 
     fn write_quiet(&mut self, domain: u8, text: &mut TextWriter) -> Result<(), Refusal> {
         if !self.has(domain) {
             return Err(Refusal::NoSuch);
         }
-        text.push(if self.farm.quiet(domain) { "true" } else { "false" });
+        text.push(if self.farm.quiet(domain) {
+            "true"
+        } else {
+            "false"
+        });
         Ok(())
     }
 
-    fn write_word(
-        &mut self,
-        domain: u8,
-        output: u8,
-        text: &mut TextWriter,
-    ) -> Result<(), Refusal> {
-        let word = self.farm.domain_word(domain, output).ok_or(Refusal::NoSuch)?;
+    fn write_word(&mut self, domain: u8, output: u8, text: &mut TextWriter) -> Result<(), Refusal> {
+        let word = self
+            .farm
+            .domain_word(domain, output)
+            .ok_or(Refusal::NoSuch)?;
         text.push_hexadecimal(word.bits);
         Ok(())
     }
@@ -207,7 +226,11 @@ impl OpenFarm {
             }
             self.round(domain, quantum)?;
         }
-        text.push(if self.is_quiet(domain) { "quiet" } else { "busy" });
+        text.push(if self.is_quiet(domain) {
+            "quiet"
+        } else {
+            "busy"
+        });
         Ok(())
     }
 

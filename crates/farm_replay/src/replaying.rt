@@ -1,4 +1,7 @@
 //! Texts of farms and lines.
+ghost use Rattle.std.specs.Prelude.{IfOk, IfSome, map, string_bytes};
+ghost use Rattle.farm_replay.specs.Plain.{plain_calls, AreLinesOfPlan};
+ghost use Rattle.farm_replay.specs.Answering.{ShowsRun};
 
 use crate::answer_list::AnswerList;
 use crate::fault::ReplayFault;
@@ -7,6 +10,7 @@ use crate::reading::read_request;
 use crate::request::RepeatedRequest;
 use crossbar::{PORTS, Word};
 use domain_core::NoMemory;
+use farm_core::laws::runs_add_up;
 use plan_checker::{AcceptedPlan, check, read_plan};
 use script_text::{Answered, LineFault, Question, divide, read_questions};
 use std::alloc::Global;
@@ -31,6 +35,15 @@ pub struct ReplayedFarm {
     /// The plan that it stands under.
     pub plan: AcceptedPlan,
     /// The switch words of the 32 physical outputs.
+    pub words: [Word; PORTS as usize],
+}
+
+/// What came of requests.
+#[derive(Drop)]
+pub struct AnsweredRequests {
+    /// A line for each of them, in order.
+    pub lines: Vec<String>,
+    /// The switch words of the 32 physical outputs after them.
     pub words: [Word; PORTS as usize],
 }
 
@@ -120,15 +133,32 @@ fn play<'a>(
         questions,
         requests,
     } = script;
-    let mut farm = OpenFarm::open(alloc, &plan)?;
-    for (question, request) in questions.iter().zip(requests.iter()) {
+    let AnsweredRequests { lines, words } = answer_requests(alloc, &plan, requests.as_slice())?;
+    for (question, answer) in questions.iter().zip(lines) {
         answers.push(Answered {
             question: *question,
-            answer: answer_times(alloc, &plan, &mut farm, request)?,
+            answer,
         })?;
     }
-    let words = farm.words();
     Ok(ReplayedFarm { plan, words })
+}
+
+/// Asks the farm of a plan, from its opening, one request after another, and answers each in a line. `NoMemory` if memory is
+/// wanted anywhere.
+pub fn answer_requests(
+    alloc: Global,
+    plan: &AcceptedPlan,
+    requests: &[RepeatedRequest],
+) -> Result<AnsweredRequests, NoMemory>
+    ensures lines { IfOk result (λ r. AreLinesOfPlan plan.now requests.now (map string_bytes r.lines.items)) }
+{
+    let mut farm = OpenFarm::open(alloc, plan)?;
+    let mut lines = Vec::new(alloc);
+    for request in requests {
+        lines.push(answer_times(alloc, plan, &mut farm, request)?)?;
+    }
+    let words = farm.words();
+    Ok(AnsweredRequests { lines, words })
 }
 
 // The answers of a request, as often as it is asked.
@@ -137,7 +167,11 @@ fn answer_times(
     plan: &AcceptedPlan,
     farm: &mut OpenFarm,
     request: &RepeatedRequest,
-) -> Result<String, NoMemory> {
+) -> Result<String, NoMemory>
+    ensures plain { IfOk result (λ line. IfSome (plain_calls request.now) (λ calls. ShowsRun calls farm.old.farm farm.new.farm (string_bytes line))) }
+{
+    // A run of calls and then of others is the run of all.
+    runs_add_up();
     let mut answers = AnswerList::new(alloc);
     for _ in 0..request.times {
         farm.answer(plan, &request.request, &mut answers)?;

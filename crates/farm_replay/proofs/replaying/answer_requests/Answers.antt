@@ -1,0 +1,26 @@
+use Rattle.std.proofs.Common.{◌≡◌, ◌+◌, ◌++◌, ◌∷◌, [], List, ℕ, map, take, string_bytes, ap, ◌∙◌, sym, subst}
+use Rattle.std.proofs.lemmas.List.{map-append, take_all}
+use Rattle.farm_core.specs.Places.{places_of}
+use Rattle.farm_replay.specs.declared.request.RepeatedRequest.{RepeatedRequest}
+use Rattle.farm_replay.specs.Plain.{plain_calls}
+use Rattle.farm_replay.proofs.Lines.{AreLinesSoFar, one_more_line, all_lines}
+use Rattle.farm_replay.proofs.replaying.answer_requests.Goals as goal
+
+pub loop-request-preserved : goal.loop-request-preserved
+loop-request-preserved c =
+    let l = c.loop-request in
+    let text = string_bytes c.in_ok-answer_times.field-0 in
+    let lines : map string_bytes c.push.new.self.items ≡ map string_bytes l.lines.items ++ text ∷ [] = ap (map string_bytes) c.in_ok-push.ensures.items ∙ map-append string_bytes l.lines.items (c.in_ok-answer_times.field-0 ∷ []) in
+    subst (λ (ls : List (List ℕ)). AreLinesSoFar (places_of c.args.plan.now) (map plain_calls (take (l.request-index + 1) c.args.requests.now)) ls c.answer_times.new.farm.farm) (sym lines)
+    (one_more_line (places_of c.args.plan.now) c.args.requests.now l.request-index c.request-item.result (map string_bytes l.lines.items) text l.farm.farm c.answer_times.new.farm.farm c.loop-request-test.true c.request-item.is l.invariant
+    c.in_ok-answer_times.ensures.plain)
+
+pub returns : goal.returns
+returns c =
+    let l = c.loop-request in
+    let plan = places_of c.args.plan.now in
+    let lines = map string_bytes l.lines.items in
+    record {
+      lines = all_lines plan (map plain_calls c.args.requests.now) lines l.farm.farm
+          (subst (λ (rs : List RepeatedRequest). AreLinesSoFar plan (map plain_calls rs) lines l.farm.farm) (take_all l.request-index c.args.requests.now c.loop-request-test.false) l.invariant);
+    }
