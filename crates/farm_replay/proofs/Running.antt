@@ -1,10 +1,9 @@
 -- Runs of calls, one after another, and the answers that a list gains by them.
-use Rattle.std.proofs.Common.{rules, ◌≡◌, ◌+◌, ◌<◌, ℕ, zero, suc, List, [], ◌∷◌, ◌++◌, Some, None, Option, IfSome, add-one, Ok, Err, Result, IfOk, refl, sym, ap, ◌∙◌, subst, append_assoc, take, get_or, length}
+use Rattle.std.proofs.Common.{rules, ◌≡◌, ◌+◌, ◌<◌, ℕ, zero, suc, List, [], ◌∷◌, ◌++◌, Some, add-one, Ok, Err, Result, IfOk, refl, sym, ap, ◌∙◌, subst, append_assoc, take, get_or, length}
 use Rattle.std.proofs.lemmas.List.{map-append, take_more}
 use Rattle.domain_core.specs.declared.event.By.{By}
 use Rattle.domain_core.specs.declared.event.Event.{Event}
 use Rattle.std.specs.List.{repeat}
-use Rattle.std.specs.Option.{option_map}
 use Rattle.domain_core.specs.declared.event.Refusal.TheVariants.{NoSuch, JournalFull, NoMemory}
 use Rattle.domain_core.specs.PrivateFarm.{Call, Answer}
 use Rattle.domain_core.specs.Domain.{UnlessNoMemory, DomainValue}
@@ -14,8 +13,8 @@ use Rattle.farm_core.specs.Laws.{RunsAddUp}
 use Rattle.farm_core.specs.PlainFarm.{places_in, states_in, IsCallOfEachWhole}
 use Rattle.farm_replay.specs.Kept.{KeptList, HoldsTexts}
 use Rattle.farm_replay.specs.Listing.{IsListing}
-use Rattle.farm_replay.specs.Plain.{answer_words, event_calls}
-use Rattle.farm_replay.specs.Answering.{IsRunTo, HaveRun, ShowsCall, HasAnswers, AnswersCalls, ShowsRun}
+use Rattle.farm_replay.specs.Plain.{Asked, Calls, Looks, Else, repeated, answer_words, event_calls}
+use Rattle.farm_replay.specs.Answering.{IsRunTo, HaveRun, ShowsCall, HasAnswers, AnswersCalls, ShowsRun, AnswersAsked, ShowsAsked}
 
 -- ---- runs
 
@@ -118,21 +117,24 @@ events_more law a b c k l m domain by events index d within one two =
 -- ---- a line
 
 -- no time yet, one time more, and all times
-pub no_times : (asked : Option (List (ℕ × Call))) (domains : List DomainValue) (l : KeptList) → IfSome asked (λ calls. AnswersCalls (repeat 0 calls) domains domains l l)
-no_times None domains l = tt
-no_times (Some calls) domains l = answers_nothing domains l
+pub no_times : (asked : Asked) (domains : List DomainValue) (l : KeptList) → AnswersAsked (repeated 0 asked) domains domains l l
+no_times (Calls calls) domains l = answers_nothing domains l
+no_times Looks domains l = refl
+no_times Else domains l = tt
 
-pub times_more : RunsAddUp → (asked : Option (List (ℕ × Call))) (n : ℕ) (a b c : List DomainValue) (k l m : KeptList) → IfSome asked (λ calls. AnswersCalls (repeat n calls) a b k l)
-    → IfSome asked (λ calls. AnswersCalls calls b c l m) → IfSome asked (λ calls. AnswersCalls (repeat (n + 1) calls) a c k m)
-times_more law None n a b c k l m one two = tt
-times_more law (Some calls) n a b c k l m one two =
+pub times_more : RunsAddUp → (asked : Asked) (n : ℕ) (a b c : List DomainValue) (k l m : KeptList) → AnswersAsked (repeated n asked) a b k l → AnswersAsked asked b c l m
+    → AnswersAsked (repeated (n + 1) asked) a c k m
+times_more law (Calls calls) n a b c k l m one two =
     let all : repeat (n + 1) calls ≡ repeat n calls ++ calls = rw add-one (repeat_more n calls) in
     subst (λ (asked : List (ℕ × Call)). AnswersCalls asked a c k m) (sym all) (answers_more law a b c k l m (repeat n calls) calls one two)
+times_more law Looks n a b c k l m one two = two ∙ one
+times_more law Else n a b c k l m one two = tt
 
-pub all_times : (asked : Option (List (ℕ × Call))) (n : ℕ) (a b : List DomainValue) (l m : KeptList) (line : List ℕ) → IfSome asked (λ calls. AnswersCalls (repeat n calls) a b l m) → HoldsTexts [] l
-    → ((texts : List (List ℕ)) → HoldsTexts texts m → IsListing texts line) → IfSome (option_map (repeat n) asked) (λ calls. ShowsRun calls a b line)
-all_times None n a b l m line answers none lists = tt
-all_times (Some calls) n a b l m line answers none lists = shows_run (repeat n calls) a b l m line answers none lists
+pub all_times : (asked : Asked) (n : ℕ) (a b : List DomainValue) (l m : KeptList) (line : List ℕ) → AnswersAsked (repeated n asked) a b l m → HoldsTexts [] l
+    → ((texts : List (List ℕ)) → HoldsTexts texts m → IsListing texts line) → ShowsAsked (repeated n asked) a b line
+all_times (Calls calls) n a b l m line answers none lists = shows_run (repeat n calls) a b l m line answers none lists
+all_times Looks n a b l m line answers none lists = answers
+all_times Else n a b l m line answers none lists = tt
 
 -- what follows of each value
 pub of_each : {T E : Type 0} (r : Result T E) {P Q : T → Type 0} → ((x : T) → P x → Q x) → IfOk r P → IfOk r Q

@@ -1,5 +1,5 @@
 -- How the domains of a farm, and a list of answers, go on by calls.
-use Rattle.std.specs.Prelude.{◌≡◌, ℕ, List, [], ◌∷◌, ◌++◌, map, Some}
+use Rattle.std.specs.Prelude.{◌≡◌, ℕ, List, [], ◌∷◌, ◌++◌, map, Some, ⊤}
 use Rattle.domain_core.specs.PrivateFarm.{Answer, Call}
 use Rattle.domain_core.specs.Domain.{DomainValue}
 use Rattle.farm_core.specs.Places.{Place}
@@ -8,7 +8,7 @@ use Rattle.farm_core.specs.Domains.{IsMadeOf}
 use Rattle.farm_core.specs.Laws.{caller_answers_from}
 use Rattle.farm_core.specs.PlainFarm.{places_in, states_in, IsMadeOfDomains}
 use Rattle.farm_replay.specs.Kept.{KeptList, HoldsTexts}
-use Rattle.farm_replay.specs.Plain.{answer_words, IsShownIn}
+use Rattle.farm_replay.specs.Plain.{Asked, Calls, Looks, Else, answer_words, IsShownIn}
 
 -- the whole farm answers calls so, and is then made of these domains
 pub record IsRunTo (plan : List Place) (farm : Farm) (calls : List (ℕ × Call)) (told : List Answer) (new : List DomainValue) : Type 0 where
@@ -43,8 +43,25 @@ pub record AnswersCalls (calls : List (ℕ × Call)) (old new : List DomainValue
   pub run : HaveRun old new calls told
   pub gains : (earlier : List Answer) → HasAnswers earlier before → HasAnswers (earlier ++ told) after
 
+-- what is asked does this to the domains, and to a list of answers
+abbrev pub AnswersAsked : Asked → List DomainValue → List DomainValue → KeptList → KeptList → Type 0
+AnswersAsked (Calls calls) old new before after = AnswersCalls calls old new before after
+AnswersAsked Looks old new before after = new ≡ old
+AnswersAsked Else old new before after = ⊤
+
+-- the domains are looked at, or something else is asked
+abbrev pub StaysIfLooked : Asked → List DomainValue → List DomainValue → Type 0
+StaysIfLooked Looks old new = new ≡ old
+StaysIfLooked asked old new = ⊤
+
 -- domains are called so, and the line shows the answers
 pub record ShowsRun (calls : List (ℕ × Call)) (old new : List DomainValue) (line : List ℕ) : Type 0 where
   pub told : List Answer
   pub run : HaveRun old new calls told
   pub shown : IsShownIn line told
+
+-- what is asked does this to the domains, and a line shows the answers to calls
+abbrev pub ShowsAsked : Asked → List DomainValue → List DomainValue → List ℕ → Type 0
+ShowsAsked (Calls calls) old new line = ShowsRun calls old new line
+ShowsAsked Looks old new line = new ≡ old
+ShowsAsked Else old new line = ⊤

@@ -1,7 +1,7 @@
 //! Texts of farms and lines.
 ghost use Rattle.std.specs.Prelude.{IfOk, IfSome, map, string_bytes};
-ghost use Rattle.farm_replay.specs.Plain.{plain_calls, AreLinesOfPlan};
-ghost use Rattle.farm_replay.specs.Answering.{ShowsRun};
+ghost use Rattle.farm_replay.specs.Plain.{asked_by, AreLinesOfPlan};
+ghost use Rattle.farm_replay.specs.Answering.{ShowsAsked};
 
 use crate::answer_list::AnswerList;
 use crate::fault::ReplayFault;
@@ -168,7 +168,7 @@ fn answer_times(
     farm: &mut OpenFarm,
     request: &RepeatedRequest,
 ) -> Result<String, NoMemory>
-    ensures plain { IfOk result (λ line. IfSome (plain_calls request.now) (λ calls. ShowsRun calls farm.old.farm farm.new.farm (string_bytes line))) }
+    ensures asked { IfOk result (λ line. ShowsAsked (asked_by request.now) farm.old.farm farm.new.farm (string_bytes line)) }
 {
     // A run of calls and then of others is the run of all.
     runs_add_up();
