@@ -7,7 +7,7 @@ use Rattle.farm_core.specs.Whole.{Farm, whole_opening}
 use Rattle.farm_core.specs.Domains.{IsMadeOf}
 use Rattle.farm_core.specs.PlainFarm.{places_in, states_in}
 use Rattle.farm_replay.specs.declared.request.RepeatedRequest.{RepeatedRequest}
-use Rattle.farm_replay.specs.Plain.{asked_by, IsShownIn, AreLines, Asked, Calls, Looks, Else}
+use Rattle.farm_replay.specs.Plain.{asked_by, IsShownIn, AreLines, Asked, Calls, Looks, Opens, Else}
 use Rattle.farm_replay.specs.Answering.{IsRunTo, IsOpenedFarm, ShowsAsked}
 
 -- lines that go on well from each whole farm that is made of the domains make all lines well
@@ -20,11 +20,12 @@ pub no_lines : (plan : List Place) (domains : List DomainValue) → IsOpenedFarm
 no_lines plan domains opened rest more well = well (whole_opening plan) opened.places opened.made
 
 one_line : (plan : List Place) (farm : Farm) (asked : Asked) (line : List ℕ) (old new : List DomainValue) (rest : List Asked) (more : List (List ℕ))
-    → places_in old ≡ plan → IsMadeOf plan farm (states_in old) → ShowsAsked asked old new line
+    → places_in old ≡ plan → IsMadeOf plan farm (states_in old) → ShowsAsked plan asked old new line
     → ((after : Farm) → places_in new ≡ plan → IsMadeOf plan after (states_in new) → AreLines plan after rest more) → AreLines plan farm (asked ∷ rest) (line ∷ more)
 one_line plan farm Else line old new rest more places made shows well = tt
 one_line plan farm Looks line old new rest more places made same well =
     well farm (subst (λ d. places_in d ≡ plan) (sym same) places) (subst (λ d. IsMadeOf plan farm (states_in d)) (sym same) made)
+one_line plan farm Opens line old new rest more places made opened well = well (whole_opening plan) opened.places opened.made
 one_line plan farm (Calls calls) line old new rest more places made shows well =
     let run : IsRunTo plan farm calls shows.told new =
     subst (λ p. IsRunTo p farm calls shows.told new) places (shows.run.each farm (subst (λ p. IsMadeOf p farm (states_in old)) (sym places) made)) in
@@ -32,7 +33,7 @@ one_line plan farm (Calls calls) line old new rest more places made shows well =
 
 pub one_more_line : (plan : List Place) (requests : List RepeatedRequest) (index : ℕ) (d : RepeatedRequest) (lines : List (List ℕ)) (line : List ℕ) (old new : List DomainValue)
     → index < length requests → d ≡ get_or requests index d → AreLinesSoFar plan (map asked_by (take index requests)) lines old
-    → ShowsAsked (asked_by d) old new line → AreLinesSoFar plan (map asked_by (take (index + 1) requests)) (lines ++ line ∷ []) new
+    → ShowsAsked plan (asked_by d) old new line → AreLinesSoFar plan (map asked_by (take (index + 1) requests)) (lines ++ line ∷ []) new
 one_more_line plan requests index d lines line old new within is so shows rest more well =
     let now = asked_by d in
     let before = map asked_by (take index requests) in

@@ -10,10 +10,11 @@ use Rattle.domain_core.specs.Domain.{UnlessNoMemory, DomainValue}
 use Rattle.farm_core.specs.Whole.{Farm, whole_after, whole_next}
 use Rattle.farm_core.specs.Domains.{IsMadeOf}
 use Rattle.farm_core.specs.Laws.{RunsAddUp}
+use Rattle.farm_core.specs.Places.{Place}
 use Rattle.farm_core.specs.PlainFarm.{places_in, states_in, IsCallOfEachWhole}
 use Rattle.farm_replay.specs.Kept.{KeptList, HoldsTexts}
 use Rattle.farm_replay.specs.Listing.{IsListing}
-use Rattle.farm_replay.specs.Plain.{Asked, Calls, Looks, Else, repeated, answer_words, event_calls}
+use Rattle.farm_replay.specs.Plain.{Asked, Calls, Looks, Opens, Else, asked_times, answer_words, event_calls}
 use Rattle.farm_replay.specs.Answering.{IsRunTo, HaveRun, ShowsCall, HasAnswers, AnswersCalls, ShowsRun, AnswersAsked, ShowsAsked}
 
 -- ---- runs
@@ -117,24 +118,28 @@ events_more law a b c k l m domain by events index d within one two =
 -- ---- a line
 
 -- no time yet, one time more, and all times
-pub no_times : (asked : Asked) (domains : List DomainValue) (l : KeptList) → AnswersAsked (repeated 0 asked) domains domains l l
-no_times (Calls calls) domains l = answers_nothing domains l
-no_times Looks domains l = refl
-no_times Else domains l = tt
+pub no_times : (plan : List Place) (asked : Asked) (domains : List DomainValue) (l : KeptList) → AnswersAsked plan (asked_times 0 asked) domains domains l l
+no_times plan (Calls calls) domains l = answers_nothing domains l
+no_times plan Looks domains l = refl
+no_times plan Opens domains l = refl
+no_times plan Else domains l = tt
 
-pub times_more : RunsAddUp → (asked : Asked) (n : ℕ) (a b c : List DomainValue) (k l m : KeptList) → AnswersAsked (repeated n asked) a b k l → AnswersAsked asked b c l m
-    → AnswersAsked (repeated (n + 1) asked) a c k m
-times_more law (Calls calls) n a b c k l m one two =
+pub times_more : RunsAddUp → (plan : List Place) (asked : Asked) (n : ℕ) (a b c : List DomainValue) (k l m : KeptList) → AnswersAsked plan (asked_times n asked) a b k l
+    → AnswersAsked plan asked b c l m → AnswersAsked plan (asked_times (n + 1) asked) a c k m
+times_more law plan (Calls calls) n a b c k l m one two =
     let all : repeat (n + 1) calls ≡ repeat n calls ++ calls = rw add-one (repeat_more n calls) in
     subst (λ (asked : List (ℕ × Call)). AnswersCalls asked a c k m) (sym all) (answers_more law a b c k l m (repeat n calls) calls one two)
-times_more law Looks n a b c k l m one two = two ∙ one
-times_more law Else n a b c k l m one two = tt
+times_more law plan Looks n a b c k l m one two = two ∙ one
+times_more law plan Opens n a b c k l m one two = rw add-one two
+times_more law plan Else n a b c k l m one two = tt
 
-pub all_times : (asked : Asked) (n : ℕ) (a b : List DomainValue) (l m : KeptList) (line : List ℕ) → AnswersAsked (repeated n asked) a b l m → HoldsTexts [] l
-    → ((texts : List (List ℕ)) → HoldsTexts texts m → IsListing texts line) → ShowsAsked (repeated n asked) a b line
-all_times (Calls calls) n a b l m line answers none lists = shows_run (repeat n calls) a b l m line answers none lists
-all_times Looks n a b l m line answers none lists = answers
-all_times Else n a b l m line answers none lists = tt
+pub all_times : (plan : List Place) (asked : Asked) (n : ℕ) (a b : List DomainValue) (l m : KeptList) (line : List ℕ) → AnswersAsked plan (asked_times n asked) a b l m
+    → HoldsTexts [] l → ((texts : List (List ℕ)) → HoldsTexts texts m → IsListing texts line) → ShowsAsked plan (asked_times n asked) a b line
+all_times plan (Calls calls) n a b l m line answers none lists = shows_run (repeat n calls) a b l m line answers none lists
+all_times plan Looks n a b l m line answers none lists = answers
+all_times plan Opens zero a b l m line answers none lists = answers
+all_times plan Opens (suc n) a b l m line answers none lists = answers
+all_times plan Else n a b l m line answers none lists = tt
 
 -- what follows of each value
 pub of_each : {T E : Type 0} (r : Result T E) {P Q : T → Type 0} → ((x : T) → P x → Q x) → IfOk r P → IfOk r Q

@@ -8,7 +8,7 @@ use Rattle.farm_core.specs.Domains.{IsMadeOf}
 use Rattle.farm_core.specs.Laws.{caller_answers_from}
 use Rattle.farm_core.specs.PlainFarm.{places_in, states_in, IsMadeOfDomains}
 use Rattle.farm_replay.specs.Kept.{KeptList, HoldsTexts}
-use Rattle.farm_replay.specs.Plain.{Asked, Calls, Looks, Else, answer_words, IsShownIn}
+use Rattle.farm_replay.specs.Plain.{Asked, Calls, Looks, Opens, Else, answer_words, IsShownIn}
 
 -- the whole farm answers calls so, and is then made of these domains
 pub record IsRunTo (plan : List Place) (farm : Farm) (calls : List (ℕ × Call)) (told : List Answer) (new : List DomainValue) : Type 0 where
@@ -44,10 +44,11 @@ pub record AnswersCalls (calls : List (ℕ × Call)) (old new : List DomainValue
   pub gains : (earlier : List Answer) → HasAnswers earlier before → HasAnswers (earlier ++ told) after
 
 -- what is asked does this to the domains, and to a list of answers
-abbrev pub AnswersAsked : Asked → List DomainValue → List DomainValue → KeptList → KeptList → Type 0
-AnswersAsked (Calls calls) old new before after = AnswersCalls calls old new before after
-AnswersAsked Looks old new before after = new ≡ old
-AnswersAsked Else old new before after = ⊤
+abbrev pub AnswersAsked : List Place → Asked → List DomainValue → List DomainValue → KeptList → KeptList → Type 0
+AnswersAsked plan (Calls calls) old new before after = AnswersCalls calls old new before after
+AnswersAsked plan Looks old new before after = new ≡ old
+AnswersAsked plan Opens old new before after = IsOpenedFarm plan new
+AnswersAsked plan Else old new before after = ⊤
 
 -- the domains are looked at, or something else is asked
 abbrev pub StaysIfLooked : Asked → List DomainValue → List DomainValue → Type 0
@@ -61,7 +62,8 @@ pub record ShowsRun (calls : List (ℕ × Call)) (old new : List DomainValue) (l
   pub shown : IsShownIn line told
 
 -- what is asked does this to the domains, and a line shows the answers to calls
-abbrev pub ShowsAsked : Asked → List DomainValue → List DomainValue → List ℕ → Type 0
-ShowsAsked (Calls calls) old new line = ShowsRun calls old new line
-ShowsAsked Looks old new line = new ≡ old
-ShowsAsked Else old new line = ⊤
+abbrev pub ShowsAsked : List Place → Asked → List DomainValue → List DomainValue → List ℕ → Type 0
+ShowsAsked plan (Calls calls) old new line = ShowsRun calls old new line
+ShowsAsked plan Looks old new line = new ≡ old
+ShowsAsked plan Opens old new line = IsOpenedFarm plan new
+ShowsAsked plan Else old new line = ⊤

@@ -1,5 +1,5 @@
 -- What requests ask of a farm, and the lines in which its answers to events are shown.
-use Rattle.std.specs.Prelude.{◌≡◌, ℕ, List, [], ◌∷◌, map, Option, Some, Ok, Err, ⊤}
+use Rattle.std.specs.Prelude.{◌≡◌, ℕ, List, [], ◌∷◌, map, Option, Some, Ok, Err, ⊤, zero, suc}
 use Rattle.std.specs.List.{repeat}
 use Rattle.domain_core.specs.declared.event.By.{By}
 use Rattle.domain_core.specs.declared.event.Event.{Event}
@@ -20,10 +20,11 @@ use Rattle.farm_replay.specs.Listing.{IsListing}
 abbrev pub event_calls : ℕ → By → List Event → List (ℕ × Call)
 event_calls domain by events = map (λ event. (domain, record { by = by; event = event })) events
 
--- what is asked: calls, one after another; what is seen of the farm or done with tickets, which changes nothing of it; or something else
+-- what is asked: calls, one after another; what is seen of the farm or done with tickets, which changes nothing of it; a fresh farm; or something else
 pub data Asked : Type 0 where
   Calls : List (ℕ × Call) → Asked
   Looks : Asked
+  Opens : Asked
   Else : Asked
 
 -- what is asked of a domain beside events
@@ -41,19 +42,25 @@ asked_of_domain (Settle quantum rounds) = Else
 -- what a request asks
 abbrev pub asked_once : Request → Asked
 asked_once Words = Looks
-asked_once Reopen = Else
+asked_once Reopen = Opens
 asked_once (Events domain by events) = Calls (event_calls domain by events.items)
 asked_once (Domain domain request) = asked_of_domain request
 
+-- a fresh farm so often
+abbrev pub opens_times : ℕ → Asked
+opens_times zero = Looks
+opens_times (suc times) = Opens
+
 -- the same so often
-abbrev pub repeated : ℕ → Asked → Asked
-repeated times (Calls calls) = Calls (repeat times calls)
-repeated times Looks = Looks
-repeated times Else = Else
+abbrev pub asked_times : ℕ → Asked → Asked
+asked_times times (Calls calls) = Calls (repeat times calls)
+asked_times times Looks = Looks
+asked_times times Opens = opens_times times
+asked_times times Else = Else
 
 -- the same as often as the line says
 abbrev pub asked_by : RepeatedRequest → Asked
-asked_by r = repeated r.times (asked_once r.request)
+asked_by r = asked_times r.times (asked_once r.request)
 
 -- an answer in words: a reply, or a refusal
 abbrev pub answer_words : Answer → Option (List ℕ)
@@ -74,6 +81,8 @@ AreLines plan farm [] (line ∷ lines) = ⊥
 AreLines plan farm (Else ∷ asked) lines = ⊤
 AreLines plan farm (Looks ∷ asked) [] = ⊥
 AreLines plan farm (Looks ∷ asked) (line ∷ lines) = AreLines plan farm asked lines
+AreLines plan farm (Opens ∷ asked) [] = ⊥
+AreLines plan farm (Opens ∷ asked) (line ∷ lines) = AreLines plan (whole_opening plan) asked lines
 AreLines plan farm (Calls calls ∷ asked) [] = ⊥
 AreLines plan farm (Calls calls ∷ asked) (line ∷ lines) =
     IsShownIn line (caller_answers_from plan farm calls) × AreLines plan (whole_after plan farm calls) asked lines

@@ -54,7 +54,7 @@ impl OpenFarm {
         request: &Request,
         answers: &mut AnswerList,
     ) -> Result<(), NoMemory>
-        ensures asked { OnOk result (AnswersAsked (asked_once request.now) self.old.farm self.new.farm answers.old answers.new) }
+        ensures asked { OnOk result (AnswersAsked (places_of plan.now) (asked_once request.now) self.old.farm self.new.farm answers.old answers.new) }
     {
         let mut text = TextWriter::new(self.alloc);
         match request {

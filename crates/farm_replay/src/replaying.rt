@@ -1,5 +1,6 @@
 //! Texts of farms and lines.
 ghost use Rattle.std.specs.Prelude.{IfOk, IfSome, map, string_bytes};
+ghost use Rattle.farm_core.specs.Places.{places_of};
 ghost use Rattle.farm_replay.specs.Plain.{asked_by, AreLinesOfPlan};
 ghost use Rattle.farm_replay.specs.Answering.{ShowsAsked};
 
@@ -168,7 +169,7 @@ fn answer_times(
     farm: &mut OpenFarm,
     request: &RepeatedRequest,
 ) -> Result<String, NoMemory>
-    ensures asked { IfOk result (λ line. ShowsAsked (asked_by request.now) farm.old.farm farm.new.farm (string_bytes line)) }
+    ensures asked { IfOk result (λ line. ShowsAsked (places_of plan.now) (asked_by request.now) farm.old.farm farm.new.farm (string_bytes line)) }
 {
     // A run of calls and then of others is the run of all.
     runs_add_up();
