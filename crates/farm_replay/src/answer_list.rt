@@ -38,7 +38,7 @@ impl AnswerList {
         }
     }
 
-    /// One more answer. There is no memory, too, if more than 2^64 equal answers follow one another.
+    /// One more answer. `NoMemory` also if the number of equal neighbours no longer fits 64 bits.
     #[tactic(auto, using(crate::proofs::Groups::push_alike, crate::proofs::Groups::push_other))]
     pub fn push(&mut self, answer: String) -> Result<(), NoMemory>
         ensures kept { OnOk result ((texts : List (List ℕ)) → HoldsTexts texts self.old → HoldsTexts (texts ++ string_bytes answer ∷ []) self.new) }

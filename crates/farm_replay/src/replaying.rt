@@ -1,5 +1,5 @@
 //! Texts of farms and lines.
-ghost use Rattle.std.specs.Prelude.{IfOk, IfSome, map, string_bytes};
+ghost use Rattle.std.specs.Prelude.{◌≡◌, length, IfOk, IfSome, map, string_bytes};
 ghost use Rattle.farm_core.specs.Places.{places_of};
 ghost use Rattle.farm_replay.specs.Plain.{asked_by, AreLinesOfPlan};
 ghost use Rattle.farm_replay.specs.Answering.{ShowsAsked};
@@ -151,6 +151,7 @@ pub fn answer_requests(
     plan: &AcceptedPlan,
     requests: &[RepeatedRequest],
 ) -> Result<AnsweredRequests, NoMemory>
+    ensures one_each { IfOk result (λ r. length r.lines.items ≡ length requests.now) }
     ensures lines { IfOk result (λ r. AreLinesOfPlan plan.now requests.now (map string_bytes r.lines.items)) }
 {
     let mut farm = OpenFarm::open(alloc, plan)?;
