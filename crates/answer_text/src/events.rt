@@ -1,9 +1,14 @@
 //! What is asked of a domain, and by whom.
+ghost use Rattle.std.specs.Prelude.{◌≡◌, ◌++◌, OnOk, string_bytes};
+ghost use Rattle.answer_text.specs.Events.{user_text, event_text};
 
+use crate::digits::write_byte;
 use domain_core::{By, Event, NoMemory};
 
 /// Appends who asks: `@` and the user's number, or `@farm`.
-pub fn write_user(text: &mut String, by: By) -> Result<(), NoMemory> {
+pub fn write_user(text: &mut String, by: By) -> Result<(), NoMemory>
+    ensures text { OnOk result (string_bytes text.new ≡ string_bytes text.old ++ user_text by) }
+{
     match by {
         By::User(user) => write!(text, "@{user}"),
         By::Farm => text.push_str("@farm"),
@@ -11,10 +16,18 @@ pub fn write_user(text: &mut String, by: By) -> Result<(), NoMemory> {
 }
 
 /// Appends an event: its name, the host, node or port in decimal digits, and a byte in two hexadecimal digits.
-pub fn write_event(text: &mut String, event: Event) -> Result<(), NoMemory> {
+pub fn write_event(text: &mut String, event: Event) -> Result<(), NoMemory>
+    ensures text { OnOk result (string_bytes text.new ≡ string_bytes text.old ++ event_text event) }
+{
     match event {
-        Event::Config(byte) => write!(text, "config {byte:02x}"),
-        Event::Write(host, byte) => write!(text, "write {host} {byte:02x}"),
+        Event::Config(byte) => {
+            text.push_str("config ")?;
+            write_byte(text, byte)
+        }
+        Event::Write(host, byte) => {
+            write!(text, "write {host} ")?;
+            write_byte(text, byte)
+        }
         Event::Read(host) => write!(text, "read {host}"),
         Event::Reset(node) => write!(text, "reset {node}"),
         Event::Look(node) => write!(text, "look {node}"),

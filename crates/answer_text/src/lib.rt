@@ -1,6 +1,7 @@
-//! The words of answers, as the programs print them.
+//! The words of answers, as the programs print them. Where a call answers `NoMemory` nothing is said of the text.
 #![tactic(auto)]
 
+mod digits;
 mod events;
 mod replies;
 

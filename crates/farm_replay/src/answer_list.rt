@@ -1,61 +1,98 @@
 //! The answers to several events in one line.
+ghost use Rattle.std.specs.Prelude.{◌≡◌, ◌++◌, ◌∷◌, ℕ, List, [], OnOk, IfOk, string_bytes};
+ghost use Rattle.farm_replay.specs.Listing.{IsListing, group_text};
+ghost use Rattle.farm_replay.specs.Kept.{HoldsTexts};
 
 use domain_core::NoMemory;
-use script_text::TextWriter;
 use std::alloc::Global;
+use std::marker::Model;
 
 /// Answers in their order, divided by commas. Equal neighbours stand once, with their number: `3 nothing, 81`.
 #[derive(Drop)]
 pub struct AnswerList {
-    text: TextWriter,
+    // All but the last of the texts that differ from their neighbours, each with a comma behind it.
+    text: String,
+    // The last of them, and how often it stands at the end.
     last: String,
     count: u64,
 }
 
+impl Model for AnswerList {
+    ghost use Rattle.std.specs.Prelude.{string_bytes};
+    ghost use Rattle.farm_replay.specs.Kept.{KeptList};
+
+    ghost Value = { KeptList };
+
+    ghost view = { λ l. record { text = string_bytes l.text; last = string_bytes l.last; count = l.count } };
+}
+
 impl AnswerList {
     /// No answer yet.
-    pub fn new(alloc: Global) -> AnswerList {
+    pub fn new(alloc: Global) -> AnswerList
+        ensures { HoldsTexts [] result }
+    {
         AnswerList {
-            text: TextWriter::new(alloc),
+            text: String::new(alloc),
             last: String::new(alloc),
             count: 0,
         }
     }
 
-    /// One more answer.
-    pub fn push(&mut self, answer: String) {
-        if self.count > 0 && self.last == answer {
-            self.count = self.count.saturating_add(1);
-            return;
+    /// One more answer. `NoMemory` also if the number of equal neighbours no longer fits 64 bits.
+    #[tactic(auto, using(crate::proofs::Groups::push_alike, crate::proofs::Groups::push_other))]
+    pub fn push(&mut self, answer: String) -> Result<(), NoMemory>
+        ensures kept { OnOk result ((texts : List (List ℕ)) → HoldsTexts texts self.old → HoldsTexts (texts ++ string_bytes answer ∷ []) self.new) }
+    {
+        if self.count == 0 {
+            self.last = answer;
+            self.count = 1;
+            return Ok(());
         }
-        self.write_last();
+        if self.last == answer {
+            let Some(count) = self.count.checked_add(1) else {
+                return Err(NoMemory);
+            };
+            self.count = count;
+            return Ok(());
+        }
+        self.write_last()?;
+        self.text.push_str(", ")?;
         self.last = answer;
         self.count = 1;
+        Ok(())
     }
 
-    // Puts the last answer into the text, if there is one.
-    fn write_last(&mut self) {
-        if self.count == 0 {
-            return;
-        }
-        if !self.text.is_empty() {
-            self.text.push(", ");
-        }
+    // Puts the last text behind the others, with its number if it is more than one.
+    fn write_last(&mut self) -> Result<(), NoMemory>
+        ensures text { OnOk result (self.new.text ≡ self.old.text ++ group_text (record { count = self.old.count; text = self.old.last })) }
+        ensures last { self.new.last ≡ self.old.last }
+        ensures count { self.new.count ≡ self.old.count }
+    {
         if self.count > 1 {
-            self.text.push_decimal(self.count);
-            self.text.push(" ");
+            write!(self.text, "{} ", self.count)?;
         }
-        self.text.push(self.last.as_str());
+        self.text.push_str(self.last.as_str())
     }
 
     /// All answers.
-    pub fn finish(mut self) -> Result<String, NoMemory> {
-        self.write_last();
+    #[tactic(auto, using(crate::proofs::Groups::listing_at, crate::proofs::Groups::listing_of_none))]
+    pub fn finish(mut self) -> Result<String, NoMemory>
+        ensures listing { IfOk result (λ line. (texts : List (List ℕ)) → HoldsTexts texts self → IsListing texts (string_bytes line)) }
+    {
+        if self.count == 0 {
+            let AnswerList {
+                text,
+                last: _,
+                count: _,
+            } = self;
+            return Ok(text);
+        }
+        self.write_last()?;
         let AnswerList {
             text,
             last: _,
             count: _,
         } = self;
-        text.finish()
+        Ok(text)
     }
 }

@@ -9,4 +9,5 @@ mod replaying;
 mod request;
 
 pub use fault::ReplayFault;
-pub use replaying::{Replayed, ReplayedFarm, replay};
+pub use replaying::{AnsweredRequests, Replayed, ReplayedFarm, answer_requests, replay};
+pub use request::{DomainRequest, RepeatedRequest, Request};

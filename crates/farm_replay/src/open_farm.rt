@@ -1,5 +1,8 @@
 //! A farm with its tickets, and what it answers.
-ghost use Rattle.std.specs.Prelude.{◌↔◌, ◌<◌, IsTrue, length};
+ghost use Rattle.std.specs.Prelude.{◌≡◌, ◌↔◌, ◌<◌, IsTrue, IfOk, IfSome, OnOk, length, string_bytes};
+ghost use Rattle.farm_core.specs.Places.{places_of};
+ghost use Rattle.farm_replay.specs.Plain.{event_calls, asked_once, asked_of_domain};
+ghost use Rattle.farm_replay.specs.Answering.{ShowsCall, AnswersCalls, AnswersAsked, StaysIfLooked, IsOpenedFarm};
 
 use crate::answer_list::AnswerList;
 use crate::request::{DomainRequest, Request};
@@ -7,6 +10,7 @@ use answer_text::{write_entry, write_refusal, write_reply};
 use crossbar::{PORTS, Word};
 use domain_core::{By, Committed, Event, NoMemory, Refusal, Ticket};
 use farm_core::PlainFarm;
+use farm_core::laws::runs_add_up;
 use plan_checker::AcceptedPlan;
 use script_text::TextWriter;
 use std::alloc::Global;
@@ -19,9 +23,23 @@ pub struct OpenFarm {
     tickets: Vec<Option<Ticket>>,
 }
 
+// The place of a ticket of the domain that isn't spent.
+fn held(
+    tickets: &mut [Option<Ticket>],
+    domain: u8,
+    ticket: usize,
+) -> Result<&mut Option<Ticket>, Refusal> {
+    match tickets.get_mut(ticket) {
+        Some(held) if held.as_ref().is_some_and(|it| it.domain() == domain) => Ok(held),
+        _ => Err(Refusal::NoSuch),
+    }
+}
+
 impl OpenFarm {
     /// The farm of a plan as it is opened.
-    pub fn open(alloc: Global, plan: &AcceptedPlan) -> Result<OpenFarm, NoMemory> {
+    pub fn open(alloc: Global, plan: &AcceptedPlan) -> Result<OpenFarm, NoMemory>
+        ensures opening { IfOk result (λ farm. IsOpenedFarm (places_of plan.now) farm.farm) }
+    {
         Ok(OpenFarm {
             alloc,
             farm: PlainFarm::open(alloc, plan)?,
@@ -35,7 +53,9 @@ impl OpenFarm {
         plan: &AcceptedPlan,
         request: &Request,
         answers: &mut AnswerList,
-    ) -> Result<(), NoMemory> {
+    ) -> Result<(), NoMemory>
+        ensures asked { OnOk result (AnswersAsked (places_of plan.now) (asked_once request.now) self.old.farm self.new.farm answers.old answers.new) }
+    {
         let mut text = TextWriter::new(self.alloc);
         match request {
             Request::Reopen => {
@@ -53,8 +73,7 @@ impl OpenFarm {
                 }
             }
         }
-        answers.push(text.finish()?);
-        Ok(())
+        answers.push(text.finish()?)
     }
 
     fn write_answer(
@@ -62,7 +81,9 @@ impl OpenFarm {
         domain: u8,
         request: DomainRequest,
         text: &mut TextWriter,
-    ) -> Result<(), Refusal> {
+    ) -> Result<(), Refusal>
+        ensures looks { StaysIfLooked (asked_of_domain request) self.old.farm self.new.farm }
+    {
         match request {
             DomainRequest::Quiet => self.write_quiet(domain, text),
             DomainRequest::Word(output) => self.write_word(domain, output, text),
@@ -88,23 +109,31 @@ impl OpenFarm {
         by: By,
         events: &[Event],
         answers: &mut AnswerList,
-    ) -> Result<(), NoMemory> {
+    ) -> Result<(), NoMemory>
+        ensures calls { OnOk result (AnswersCalls (event_calls domain by events.now) self.old.farm self.new.farm answers.old answers.new) }
+    {
+        // A run of calls and then of others is the run of all.
+        runs_add_up();
         for event in events {
-            answers.push(self.answer_event(domain, by, *event)?);
+            answers.push(self.answer_event(domain, by, *event)?)?;
         }
         Ok(())
     }
 
-    fn answer_event(&mut self, domain: u8, by: By, event: Event) -> Result<String, NoMemory> {
+    fn answer_event(&mut self, domain: u8, by: By, event: Event) -> Result<String, NoMemory>
+        ensures call { IfOk result (λ text. ShowsCall (domain, record { by = by; event = event }) self.old.farm self.new.farm (string_bytes text)) }
+    {
         let mut answer = String::new(self.alloc);
-        let written = match self.farm.apply(domain, by, event) {
-            Ok(reply) => write_reply(&mut answer, reply),
-            Err(refusal) => write_refusal(&mut answer, refusal),
-        };
-        written.map(|()| answer)
+        match self.farm.apply(domain, by, event) {
+            Ok(reply) => write_reply(&mut answer, reply)?,
+            Err(refusal) => write_refusal(&mut answer, refusal)?,
+        }
+        Ok(answer)
     }
 
-    fn write_quiet(&mut self, domain: u8, text: &mut TextWriter) -> Result<(), Refusal> {
+    fn write_quiet(&mut self, domain: u8, text: &mut TextWriter) -> Result<(), Refusal>
+        ensures farm { self.new.farm ≡ self.old.farm }
+    {
         if !self.has(domain) {
             return Err(Refusal::NoSuch);
         }
@@ -116,7 +145,9 @@ impl OpenFarm {
         Ok(())
     }
 
-    fn write_word(&mut self, domain: u8, output: u8, text: &mut TextWriter) -> Result<(), Refusal> {
+    fn write_word(&mut self, domain: u8, output: u8, text: &mut TextWriter) -> Result<(), Refusal>
+        ensures farm { self.new.farm ≡ self.old.farm }
+    {
         let word = self
             .farm
             .domain_word(domain, output)
@@ -152,7 +183,9 @@ impl OpenFarm {
         Ok(())
     }
 
-    fn checkout(&mut self, domain: u8, node: u8, text: &mut TextWriter) -> Result<(), Refusal> {
+    fn checkout(&mut self, domain: u8, node: u8, text: &mut TextWriter) -> Result<(), Refusal>
+        ensures farm { self.new.farm ≡ self.old.farm }
+    {
         let ticket = self.farm.checkout(domain, node)?;
         text.push("ticket ");
         text.push_decimal(self.tickets.len() as u64);
@@ -162,22 +195,16 @@ impl OpenFarm {
         }
     }
 
-    // The place of a ticket of the domain that isn't spent.
-    fn held(&mut self, domain: u8, ticket: usize) -> Result<&mut Option<Ticket>, Refusal> {
-        match self.tickets.get_mut(ticket) {
-            Some(held) if held.as_ref().is_some_and(|it| it.domain() == domain) => Ok(held),
-            _ => Err(Refusal::NoSuch),
-        }
-    }
-
     fn burst(
         &mut self,
         domain: u8,
         ticket: usize,
         steps: u64,
         text: &mut TextWriter,
-    ) -> Result<(), Refusal> {
-        let Some(ticket) = self.held(domain, ticket)? else {
+    ) -> Result<(), Refusal>
+        ensures farm { self.new.farm ≡ self.old.farm }
+    {
+        let Some(ticket) = held(&mut self.tickets, domain, ticket)? else {
             return Err(Refusal::NoSuch);
         };
         ticket.burst(steps);
@@ -186,7 +213,7 @@ impl OpenFarm {
     }
 
     fn commit(&mut self, domain: u8, ticket: usize, text: &mut TextWriter) -> Result<(), Refusal> {
-        let Some(ticket) = self.held(domain, ticket)?.take() else {
+        let Some(ticket) = held(&mut self.tickets, domain, ticket)?.take() else {
             return Err(Refusal::NoSuch);
         };
         match self.farm.commit(domain, ticket)? {
@@ -246,7 +273,9 @@ impl OpenFarm {
     }
 
     /// The words of the physical outputs.
-    pub fn words(&mut self) -> [Word; PORTS as usize] {
+    pub fn words(&mut self) -> [Word; PORTS as usize]
+        ensures farm { self.new.farm ≡ self.old.farm }
+    {
         let mut words = [Word::UNUSED; PORTS as usize];
         for output in 0..PORTS {
             words[usize::from(output)] = self.farm.word(output);
@@ -255,7 +284,9 @@ impl OpenFarm {
     }
 
     // Each physical output whose word isn't 0, with its word.
-    fn write_words(&mut self, text: &mut TextWriter) {
+    fn write_words(&mut self, text: &mut TextWriter)
+        ensures farm { self.new.farm ≡ self.old.farm }
+    {
         for (output, word) in (0..PORTS).zip(self.words().iter()) {
             if *word != Word::UNUSED {
                 if !text.is_empty() {

@@ -1,4 +1,8 @@
 //! Texts of farms and lines.
+ghost use Rattle.std.specs.Prelude.{◌≡◌, length, IfOk, IfSome, map, string_bytes};
+ghost use Rattle.farm_core.specs.Places.{places_of};
+ghost use Rattle.farm_replay.specs.Plain.{asked_by, AreLinesOfPlan};
+ghost use Rattle.farm_replay.specs.Answering.{ShowsAsked};
 
 use crate::answer_list::AnswerList;
 use crate::fault::ReplayFault;
@@ -7,6 +11,7 @@ use crate::reading::read_request;
 use crate::request::RepeatedRequest;
 use crossbar::{PORTS, Word};
 use domain_core::NoMemory;
+use farm_core::laws::runs_add_up;
 use plan_checker::{AcceptedPlan, check, read_plan};
 use script_text::{Answered, LineFault, Question, divide, read_questions};
 use std::alloc::Global;
@@ -34,6 +39,15 @@ pub struct ReplayedFarm {
     pub words: [Word; PORTS as usize],
 }
 
+/// What came of requests.
+#[derive(Drop)]
+pub struct AnsweredRequests {
+    /// A line for each of them, in order.
+    pub lines: Vec<String>,
+    /// The switch words of the 32 physical outputs after them.
+    pub words: [Word; PORTS as usize],
+}
+
 /// What came of a text.
 #[derive(Drop)]
 pub struct Replayed<'a> {
@@ -49,26 +63,15 @@ pub struct Replayed<'a> {
 /// The first fault of the text is answered: `Plan` if a plan is refused, and `Line` if a line asks nothing that there
 /// is; `Memory` if memory is wanted anywhere.
 pub fn replay(alloc: Global, text: &[u8]) -> Result<Replayed<'_>, ReplayFault> {
-    let mut scripts = read_scripts(alloc, text)?;
-    let mut answers = Vec::new(alloc);
-    let mut words = [Word::UNUSED; PORTS as usize];
-    for script in &scripts {
-        words = answer_script(alloc, script, &mut answers)?;
-    }
-    let last = match scripts.pop() {
-        Some(script) => Some(replayed_farm(script, words)),
-        None => None,
+    let scripts = read_scripts(alloc, text)?;
+    let mut replayed = Replayed {
+        answers: Vec::new(alloc),
+        last: None,
     };
-    Ok(Replayed { answers, last })
-}
-
-fn replayed_farm(script: Script<'_>, words: [Word; PORTS as usize]) -> ReplayedFarm {
-    let Script {
-        plan,
-        questions: _,
-        requests: _,
-    } = script;
-    ReplayedFarm { plan, words }
+    for script in scripts {
+        replayed.last = Some(play(alloc, script, &mut replayed.answers)?);
+    }
+    Ok(replayed)
 }
 
 fn read_scripts(alloc: Global, text: &[u8]) -> Result<Vec<Script<'_>>, ReplayFault> {
@@ -120,31 +123,44 @@ fn read_requests(
     Ok(requests)
 }
 
-// Asks a farm the lines of its script, and gives the words of its outputs after them.
-fn answer_script<'a>(
+// Asks the farm of a script its lines, and gives it as they left it.
+fn play<'a>(
     alloc: Global,
-    script: &Script<'a>,
+    script: Script<'a>,
     answers: &mut Vec<Answered<'a>>,
-) -> Result<[Word; PORTS as usize], NoMemory> {
-    let mut farm = OpenFarm::open(alloc, &script.plan)?;
-    answer_all(alloc, script, &mut farm, answers)?;
-    Ok(farm.words())
-}
-
-fn answer_all<'a>(
-    alloc: Global,
-    script: &Script<'a>,
-    farm: &mut OpenFarm,
-    answers: &mut Vec<Answered<'a>>,
-) -> Result<(), NoMemory> {
-    for (question, request) in script.questions.iter().zip(script.requests.iter()) {
-        let answer = answer_times(alloc, &script.plan, farm, request)?;
+) -> Result<ReplayedFarm, NoMemory> {
+    let Script {
+        plan,
+        questions,
+        requests,
+    } = script;
+    let AnsweredRequests { lines, words } = answer_requests(alloc, &plan, requests.as_slice())?;
+    for (question, answer) in questions.iter().zip(lines) {
         answers.push(Answered {
             question: *question,
             answer,
         })?;
     }
-    Ok(())
+    Ok(ReplayedFarm { plan, words })
+}
+
+/// Asks the farm of a plan, from its opening, one request after another, and answers each in a line. `NoMemory` if memory is
+/// wanted anywhere.
+pub fn answer_requests(
+    alloc: Global,
+    plan: &AcceptedPlan,
+    requests: &[RepeatedRequest],
+) -> Result<AnsweredRequests, NoMemory>
+    ensures one_each { IfOk result (λ r. length r.lines.items ≡ length requests.now) }
+    ensures lines { IfOk result (λ r. AreLinesOfPlan plan.now requests.now (map string_bytes r.lines.items)) }
+{
+    let mut farm = OpenFarm::open(alloc, plan)?;
+    let mut lines = Vec::new(alloc);
+    for request in requests {
+        lines.push(answer_times(alloc, plan, &mut farm, request)?)?;
+    }
+    let words = farm.words();
+    Ok(AnsweredRequests { lines, words })
 }
 
 // The answers of a request, as often as it is asked.
@@ -153,7 +169,11 @@ fn answer_times(
     plan: &AcceptedPlan,
     farm: &mut OpenFarm,
     request: &RepeatedRequest,
-) -> Result<String, NoMemory> {
+) -> Result<String, NoMemory>
+    ensures asked { IfOk result (λ line. ShowsAsked (places_of plan.now) (asked_by request.now) farm.old.farm farm.new.farm (string_bytes line)) }
+{
+    // A run of calls and then of others is the run of all.
+    runs_add_up();
     let mut answers = AnswerList::new(alloc);
     for _ in 0..request.times {
         farm.answer(plan, &request.request, &mut answers)?;

@@ -2,7 +2,7 @@
 pub mod Bytes
 pub mod Marks
 pub mod Words
--- what only helps contracts
 pub mod Faults
+-- what only helps contracts
 pub mod Kept
 pub mod Laws

@@ -1,0 +1,3 @@
+mod Groups
+mod Running
+mod Lines

@@ -1,0 +1,147 @@
+-- Runs of calls, one after another, and the answers that a list gains by them.
+use Rattle.std.proofs.Common.{rules, ◌≡◌, ◌+◌, ◌<◌, ℕ, zero, suc, List, [], ◌∷◌, ◌++◌, Some, add-one, Ok, Err, Result, IfOk, refl, sym, ap, ◌∙◌, subst, append_assoc, take, get_or, length}
+use Rattle.std.proofs.lemmas.List.{map-append, take_more}
+use Rattle.domain_core.specs.declared.event.By.{By}
+use Rattle.domain_core.specs.declared.event.Event.{Event}
+use Rattle.std.specs.List.{repeat}
+use Rattle.domain_core.specs.declared.event.Refusal.TheVariants.{NoSuch, JournalFull, NoMemory}
+use Rattle.domain_core.specs.PrivateFarm.{Call, Answer}
+use Rattle.domain_core.specs.Domain.{UnlessNoMemory, DomainValue}
+use Rattle.farm_core.specs.Whole.{Farm, whole_after, whole_next}
+use Rattle.farm_core.specs.Domains.{IsMadeOf}
+use Rattle.farm_core.specs.Laws.{RunsAddUp}
+use Rattle.farm_core.specs.Places.{Place}
+use Rattle.farm_core.specs.PlainFarm.{places_in, states_in, IsCallOfEachWhole}
+use Rattle.farm_replay.specs.Kept.{KeptList, HoldsTexts}
+use Rattle.farm_replay.specs.Listing.{IsListing}
+use Rattle.farm_replay.specs.Plain.{Asked, Calls, Looks, Opens, Else, asked_times, answer_words, event_calls}
+use Rattle.farm_replay.specs.Answering.{IsRunTo, HaveRun, ShowsCall, HasAnswers, AnswersCalls, ShowsRun, AnswersAsked, ShowsAsked}
+
+-- ---- runs
+
+no_calls : (domains : List DomainValue) → HaveRun domains domains [] []
+no_calls domains = record { places = refl; each = λ farm made. record { told_is = refl; made = made } }
+
+one_call : (domain : ℕ) (call : Call) (told : Answer) (old new : List DomainValue) → IsCallOfEachWhole domain call told old new → places_in new ≡ places_in old
+    → HaveRun old new ((domain, call) ∷ []) (told ∷ [])
+one_call domain call told old new is places = record {
+  places = places;
+  each = λ farm made. record {
+    told_is = ap (λ (a : Answer). a ∷ []) (is farm made).answer;
+    made = subst (λ p. IsMadeOf p (whole_next (places_in old) farm (domain, call)).0 (states_in new)) places (is farm made).made;
+  };
+}
+
+more_calls : RunsAddUp → (a b c : List DomainValue) (calls later : List (ℕ × Call)) (told after : List Answer) → HaveRun a b calls told → HaveRun b c later after
+    → HaveRun a c (calls ++ later) (told ++ after)
+more_calls law a b c calls later told after one two = record {
+  places = two.places ∙ one.places;
+  each = λ farm made.
+      let plan = places_in a in
+      let first = one.each farm made in
+      let half : Farm = whole_after plan farm calls in
+      let then = subst (λ p. IsRunTo p half later after c) one.places (two.each half (subst (λ p. IsMadeOf p half (states_in b)) (sym one.places) first.made)) in
+      let both = law plan farm calls later in
+      record {
+        told_is = (λ i. first.told_is i ++ then.told_is i) ∙ sym both.told;
+        made = subst (λ f. IsMadeOf plan f (states_in c)) (sym both.left) then.made;
+      };
+}
+
+-- ---- answers in a list
+
+one_more_answer : (told : List Answer) (answer : Answer) (text : List ℕ) (l m : KeptList) → HasAnswers told l → answer_words answer ≡ Some text
+    → ((texts : List (List ℕ)) → HoldsTexts texts l → HoldsTexts (texts ++ text ∷ []) m) → HasAnswers (told ++ answer ∷ []) m
+one_more_answer told answer text l m has words more = record {
+  texts = has.texts ++ text ∷ [];
+  words = map-append answer_words told (answer ∷ []) ∙ (λ i. has.words i ++ words i ∷ []) ∙ sym (map-append (λ (t : List ℕ). Some t) has.texts (text ∷ []));
+  kept = more has.texts has.kept;
+}
+
+pub answers_nothing : (domains : List DomainValue) (l : KeptList) → AnswersCalls [] domains domains l l
+answers_nothing domains l = record { told = []; run = no_calls domains; gains = λ earlier has. subst (λ ts. HasAnswers ts l) (sym (append_none earlier)) has }
+  where
+    append_none : (xs : List Answer) → xs ++ [] ≡ xs
+    append_none [] = refl
+    append_none (x ∷ xs) = ap (λ ys. x ∷ ys) (append_none xs)
+
+pub answers_more : RunsAddUp → (a b c : List DomainValue) (k l m : KeptList) (calls later : List (ℕ × Call)) → AnswersCalls calls a b k l → AnswersCalls later b c l m
+    → AnswersCalls (calls ++ later) a c k m
+answers_more law a b c k l m calls later one two = record {
+  told = one.told ++ two.told;
+  run = more_calls law a b c calls later one.told two.told one.run two.run;
+  gains = λ earlier has. subst (λ ts. HasAnswers ts m) (append_assoc earlier one.told two.told) (two.gains (earlier ++ one.told) (one.gains earlier has));
+}
+
+pub answers_call : (call : ℕ × Call) (old new : List DomainValue) (text : List ℕ) (l m : KeptList) → ShowsCall call old new text
+    → ((texts : List (List ℕ)) → HoldsTexts texts l → HoldsTexts (texts ++ text ∷ []) m) → AnswersCalls (call ∷ []) old new l m
+answers_call call old new text l m shows more = record {
+  told = shows.answer ∷ [];
+  run = shows.run;
+  gains = λ earlier has. one_more_answer earlier shows.answer text l m has shows.words more;
+}
+
+-- a call that is answered by these words, unless by want of memory
+pub shows_call : (domain : ℕ) (call : Call) (told : Answer) (old new : List DomainValue) (text : List ℕ) → UnlessNoMemory told (IsCallOfEachWhole domain call told old new)
+    → places_in new ≡ places_in old → answer_words told ≡ Some text → ShowsCall (domain, call) old new text
+shows_call domain call (Ok reply) old new text is places words = record { answer = Ok reply; run = one_call domain call (Ok reply) old new is places; words = words }
+shows_call domain call (Err NoSuch) old new text is places words = record { answer = Err NoSuch; run = one_call domain call (Err NoSuch) old new is places; words = words }
+shows_call domain call (Err JournalFull) old new text is places words = record { answer = Err JournalFull; run = one_call domain call (Err JournalFull) old new is places; words = words }
+shows_call domain call (Err NoMemory) old new text is places words = absurd (search rules)
+
+-- the line of a list that was empty
+pub shows_run : (calls : List (ℕ × Call)) (old new : List DomainValue) (l m : KeptList) (line : List ℕ) → AnswersCalls calls old new l m → HoldsTexts [] l
+    → ((texts : List (List ℕ)) → HoldsTexts texts m → IsListing texts line) → ShowsRun calls old new line
+shows_run calls old new l m line answers none lists =
+    let has = answers.gains [] (record { texts = []; words = refl; kept = none }) in
+    record { told = answers.told; run = answers.run; shown = record { texts = has.texts; words = has.words; listing = lists has.texts has.kept } }
+
+-- as often as it is asked
+pub repeat_more : (n : ℕ) (calls : List (ℕ × Call)) → repeat (suc n) calls ≡ repeat n calls ++ calls
+repeat_more zero calls = append_none calls
+  where
+    append_none : (xs : List (ℕ × Call)) → xs ++ [] ≡ xs
+    append_none [] = refl
+    append_none (x ∷ xs) = ap (λ ys. x ∷ ys) (append_none xs)
+repeat_more (suc n) calls = ap (λ (xs : List (ℕ × Call)). calls ++ xs) (repeat_more n calls) ∙ sym (append_assoc calls (repeat n calls) calls)
+
+-- one more of the events
+pub events_more : RunsAddUp → (a b c : List DomainValue) (k l m : KeptList) (domain : ℕ) (by : By) (events : List Event) (index : ℕ) (d : Event) → index < length events
+    → AnswersCalls (event_calls domain by (take index events)) a b k l → AnswersCalls ((domain, record { by = by; event = get_or events index d }) ∷ []) b c l m
+    → AnswersCalls (event_calls domain by (take (index + 1) events)) a c k m
+events_more law a b c k l m domain by events index d within one two =
+    let cut : take (index + 1) events ≡ take index events ++ get_or events index d ∷ [] = take_more events index d within in
+    let calls : event_calls domain by (take (index + 1) events) ≡ event_calls domain by (take index events) ++ (domain, record { by = by; event = get_or events index d }) ∷ [] =
+    ap (event_calls domain by) cut ∙ map-append _ (take index events) (get_or events index d ∷ []) in
+    subst (λ (asked : List (ℕ × Call)). AnswersCalls asked a c k m) (sym calls) (answers_more law a b c k l m _ _ one two)
+
+-- ---- a line
+
+-- no time yet, one time more, and all times
+pub no_times : (plan : List Place) (asked : Asked) (domains : List DomainValue) (l : KeptList) → AnswersAsked plan (asked_times 0 asked) domains domains l l
+no_times plan (Calls calls) domains l = answers_nothing domains l
+no_times plan Looks domains l = refl
+no_times plan Opens domains l = refl
+no_times plan Else domains l = tt
+
+pub times_more : RunsAddUp → (plan : List Place) (asked : Asked) (n : ℕ) (a b c : List DomainValue) (k l m : KeptList) → AnswersAsked plan (asked_times n asked) a b k l
+    → AnswersAsked plan asked b c l m → AnswersAsked plan (asked_times (n + 1) asked) a c k m
+times_more law plan (Calls calls) n a b c k l m one two =
+    let all : repeat (n + 1) calls ≡ repeat n calls ++ calls = rw add-one (repeat_more n calls) in
+    subst (λ (asked : List (ℕ × Call)). AnswersCalls asked a c k m) (sym all) (answers_more law a b c k l m (repeat n calls) calls one two)
+times_more law plan Looks n a b c k l m one two = two ∙ one
+times_more law plan Opens n a b c k l m one two = rw add-one two
+times_more law plan Else n a b c k l m one two = tt
+
+pub all_times : (plan : List Place) (asked : Asked) (n : ℕ) (a b : List DomainValue) (l m : KeptList) (line : List ℕ) → AnswersAsked plan (asked_times n asked) a b l m
+    → HoldsTexts [] l → ((texts : List (List ℕ)) → HoldsTexts texts m → IsListing texts line) → ShowsAsked plan (asked_times n asked) a b line
+all_times plan (Calls calls) n a b l m line answers none lists = shows_run (repeat n calls) a b l m line answers none lists
+all_times plan Looks n a b l m line answers none lists = answers
+all_times plan Opens zero a b l m line answers none lists = answers
+all_times plan Opens (suc n) a b l m line answers none lists = answers
+all_times plan Else n a b l m line answers none lists = tt
+
+-- what follows of each value
+pub of_each : {T E : Type 0} (r : Result T E) {P Q : T → Type 0} → ((x : T) → P x → Q x) → IfOk r P → IfOk r Q
+of_each (Ok x) follows p = follows x p
+of_each (Err e) follows p = p

@@ -1,0 +1,26 @@
+use Rattle.std.proofs.Common.{◌≡◌, string_bytes, subst}
+use Rattle.std.proofs.Math.Nat.{le_antisymm}
+use Rattle.farm_core.specs.Places.{places_of}
+use Rattle.farm_replay.specs.Plain.{asked_once, asked_times}
+use Rattle.farm_replay.specs.Answering.{AnswersAsked}
+use Rattle.farm_replay.proofs.Running.{no_times, times_more, all_times, of_each}
+use Rattle.farm_replay.proofs.replaying.answer_times.Goals as goal
+
+pub loop-init : goal.loop-init
+loop-init c = no_times (places_of c.args.plan.now) (asked_once c.args.request.now.request) c.args.farm.now.farm c.new-answers.result
+
+pub loop-preserved : goal.loop-preserved
+loop-preserved c =
+    times_more c.runs_add_up.ensures.law (places_of c.args.plan.now) (asked_once c.args.request.now.request) c.loop.counter c.args.farm.now.farm c.loop.farm.farm c.answer.new.self.farm c.new-answers.result c.loop.answers c.answer.new.answers
+    c.loop.invariant c.in_ok-answer.ensures.asked
+
+pub returns : goal.returns
+returns c =
+    let asked = asked_once c.args.request.now.request in
+    let times : c.loop.counter ≡ c.args.request.now.times = le_antisymm c.loop.auto.counter-end c.loop-test.false in
+    let answers : AnswersAsked (places_of c.args.plan.now) (asked_times c.args.request.now.times asked) c.args.farm.now.farm c.loop.farm.farm c.new-answers.result c.loop.answers =
+    subst (λ n. AnswersAsked (places_of c.args.plan.now) (asked_times n asked) c.args.farm.now.farm c.loop.farm.farm c.new-answers.result c.loop.answers) times c.loop.invariant in
+    record {
+      asked = of_each c.finish.result
+          (λ line lists. all_times (places_of c.args.plan.now) asked c.args.request.now.times c.args.farm.now.farm c.loop.farm.farm c.new-answers.result c.loop.answers (string_bytes line) answers c.new-answers.ensures lists) c.finish.ensures.listing;
+    }

@@ -1,0 +1,92 @@
+-- What requests ask of a farm, and the lines in which its answers to events are shown.
+use Rattle.std.specs.Prelude.{◌≡◌, ℕ, List, [], ◌∷◌, map, Option, Some, Ok, Err, ⊤, zero, suc}
+use Rattle.std.specs.List.{repeat}
+use Rattle.domain_core.specs.declared.event.By.{By}
+use Rattle.domain_core.specs.declared.event.Event.{Event}
+use Rattle.domain_core.specs.PrivateFarm.{Answer, Call}
+use Rattle.plan_rules.specs.Data.{DomainData}
+use Rattle.farm_core.specs.Places.{Place, places_of}
+use Rattle.farm_core.specs.Whole.{Farm, whole_after, whole_opening}
+use Rattle.farm_core.specs.Laws.{caller_answers_from}
+use Rattle.answer_text.specs.Replies.{reply_text, refusal_text}
+use Rattle.farm_replay.specs.declared.request.DomainRequest.{DomainRequest}
+use Rattle.farm_replay.specs.declared.request.DomainRequest.TheVariants.{Quiet, Word, Recorded, Restart, Journal, Checkout, Burst, Commit, Settle}
+use Rattle.farm_replay.specs.declared.request.Request.{Request}
+use Rattle.farm_replay.specs.declared.request.Request.TheVariants.{Words, Reopen, Events, Domain}
+use Rattle.farm_replay.specs.declared.request.RepeatedRequest.{RepeatedRequest}
+use Rattle.farm_replay.specs.Listing.{IsListing}
+
+-- events of a domain by one asker, as calls of the whole farm
+abbrev pub event_calls : ℕ → By → List Event → List (ℕ × Call)
+event_calls domain by events = map (λ event. (domain, record { by = by; event = event })) events
+
+-- what is asked: calls, one after another; what is seen of the farm or done with tickets, which changes nothing of it; a fresh farm; or something else
+pub data Asked : Type 0 where
+  Calls : List (ℕ × Call) → Asked
+  Looks : Asked
+  Opens : Asked
+  Else : Asked
+
+-- what is asked of a domain beside events
+abbrev pub asked_of_domain : DomainRequest → Asked
+asked_of_domain Quiet = Looks
+asked_of_domain (Word output) = Looks
+asked_of_domain Recorded = Looks
+asked_of_domain Restart = Else
+asked_of_domain Journal = Looks
+asked_of_domain (Checkout node) = Looks
+asked_of_domain (Burst ticket steps) = Looks
+asked_of_domain (Commit ticket) = Else
+asked_of_domain (Settle quantum rounds) = Else
+
+-- what a request asks
+abbrev pub asked_once : Request → Asked
+asked_once Words = Looks
+asked_once Reopen = Opens
+asked_once (Events domain by events) = Calls (event_calls domain by events.items)
+asked_once (Domain domain request) = asked_of_domain request
+
+-- a fresh farm so often
+abbrev pub opens_times : ℕ → Asked
+opens_times zero = Looks
+opens_times (suc times) = Opens
+
+-- the same so often
+abbrev pub asked_times : ℕ → Asked → Asked
+asked_times times (Calls calls) = Calls (repeat times calls)
+asked_times times Looks = Looks
+asked_times times Opens = opens_times times
+asked_times times Else = Else
+
+-- the same as often as the line says
+abbrev pub asked_by : RepeatedRequest → Asked
+asked_by r = asked_times r.times (asked_once r.request)
+
+-- an answer in words: a reply, or a refusal
+abbrev pub answer_words : Answer → Option (List ℕ)
+answer_words (Ok reply) = Some (reply_text reply)
+answer_words (Err refusal) = refusal_text refusal
+
+-- the line shows these answers, in their order
+pub record IsShownIn (line : List ℕ) (told : List Answer) : Type 0 where
+  pub texts : List (List ℕ)
+  pub words : map answer_words told ≡ map Some texts
+  pub listing : IsListing texts line
+
+-- The lines that a whole farm answers: one that is asked for events shows what the farm answers to them, and the next asks the farm that this one left.
+-- Nothing is said of what a line shows that only looks, and nothing at all from the first line on that asks for something else
+abbrev pub AreLines : List Place → Farm → List Asked → List (List ℕ) → Type 0
+AreLines plan farm [] [] = ⊤
+AreLines plan farm [] (line ∷ lines) = ⊥
+AreLines plan farm (Else ∷ asked) lines = ⊤
+AreLines plan farm (Looks ∷ asked) [] = ⊥
+AreLines plan farm (Looks ∷ asked) (line ∷ lines) = AreLines plan farm asked lines
+AreLines plan farm (Opens ∷ asked) [] = ⊥
+AreLines plan farm (Opens ∷ asked) (line ∷ lines) = AreLines plan (whole_opening plan) asked lines
+AreLines plan farm (Calls calls ∷ asked) [] = ⊥
+AreLines plan farm (Calls calls ∷ asked) (line ∷ lines) =
+    IsShownIn line (caller_answers_from plan farm calls) × AreLines plan (whole_after plan farm calls) asked lines
+
+-- the same of the farm of a plan, from its opening
+abbrev pub AreLinesOfPlan : List DomainData → List RepeatedRequest → List (List ℕ) → Type 0
+AreLinesOfPlan plan requests lines = AreLines (places_of plan) (whole_opening (places_of plan)) (map asked_by requests) lines
