@@ -19,7 +19,6 @@ use Rattle.farm_service.specs.Passes.{SessionValue, with_told, Gains}
 use Rattle.line_answers.specs.Asks.{is_write, is_read, is_full, is_byte, replies_in, writes_in, reads_in, next_config, next_write, next_read, next_collect, AreAsked}
 use Rattle.line_answers.specs.Sessions.{with_all, Asks}
 
-
 -- an event with its reply
 abbrev pub told_of : Event → Reply → Told
 told_of event reply = record { event = event; reply = reply }

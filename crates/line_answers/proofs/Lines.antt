@@ -91,11 +91,11 @@ reads-append xs ys =
 after_writes : ℕ → List ℕ → Bool → ℕ → Option Event
 after_writes host bytes full count = if full then None else option_map (event.Write host) (slice_get bytes count)
 
-
 past_end : (host : ℕ) (bytes : List ℕ) (count plus : ℕ) → option_map (event.Write host) (slice_get bytes count) ≡ None → option_map (event.Write host) (slice_get bytes (count + plus)) ≡ None
 past_end host bytes count plus over = elim (slice_get_cases bytes count).1 [
-    inl found ↦ grind (arith, over, found.2)
-  | inr past ↦ ap (option_map (event.Write host)) (slice_get_past bytes (count + plus) (omega (arith, past.0))) ]
+  | inl found ↦ grind (arith, over, found.2)
+  | inr past ↦ ap (option_map (event.Write host)) (slice_get_past bytes (count + plus) (omega (arith, past.0)))
+]
 
 -- where nothing is written next after some replies, nothing is after more
 over_after : (host : ℕ) (bytes : List ℕ) (full more : Bool) (count plus : ℕ) → after_writes host bytes full count ≡ None → after_writes host bytes (full || more) (count + plus) ≡ None
@@ -141,7 +141,7 @@ reads_behind : (host address : ℕ) (xs ys : List Told) → AreAsked (next_write
 reads_behind host address xs ys asked over =
     ap (λ (first : Option Event). option_or first (next_read host 4 (xs ++ ys))) (writes_over host (1 ∷ bytes_of_word address) xs ys over)
     ∙ ap (λ (rs : List Reply). if list_all is_byte rs && nat_lt (length rs) 4 then Some (event.Read host) else None)
-        (reads-append xs ys ∙ ap (λ (rs : List Reply). rs ++ reads_in ys) (no_reads host (1 ∷ bytes_of_word address) [] xs asked))
+    (reads-append xs ys ∙ ap (λ (rs : List Reply). rs ++ reads_in ys) (no_reads host (1 ∷ bytes_of_word address) [] xs asked))
 
 writes_of_peek : (host address : ℕ) (told : List Told) (e : Event) → next_write host (1 ∷ bytes_of_word address) told ≡ Some e → next_event (command.Peek host address) told ≡ Some e
 writes_of_peek host address told e is = ap (λ (first : Option Event). option_or first (next_read host 4 told)) is
@@ -167,7 +167,7 @@ peeked host address s t u a r writes reads =
           asked_append (next_event (command.Peek host address)) [] writes.told reads.told
           (asked_as (next_write host (1 ∷ bytes_of_word address)) (next_event (command.Peek host address)) (writes_of_peek host address) [] writes.told writes.asked)
           (subst (λ (b : List Told). AreAsked (next_event (command.Peek host address)) b reads.told) (append-nil writes.told)
-            (asked_behind (next_read host 4) (next_event (command.Peek host address)) writes.told (λ told e is. same told ∙ is) [] reads.told reads.asked));
+          (asked_behind (next_read host 4) (next_event (command.Peek host address)) writes.told (λ told e is. same told ∙ is) [] reads.told reads.asked));
       ended = peek_end host address writes.told reads.told u r same reads.ended;
     }
 
@@ -186,9 +186,11 @@ peek_unsettled host address s t a refusal writes is = record {
   told = writes.told;
   list = writes.list;
   asked = asked_as (next_write host (1 ∷ bytes_of_word address)) (next_event (command.Peek host address)) (writes_of_peek host address) [] writes.told writes.asked;
-  ended =
-      (event.Read host,
-        ap (next_event (command.Peek host address)) (sym (append-nil writes.told)) ∙ reads_behind host address writes.told [] writes.asked writes.ended, inr is);
+  ended = (
+    event.Read host,
+    ap (next_event (command.Peek host address)) (sym (append-nil writes.told)) ∙ reads_behind host address writes.told [] writes.asked writes.ended,
+    inr is,
+  );
 }
 
 -- ---- the same of results that are known by equations
@@ -198,15 +200,15 @@ pub unwritten : {A B : Type 0} (host address : ℕ) (bytes : List ℕ) (s t : Se
 unwritten {A} {B} host address bytes s t r q refusal bytes_are is same asks =
     subst (λ (q : Result B Refusal). AsksLine (command.Peek host address) s q t) (sym same)
     (peek_unwritten host address s t refusal
-      (subst (λ (r : Result A Refusal). Asks (next_write host (1 ∷ bytes_of_word address)) s r t) is (subst (λ (bytes : List ℕ). Asks (next_write host bytes) s r t) bytes_are asks)))
+    (subst (λ (r : Result A Refusal). Asks (next_write host (1 ∷ bytes_of_word address)) s r t) is (subst (λ (bytes : List ℕ). Asks (next_write host bytes) s r t) bytes_are asks)))
 
 pub unsettled : {A B : Type 0} (host address : ℕ) (bytes : List ℕ) (s t : SessionValue) (a : A) (r : Result A Refusal) (q : Result B Refusal) (refusal : Refusal)
     → bytes ≡ 1 ∷ bytes_of_word address → r ≡ Ok a → q ≡ Err refusal → Asks (next_write host bytes) s r t → IsOfSettling t refusal → AsksLine (command.Peek host address) s q t
 unsettled {A} {B} host address bytes s t a r q refusal bytes_are is same asks settling =
     subst (λ (q : Result B Refusal). AsksLine (command.Peek host address) s q t) (sym same)
     (peek_unsettled host address s t a refusal
-      (subst (λ (r : Result A Refusal). Asks (next_write host (1 ∷ bytes_of_word address)) s r t) is (subst (λ (bytes : List ℕ). Asks (next_write host bytes) s r t) bytes_are asks))
-      settling)
+    (subst (λ (r : Result A Refusal). Asks (next_write host (1 ∷ bytes_of_word address)) s r t) is (subst (λ (bytes : List ℕ). Asks (next_write host bytes) s r t) bytes_are asks))
+    settling)
 
 pub settled : {A B : Type 0} (host address : ℕ) (bytes : List ℕ) (s t u : SessionValue) (a : A) (r : Result A Refusal) (q : Result B Refusal)
     → bytes ≡ 1 ∷ bytes_of_word address → r ≡ Ok a → Asks (next_write host bytes) s r t → Asks (next_read host 4) t q u → AsksLine (command.Peek host address) s q u

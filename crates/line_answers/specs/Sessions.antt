@@ -1,5 +1,5 @@
 -- What a line does to its user's session.
-use Rattle.std.specs.Prelude.{◌≡◌, ◌++◌, ◌<◌, ◌≢◌, ◌⊎◌, List, [], Option, Some, None, Result, Ok, Err, length}
+use Rattle.std.specs.Prelude.{◌≡◌, ◌++◌, ◌<◌, ◌≢◌, ◌⊎◌, List, [], Option, Some, None, Result, Ok, Err, length, ℕ, ⊤}
 use Rattle.domain_core.specs.declared.event.Event.{Event}
 use Rattle.domain_core.specs.declared.event.Refusal.{Refusal}
 use Rattle.domain_core.specs.declared.event.Refusal.TheVariants.{NoSuch}
@@ -8,7 +8,8 @@ use Rattle.farm_service.specs.Answers.{IsTold}
 use Rattle.farm_service.specs.Passes.{SessionValue}
 use Rattle.script_lines.specs.declared.command.Command.{Command}
 use Rattle.script_lines.specs.declared.command.Command.TheVariants.{Peek}
-use Rattle.line_answers.specs.Asks.{next_event, AreAsked}
+use Rattle.line_answers.specs.Asks.{replies_in, next_event, AreAsked}
+use Rattle.line_answers.specs.Results.{line_text}
 
 -- the session whose list gained these
 abbrev pub with_all : SessionValue → List Told → SessionValue
@@ -46,3 +47,12 @@ pub record AsksLine {A : Type 0} (command : Command) (s : SessionValue) (result 
   pub list : t ≡ with_all s told
   pub asked : AreAsked (next_event command) [] told
   pub ended : LineHasEnded command told t result
+
+-- a line is answered: its user's session asks what it asks, up to its end, and his screen gains the line that shows the replies
+pub record IsAnswered (name : List ℕ) (command : Command) (s t : SessionValue) (screen more : List ℕ) : Type 0 where
+  pub told : List Told
+  pub result : Result ⊤ Refusal
+  pub list : t ≡ with_all s told
+  pub asked : AreAsked (next_event command) [] told
+  pub ended : LineHasEnded command told t result
+  pub text : more ≡ screen ++ line_text name command (replies_in told) result

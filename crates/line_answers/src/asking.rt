@@ -79,11 +79,7 @@ pub(crate) fn read_up_to<R: Wait>(
 }
 
 // Bytes of a host, until none has come.
-pub(crate) fn read_all<R: Wait>(
-    rt: &R,
-    session: &mut Session<'_>,
-    host: u8,
-) -> Result<(), Refusal>
+pub(crate) fn read_all<R: Wait>(rt: &R, session: &mut Session<'_>, host: u8) -> Result<(), Refusal>
     ensures { Asks (next_collect host) session.old result session.new }
 {
     for _ in rt.forever() {
@@ -159,7 +155,7 @@ fn boot<R: Wait>(
 /// # Errors
 ///
 /// The first refusal ends the line. What was taken before it stands. `NoMemory` too if a boot message can't be made.
-pub fn ask_line<R: Wait>(
+pub(crate) fn ask_line<R: Wait>(
     rt: &R,
     alloc: Global,
     session: &mut Session<'_>,

@@ -2,6 +2,10 @@
 #![tactic(auto)]
 
 mod asking;
+mod line;
 mod quantum;
+mod showing;
 
+pub use asking::settle;
+pub use line::answer_line;
 pub use quantum::Quantum;

@@ -12,7 +12,7 @@ pub returns-in-Ok : goal.returns-in-Ok
 returns-in-Ok g c =
     code_written c.args.host c.args.code.now c.args.session.now c.write_all.new.session c.write_all.result c.in-Ok.ensures.answer.1.0 c.in-Ok.ensures.answer.1.1
     (subst (λ (bytes : List ℕ). Asks {A = Unit {0}} (next_write c.args.host bytes) c.args.session.now c.write_all.result c.write_all.new.session)
-      (c.as_slice.ensures.value ∙ c.in-Ok.ensures.answer.0) c.write_all.ensures)
+    (c.as_slice.ensures.value ∙ c.in-Ok.ensures.answer.0) c.write_all.ensures)
 
 pub returns-in-Err-NoMemory : goal.returns-in-Err-NoMemory
 returns-in-Err-NoMemory g c =

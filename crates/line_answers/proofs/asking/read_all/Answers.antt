@@ -11,8 +11,8 @@ loop-preserved g c = (tt, tt, collect_more c.args.host c.args.session.now c.loop
 
 pub returns : goal.returns
 returns g c = elim c.match-next.branch [
-    in-None w ↦ search rules
+  | in-None w ↦ search rules
   | in-Some+in_ok-read+then-not-is_byte w ↦
-    subst (λ (v : SessionValue). Asks {A = Unit {0}} (next_collect c.args.host) c.args.session.now (Ok tt) v) (sym w.session-is)
-    (collect_none c.args.host c.args.session.now c.loop.session w.read.new.self w.in_ok-read.field-0 tt c.loop.invariant.2 w.in_ok-read.ensures.list (search rules))
+      subst (λ (v : SessionValue). Asks {A = Unit {0}} (next_collect c.args.host) c.args.session.now (Ok tt) v) (sym w.session-is)
+      (collect_none c.args.host c.args.session.now c.loop.session w.read.new.self w.in_ok-read.field-0 tt c.loop.invariant.2 w.in_ok-read.ensures.list (search rules))
 ]
