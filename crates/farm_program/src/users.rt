@@ -1,4 +1,8 @@
-//! Users, each in a session of his own, and what they write.
+//! Users at a service, each in a session of his own, and what they are shown.
+ghost use Rattle.std.specs.Prelude.{◌≡◌, ◌<◌, ◌++◌, length, map, slice_get, All, IfOk, IfSome};
+ghost use Rattle.farm_service.specs.Passes.{fresh_passes};
+ghost use Rattle.farm_program.specs.Users.{AreUsersOf, as_opened, commands_at, names_in, session_of};
+
 use crate::acts::{result_of, settle};
 use crate::quantum::Quantum;
 use answer_text::write_refusal;
@@ -9,106 +13,113 @@ use script_lines::{Command, ScriptLine};
 use std::alloc::Global;
 use std::sync::Wait;
 
-/// A user with his output lines.
+/// A user at a service.
 #[derive(Drop)]
-pub struct Visitor {
-    /// The number of his domain.
-    pub domain: u8,
-    /// His number in the domain.
-    pub user: u8,
+pub struct User<'a> {
     /// His name in the plan.
-    pub name: String,
+    pub name: &'a str,
+    /// His session, from the opening of the service on.
+    pub session: Session<'a>,
     /// What his lines ask, in order.
-    pub commands: Vec<Command>,
-    /// His pass, while no session has it.
-    pub pass: Option<UserPass>,
+    pub commands: Vec<&'a Command>,
+    /// By how many Steps at a time he settles.
+    pub quantum: Quantum,
     /// His output lines so far.
-    pub text: String,
-    /// Whether he met want of memory, and stopped there.
-    pub wanted: bool,
+    pub screen: String,
+    /// Whether there was memory for all that he did. Where there was none he stopped.
+    pub ended: Result<(), NoMemory>,
 }
 
-/// The users of a plan in its order, who have no passes yet.
-pub fn visitors_of(alloc: Global, plan: &AcceptedPlan) -> Result<Vec<Visitor>, NoMemory> {
-    let mut visitors = Vec::new(alloc);
-    for domain in 0..plan.domains() {
-        for user in 0..plan.users(domain) {
-            visitors.push(Visitor {
-                domain,
-                user,
-                name: String::from_str(alloc, plan.name(domain, user))?,
-                commands: Vec::new(alloc),
-                pass: None,
-                text: String::new(alloc),
-                wanted: false,
-            })?;
-        }
-    }
-    Ok(visitors)
-}
-
-/// Gives each user what his lines ask. A line's user is one of them, by his place.
-pub fn hand_out_lines(visitors: &mut [Visitor], lines: Vec<ScriptLine>) -> Result<(), NoMemory> {
-    for line in lines {
-        let ScriptLine { user, command } = line;
-        if let Some(visitor) = visitors.get_mut(user) {
-            visitor.commands.push(command)?;
-        }
+// Adds the names of a domain's users.
+fn add_names<'a>(
+    names: &mut Vec<&'a str>,
+    plan: &'a AcceptedPlan,
+    domain: u8,
+) -> Result<(), NoMemory>
+    requires { domain < length plan.now }
+    ensures { IfOk result (λ _. IfSome (slice_get plan.now domain)
+        (λ d. map (λ n. n.now) names.new.items ≡ map (λ n. n.now) names.old.items ++ map (λ u. u.name) d.users)) }
+{
+    for user in 0..plan.users(domain) {
+        names.push(plan.name(domain, user))?;
     }
     Ok(())
 }
 
 /// The names of all users of a plan, in its order.
-pub fn names_of(alloc: Global, plan: &AcceptedPlan) -> Result<Vec<&str>, NoMemory> {
+pub fn names_of(alloc: Global, plan: &AcceptedPlan) -> Result<Vec<&str>, NoMemory>
+    ensures { IfOk result (λ names. map (λ n. n.now) names.items ≡ names_in plan.now) }
+{
     let mut names = Vec::new(alloc);
     for domain in 0..plan.domains() {
-        for user in 0..plan.users(domain) {
-            names.push(plan.name(domain, user))?;
-        }
+        add_names(&mut names, plan, domain)?;
     }
     Ok(names)
 }
 
-/// A user's session: his lines of the script, in their order.
-pub fn visit<R: Wait>(
-    rt: &R,
-    alloc: Global,
-    service: &Service,
-    quantum: Quantum,
-    visitor: &mut Visitor,
-) {
-    // He has his pass: `Service::open` gives one for each user of the plan, in the order of the visitors. The field is
-    // empty only while his session runs.
-    let Some(pass) = visitor.pass.take() else {
-        return;
-    };
-    let mut session = service.session(pass);
-    visitor.wanted = act_all(rt, alloc, &mut session, quantum, visitor).is_err();
-    visitor.pass = Some(session.end());
-}
-
-// Acts on a user's lines, and settles after each. Want of memory ends it.
-fn act_all<R: Wait>(
-    rt: &R,
-    alloc: Global,
-    session: &mut Session<'_>,
-    quantum: Quantum,
-    visitor: &mut Visitor,
-) -> Result<(), NoMemory> {
-    let Visitor {
-        name,
-        commands,
-        text,
-        ..
-    } = visitor;
-    for command in commands.iter() {
-        let told = result_of(rt, alloc, session, quantum, command);
-        write_line(text, name.as_str(), command, told)?;
-        if matches!(settle(rt, session, quantum), Err(Refusal::NoMemory)) {
-            return Err(NoMemory);
+// What a script's lines ask for the user of a place, in order.
+fn commands_at(alloc: Global, lines: &[ScriptLine], place: usize) -> Result<Vec<&Command>, NoMemory>
+    ensures { IfOk result (λ commands. map (λ c. c.now) commands.items ≡ commands_at lines.now place) }
+{
+    let mut commands = Vec::new(alloc);
+    for line in lines {
+        if line.user == place {
+            commands.push(&line.command)?;
         }
     }
-    Ok(())
+    Ok(commands)
+}
+
+/// The users of a service, in the order of its plan, each in a session of his own, with his lines of a script.
+pub fn users_of<'a>(
+    alloc: Global,
+    service: &'a Service,
+    passes: Vec<UserPass>,
+    lines: &'a [ScriptLine],
+    quantum: Quantum,
+) -> Result<Vec<User<'a>>, NoMemory>
+    requires passes { passes.items ≡ fresh_passes service.now.plan }
+    requires lines { All (λ l. l.user < length (names_in service.now.plan)) lines.now }
+    ensures { IfOk result (λ users. AreUsersOf service.now.plan lines.now quantum.steps users.items) }
+{
+    let names = names_of(alloc, service.plan())?;
+    let mut users = Vec::with_capacity(alloc, passes.len())?;
+    for pass in passes {
+        let place = users.len();
+        users.push(User {
+            name: names[place],
+            session: service.session(pass),
+            commands: commands_at(alloc, lines, place)?,
+            quantum,
+            screen: String::new(alloc),
+            ended: Ok(()),
+        })?;
+    }
+    Ok(users)
+}
+
+impl User<'_> {
+    // Acts on his lines, and settles after each. Want of memory ends it.
+    fn act_all<R: Wait>(&mut self, rt: &R, alloc: Global) -> Result<(), NoMemory>
+        ensures { as_opened self.new.session ≡ as_opened self.old.session }
+    {
+        let quantum = self.quantum;
+        for command in self.commands.iter() {
+            let told = result_of(rt, alloc, &mut self.session, quantum, command);
+            write_line(&mut self.screen, self.name, command, told)?;
+            if matches!(settle(rt, &self.session, quantum), Err(Refusal::NoMemory)) {
+                return Err(NoMemory);
+            }
+        }
+        Ok(())
+    }
+
+    /// His lines of the script, in their order.
+    pub fn run<R: Wait>(&mut self, rt: &R, alloc: Global)
+        ensures { as_opened self.new.session ≡ as_opened self.old.session }
+    {
+        self.ended = self.act_all(rt, alloc);
+    }
 }
 
 // The output line of a command.
