@@ -1,4 +1,7 @@
 //! What a user's session does for a command, and the result that its output line shows.
+ghost use Rattle.std.specs.Prelude.{◌≡◌};
+ghost use Rattle.farm_program.specs.Users.{as_opened};
+
 use crate::quantum::Quantum;
 use answer_text::{write_reply, write_seen};
 use bootstrap::{BootFault, boot_message, peek_message, poke_message, word_of};
@@ -20,13 +23,16 @@ pub fn settle<R: Wait>(rt: &R, session: &Session<'_>, quantum: Quantum) -> Resul
 
 /// Does what a command asks, and gives the result for its output line. A refusal takes the result's place; what was
 /// taken before it stands.
+#[tactic(auto, using(crate::proofs::Sessions::gains_keep))]
 pub fn result_of<R: Wait>(
     rt: &R,
     alloc: Global,
     session: &mut Session<'_>,
     quantum: Quantum,
     command: &Command,
-) -> Result<String, Refusal> {
+) -> Result<String, Refusal>
+    ensures { as_opened session.new ≡ as_opened session.old }
+{
     match command {
         Command::Config(bytes) => configured(rt, alloc, session, bytes.as_slice()),
         Command::Write { host, bytes } => {
@@ -67,12 +73,15 @@ fn shown(alloc: Global, reply: Reply) -> Result<String, Refusal> {
 }
 
 /// The replies to configuration bytes other than Nothing, or a hyphen.
+#[tactic(auto, using(crate::proofs::Sessions::gains_keep))]
 fn configured<R: Wait>(
     rt: &R,
     alloc: Global,
     session: &mut Session<'_>,
     bytes: &[u8],
-) -> Result<String, Refusal> {
+) -> Result<String, Refusal>
+    ensures { as_opened session.new ≡ as_opened session.old }
+{
     let mut text = String::new(alloc);
     for byte in bytes {
         let reply = session.configure(rt, *byte)?;
@@ -90,12 +99,15 @@ fn configured<R: Wait>(
 }
 
 /// How many bytes a host takes, up to the first for which it has no room.
+#[tactic(auto, using(crate::proofs::Sessions::gains_keep))]
 fn written<R: Wait>(
     rt: &R,
     session: &mut Session<'_>,
     host: u8,
     bytes: &[u8],
-) -> Result<usize, Refusal> {
+) -> Result<usize, Refusal>
+    ensures { as_opened session.new ≡ as_opened session.old }
+{
     for (taken, byte) in bytes.iter().enumerate() {
         if matches!(session.write(rt, host, *byte)?, Reply::Full) {
             return Ok(taken);
@@ -111,7 +123,9 @@ fn booted<R: Wait>(
     session: &mut Session<'_>,
     host: u8,
     code: &[u8],
-) -> Result<String, Refusal> {
+) -> Result<String, Refusal>
+    ensures { as_opened session.new ≡ as_opened session.old }
+{
     match boot_message(alloc, code) {
         Ok(message) => {
             let taken = written(rt, session, host, message.as_slice())?;
@@ -126,6 +140,7 @@ fn booted<R: Wait>(
 }
 
 /// The word that a node answers to a peek, or a hyphen where fewer than four bytes came.
+#[tactic(auto, using(crate::proofs::Sessions::gains_keep))]
 fn peeked<R: Wait>(
     rt: &R,
     alloc: Global,
@@ -133,7 +148,9 @@ fn peeked<R: Wait>(
     quantum: Quantum,
     host: u8,
     address: u32,
-) -> Result<String, Refusal> {
+) -> Result<String, Refusal>
+    ensures { as_opened session.new ≡ as_opened session.old }
+{
     let _ = written(rt, session, host, &peek_message(address))?;
     settle(rt, session, quantum)?;
     let mut bytes = [0u8; 4];
@@ -149,12 +166,15 @@ fn peeked<R: Wait>(
 }
 
 /// All bytes that have come to a host, or a hyphen where there are none.
+#[tactic(auto, using(crate::proofs::Sessions::gains_keep))]
 fn collected<R: Wait>(
     rt: &R,
     alloc: Global,
     session: &mut Session<'_>,
     host: u8,
-) -> Result<String, Refusal> {
+) -> Result<String, Refusal>
+    ensures { as_opened session.new ≡ as_opened session.old }
+{
     let mut text = String::new(alloc);
     for _ in 0..u64::MAX {
         match session.read(rt, host)? {

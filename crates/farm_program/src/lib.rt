@@ -9,7 +9,7 @@ mod failure;
 mod farm;
 mod program;
 mod quantum;
-mod visits;
+mod users;
 
 pub use command_line::settings;
 pub use configuration::Settings;

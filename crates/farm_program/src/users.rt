@@ -1,0 +1,142 @@
+//! Users at a service, each in a session of his own, and what they are shown.
+ghost use Rattle.std.specs.Prelude.{◌≡◌, ◌<◌, ◌++◌, length, map, slice_get, All, IfOk, IfSome};
+ghost use Rattle.farm_service.specs.Passes.{fresh_passes};
+ghost use Rattle.farm_program.specs.Users.{AreUsersOf, as_opened, commands_at, names_in, session_of};
+
+use crate::acts::{result_of, settle};
+use crate::quantum::Quantum;
+use answer_text::write_refusal;
+use domain_core::Refusal;
+use farm_service::{NoMemory, Service, Session, UserPass};
+use plan_checker::AcceptedPlan;
+use script_lines::{Command, ScriptLine};
+use std::alloc::Global;
+use std::sync::Wait;
+
+/// A user at a service.
+#[derive(Drop)]
+pub struct User<'a> {
+    /// His name in the plan.
+    pub name: &'a str,
+    /// His session, from the opening of the service on.
+    pub session: Session<'a>,
+    /// What his lines ask, in order.
+    pub commands: Vec<&'a Command>,
+    /// By how many Steps at a time he settles.
+    pub quantum: Quantum,
+    /// His output lines so far.
+    pub screen: String,
+    /// Whether there was memory for all that he did. Where there was none he stopped.
+    pub ended: Result<(), NoMemory>,
+}
+
+// Adds the names of a domain's users.
+fn add_names<'a>(
+    names: &mut Vec<&'a str>,
+    plan: &'a AcceptedPlan,
+    domain: u8,
+) -> Result<(), NoMemory>
+    requires { domain < length plan.now }
+    ensures { IfOk result (λ _. IfSome (slice_get plan.now domain)
+        (λ d. map (λ n. n.now) names.new.items ≡ map (λ n. n.now) names.old.items ++ map (λ u. u.name) d.users)) }
+{
+    for user in 0..plan.users(domain) {
+        names.push(plan.name(domain, user))?;
+    }
+    Ok(())
+}
+
+/// The names of all users of a plan, in its order.
+pub fn names_of(alloc: Global, plan: &AcceptedPlan) -> Result<Vec<&str>, NoMemory>
+    ensures { IfOk result (λ names. map (λ n. n.now) names.items ≡ names_in plan.now) }
+{
+    let mut names = Vec::new(alloc);
+    for domain in 0..plan.domains() {
+        add_names(&mut names, plan, domain)?;
+    }
+    Ok(names)
+}
+
+// What a script's lines ask for the user of a place, in order.
+fn commands_at(alloc: Global, lines: &[ScriptLine], place: usize) -> Result<Vec<&Command>, NoMemory>
+    ensures { IfOk result (λ commands. map (λ c. c.now) commands.items ≡ commands_at lines.now place) }
+{
+    let mut commands = Vec::new(alloc);
+    for line in lines {
+        if line.user == place {
+            commands.push(&line.command)?;
+        }
+    }
+    Ok(commands)
+}
+
+/// The users of a service, in the order of its plan, each in a session of his own, with his lines of a script.
+pub fn users_of<'a>(
+    alloc: Global,
+    service: &'a Service,
+    passes: Vec<UserPass>,
+    lines: &'a [ScriptLine],
+    quantum: Quantum,
+) -> Result<Vec<User<'a>>, NoMemory>
+    requires passes { passes.items ≡ fresh_passes service.now.plan }
+    requires lines { All (λ l. l.user < length (names_in service.now.plan)) lines.now }
+    ensures { IfOk result (λ users. AreUsersOf service.now.plan lines.now quantum.steps users.items) }
+{
+    let names = names_of(alloc, service.plan())?;
+    let mut users = Vec::with_capacity(alloc, passes.len())?;
+    for pass in passes {
+        let place = users.len();
+        users.push(User {
+            name: names[place],
+            session: service.session(pass),
+            commands: commands_at(alloc, lines, place)?,
+            quantum,
+            screen: String::new(alloc),
+            ended: Ok(()),
+        })?;
+    }
+    Ok(users)
+}
+
+impl User<'_> {
+    // Acts on his lines, and settles after each. Want of memory ends it.
+    fn act_all<R: Wait>(&mut self, rt: &R, alloc: Global) -> Result<(), NoMemory>
+        ensures { as_opened self.new.session ≡ as_opened self.old.session }
+    {
+        let quantum = self.quantum;
+        for command in self.commands.iter() {
+            let told = result_of(rt, alloc, &mut self.session, quantum, command);
+            write_line(&mut self.screen, self.name, command, told)?;
+            if matches!(settle(rt, &self.session, quantum), Err(Refusal::NoMemory)) {
+                return Err(NoMemory);
+            }
+        }
+        Ok(())
+    }
+
+    /// His lines of the script, in their order.
+    pub fn run<R: Wait>(&mut self, rt: &R, alloc: Global)
+        ensures { as_opened self.new.session ≡ as_opened self.old.session }
+    {
+        self.ended = self.act_all(rt, alloc);
+    }
+}
+
+// The output line of a command.
+fn write_line(
+    text: &mut String,
+    name: &str,
+    command: &Command,
+    told: Result<String, Refusal>,
+) -> Result<(), NoMemory> {
+    let verb = command.verb().name();
+    match command.place() {
+        Some(number) => write!(text, "{name} {verb} {number} ")?,
+        None => write!(text, "{name} {verb} ")?,
+    }
+    match told {
+        Ok(told) => text.push_str(told.as_str())?,
+        Err(refusal) => write_refusal(text, refusal)?,
+    }
+    text.push_str("\n")
+}
