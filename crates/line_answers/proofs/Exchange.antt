@@ -16,8 +16,8 @@ use Rattle.domain_core.specs.declared.event.Refusal.{Refusal}
 use Rattle.farm_service.specs.declared.told.Told.{Told}
 use Rattle.farm_service.specs.Answers.{IsTold}
 use Rattle.farm_service.specs.Passes.{SessionValue, with_told, Gains}
-use Rattle.line_answers.specs.Asks.{is_write, is_read, is_full, is_byte, replies_in, writes_in, reads_in, next_config, next_write, next_read, next_collect, AreAsked}
-use Rattle.line_answers.specs.Sessions.{with_all, Asks}
+use Rattle.line_answers.specs.Asks.{is_write, is_read, had_no_room, is_byte, replies_told, writes_in, reads_in, next_config, next_write, next_read, next_collect, AreAsked}
+use Rattle.line_answers.specs.Sessions.{with_all, AsksJust}
 
 -- an event with its reply
 abbrev pub told_of : Event → Reply → Told
@@ -43,11 +43,11 @@ grown next s t u told e r so_far n gains = record {
 }
 
 -- the end, and a refusal
-pub ended : {A : Type 0} (next : List Told → Option Event) (s t : SessionValue) (told : List Told) (a : A) → IsAsking next s t told → next told ≡ None → Asks next s (Ok a) t
+pub ended : {A : Type 0} (next : List Told → Option Event) (s t : SessionValue) (told : List Told) (a : A) → IsAsking next s t told → next told ≡ None → AsksJust next s (Ok a) t
 ended next s t told a so_far n = record { told = told; list = so_far.list; asked = so_far.asked; ended = n }
 
 pub refused : {A : Type 0} (next : List Told → Option Event) (s t u : SessionValue) (told : List Told) (e : Event) (refusal : Refusal) → IsAsking next s t told
-    → next told ≡ Some e → Gains t e (Err refusal) u → IsTold t e (Err refusal) → Asks {A = A} next s (Err refusal) u
+    → next told ≡ Some e → Gains t e (Err refusal) u → IsTold t e (Err refusal) → AsksJust {A = A} next s (Err refusal) u
 refused next s t u told e refusal so_far n same is = record {
   told = told;
   list = same ∙ so_far.list;
@@ -87,13 +87,13 @@ config_more bytes s t u i r was within gains = record {
   count = one_longer was.told _ i was.count;
 }
 
-pub config_ended : {A : Type 0} (bytes : List ℕ) (s t : SessionValue) (a : A) → IsConfiguring bytes s t (length bytes) → Asks (next_config bytes) s (Ok a) t
+pub config_ended : {A : Type 0} (bytes : List ℕ) (s t : SessionValue) (a : A) → IsConfiguring bytes s t (length bytes) → AsksJust (next_config bytes) s (Ok a) t
 config_ended bytes s t a was =
     ended (next_config bytes) s t was.told a was.so_far
     (ap (λ (n : ℕ). option_map event.Config (slice_get bytes n)) was.count ∙ ap (option_map event.Config) (slice_get_past bytes (length bytes) (omega arith)))
 
 pub config_refused : {A : Type 0} (bytes : List ℕ) (s t u : SessionValue) (i : ℕ) (refusal : Refusal) → IsConfiguring bytes s t i → i < length bytes
-    → Gains t (event.Config (get_or bytes i 0)) (Err refusal) u → IsTold t (event.Config (get_or bytes i 0)) (Err refusal) → Asks {A = A} (next_config bytes) s (Err refusal) u
+    → Gains t (event.Config (get_or bytes i 0)) (Err refusal) u → IsTold t (event.Config (get_or bytes i 0)) (Err refusal) → AsksJust {A = A} (next_config bytes) s (Err refusal) u
 config_refused bytes s t u i refusal was within same is =
     refused (next_config bytes) s t u was.told _ refusal was.so_far (config_next bytes was.told i was.count within) same is
 
@@ -101,22 +101,22 @@ config_refused bytes s t u i refusal was within same is =
 
 writes_more : (host byte : ℕ) (told : List Told) (r : Reply) → writes_in (told ++ told_of (event.Write host byte) r ∷ []) ≡ writes_in told ++ r ∷ []
 writes_more host byte told r =
-    ap replies_in (filter-append (λ t. is_write t.event) told (told_of (event.Write host byte) r ∷ []))
+    ap replies_told (filter-append (λ t. is_write t.event) told (told_of (event.Write host byte) r ∷ []))
     ∙ map-append (λ t. t.reply) (filter (λ t. is_write t.event) told) (told_of (event.Write host byte) r ∷ [])
 
 reads_more : (host : ℕ) (told : List Told) (r : Reply) → reads_in (told ++ told_of (event.Read host) r ∷ []) ≡ reads_in told ++ r ∷ []
 reads_more host told r =
-    ap replies_in (filter-append (λ t. is_read t.event) told (told_of (event.Read host) r ∷ []))
+    ap replies_told (filter-append (λ t. is_read t.event) told (told_of (event.Read host) r ∷ []))
     ∙ map-append (λ t. t.reply) (filter (λ t. is_read t.event) told) (told_of (event.Read host) r ∷ [])
 
 -- the host had room so far
 pub record IsWriting (host : ℕ) (bytes : List ℕ) (s t : SessionValue) (i : ℕ) : Type 0 where
   pub told : List Told
   pub so_far : IsAsking (next_write host bytes) s t told
-  pub room : list_any is_full (writes_in told) ≡ false
+  pub room : list_any had_no_room (writes_in told) ≡ false
   pub count : length (writes_in told) ≡ i
 
-write_next : (host : ℕ) (bytes : List ℕ) (told : List Told) (i : ℕ) → list_any is_full (writes_in told) ≡ false → length (writes_in told) ≡ i → i < length bytes
+write_next : (host : ℕ) (bytes : List ℕ) (told : List Told) (i : ℕ) → list_any had_no_room (writes_in told) ≡ false → length (writes_in told) ≡ i → i < length bytes
     → next_write host bytes told ≡ Some (event.Write host (get_or bytes i 0))
 write_next host bytes told i room count within =
     rw room (ap (λ (n : ℕ). option_map (event.Write host) (slice_get bytes n)) count ∙ ap (option_map (event.Write host)) (slice_get-get_or bytes i 0 within))
@@ -125,34 +125,34 @@ pub write_begun : (host : ℕ) (bytes : List ℕ) (s : SessionValue) → IsWriti
 write_begun host bytes s = record { told = []; so_far = begun (next_write host bytes) s; room = refl; count = refl }
 
 pub write_more : (host : ℕ) (bytes : List ℕ) (s t u : SessionValue) (i : ℕ) (r : Reply) → IsWriting host bytes s t i → i < length bytes
-    → Gains t (event.Write host (get_or bytes i 0)) (Ok r) u → is_full r ≡ false → IsWriting host bytes s u (i + 1)
+    → Gains t (event.Write host (get_or bytes i 0)) (Ok r) u → had_no_room r ≡ false → IsWriting host bytes s u (i + 1)
 write_more host bytes s t u i r was within gains roomy =
     let more = writes_more host (get_or bytes i 0) was.told r in record {
       told = was.told ++ told_of (event.Write host (get_or bytes i 0)) r ∷ [];
       so_far = grown (next_write host bytes) s t u was.told _ r was.so_far (write_next host bytes was.told i was.room was.count within) gains;
-      room = ap (list_any is_full) more ∙ list_any-append is_full (writes_in was.told) (r ∷ []) ∙ rw was.room (rw roomy refl);
+      room = ap (list_any had_no_room) more ∙ list_any-append had_no_room (writes_in was.told) (r ∷ []) ∙ rw was.room (rw roomy refl);
       count = ap length more ∙ one_longer (writes_in was.told) r i was.count;
     }
 
 -- the host was full
 pub write_full : {A : Type 0} (host : ℕ) (bytes : List ℕ) (s t u : SessionValue) (i : ℕ) (r : Reply) (a : A) → IsWriting host bytes s t i → i < length bytes
-    → Gains t (event.Write host (get_or bytes i 0)) (Ok r) u → is_full r ≡ true → Asks (next_write host bytes) s (Ok a) u
+    → Gains t (event.Write host (get_or bytes i 0)) (Ok r) u → had_no_room r ≡ true → AsksJust (next_write host bytes) s (Ok a) u
 write_full host bytes s t u i r a was within gains full =
     let more = writes_more host (get_or bytes i 0) was.told r in
-    let over : list_any is_full (writes_in (was.told ++ told_of (event.Write host (get_or bytes i 0)) r ∷ [])) ≡ true =
-    ap (list_any is_full) more ∙ list_any-append is_full (writes_in was.told) (r ∷ []) ∙ rw was.room (rw full refl) in
+    let over : list_any had_no_room (writes_in (was.told ++ told_of (event.Write host (get_or bytes i 0)) r ∷ [])) ≡ true =
+    ap (list_any had_no_room) more ∙ list_any-append had_no_room (writes_in was.told) (r ∷ []) ∙ rw was.room (rw full refl) in
     ended (next_write host bytes) s u _ a
     (grown (next_write host bytes) s t u was.told _ r was.so_far (write_next host bytes was.told i was.room was.count within) gains)
     (rw over refl)
 
-pub write_ended : {A : Type 0} (host : ℕ) (bytes : List ℕ) (s t : SessionValue) (a : A) → IsWriting host bytes s t (length bytes) → Asks (next_write host bytes) s (Ok a) t
+pub write_ended : {A : Type 0} (host : ℕ) (bytes : List ℕ) (s t : SessionValue) (a : A) → IsWriting host bytes s t (length bytes) → AsksJust (next_write host bytes) s (Ok a) t
 write_ended host bytes s t a was =
     ended (next_write host bytes) s t was.told a was.so_far
     (rw was.room (ap (λ (n : ℕ). option_map (event.Write host) (slice_get bytes n)) was.count ∙ ap (option_map (event.Write host)) (slice_get_past bytes (length bytes) (omega arith))))
 
 pub write_refused : {A : Type 0} (host : ℕ) (bytes : List ℕ) (s t u : SessionValue) (i : ℕ) (refusal : Refusal) → IsWriting host bytes s t i → i < length bytes
     → Gains t (event.Write host (get_or bytes i 0)) (Err refusal) u → IsTold t (event.Write host (get_or bytes i 0)) (Err refusal)
-    → Asks {A = A} (next_write host bytes) s (Err refusal) u
+    → AsksJust {A = A} (next_write host bytes) s (Err refusal) u
 write_refused host bytes s t u i refusal was within same is =
     refused (next_write host bytes) s t u was.told _ refusal was.so_far (write_next host bytes was.told i was.room was.count within) same is
 
@@ -184,7 +184,7 @@ read_more host count s t u i r was within gains byte =
 
 -- none had come
 pub read_none : {A : Type 0} (host count : ℕ) (s t u : SessionValue) (i : ℕ) (r : Reply) (a : A) → IsReading host count s t i → i < count
-    → Gains t (event.Read host) (Ok r) u → is_byte r ≡ false → Asks (next_read host count) s (Ok a) u
+    → Gains t (event.Read host) (Ok r) u → is_byte r ≡ false → AsksJust (next_read host count) s (Ok a) u
 read_none host count s t u i r a was within gains none =
     let more = reads_more host was.told r in
     let over : list_all is_byte (reads_in (was.told ++ told_of (event.Read host) r ∷ [])) ≡ false =
@@ -193,12 +193,12 @@ read_none host count s t u i r a was within gains none =
     (grown (next_read host count) s t u was.told _ r was.so_far (read_next host count was.told i was.bytes was.so_many within) gains)
     (rw over refl)
 
-pub read_ended : {A : Type 0} (host count : ℕ) (s t : SessionValue) (a : A) → IsReading host count s t count → Asks (next_read host count) s (Ok a) t
+pub read_ended : {A : Type 0} (host count : ℕ) (s t : SessionValue) (a : A) → IsReading host count s t count → AsksJust (next_read host count) s (Ok a) t
 read_ended host count s t a was =
     ended (next_read host count) s t was.told a was.so_far (rw was.bytes (rw was.so_many (rw (le-ltb count count (omega arith)) refl)))
 
 pub read_refused : {A : Type 0} (host count : ℕ) (s t u : SessionValue) (i : ℕ) (refusal : Refusal) → IsReading host count s t i → i < count
-    → Gains t (event.Read host) (Err refusal) u → IsTold t (event.Read host) (Err refusal) → Asks {A = A} (next_read host count) s (Err refusal) u
+    → Gains t (event.Read host) (Err refusal) u → IsTold t (event.Read host) (Err refusal) → AsksJust {A = A} (next_read host count) s (Err refusal) u
 read_refused host count s t u i refusal was within same is =
     refused (next_read host count) s t u was.told _ refusal was.so_far (read_next host count was.told i was.bytes was.so_many within) same is
 
@@ -223,7 +223,7 @@ collect_more host s t u r was gains byte =
     }
 
 pub collect_none : {A : Type 0} (host : ℕ) (s t u : SessionValue) (r : Reply) (a : A) → IsCollecting host s t → Gains t (event.Read host) (Ok r) u → is_byte r ≡ false
-    → Asks (next_collect host) s (Ok a) u
+    → AsksJust (next_collect host) s (Ok a) u
 collect_none host s t u r a was gains none =
     let more = reads_more host was.told r in
     let over : list_all is_byte (reads_in (was.told ++ told_of (event.Read host) r ∷ [])) ≡ false =
@@ -231,5 +231,5 @@ collect_none host s t u r a was gains none =
     ended (next_collect host) s u _ a (grown (next_collect host) s t u was.told _ r was.so_far (collect_next host was.told was.bytes) gains) (rw over refl)
 
 pub collect_refused : {A : Type 0} (host : ℕ) (s t u : SessionValue) (refusal : Refusal) → IsCollecting host s t
-    → Gains t (event.Read host) (Err refusal) u → IsTold t (event.Read host) (Err refusal) → Asks {A = A} (next_collect host) s (Err refusal) u
+    → Gains t (event.Read host) (Err refusal) u → IsTold t (event.Read host) (Err refusal) → AsksJust {A = A} (next_collect host) s (Err refusal) u
 collect_refused host s t u refusal was same is = refused (next_collect host) s t u was.told _ refusal was.so_far (collect_next host was.told was.bytes) same is

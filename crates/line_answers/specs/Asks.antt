@@ -24,21 +24,21 @@ is_read (event.Read host) = true
 is_read e = false
 
 -- the replies, in order
-abbrev pub replies_in : List Told → List Reply
-replies_in told = map (λ t. t.reply) told
+abbrev pub replies_told : List Told → List Reply
+replies_told told = map (λ t. t.reply) told
 
 -- the replies to writes, in order
 abbrev pub writes_in : List Told → List Reply
-writes_in told = replies_in (filter (λ t. is_write t.event) told)
+writes_in told = replies_told (filter (λ t. is_write t.event) told)
 
 -- the replies to reads, in order
 abbrev pub reads_in : List Told → List Reply
-reads_in told = replies_in (filter (λ t. is_read t.event) told)
+reads_in told = replies_told (filter (λ t. is_read t.event) told)
 
 -- whether a host had no room for a byte
-abbrev pub is_full : Reply → Bool
-is_full reply.Full = true
-is_full r = false
+abbrev pub had_no_room : Reply → Bool
+had_no_room reply.Full = true
+had_no_room r = false
 
 -- whether a byte had come to a host
 abbrev pub is_byte : Reply → Bool
@@ -54,7 +54,7 @@ next_config bytes told = option_map event.Config (slice_get bytes (length told))
 -- bytes for a host: each, until the host is full
 abbrev pub next_write : ℕ → List ℕ → List Told → Option Event
 next_write host bytes told =
-    if list_any is_full (writes_in told) then None else option_map (event.Write host) (slice_get bytes (length (writes_in told)))
+    if list_any had_no_room (writes_in told) then None else option_map (event.Write host) (slice_get bytes (length (writes_in told)))
 
 -- bytes of a host: so many, until none has come
 abbrev pub next_read : ℕ → ℕ → List Told → Option Event

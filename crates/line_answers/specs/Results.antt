@@ -11,9 +11,11 @@ use Rattle.domain_core.specs.declared.event.Reply.TheVariants as reply
 use Rattle.virtual_switch.specs.declared.reply.ConfigReply.TheVariants as config
 use Rattle.answer_text.specs.Digits.{byte_text}
 use Rattle.answer_text.specs.Replies.{reply_text, refusal_text}
+use Rattle.farm_service.specs.declared.told.Told.{Told}
 use Rattle.script_lines.specs.declared.command.Command.{Command}
 use Rattle.script_lines.specs.declared.command.Command.TheVariants as command
 use Rattle.script_lines.specs.Verbs.{name_of, verb_of, place_asked}
+use Rattle.line_answers.specs.Asks.{replies_told}
 
 -- a text behind a blank
 abbrev pub behind_blank : List ℕ → List ℕ
@@ -58,6 +60,9 @@ byte_in r = None
 -- the bytes that came
 abbrev pub bytes_in : List Reply → List ℕ
 bytes_in replies = filter_map byte_in replies
+
+abbrev pub bytes_told : List Told → List ℕ
+bytes_told told = bytes_in (replies_told told)
 
 -- a word of four bytes, which come with the least significant first; or a hyphen
 abbrev pub word_text : List ℕ → List ℕ

@@ -2,8 +2,9 @@
 ghost use Rattle.std.specs.Prelude.{◌≡◌, IfErr};
 ghost use Rattle.domain_core.specs.declared.event.Event.TheVariants.{Reset, Look};
 ghost use Rattle.script_lines.specs.declared.command.Command.TheVariants.{Peek};
-ghost use Rattle.line_answers.specs.Asks.{is_full, is_byte, next_config, next_write, next_boot, next_read, next_collect, once};
-ghost use Rattle.line_answers.specs.Sessions.{Asks, IsOfSettling, AsksLine};
+ghost use Rattle.line_answers.specs.Asks.{had_no_room, is_byte, next_config, next_write, next_boot, next_read, next_collect, once};
+ghost use Rattle.line_answers.specs.Lines.{IsOfSettling};
+ghost use Rattle.line_answers.specs.Sessions.{AsksJust, AsksLine};
 
 use crate::quantum::Quantum;
 use bootstrap::{BootFault, boot_message, peek_message, poke_message};
@@ -17,8 +18,8 @@ use std::sync::Wait;
 const ROUNDS: u64 = 10_000;
 
 // Whether a host had no room for a byte.
-fn is_full(reply: Reply) -> bool
-    ensures { result ≡ is_full reply }
+fn had_no_room(reply: Reply) -> bool
+    ensures { result ≡ had_no_room reply }
 {
     matches!(reply, Reply::Full)
 }
@@ -36,7 +37,7 @@ pub(crate) fn configure_all<R: Wait>(
     session: &mut Session<'_>,
     bytes: &[u8],
 ) -> Result<(), Refusal>
-    ensures { Asks (next_config bytes.now) session.old result session.new }
+    ensures { AsksJust (next_config bytes.now) session.old result session.new }
 {
     for byte in bytes {
         session.configure(rt, *byte)?;
@@ -51,10 +52,10 @@ pub(crate) fn write_all<R: Wait>(
     host: u8,
     bytes: &[u8],
 ) -> Result<(), Refusal>
-    ensures { Asks (next_write host bytes.now) session.old result session.new }
+    ensures { AsksJust (next_write host bytes.now) session.old result session.new }
 {
     for byte in bytes {
-        if is_full(session.write(rt, host, *byte)?) {
+        if had_no_room(session.write(rt, host, *byte)?) {
             return Ok(());
         }
     }
@@ -68,7 +69,7 @@ pub(crate) fn read_up_to<R: Wait>(
     host: u8,
     count: usize,
 ) -> Result<(), Refusal>
-    ensures { Asks (next_read host count) session.old result session.new }
+    ensures { AsksJust (next_read host count) session.old result session.new }
 {
     for _index in 0..count {
         if !is_byte(session.read(rt, host)?) {
@@ -80,7 +81,7 @@ pub(crate) fn read_up_to<R: Wait>(
 
 // Bytes of a host, until none has come.
 pub(crate) fn read_all<R: Wait>(rt: &R, session: &mut Session<'_>, host: u8) -> Result<(), Refusal>
-    ensures { Asks (next_collect host) session.old result session.new }
+    ensures { AsksJust (next_collect host) session.old result session.new }
 {
     for _ in rt.forever() {
         if !is_byte(session.read(rt, host)?) {
@@ -92,7 +93,7 @@ pub(crate) fn read_all<R: Wait>(rt: &R, session: &mut Session<'_>, host: u8) -> 
 
 // Reset of a node.
 fn reset<R: Wait>(rt: &R, session: &mut Session<'_>, node: u8) -> Result<(), Refusal>
-    ensures { Asks (once (Reset node)) session.old result session.new }
+    ensures { AsksJust (once (Reset node)) session.old result session.new }
 {
     let _ = session.reset(rt, node)?;
     Ok(())
@@ -100,7 +101,7 @@ fn reset<R: Wait>(rt: &R, session: &mut Session<'_>, node: u8) -> Result<(), Ref
 
 // A look at a node.
 fn look<R: Wait>(rt: &R, session: &mut Session<'_>, node: u8) -> Result<(), Refusal>
-    ensures { Asks (once (Look node)) session.old result session.new }
+    ensures { AsksJust (once (Look node)) session.old result session.new }
 {
     let _ = session.look(rt, node)?;
     Ok(())
@@ -141,7 +142,7 @@ fn boot<R: Wait>(
     host: u8,
     code: &[u8],
 ) -> Result<(), Refusal>
-    ensures { Asks (next_boot host code.now) session.old result session.new }
+    ensures { AsksJust (next_boot host code.now) session.old result session.new }
 {
     match boot_message(alloc, code) {
         Ok(message) => write_all(rt, session, host, message.as_slice()),
@@ -150,7 +151,7 @@ fn boot<R: Wait>(
     }
 }
 
-/// Asks what a line asks, in its user's session. A peek settles before it reads.
+/// AsksJust what a line asks, in its user's session. A peek settles before it reads.
 ///
 /// # Errors
 ///

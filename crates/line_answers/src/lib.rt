@@ -7,5 +7,5 @@ mod quantum;
 mod showing;
 
 pub use asking::settle;
-pub use line::answer_line;
+pub use line::{answer_line, answer_lines};
 pub use quantum::Quantum;

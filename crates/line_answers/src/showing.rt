@@ -3,8 +3,8 @@ ghost use Rattle.std.specs.Prelude.{◌≡◌, ◌≢◌, ◌++◌, ◌∷◌, [
 ghost use Rattle.std.specs.List.{filter, flat_map, list_any};
 ghost use Rattle.answer_text.specs.Digits.{byte_text};
 ghost use Rattle.answer_text.specs.Replies.{reply_text};
-ghost use Rattle.line_answers.specs.Asks.{replies_in};
-ghost use Rattle.line_answers.specs.Results.{is_shown, is_written, byte_in, bytes_in, shown_text, configured_text, taken_text, booted_text, word_text, bytes_text, behind_blank, reset_text, look_text, result_text, outcome_text, line_text};
+ghost use Rattle.line_answers.specs.Asks.{replies_told};
+ghost use Rattle.line_answers.specs.Results.{is_shown, is_written, byte_in, bytes_in, bytes_told, shown_text, configured_text, taken_text, booted_text, word_text, bytes_text, behind_blank, reset_text, look_text, result_text, outcome_text, line_text};
 ghost use Rattle.std.specs.Fmt.{decimal};
 ghost use Rattle.bootstrap.specs.Messages.{boot_fault_number};
 
@@ -24,7 +24,7 @@ fn is_shown(reply: Reply) -> bool
 
 // Whether there is one that is shown.
 fn is_any_shown(told: &[Told]) -> bool
-    ensures { result ≡ list_any is_shown (replies_in told.now) }
+    ensures { result ≡ list_any is_shown (replies_told told.now) }
 {
     let mut is_any = false;
     for it in told {
@@ -34,7 +34,7 @@ fn is_any_shown(told: &[Told]) -> bool
 }
 
 fn write_shown(text: &mut String, told: &[Told]) -> Result<(), NoMemory>
-    ensures { OnOk result (string_bytes text.new ≡ string_bytes text.old ++ flat_map shown_text (replies_in told.now)) }
+    ensures { OnOk result (string_bytes text.new ≡ string_bytes text.old ++ flat_map shown_text (replies_told told.now)) }
 {
     for it in told {
         if is_shown(it.reply) {
@@ -47,7 +47,7 @@ fn write_shown(text: &mut String, told: &[Told]) -> Result<(), NoMemory>
 
 // The replies of the switch other than Nothing, or a hyphen.
 fn write_configured(text: &mut String, told: &[Told]) -> Result<(), NoMemory>
-    ensures { OnOk result (string_bytes text.new ≡ string_bytes text.old ++ configured_text (replies_in told.now)) }
+    ensures { OnOk result (string_bytes text.new ≡ string_bytes text.old ++ configured_text (replies_told told.now)) }
 {
     if is_any_shown(told) {
         write_shown(text, told)
@@ -58,7 +58,7 @@ fn write_configured(text: &mut String, told: &[Told]) -> Result<(), NoMemory>
 
 // How many bytes a host took.
 fn taken(told: &[Told]) -> usize
-    ensures { result ≡ length (filter is_written (replies_in told.now)) }
+    ensures { result ≡ length (filter is_written (replies_told told.now)) }
 {
     let mut count = 0;
     for it in told {
@@ -76,7 +76,7 @@ fn is_written(reply: Reply) -> bool
 }
 
 fn write_taken(text: &mut String, told: &[Told]) -> Result<(), NoMemory>
-    ensures { OnOk result (string_bytes text.new ≡ string_bytes text.old ++ taken_text (replies_in told.now)) }
+    ensures { OnOk result (string_bytes text.new ≡ string_bytes text.old ++ taken_text (replies_told told.now)) }
 {
     let count = taken(told);
     write!(text, " {count}")
@@ -91,7 +91,7 @@ fn write_boot_fault(text: &mut String, fault: BootFault) -> Result<(), NoMemory>
 
 // How many bytes of a boot message a host took, or why code is none.
 fn write_booted(text: &mut String, code: &[u8], told: &[Told]) -> Result<(), NoMemory>
-    ensures { OnOk result (string_bytes text.new ≡ string_bytes text.old ++ booted_text code.now (replies_in told.now)) }
+    ensures { OnOk result (string_bytes text.new ≡ string_bytes text.old ++ booted_text code.now (replies_told told.now)) }
 {
     if code.len() < 2 {
         write_boot_fault(text, BootFault::TooShort)
@@ -114,7 +114,7 @@ fn byte_in(reply: Reply) -> Option<u8>
 
 // The first byte that came, and the rest of the list.
 fn first_byte(told: &[Told]) -> Option<(u8, &[Told])>
-    ensures { MatchOption result (bytes_in (replies_in told.now) ≡ []) (λ found. bytes_in (replies_in told.now) ≡ found.0 ∷ bytes_in (replies_in found.1.now)) }
+    ensures { MatchOption result (bytes_told told.now ≡ []) (λ found. bytes_told told.now ≡ found.0 ∷ bytes_told found.1.now) }
 {
     let mut rest = told;
     while let Some((first, after)) = rest.split_first() {
@@ -128,7 +128,7 @@ fn first_byte(told: &[Told]) -> Option<(u8, &[Told])>
 
 // The first four bytes that came.
 fn first_word(told: &[Told]) -> Option<[u8; 4]>
-    ensures { MatchOption result (word_text (bytes_in (replies_in told.now)) ≡ codes " -") (λ bytes. word_text (bytes_in (replies_in told.now)) ≡ word_text bytes) }
+    ensures { MatchOption result (word_text (bytes_told told.now) ≡ codes " -") (λ bytes. word_text (bytes_told told.now) ≡ word_text bytes) }
 {
     let (a, rest) = first_byte(told)?;
     let (b, rest) = first_byte(rest)?;
@@ -139,7 +139,7 @@ fn first_word(told: &[Told]) -> Option<[u8; 4]>
 
 // A word of four bytes, or a hyphen.
 fn write_word(text: &mut String, told: &[Told]) -> Result<(), NoMemory>
-    ensures { OnOk result (string_bytes text.new ≡ string_bytes text.old ++ word_text (bytes_in (replies_in told.now))) }
+    ensures { OnOk result (string_bytes text.new ≡ string_bytes text.old ++ word_text (bytes_told told.now)) }
 {
     match first_word(told) {
         Some(word) => {
@@ -165,7 +165,7 @@ fn write_read(text: &mut String, reply: Reply) -> Result<(), NoMemory>
 }
 
 fn write_all_bytes(text: &mut String, told: &[Told]) -> Result<(), NoMemory>
-    ensures { OnOk result (string_bytes text.new ≡ string_bytes text.old ++ flat_map byte_text (bytes_in (replies_in told.now))) }
+    ensures { OnOk result (string_bytes text.new ≡ string_bytes text.old ++ flat_map byte_text (bytes_told told.now)) }
 {
     for it in told {
         write_read(text, it.reply)?;
@@ -175,7 +175,7 @@ fn write_all_bytes(text: &mut String, told: &[Told]) -> Result<(), NoMemory>
 
 // All bytes that came, or a hyphen.
 fn write_bytes(text: &mut String, told: &[Told]) -> Result<(), NoMemory>
-    ensures { OnOk result (string_bytes text.new ≡ string_bytes text.old ++ bytes_text (bytes_in (replies_in told.now))) }
+    ensures { OnOk result (string_bytes text.new ≡ string_bytes text.old ++ bytes_text (bytes_told told.now)) }
 {
     if first_byte(told).is_some() {
         text.push_str(" ")?;
@@ -204,7 +204,7 @@ fn write_behind_blank(text: &mut String, reply: Reply) -> Result<(), NoMemory>
 }
 
 fn write_resets(text: &mut String, told: &[Told]) -> Result<(), NoMemory>
-    ensures { OnOk result (string_bytes text.new ≡ string_bytes text.old ++ flat_map reset_text (replies_in told.now)) }
+    ensures { OnOk result (string_bytes text.new ≡ string_bytes text.old ++ flat_map reset_text (replies_told told.now)) }
 {
     for it in told {
         write_reset(text, it.reply)?;
@@ -213,7 +213,7 @@ fn write_resets(text: &mut String, told: &[Told]) -> Result<(), NoMemory>
 }
 
 fn write_looks(text: &mut String, told: &[Told]) -> Result<(), NoMemory>
-    ensures { OnOk result (string_bytes text.new ≡ string_bytes text.old ++ flat_map look_text (replies_in told.now)) }
+    ensures { OnOk result (string_bytes text.new ≡ string_bytes text.old ++ flat_map look_text (replies_told told.now)) }
 {
     for it in told {
         write_behind_blank(text, it.reply)?;
@@ -223,7 +223,7 @@ fn write_looks(text: &mut String, told: &[Told]) -> Result<(), NoMemory>
 
 // What is shown of the replies to what a line asked.
 fn write_result(text: &mut String, command: &Command, told: &[Told]) -> Result<(), NoMemory>
-    ensures { OnOk result (string_bytes text.new ≡ string_bytes text.old ++ result_text command.now (replies_in told.now)) }
+    ensures { OnOk result (string_bytes text.new ≡ string_bytes text.old ++ result_text command.now (replies_told told.now)) }
 {
     match command {
         Command::Config(_) => write_configured(text, told),
@@ -243,7 +243,7 @@ fn write_outcome(
     told: &[Told],
     ended: Result<(), Refusal>,
 ) -> Result<(), NoMemory>
-    ensures { OnOk result (string_bytes text.new ≡ string_bytes text.old ++ outcome_text command.now (replies_in told.now) ended) }
+    ensures { OnOk result (string_bytes text.new ≡ string_bytes text.old ++ outcome_text command.now (replies_told told.now) ended) }
 {
     match ended {
         Ok(()) => write_result(text, command, told),
@@ -264,7 +264,7 @@ pub(crate) fn write_line(
     told: &[Told],
     ended: Result<(), Refusal>,
 ) -> Result<(), NoMemory>
-    ensures { OnOk result (string_bytes text.new ≡ string_bytes text.old ++ line_text name.now command.now (replies_in told.now) ended) }
+    ensures { OnOk result (string_bytes text.new ≡ string_bytes text.old ++ line_text name.now command.now (replies_told told.now) ended) }
 {
     let verb = command.verb().name();
     write!(text, "{name} {verb}")?;

@@ -2,8 +2,8 @@ use Rattle.std.proofs.Common.{rules, subst, ℕ}
 use Rattle.line_answers.proofs.Exchange.{IsWriting, write_more, write_full, write_ended}
 use Rattle.line_answers.proofs.asking.write_all.Goals as goal
 
-pub returns-then-is_full : goal.returns-then-is_full
-returns-then-is_full g c =
+pub returns-then-had_no_room : goal.returns-then-had_no_room
+returns-then-had_no_room g c =
     write_full c.args.host c.args.bytes.now c.args.session.now c.loop-byte.session c.write.new.self c.loop-byte.byte-index c.in_ok-write.field-0 tt c.loop-byte.invariant (search rules)
     c.in_ok-write.ensures.list (search rules)
 
