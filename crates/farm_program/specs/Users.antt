@@ -1,10 +1,11 @@
 -- Users at a service.
-use Rattle.std.specs.Prelude.{ℕ, List, ◌≡◌, ◌==◌, ◌<◌, length, map, filter, slice_index_or, All}
+use Rattle.std.specs.Prelude.{ℕ, List, ◌≡◌, ◌==◌, ◌<◌, length, map, filter, slice_index_or, string_bytes, All, OnOk}
 use Rattle.std.specs.List.{range_with_len, flat_map}
 use Rattle.plan_rules.specs.Data.{DomainData}
 use Rattle.script_lines.specs.declared.command.Command.{Command}
 use Rattle.script_lines.specs.declared.script.ScriptLine.{ScriptLine}
 use Rattle.farm_service.specs.Passes.{SessionValue, UserPassValue, fresh_pass, fresh_passes}
+use Rattle.line_answers.specs.Sessions.{AreAnswered}
 use Rattle.farm_program.specs.declared.users.User.{User}
 
 -- the names of all users of a plan, in its order
@@ -38,3 +39,12 @@ pub record AreUsersOf (plan : List DomainData) (lines : List ScriptLine) (steps 
   pub commands : map (λ u. map (λ c. c.now) u.commands.items) users ≡ map (commands_at lines) (range_with_len 0 (length users))
   pub nobody_else : All (λ l. l.user < length users) lines
   pub quantum : All (λ u. u.quantum.steps ≡ steps) users
+
+-- a user's lines were answered: his list gained their events, and his screen shows their output lines
+abbrev pub HasAnswered : User → User → Type 0
+HasAnswered u v = AreAnswered u.name.now (map (λ c. c.now) u.commands.items) u.session v.session (string_bytes v.screen)
+
+-- so were those of each user who met no want of memory
+abbrev pub HaveAnswered : List User → List User → Type 0
+HaveAnswered before after =
+    (i : ℕ) (d : User) → i < length before → OnOk (slice_index_or after i d).ended (HasAnswered (slice_index_or before i d) (slice_index_or after i d))

@@ -1,18 +1,19 @@
 //! A script on a service: all users in sessions of their own, and workers beside them.
-ghost use Rattle.std.specs.Prelude.{◌≡◌, ◌<◌, IfOk, All, length, map};
+ghost use Rattle.std.specs.Prelude.{◌≡◌, ◌<◌, IfOk, IsOk, All, length, map, string_bytes};
 ghost use Rattle.token_queue.specs.Passes.{AreItsPasses};
 ghost use Rattle.farm_service.specs.Closed.{AreDomainsOf, AreListed};
 ghost use Rattle.farm_program.specs.Closing.{AreAllListed};
 ghost use Rattle.farm_program.specs.Settings.{InRange};
-ghost use Rattle.farm_program.specs.Users.{AreStill, names_in};
+ghost use Rattle.farm_program.specs.Screens.{AreScreens};
+ghost use Rattle.farm_program.specs.Users.{AreStill, HaveAnswered, names_in};
 
 use crate::configuration::Settings;
 use crate::failure::Failure;
-use crate::quantum::Quantum;
 use crate::users::{User, users_of};
 use farm_service::{
     Closed, NoGate, NoMemory, Opened, Service, UserPass, WorkerPass, run_users_and_workers,
 };
+use line_answers::Quantum;
 use plan_checker::AcceptedPlan;
 use script_lines::ScriptLine;
 use std::alloc::Global;
@@ -20,7 +21,8 @@ use std::sync::Wait;
 use std::thread::Threads;
 
 // All users run their lines, each in a thread of his own, with as many workers beside them as the settings say.
-// Seven clauses: the settings with the workers' number and passes and the users' quantum, and what is the same afterwards.
+// Eight clauses: the settings with the workers' number and passes and the users' quantum, what is the same afterwards, and
+// what the screens show.
 fn run_all<R: Threads + Wait + Sync>(
     rt: &R,
     alloc: Global,
@@ -35,6 +37,7 @@ fn run_all<R: Threads + Wait + Sync>(
     requires passes { AreItsPasses service.now.plan service.now.queue passes.old.items }
     ensures passes { AreItsPasses service.now.plan service.now.queue passes.new.items }
     ensures users { AreStill users.old users.new }
+    ensures lines { HaveAnswered users.old users.new }
     ensures count { length users.new ≡ length users.old }
 {
     let steps = u64::from(settings.quantum);
@@ -53,7 +56,9 @@ struct Left {
 
 // Ends the users' sessions. The first who met want of memory is an error.
 fn end_all(alloc: Global, users: Vec<User<'_>>) -> Result<Left, NoMemory>
-    ensures { IfOk result (λ left. left.passes.items ≡ map (λ u. u.session.pass) users.entry.items) }
+    ensures passes { IfOk result (λ left. left.passes.items ≡ map (λ u. u.session.pass) users.entry.items) }
+    ensures screens { IfOk result (λ left. map string_bytes left.screens.items ≡ map (λ u. string_bytes u.screen) users.entry.items) }
+    ensures ended { IfOk result (λ _. All (λ u. IsOk u.ended) users.entry.items) }
 {
     let mut passes = Vec::with_capacity(alloc, users.len())?;
     let mut screens = Vec::with_capacity(alloc, users.len())?;
@@ -91,6 +96,7 @@ fn close<R: Wait>(
     requires { AreItsPasses service.plan service.queue passes.items }
     ensures domains { IfOk result (λ ended. AreDomainsOf service.plan ended.closed.domains.items) }
     ensures users { IfOk result (λ ended. AreListed ended.closed.domains.items left.passes.items) }
+    ensures screens { IfOk result (λ ended. ended.screens ≡ left.screens) }
 {
     let Left {
         passes: users,
@@ -115,6 +121,7 @@ pub fn run_script<R: Threads + Wait + Sync>(
     requires lines { All (λ l. l.user < length (names_in plan)) lines.now }
     ensures domains { IfOk result (λ ended. AreDomainsOf plan ended.closed.domains.items) }
     ensures users { IfOk result (λ ended. AreAllListed plan ended.closed.domains.items) }
+    ensures screens { IfOk result (λ ended. AreScreens plan lines.now ended.closed.domains.items (map string_bytes ended.screens.items)) }
 {
     let Ok(opened) = Service::open(rt, alloc, plan, settings.workers) else {
         return Err(Failure::Memory);

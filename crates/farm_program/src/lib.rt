@@ -2,13 +2,11 @@
 //! line, a plan and a script in, one line of output for each script line out.
 #![tactic(auto)]
 
-mod acts;
 mod command_line;
 mod configuration;
 mod failure;
 mod farm;
 mod program;
-mod quantum;
 mod users;
 
 pub use command_line::settings;

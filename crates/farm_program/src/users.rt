@@ -1,13 +1,10 @@
 //! Users at a service, each in a session of his own, and what they are shown.
-ghost use Rattle.std.specs.Prelude.{◌≡◌, ◌<◌, ◌++◌, length, map, slice_get, All, IfOk, IfSome};
+ghost use Rattle.std.specs.Prelude.{◌≡◌, ◌<◌, ◌++◌, length, map, slice_get, All, IfOk, IfSome, OnOk};
 ghost use Rattle.farm_service.specs.Passes.{fresh_passes};
-ghost use Rattle.farm_program.specs.Users.{AreUsersOf, as_opened, commands_at, names_in, session_of};
+ghost use Rattle.farm_program.specs.Users.{AreUsersOf, HasAnswered, as_opened, commands_at, names_in, session_of};
 
-use crate::acts::{result_of, settle};
-use crate::quantum::Quantum;
-use answer_text::write_refusal;
-use domain_core::Refusal;
 use farm_service::{NoMemory, Service, Session, UserPass};
+use line_answers::{Quantum, answer_lines};
 use plan_checker::AcceptedPlan;
 use script_lines::{Command, ScriptLine};
 use std::alloc::Global;
@@ -99,44 +96,21 @@ pub fn users_of<'a>(
 }
 
 impl User<'_> {
-    // Acts on his lines, and settles after each. Want of memory ends it.
-    fn act_all<R: Wait>(&mut self, rt: &R, alloc: Global) -> Result<(), NoMemory>
-        ensures { as_opened self.new.session ≡ as_opened self.old.session }
-    {
-        let quantum = self.quantum;
-        for command in self.commands.iter() {
-            let told = result_of(rt, alloc, &mut self.session, quantum, command);
-            write_line(&mut self.screen, self.name, command, told)?;
-            if matches!(settle(rt, &self.session, quantum), Err(Refusal::NoMemory)) {
-                return Err(NoMemory);
-            }
-        }
-        Ok(())
-    }
-
-    /// His lines of the script, in their order.
+    /// His lines of the script, in their order. What is on his screen before goes.
+    #[tactic(auto, using(crate::proofs::Sessions::gains_keep))]
     pub fn run<R: Wait>(&mut self, rt: &R, alloc: Global)
-        ensures { as_opened self.new.session ≡ as_opened self.old.session }
+        ensures same { as_opened self.new.session ≡ as_opened self.old.session }
+        ensures lines { OnOk self.new.ended (HasAnswered self.old self.new) }
     {
-        self.ended = self.act_all(rt, alloc);
+        self.screen.clear();
+        self.ended = answer_lines(
+            rt,
+            alloc,
+            &mut self.session,
+            self.quantum,
+            self.name,
+            self.commands.as_slice(),
+            &mut self.screen,
+        );
     }
-}
-
-// The output line of a command.
-fn write_line(
-    text: &mut String,
-    name: &str,
-    command: &Command,
-    told: Result<String, Refusal>,
-) -> Result<(), NoMemory> {
-    let verb = command.verb().name();
-    match command.place() {
-        Some(number) => write!(text, "{name} {verb} {number} ")?,
-        None => write!(text, "{name} {verb} ")?,
-    }
-    match told {
-        Ok(told) => text.push_str(told.as_str())?,
-        Err(refusal) => write_refusal(text, refusal)?,
-    }
-    text.push_str("\n")
 }
