@@ -5,6 +5,7 @@ mod digits;
 mod events;
 mod replies;
 
+pub use digits::write_byte;
 pub use events::{write_event, write_user};
 pub use replies::{
     write_config_reply, write_entry, write_fault, write_refusal, write_reply, write_seen,

@@ -2,14 +2,12 @@
 //! line, a plan and a script in, one line of output for each script line out.
 #![tactic(auto)]
 
-mod acts;
 mod command_line;
 mod configuration;
 mod failure;
 mod farm;
 mod program;
-mod quantum;
-mod visits;
+mod users;
 
 pub use command_line::settings;
 pub use configuration::Settings;

@@ -1,8 +1,11 @@
 //! The program over its words and its streams.
+ghost use Rattle.std.specs.Prelude.{◌<◌, IfOk, All, length};
+ghost use Rattle.farm_program.specs.Users.{names_in};
+
 use crate::command_line::settings;
 use crate::failure::Failure;
-use crate::farm::{Ended, texts_on};
-use crate::visits::names_of;
+use crate::farm::{Ended, run_script};
+use crate::users::names_of;
 use clap::error::ErrorKind;
 use plan_checker::{AcceptedPlan, PlanFault, check, read_plan};
 use script_lines::{ScriptLine, read_script};
@@ -62,8 +65,8 @@ fn texts_of<R: Threads + Wait + Sync, S: AsStr, I: Read>(
     let (plan, script) = divide(text.as_slice(), b"---");
     let plan = accepted(alloc, plan)?;
     let lines = lines_of(alloc, &plan, script)?;
-    let Ended { texts, closed: _ } = texts_on(rt, alloc, plan, lines, settings)?;
-    Ok(texts)
+    let Ended { screens, closed: _ } = run_script(rt, alloc, plan, lines.as_slice(), settings)?;
+    Ok(screens)
 }
 
 /// The text of `--help`, where that is why the words give no settings.
@@ -80,7 +83,9 @@ fn help_of(alloc: Global, error: clap::Error) -> Result<Vec<String>, Failure> {
 }
 
 /// What the lines of a script ask, for which users of the plan.
-fn lines_of(alloc: Global, plan: &AcceptedPlan, script: &[u8]) -> Result<Vec<ScriptLine>, Failure> {
+fn lines_of(alloc: Global, plan: &AcceptedPlan, script: &[u8]) -> Result<Vec<ScriptLine>, Failure>
+    ensures { IfOk result (λ lines. All (λ l. l.user < length (names_in plan.now)) lines.items) }
+{
     let names = names_of(alloc, plan)?;
     read_script(alloc, names.as_slice(), script).map_err(Failure::of_script)
 }

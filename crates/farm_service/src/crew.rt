@@ -1,5 +1,6 @@
-//! Workers in threads of their own.
+//! Workers in threads of their own, and users in theirs beside them.
 
+ghost use Rattle.std.specs.Fork.{AcceptsEach, ChangesEach};
 ghost use Rattle.std.specs.Prelude.{◌≡◌, ◌<◌, ◌≤◌, ℕ, length, slice_get};
 ghost use Rattle.token_queue.specs.Passes.{AreOf, AreItsPasses, HoldNone};
 
@@ -83,4 +84,62 @@ pub fn work_all<R: Threads + Wait + Sync, G: Gate + Sync>(
         &wanted,
     );
     told(&wanted)
+}
+
+// All users, each in a thread of his own; when the last has ended the service is stopped.
+fn act_each<R: Threads + Wait + Sync, U: Send, F: Fn(usize, &mut U) + Sync>(
+    rt: &R,
+    service: &Service,
+    act: &F,
+    users: &mut [U],
+)
+    requires { AcceptsEach F.Fn act.now users.old }
+    ensures { ChangesEach F.Fn act.now users.old users.new }
+{
+    let threads = users.len().max(1);
+    thread::for_each_mut(rt, users, threads, act);
+    service.stop();
+}
+
+/// Users at a service, each in a thread of his own, and its workers beside them in theirs. `act` is called with each
+/// user's place and the user. When the last user has ended the service is stopped, and all have ended when the call
+/// returns: each user is what `act` left, and the passes are what they were.
+///
+/// No user waits for a worker. If no thread can be started for the workers they come after the users, and find the
+/// service stopped.
+///
+/// # Errors
+///
+/// `NoMemory` where a worker met want of memory. It stopped the service then, and the users went on without workers.
+// Five clauses: what the passes are before and after, the quantum, and what `act` may do to users and did.
+pub fn run_users_and_workers<
+    R: Threads + Wait + Sync,
+    U: Send,
+    G: Gate + Sync,
+    F: Fn(usize, &mut U) + Sync,
+>(
+    rt: &R,
+    service: &Service,
+    passes: &mut Vec<WorkerPass>,
+    gate: &G,
+    quantum: u64,
+    act: &F,
+    users: &mut [U],
+) -> Result<(), NoMemory>
+    requires passes { AreItsPasses service.now.plan service.now.queue passes.old.items }
+    requires quantum { (1 ≤ quantum) × (quantum ≤ 4096) }
+    requires users { AcceptsEach F.Fn act.now users.old }
+    ensures passes { AreItsPasses service.now.plan service.now.queue passes.new.items }
+    ensures users { ChangesEach F.Fn act.now users.old users.new }
+{
+    let mut work = ||
+        requires { AreItsPasses service.now.plan service.now.queue passes.now.items × (1 ≤ quantum) × (quantum ≤ 4096) }
+        ensures { AreItsPasses service.entry.now.plan service.entry.now.queue passes.exit.now.items }
+    { work_all(rt, service, passes, gate, quantum, u64::MAX) };
+    let mut act_all = ||
+        requires { AcceptsEach F.Fn act.now users.now }
+        ensures { ChangesEach F.Fn act.entry.now users.entry.now users.exit.now }
+    { act_each(rt, service, act, users) };
+    let (worked, ()) = thread::join_mut(rt, &mut work, &mut act_all);
+    worked
 }

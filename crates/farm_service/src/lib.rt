@@ -20,7 +20,7 @@ mod waiting;
 mod worker;
 
 pub use closed::{Closed, ClosedDomain, NotClosed};
-pub use crew::work_all;
+pub use crew::{run_users_and_workers, work_all};
 pub use halves::Turned;
 pub use opening::Opened;
 pub use pass::UserPass;

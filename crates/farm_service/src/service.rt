@@ -130,6 +130,13 @@ impl Service {
         })
     }
 
+    /// The plan on which it was opened.
+    pub fn plan(&self) -> &AcceptedPlan
+        ensures { result.now ≡ self.now.plan }
+    {
+        &self.plan
+    }
+
     /// Makes workers end at their next turn, for good. It waits for nobody.
     pub fn stop(&self) {
         self.stopped.store(true, Ordering::SeqCst);

@@ -60,6 +60,13 @@ impl Session<'_> {
         pass
     }
 
+    /// What the user asked and was answered so far, in his order.
+    pub fn told(&self) -> &[Told]
+        ensures { result.now ≡ self.now.pass.told }
+    {
+        self.pass.told()
+    }
+
     // Asks the user's domain, and lists what it answers.
     fn ask<R: Wait>(&mut self, rt: &R, event: Event) -> Result<Reply, Refusal>
         ensures answer { IsTold self.old event result }

@@ -1,13 +1,15 @@
 -- What the reading of a word and of a script rests on.
 use Rattle.std.proofs.Common.{◌≡◌, ◌+◌, ◌<◌, ◌++◌, ℕ, List, Bool, cond, [], ◌∷◌, length, map, refl, sym, ap, ◌∙◌, true, false, not, inl, inr, subst, append-nil, append_assoc, length-append, arith}
-use Rattle.std.specs.Prelude.{slice_index, slice_get, Option, Some, None}
-use Rattle.std.specs.List.{AllZip, filter}
-use Rattle.std.specs.Str.{IsAscii, IsUtf8}
+use Rattle.std.specs.Prelude.{slice_get, Option, Some, None, All}
+use Rattle.std.specs.Borrow.{Bor}
+use Rattle.std.proofs.lemmas.Option.{slice_get_within}
+use Rattle.std.specs.List.{AllZip, AllByRecursion}
+use Rattle.std.specs.Str.{IsUtf8}
 use Rattle.std.specs.Str.Parse.{AllDigits}
 use Rattle.std.specs.Str.Lines.{lines}
 use Rattle.std.proofs.lemmas.Bool.{cases_lt}
-use Rattle.std.proofs.lemmas.List.{get_or_past}
-use Rattle.std.proofs.lemmas.List.Elements.{filter-append}
+use Rattle.std.proofs.lemmas.List.{get_or_past, length-map}
+use Rattle.std.proofs.lemmas.List.Elements.{filter-append, All-from_recursion}
 use Rattle.std.proofs.lemmas.Str.{IsUtf8-from_ascii}
 use Rattle.std.proofs.lemmas.Str.Parse.{digit_at}
 use Rattle.script_text.specs.Lines.{asks_nothing, line_of, after_line}
@@ -122,3 +124,16 @@ no_earlier_name names name user other none here differs k lt is =
           let same : user ≡ k = omega (arith, lt, past) in
           differs (some_is other name (sym here ∙ ap (λ n. slice_get names n) same ∙ is))
     ]
+
+each_named : (names : List (Bor (List ℕ))) (texts : List (List ℕ)) (asked : List ScriptLine) → AllZip (IsAsked (map (λ n. n.now) names)) texts asked
+    → AllByRecursion (λ l. l.user < length names) asked
+each_named names [] [] all = tt
+each_named names [] (l ∷ asked) all = absurd all
+each_named names (line ∷ texts) [] all = absurd all
+each_named names (line ∷ texts) (l ∷ asked) all =
+    (omega (arith, length-map names (λ n. n.now), slice_get_within (map (λ n. n.now) names) l.user _ all.0.begins.named), each_named names texts asked all.1)
+
+-- each line is of a user who is named
+pub users_named : (names : List (Bor (List ℕ))) (texts : List (List ℕ)) (asked : List ScriptLine) → AllZip (IsAsked (map (λ n. n.now) names)) texts asked
+    → All (λ l. l.user < length names) asked
+users_named names texts asked all = All-from_recursion (λ (l : ScriptLine). l.user < length names) asked (each_named names texts asked all)

@@ -9,7 +9,7 @@ use Rattle.script_lines.specs.declared.fault.LineFault.TheVariants as fault
 use Rattle.script_lines.specs.declared.verb.Verb.{Verb}
 use Rattle.script_lines.specs.declared.verb.Verb.TheVariants.{Config, Write, Boot, Poke, Peek, Collect, Reset, Look}
 use Rattle.script_lines.specs.Verbs.{name_of}
-use Rattle.script_lines.specs.Words.{words_in, IsDecimal, IsWord}
+use Rattle.script_lines.specs.Words.{IsDecimal, IsWord}
 
 -- a verb with the words after it asks this
 abbrev pub Requests : Verb → List (List ℕ) → Command → Type 0

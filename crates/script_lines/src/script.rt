@@ -1,5 +1,5 @@
 //! A script.
-ghost use Rattle.std.specs.Prelude.{◌≡◌, map, IfOk, IfErr};
+ghost use Rattle.std.specs.Prelude.{◌≡◌, ◌<◌, length, map, All, IfOk, IfErr};
 ghost use Rattle.std.specs.Str.Lines.{lines};
 ghost use Rattle.script_lines.specs.Script.{IsScript, IsScriptFault};
 
@@ -27,6 +27,7 @@ pub fn read_script(
     script: &[u8],
 ) -> Result<Vec<ScriptLine>, ScriptFault>
     ensures lines { IfOk result (λ asked. IsScript (map (λ n. n.now) names.now) (lines script.now) asked.items) }
+    ensures users { IfOk result (λ asked. All (λ l. l.user < length names.now) asked.items) }
     ensures fault { IfErr result (IsScriptFault (map (λ n. n.now) names.now) (lines script.now)) }
 {
     let mut asked = Vec::new(alloc);

@@ -1,4 +1,4 @@
-use Rattle.std.proofs.Common.{◌≡◌, ◌∷◌, ℕ, List, Bor, map, rules, ◌∙◌, ap}
+use Rattle.std.proofs.Common.{◌≡◌, ◌∷◌, ℕ, List, Bor, map, rules}
 use Rattle.script_lines.specs.declared.fault.LineFault.{LineFault}
 use Rattle.script_lines.specs.declared.fault.Unread.TheVariants.{Faulty}
 use Rattle.script_lines.specs.Lines.{BeginsWith, IsOf, IsLineFault}

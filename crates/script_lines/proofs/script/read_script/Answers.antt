@@ -1,5 +1,5 @@
 use Rattle.std.proofs.Common.{◌≡◌, ◌<◌, ◌++◌, ◌∷◌, [], length, rules, arith}
-use Rattle.script_lines.proofs.Readings.{read_past, read_more, read_wrong}
+use Rattle.script_lines.proofs.Readings.{read_past, read_more, read_wrong, users_named}
 use Rattle.script_lines.proofs.script.read_script.Goals as goal
 
 pub overflow_add-number : goal.overflow_add-number
@@ -27,3 +27,8 @@ returns-in-Err-Faulty-clause-fault c =
     let inv = c.loop-rest.invariant in
     let rest = c.loop-rest.rest.now in
     read_wrong _ _ rest _ _ _ inv.0 (search rules) (search rules) (search rules)
+
+pub returns-clause-users : goal.returns-clause-users
+returns-clause-users c =
+    let inv = c.loop-rest.invariant in
+    users_named c.args.names.now _ _ inv.0.readable

@@ -1,0 +1,182 @@
+//! What a line asks of its user's domain.
+ghost use Rattle.std.specs.Prelude.{◌≡◌, IfErr};
+ghost use Rattle.domain_core.specs.declared.event.Event.TheVariants.{Reset, Look};
+ghost use Rattle.script_lines.specs.declared.command.Command.TheVariants.{Peek};
+ghost use Rattle.line_answers.specs.Asks.{had_no_room, is_byte, next_config, next_write, next_boot, next_read, next_collect, once};
+ghost use Rattle.line_answers.specs.Lines.{IsOfSettling};
+ghost use Rattle.line_answers.specs.Sessions.{AsksJust, AsksLine};
+
+use crate::quantum::Quantum;
+use bootstrap::{BootFault, boot_message, peek_message, poke_message};
+use domain_core::{Refusal, Reply};
+use farm_service::Session;
+use script_lines::Command;
+use std::alloc::Global;
+use std::sync::Wait;
+
+/// How many rounds a settling has at most.
+const ROUNDS: u64 = 10_000;
+
+// Whether a host had no room for a byte.
+fn had_no_room(reply: Reply) -> bool
+    ensures { result ≡ had_no_room reply }
+{
+    matches!(reply, Reply::Full)
+}
+
+// Whether a byte had come to a host.
+fn is_byte(reply: Reply) -> bool
+    ensures { result ≡ is_byte reply }
+{
+    matches!(reply, Reply::Read(Some(_)))
+}
+
+// Bytes for the switch.
+pub(crate) fn configure_all<R: Wait>(
+    rt: &R,
+    session: &mut Session<'_>,
+    bytes: &[u8],
+) -> Result<(), Refusal>
+    ensures { AsksJust (next_config bytes.now) session.old result session.new }
+{
+    for byte in bytes {
+        session.configure(rt, *byte)?;
+    }
+    Ok(())
+}
+
+// Bytes for a host, until it is full.
+pub(crate) fn write_all<R: Wait>(
+    rt: &R,
+    session: &mut Session<'_>,
+    host: u8,
+    bytes: &[u8],
+) -> Result<(), Refusal>
+    ensures { AsksJust (next_write host bytes.now) session.old result session.new }
+{
+    for byte in bytes {
+        if had_no_room(session.write(rt, host, *byte)?) {
+            return Ok(());
+        }
+    }
+    Ok(())
+}
+
+// Bytes of a host, so many, until none has come.
+pub(crate) fn read_up_to<R: Wait>(
+    rt: &R,
+    session: &mut Session<'_>,
+    host: u8,
+    count: usize,
+) -> Result<(), Refusal>
+    ensures { AsksJust (next_read host count) session.old result session.new }
+{
+    for _index in 0..count {
+        if !is_byte(session.read(rt, host)?) {
+            return Ok(());
+        }
+    }
+    Ok(())
+}
+
+// Bytes of a host, until none has come.
+pub(crate) fn read_all<R: Wait>(rt: &R, session: &mut Session<'_>, host: u8) -> Result<(), Refusal>
+    ensures { AsksJust (next_collect host) session.old result session.new }
+{
+    for _ in rt.forever() {
+        if !is_byte(session.read(rt, host)?) {
+            break;
+        }
+    }
+    Ok(())
+}
+
+// Reset of a node.
+fn reset<R: Wait>(rt: &R, session: &mut Session<'_>, node: u8) -> Result<(), Refusal>
+    ensures { AsksJust (once (Reset node)) session.old result session.new }
+{
+    let _ = session.reset(rt, node)?;
+    Ok(())
+}
+
+// A look at a node.
+fn look<R: Wait>(rt: &R, session: &mut Session<'_>, node: u8) -> Result<(), Refusal>
+    ensures { AsksJust (once (Look node)) session.old result session.new }
+{
+    let _ = session.look(rt, node)?;
+    Ok(())
+}
+
+/// Settles as long as the program does after each line. Whether that came to rest is nobody's fault.
+///
+/// # Errors
+///
+/// The first refusal of a Step or Move.
+pub fn settle<R: Wait>(rt: &R, session: &Session<'_>, quantum: Quantum) -> Result<(), Refusal>
+    ensures { IfErr result (IsOfSettling session.now) }
+{
+    let _ = session.settle(rt, quantum.steps(), ROUNDS)?;
+    Ok(())
+}
+
+// The word at an address: the bytes of the message, and when the node has done what it can, those of its answer.
+fn peek<R: Wait>(
+    rt: &R,
+    session: &mut Session<'_>,
+    quantum: Quantum,
+    host: u8,
+    address: u32,
+) -> Result<(), Refusal>
+    ensures { AsksLine (Peek host address) session.old result session.new }
+{
+    write_all(rt, session, host, &peek_message(address))?;
+    settle(rt, session, quantum)?;
+    read_up_to(rt, session, host, 4)
+}
+
+// Code for the node that a host is joined to, if a boot message can hold it.
+fn boot<R: Wait>(
+    rt: &R,
+    alloc: Global,
+    session: &mut Session<'_>,
+    host: u8,
+    code: &[u8],
+) -> Result<(), Refusal>
+    ensures { AsksJust (next_boot host code.now) session.old result session.new }
+{
+    match boot_message(alloc, code) {
+        Ok(message) => write_all(rt, session, host, message.as_slice()),
+        Err(BootFault::NoMemory) => Err(Refusal::NoMemory),
+        Err(BootFault::TooShort | BootFault::TooLong) => Ok(()),
+    }
+}
+
+/// AsksJust what a line asks, in its user's session. A peek settles before it reads.
+///
+/// # Errors
+///
+/// The first refusal ends the line. What was taken before it stands. `NoMemory` too if a boot message can't be made.
+pub(crate) fn ask_line<R: Wait>(
+    rt: &R,
+    alloc: Global,
+    session: &mut Session<'_>,
+    quantum: Quantum,
+    command: &Command,
+) -> Result<(), Refusal>
+    ensures { AsksLine command.now session.old result session.new }
+{
+    match command {
+        Command::Config(bytes) => configure_all(rt, session, bytes.as_slice()),
+        Command::Write { host, bytes } => write_all(rt, session, *host, bytes.as_slice()),
+        Command::Boot { host, code } => boot(rt, alloc, session, *host, code.as_slice()),
+        Command::Poke {
+            host,
+            address,
+            word,
+        } => write_all(rt, session, *host, &poke_message(*address, *word)),
+        Command::Peek { host, address } => peek(rt, session, quantum, *host, *address),
+        Command::Collect { host } => read_all(rt, session, *host),
+        Command::Reset { node } => reset(rt, session, *node),
+        Command::Look { node } => look(rt, session, *node),
+    }
+}

@@ -1,0 +1,63 @@
+//! Script lines, from what they ask to their output lines.
+ghost use Rattle.std.specs.Prelude.{◌≡◌, [], OnOk, map, string_bytes};
+ghost use Rattle.line_answers.specs.Sessions.{GainsSome, IsAnswered, AreAnswered};
+
+use crate::asking::{ask_line, settle};
+use crate::quantum::Quantum;
+use crate::showing::write_line;
+use domain_core::{NoMemory, Refusal};
+use farm_service::Session;
+use script_lines::Command;
+use std::alloc::Global;
+use std::sync::Wait;
+
+/// AsksJust what a line asks in its user's session, and appends its output line to his screen. A peek settles before it reads,
+/// and nothing else does.
+///
+/// # Errors
+///
+/// `NoMemory` if a command, a boot message or the text met want of memory. What was taken before it stands.
+pub fn answer_line<R: Wait>(
+    rt: &R,
+    alloc: Global,
+    session: &mut Session<'_>,
+    quantum: Quantum,
+    name: &str,
+    command: &Command,
+    screen: &mut String,
+) -> Result<(), NoMemory>
+    ensures list { GainsSome session.old session.new }
+    ensures line { OnOk result (IsAnswered name.now command.now session.old session.new (string_bytes screen.old) (string_bytes screen.new)) }
+{
+    let before = session.told().len();
+    let ended = ask_line(rt, alloc, session, quantum, command);
+    write_line(screen, name, command, &session.told()[before..], ended)
+}
+
+/// Answers a user's lines in his session, one after another on his screen, which is empty. After each line the domain
+/// settles. Whether that is refused for its full journal is nobody's fault.
+///
+/// # Errors
+///
+/// `NoMemory` as [`answer_line`], and if a settling met want of memory. The lines after it are not answered.
+pub fn answer_lines<R: Wait>(
+    rt: &R,
+    alloc: Global,
+    session: &mut Session<'_>,
+    quantum: Quantum,
+    name: &str,
+    commands: &[&Command],
+    screen: &mut String,
+) -> Result<(), NoMemory>
+    requires { string_bytes screen.old ≡ [] }
+    ensures list { GainsSome session.old session.new }
+    ensures lines { OnOk result (AreAnswered name.now (map (λ c. c.now) commands.now) session.old session.new (string_bytes screen.new)) }
+{
+    for command in commands {
+        answer_line(rt, alloc, session, quantum, name, command, screen)?;
+        if matches!(settle(rt, session, quantum), Err(Refusal::NoMemory)) {
+            return Err(NoMemory);
+        }
+    }
+    Ok(())
+}
