@@ -32,7 +32,8 @@ as_opened s = session_of s.plan (unasked s.pass)
 abbrev pub AreStill : List User → List User → Type 0
 AreStill before after = (i : ℕ) (d : User) → i < length before → as_opened (slice_index_or after i d).session ≡ as_opened (slice_index_or before i d).session
 
--- the users of a plan, in its order, each in a session of his own, with his lines of the script. No line is of anybody else. They settle by so many Steps
+-- the users of a plan, in its order, each in a session of his own and with his lines of the script; no line is of anybody else.
+-- All settle by so many Steps
 pub record AreUsersOf (plan : List DomainData) (lines : List ScriptLine) (steps : ℕ) (users : List User) : Type 0 where
   pub sessions : map (λ u. u.session) users ≡ map (session_of plan) (fresh_passes plan)
   pub names : map (λ u. u.name.now) users ≡ names_in plan

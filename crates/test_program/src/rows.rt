@@ -237,3 +237,37 @@ fn endless_input_is_given_up(rt: HostRuntime) {
     assert_eq!(rt; status, 6);
     assert!(rt; output.taken.is_empty());
 }
+
+/// A program counts down from 65,536 and then sends 41, in 524,288 Steps. By 256 at a time it ends while Ann settles once;
+/// by one at a time she does 10,000 of them in a settling, and the worker, who does one at a time too, hasn't done the others
+/// in between.
+#[test]
+fn quantum_is_kept(rt: HostRuntime) -> Result<(), Fail> {
+    let alloc = rt.alloc();
+    for (workers, quantum, told) in [
+        ("2", "256", "ann collect 0 41\n"),
+        ("1", "1", "ann collect 0 -\n"),
+    ] {
+        let mut text = format!(in alloc; "{ANN_AT_PORT_24}---\nann config 01000703\n")?;
+        text.push_str("ann boot 0 b52120202040d171608fd171a2600824f22441fe21f5\n")?;
+        let mut wanted = String::from_str(alloc, "ann config -\nann boot 0 23\n")?;
+        for place in 0..9 {
+            text.push_str("ann collect 0\n")?;
+            wanted.push_str(if place == 0 {
+                told
+            } else {
+                "ann collect 0 -\n"
+            })?;
+        }
+        let words = ["farm", "--workers", workers, "--quantum", quantum];
+        let mut input = source_of(text.as_bytes(), 100, NEVER);
+        let mut output = sink_of(alloc, 100, NEVER, NEVER);
+        let mut errors = sink_of(alloc, 100, NEVER, NEVER);
+        assert_eq!(rt;
+            run(&rt, alloc, &words, &mut input, &mut output, &mut errors),
+            0
+        );
+        assert!(rt; output.taken.as_slice() == wanted.as_bytes(), "{quantum}");
+    }
+    Ok(())
+}

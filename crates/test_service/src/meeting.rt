@@ -9,22 +9,32 @@ use crate::farm::Farm;
 use crate::gates::{Hold, Holding, Seen};
 use crate::users::{Doing, User};
 use crate::watch::{Watch, survey_all};
-use farm_service::{Service, Worked, WorkerPass, work, work_all};
+use farm_service::{Service, Worked, WorkerPass, run_users_and_workers, work, work_all};
 use std::sync::Wait;
 use std::sync::atomic::{AtomicBool, Ordering};
 use std::thread;
 use std::thread::Threads;
 use switch_table::OperatorSeat;
 
-/// What all do at once.
+/// Who acts at once, while the operator watches.
 #[derive(Clone, Copy)]
-pub struct Meeting {
-    /// How many turns each worker has.
-    pub turns: u64,
-    /// Which of their bursts are held.
-    pub hold: Hold,
-    /// What the users do.
-    pub doing: Doing,
+pub enum Meeting {
+    /// All users.
+    Users(Doing),
+    /// All workers, for so many turns each. Some of their bursts are held.
+    Workers(u64, Hold),
+    /// All users, and beside them all workers, until the last user has ended. The service is stopped then.
+    Both(Doing, Hold),
+}
+
+impl Meeting {
+    // Which bursts are held.
+    fn hold(self) -> Hold {
+        match self {
+            Meeting::Users(_) => Hold::Nothing,
+            Meeting::Workers(_, hold) | Meeting::Both(_, hold) => hold,
+        }
+    }
 }
 
 // The workers' passes, what the gate has seen of their turns, and whether one of them wanted memory.
@@ -35,94 +45,93 @@ struct Shift {
     wanted: bool,
 }
 
-// Each worker works in a thread of his own.
-fn worked<R: Threads + Wait + Sync>(
-    rt: &R,
-    service: &Service,
-    mut passes: Vec<WorkerPass>,
-    hold: Hold,
-    turns: u64,
-) -> Shift
-    requires { AreItsPasses service.now.plan service.now.queue passes.items }
-    ensures { AreItsPasses service.now.plan service.now.queue result.passes.items }
-{
-    let gate = Holding::new(service, hold);
-    let wanted = work_all(rt, service, &mut passes, &gate, QUANTUM, turns).is_err();
-    let seen = gate.seen();
-    Shift {
-        passes,
-        seen,
-        wanted,
-    }
-}
-
-// Each user acts in a thread of his own, and then all is over. Gives the users back.
-fn act_each<R: Threads + Wait + Sync>(
-    rt: &R,
-    service: &Service,
-    mut users: Vec<User>,
-    doing: Doing,
-    over: &AtomicBool,
-) -> Vec<User> {
+// Each user acts in a thread of his own.
+fn act_each<R: Threads + Wait + Sync>(rt: &R, service: &Service, users: &mut [User], doing: Doing) {
     thread::for_each_mut(
         rt,
-        users.as_mut_slice(),
+        users,
         16,
         &|place, user| user.act(rt, service, place, doing),
     );
-    over.store(true, Ordering::SeqCst);
-    users
 }
 
-// The users, while the operator watches them.
-fn watched<R: Threads + Wait + Sync>(
+// Users and workers at once; whether a worker wanted memory.
+fn act_and_work<R: Threads + Wait + Sync>(
     rt: &R,
     service: &Service,
-    users: Vec<User>,
-    operator: OperatorSeat,
-    seen: Watch,
+    passes: &mut Vec<WorkerPass>,
+    gate: &Holding<'_>,
+    users: &mut [User],
     doing: Doing,
-) -> (Vec<User>, (OperatorSeat, Watch))
-    requires { IsItsOperator service.now operator }
-    ensures { IsItsOperator service.now result.1.0 }
+) -> bool
+    requires { AreItsPasses service.now.plan service.now.queue passes.old.items }
+    ensures { AreItsPasses service.now.plan service.now.queue passes.new.items }
 {
-    let over = &AtomicBool::new(false);
-    thread::join(
-        rt,
-        move || act_each(rt, service, users, doing, over),
-        move ||
-            requires { IsItsOperator service.now operator }
-            ensures { IsItsOperator service.entry.now result.0 }
-        { survey_all(service, operator, seen, over) },
-    )
+    let act = |place: usize, user: &mut User| user.act(rt, service, place, doing);
+    run_users_and_workers(rt, service, passes, gate, QUANTUM, &act, users).is_err()
 }
 
-// All of them. No one waits for another, so that all is told alike where no thread can be started.
-fn all<R: Threads + Wait + Sync>(
+// Those who meet act, and then all is over.
+fn act_all<R: Threads + Wait + Sync>(
+    rt: &R,
+    service: &Service,
+    mut passes: Vec<WorkerPass>,
+    mut users: Vec<User>,
+    meeting: Meeting,
+    over: &AtomicBool,
+) -> (Shift, Vec<User>)
+    requires { AreItsPasses service.now.plan service.now.queue passes.items }
+    ensures { AreItsPasses service.now.plan service.now.queue result.0.passes.items }
+{
+    let gate = Holding::new(service, meeting.hold());
+    let wanted = match meeting {
+        Meeting::Users(doing) => {
+            act_each(rt, service, users.as_mut_slice(), doing);
+            false
+        }
+        Meeting::Workers(turns, _) => {
+            work_all(rt, service, &mut passes, &gate, QUANTUM, turns).is_err()
+        }
+        Meeting::Both(doing, _) => {
+            act_and_work(rt, service, &mut passes, &gate, users.as_mut_slice(), doing)
+        }
+    };
+    over.store(true, Ordering::SeqCst);
+    let seen = gate.seen();
+    let shift = Shift {
+        passes,
+        seen,
+        wanted,
+    };
+    (shift, users)
+}
+
+// All of them. If no thread can be started for the operator, he surveys once when all is over.
+fn watched<R: Threads + Wait + Sync>(
     rt: &R,
     service: &Service,
     passes: Vec<WorkerPass>,
     operator: OperatorSeat,
     users: Vec<User>,
-    seen: Watch,
+    watch: Watch,
     meeting: Meeting,
-) -> (Shift, (Vec<User>, (OperatorSeat, Watch)))
+) -> ((OperatorSeat, Watch), (Shift, Vec<User>))
     requires passes { AreItsPasses service.now.plan service.now.queue passes.items }
     requires operator { IsItsOperator service.now operator }
-    ensures passes { AreItsPasses service.now.plan service.now.queue result.0.passes.items }
-    ensures operator { IsItsOperator service.now result.1.1.0 }
+    ensures passes { AreItsPasses service.now.plan service.now.queue result.1.0.passes.items }
+    ensures operator { IsItsOperator service.now result.0.0 }
 {
-    let Meeting { turns, hold, doing } = meeting;
+    let over = &AtomicBool::new(false);
     thread::join(
         rt,
         move ||
-            requires { AreItsPasses service.now.plan service.now.queue passes.items }
-            ensures { AreItsPasses service.entry.now.plan service.entry.now.queue result.passes.items }
-        { worked(rt, service, passes, hold, turns) },
-        move ||
             requires { IsItsOperator service.now operator }
-            ensures { IsItsOperator service.entry.now result.1.0 }
-        { watched(rt, service, users, operator, seen, doing) },
+            ensures { IsItsOperator service.entry.now result.0 }
+        { survey_all(service, operator, watch, over) },
+        move ||
+            requires { AreItsPasses service.now.plan service.now.queue passes.items }
+            ensures { AreItsPasses service.entry.now.plan service.entry.now.queue result.0.passes.items }
+        { act_all(rt, service, passes, users, meeting, over) },
     )
 }
 
@@ -151,7 +160,7 @@ pub fn meet<R: Threads + Wait + Sync>(rt: &R, party: Party, meeting: Meeting) ->
         passes,
         operator,
     } = farm;
-    let (shift, (users, (operator, watch))) = all(
+    let ((operator, watch), (shift, users)) = watched(
         rt, &service, passes, operator, users, watch, meeting,
     );
     let Shift {

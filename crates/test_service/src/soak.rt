@@ -6,7 +6,6 @@ use crate::comparison::is_alike;
 use crate::farm::Ground;
 use crate::gates::Hold;
 use crate::losses::LOSSES;
-use crate::meeting::Meeting;
 use crate::rows::SAYS_41;
 use crate::stages::{Ended, Stage, Trial, run as run_trial};
 use crate::users::Doing;
@@ -101,7 +100,7 @@ struct Rounds {
     count: u64,
     seed: u64,
     workers: u8,
-    // For each user. A worker has twice as many turns.
+    // For each user.
     commands: u64,
 }
 
@@ -156,15 +155,11 @@ fn soaked<R: Threads + Wait + Sync>(
     rounds: Rounds,
     seed: u64,
 ) -> Result<Ended, AllocError> {
-    let meeting = Meeting {
-        turns: rounds.commands.saturating_mul(2),
-        hold: Hold::EachThird,
-        doing: Doing::Anything(size, rounds.commands),
-    };
+    let doing = Doing::Anything(size, rounds.commands);
     let trial = Trial {
         ground: Ground::Sized(size),
         workers: rounds.workers,
-        stages: &[Stage::AtOnce(first), Stage::Meet(meeting)],
+        stages: &[Stage::AtOnce(first), Stage::Meet(doing, Hold::EachThird)],
         seed,
     };
     run_trial(rt, alloc, trial)

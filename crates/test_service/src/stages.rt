@@ -23,8 +23,8 @@ pub enum Stage {
     Workers(u64),
     /// The same for ten turns, while node 0's burst is held until node 1 came home from one.
     Held,
-    /// Users, workers and the operator meet.
-    Meet(Meeting),
+    /// Each user does this, and workers work beside them until the last has ended. The service is stopped then.
+    Meet(Doing, Hold),
     /// What a user was told since the last such stage follows, under a name.
     Tell(usize, &'static str),
     /// How many users were told this follows.
@@ -179,14 +179,13 @@ fn tell<R: Wait>(
 impl Stage {
     // How all meet in it.
     fn meeting(self) -> Option<Meeting> {
-        let (turns, hold, doing) = match self {
-            Stage::AtOnce(lists) => (0, Hold::Nothing, Doing::Listed(lists)),
-            Stage::Workers(turns) => (turns, Hold::Nothing, Doing::Same(&[])),
-            Stage::Held => (10, Hold::First, Doing::Same(&[])),
-            Stage::Meet(meeting) => return Some(meeting),
-            _ => return None,
-        };
-        Some(Meeting { turns, hold, doing })
+        match self {
+            Stage::AtOnce(lists) => Some(Meeting::Users(Doing::Listed(lists))),
+            Stage::Workers(turns) => Some(Meeting::Workers(turns, Hold::Nothing)),
+            Stage::Held => Some(Meeting::Workers(10, Hold::First)),
+            Stage::Meet(doing, hold) => Some(Meeting::Both(doing, hold)),
+            _ => None,
+        }
     }
 }
 

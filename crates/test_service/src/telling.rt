@@ -17,12 +17,24 @@ pub enum Left {
     Tokens,
     /// How many entries the second domain's journal has, the word of its output 5, and which tokens in which order.
     Second,
+    /// Which tokens, in which order.
+    Order,
     /// How many Steps each node did, as the journals say.
     Steps,
+    /// How many Steps all nodes did.
+    AllSteps,
     /// How many domains and tokens, and whether the farm on one thread came to the same.
     Again,
     /// Whether the comparison notices what is lost on purpose.
     Losses,
+}
+
+// The tokens, in the order in which they waited.
+fn tell_order(closed: &Closed, said: &mut String) -> Result<(), AllocError> {
+    for token in closed.tokens.iter() {
+        write!(said, " {}.{}", token.domain, token.node)?;
+    }
+    Ok(())
 }
 
 // Of the second domain.
@@ -32,9 +44,7 @@ fn tell_second(closed: &Closed, said: &mut String) -> Result<(), AllocError> {
     {
         let entries = second.journal.len();
         write!(said, " {entries} entries, word {:x}, tokens", word.bits)?;
-        for token in closed.tokens.iter() {
-            write!(said, " {}.{}", token.domain, token.node)?;
-        }
+        tell_order(closed, said)?;
     }
     Ok(())
 }
@@ -43,11 +53,13 @@ fn tell_second(closed: &Closed, said: &mut String) -> Result<(), AllocError> {
 fn steps_of(journal: &Journal, node: u8) -> u64 {
     let mut steps = 0_u64;
     for index in 0..journal.len() {
-        if let Some(Entry::Run {
-            node: stepped,
-            count,
-            ..
-        }) = journal.get(index)
+        if let Some(
+            Entry::Run {
+                node: stepped,
+                count,
+                ..
+            },
+        ) = journal.get(index)
             && stepped == node
         {
             steps = steps.saturating_add(count);
@@ -65,6 +77,17 @@ fn tell_steps(closed: &Closed, said: &mut String) -> Result<(), AllocError> {
         }
     }
     Ok(())
+}
+
+// Of all nodes.
+fn tell_all_steps(closed: &Closed, said: &mut String) -> Result<(), AllocError> {
+    let mut steps = 0_u64;
+    for Token { domain, node } in closed.tokens.iter() {
+        if let Some(ended) = closed.domains.get(usize::from(*domain)) {
+            steps = steps.saturating_add(steps_of(&ended.journal, *node));
+        }
+    }
+    write!(said, " {steps} Steps")
 }
 
 impl Loss {
@@ -114,7 +137,9 @@ pub fn tell_left(
         Left::Nothing => {}
         Left::Tokens => write!(said, " {tokens} tokens")?,
         Left::Second => tell_second(closed, said)?,
+        Left::Order => tell_order(closed, said)?,
         Left::Steps => tell_steps(closed, said)?,
+        Left::AllSteps => tell_all_steps(closed, said)?,
         Left::Again => {
             write!(
                 said,

@@ -4,7 +4,6 @@ use crate::acts::Act::{self, Config, Fill, Knock, Look, Read, Rounds, Write};
 use crate::acts::{QUANTUM, SETTLE};
 use crate::farm::Ground::{self, Sized, Text};
 use crate::gates::Hold;
-use crate::meeting::Meeting;
 use crate::rows::{DRIVE_OUTPUT_5, JOIN, LOOPS, PEEK, POKE, SAYS_41};
 use crate::stages::Stage::{
     self, Alone, AtOnce, Begun, Burst, Committed, Count, Held, Meet, Say, Stop, Tell, Word, Work,
@@ -36,6 +35,17 @@ const POKE_AND_PEEK: [Act; 5] = [
 /// Boots the node with a program that sends 41.
 const BOOT: [Act; 2] = [Config(&JOIN), Write(0, &SAYS_41)];
 
+/// The same, of a domain of one node, and reads what the program sent.
+const BOOT_AND_READ: [Act; 4] = [
+    Config(&[1, 0, 1, 3]),
+    Write(0, &SAYS_41),
+    SETTLE,
+    Read(0, 2),
+];
+
+/// Boots the node of such a domain with a program that loops for ever. The boot message takes four Steps.
+const LOOP_ALONE: [Act; 3] = [Config(&[1, 0, 1, 3]), Write(0, &LOOPS), Rounds(1, 5)];
+
 /// Reads what the program sent, and looks at its node.
 const LOOK: [Act; 2] = [Read(0, 2), Look(0)];
 
@@ -54,8 +64,27 @@ const SIXTEEN: Size = Size {
     limit: 1_000_000,
 };
 
+/// The same for eight users.
+const EIGHT_LOOPS: [&[Act]; 8] = [&LOOP_ALONE; 8];
+
+/// Eight domains, each of a node, a host and a user.
+const EIGHT: Size = Size {
+    domains: 8,
+    nodes: 1,
+    users: 1,
+    limit: 1_000_000,
+};
+
+/// Three domains of three nodes each.
+const NINE_NODES: Size = Size {
+    domains: 3,
+    nodes: 3,
+    users: 1,
+    limit: 1_000_000,
+};
+
 /// The rows.
-pub const TOGETHER: [Together; 12] = [
+pub const TOGETHER: [Together; 14] = [
     Together {
         name: "bob's journal at close",
         ground: Text(ANN_AND_BOB),
@@ -158,16 +187,7 @@ pub const TOGETHER: [Together; 12] = [
         ground: Sized(SIXTEEN),
         workers: 8,
         stages: &[
-            Meet(Meeting {
-                turns: 400,
-                hold: Hold::Nothing,
-                doing: Doing::Same(&[Config(&[1, 0, 1, 3]), Write(0, &SAYS_41)]),
-            }),
-            Meet(Meeting {
-                turns: 0,
-                hold: Hold::Nothing,
-                doing: Doing::Same(&[SETTLE, Read(0, 2)]),
-            }),
+            Meet(Doing::Same(&BOOT_AND_READ), Hold::Nothing),
             Count(" 41 none"),
             Say(" read 41;"),
         ],
@@ -184,6 +204,21 @@ pub const TOGETHER: [Together; 12] = [
             Work(6),
         ],
         left: Left::Steps,
+    },
+    // Eight workers have ten turns each, and in each turn one of the eight nodes does 256 Steps, whichever it is.
+    Together {
+        name: "each worker does its turns",
+        ground: Sized(EIGHT),
+        workers: 8,
+        stages: &[AtOnce(&EIGHT_LOOPS), Workers(10)],
+        left: Left::AllSteps,
+    },
+    Together {
+        name: "tokens wait in plan order",
+        ground: Sized(NINE_NODES),
+        workers: 8,
+        stages: &[],
+        left: Left::Order,
     },
     // Four Steps boot bob's node, and then the burst does 256. Ann's has no Step to do.
     Together {
