@@ -40,7 +40,11 @@ pub(crate) enum SmallEntry {
         reply: SmallReply,
     },
     // One event, and the place of what was seen.
-    Look { by: By, event: Event, place: usize },
+    Look {
+        by: By,
+        event: Event,
+        place: usize,
+    },
     // Steps of one node.
     Run {
         by: By,

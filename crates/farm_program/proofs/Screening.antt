@@ -83,9 +83,9 @@ one_screen plan closed pass name screen commands u v unasked session named asked
     let theirs : AreAnsweredLines (session_of plan pass) name commands v.session.pass.told screen =
     subst (λ (text : List ℕ). AreAnsweredLines (session_of plan pass) name commands v.session.pass.told text) shown
     (subst (λ (list : List Told). AreAnsweredLines (session_of plan pass) name commands list (string_bytes v.screen)) (sym told)
-      (subst (λ (cs : List Command). AreAnsweredLines (session_of plan pass) name cs lines.told (string_bytes v.screen)) asked
-        (subst (λ (n : List ℕ). AreAnsweredLines (session_of plan pass) n (map (λ c. c.now) u.commands.items) lines.told (string_bytes v.screen)) named
-          (subst (λ (s : SessionValue). AreAnsweredLines s u.name.now (map (λ c. c.now) u.commands.items) lines.told (string_bytes v.screen)) session lines.lines)))) in
+    (subst (λ (cs : List Command). AreAnsweredLines (session_of plan pass) name cs lines.told (string_bytes v.screen)) asked
+    (subst (λ (n : List ℕ). AreAnsweredLines (session_of plan pass) n (map (λ c. c.now) u.commands.items) lines.told (string_bytes v.screen)) named
+    (subst (λ (s : SessionValue). AreAnsweredLines s u.name.now (map (λ c. c.now) u.commands.items) lines.told (string_bytes v.screen)) session lines.lines)))) in
     let here : IfSome (slice_get closed pass.domain) (λ c. commands_of pass.user (history_of c) ≡ v.session.pass.told) =
     subst (λ (s : SessionValue). IfSome (slice_get closed s.pass.domain) (λ c. commands_of s.pass.user (history_of c) ≡ v.session.pass.told)) at listed in
     some_then (slice_get closed pass.domain) (λ c. commands_of pass.user (history_of c) ≡ v.session.pass.told)
@@ -122,14 +122,16 @@ all_screens plan lines steps opened after passes screens closed users count answ
           (read_at (λ (w : User). w.session) opened (map (session_of plan) (fresh_passes plan)) place u.0 (session_of plan pass) users.sessions u.1 (mapped (session_of plan) (fresh_passes plan) place pass at_pass))
           (read_at (λ (w : User). w.name.now) opened (names_in plan) place u.0 name users.names u.1 at_name)
           (read_at (λ (w : User). map (λ c. c.now) w.commands.items) opened (map (commands_at lines) (range_with_len 0 (length opened))) place u.0 (commands_at lines place) users.commands u.1
-            (mapped (commands_at lines) (range_with_len 0 (length opened)) place place (counted place (length opened) within)))
+          (mapped (commands_at lines) (range_with_len 0 (length opened)) place place (counted place (length opened) within)))
           (read_at (λ (w : User). string_bytes w.screen) after screens place v.0 screen (sym shown) v.1 at_screen) has theirs;
     }
   where
     get_is : {A : Type 0} (xs : List A) (i : ℕ) (x d : A) → slice_get xs i ≡ Some x → get_or xs i d ≡ x
     get_is xs i x d is = get_or_from_slice_get xs i x d is
+
     counted : (i n : ℕ) → i < n → slice_get (range_with_len 0 n) i ≡ Some i
     counted i n less = slice_get-get_or (range_with_len 0 n) i 0 (long_enough i n less) ∙ ap Some (get_or-range_with_len 0 n i 0 less ∙ omega arith)
+
     listed_at : (closed : List ClosedDomain) (after : List User) (passes : List UserPassValue) (i : ℕ) (d : User) → i < length after → passes ≡ map (λ u. u.session.pass) after
         → AreListed closed passes → IsListed closed (get_or after i d).session.pass
     listed_at closed after passes i d less are listed =
@@ -145,6 +147,6 @@ closed_screens plan opened_plan lines steps opened lent after back left (Err e) 
 closed_screens plan opened_plan lines steps opened lent after back left (Ok e) same lent_is users count answered back_is ended passes screens listed kept =
     subst (λ (p : List DomainData). AreScreens p lines e.closed.domains.items (map string_bytes e.screens.items)) same
     (all_screens opened_plan lines steps lent after left.passes.items (map string_bytes e.screens.items) e.closed.domains.items
-      (subst (λ (us : List User). AreUsersOf opened_plan lines steps us) (sym lent_is) users) count answered (subst (λ (us : List User). All (λ u. IsOk u.ended) us) back_is ended)
-      (passes ∙ ap (map (λ (u : User). u.session.pass)) back_is)
-      (ap (λ v. map string_bytes v.items) kept ∙ screens ∙ ap (map (λ (u : User). string_bytes u.screen)) back_is) listed)
+    (subst (λ (us : List User). AreUsersOf opened_plan lines steps us) (sym lent_is) users) count answered (subst (λ (us : List User). All (λ u. IsOk u.ended) us) back_is ended)
+    (passes ∙ ap (map (λ (u : User). u.session.pass)) back_is)
+    (ap (λ v. map string_bytes v.items) kept ∙ screens ∙ ap (map (λ (u : User). string_bytes u.screen)) back_is) listed)

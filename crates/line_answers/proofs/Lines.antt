@@ -269,11 +269,16 @@ lines_more : (s : SessionValue) (name : List ℕ) (commands : List Command) (c :
     → IsAnsweredLine s name c some line → AreAnsweredLines s name (commands ++ c ∷ []) (told ++ some) (screen ++ line)
 lines_more s name [] c told some screen line lines is =
     (some, [], line, [], ap (λ (before : List Told). before ++ some) lines.0 ∙ sym (append-nil some), ap (λ (before : List ℕ). before ++ line) lines.1 ∙ sym (append-nil line), is, (refl, refl))
-lines_more s name (first ∷ commands) c told some screen line lines is =
-    (lines.0, lines.1 ++ some, lines.2, lines.3 ++ line,
-      ap (λ (before : List Told). before ++ some) lines.4 ∙ append_assoc lines.0 lines.1 some,
-      ap (λ (before : List ℕ). before ++ line) lines.5 ∙ append_assoc lines.2 lines.3 line, lines.6,
-      lines_more s name commands c lines.1 some lines.3 line lines.7 is)
+lines_more s name (first ∷ commands) c told some screen line lines is = (
+  lines.0,
+  lines.1 ++ some,
+  lines.2,
+  lines.3 ++ line,
+  ap (λ (before : List Told). before ++ some) lines.4 ∙ append_assoc lines.0 lines.1 some,
+  ap (λ (before : List ℕ). before ++ line) lines.5 ∙ append_assoc lines.2 lines.3 line,
+  lines.6,
+  lines_more s name commands c lines.1 some lines.3 line lines.7 is,
+)
 
 pub none_shown : (name : List ℕ) (s : SessionValue) → AreAnswered name [] s s []
 none_shown name s = record { told = []; list = (begun (λ told. None) s).list; lines = (refl, refl) }
@@ -313,9 +318,12 @@ last_answered (Ok a) name c s t r asks before all screen more was is shown =
   where
     whole_list : all ≡ s.pass.told ++ asks.told
     whole_list = is ∙ ap (λ (v : SessionValue). v.pass.told) asks.list
+
     behind : drop (length before) all ≡ asks.told
     behind = ap (λ (xs : List Told). drop (length xs) all) was ∙ ap (drop (length s.pass.told)) whole_list ∙ drop-append_seam s.pass.told asks.told
+
     so_many : length asks.told ≤ length all - length before
     so_many = omega (arith, ap length whole_list, ap length was, length-append s.pass.told asks.told)
+
     last : take (length all - length before) (drop (length before) all) ≡ asks.told
     last = ap (take (length all - length before)) behind ∙ take_all (length all - length before) asks.told so_many

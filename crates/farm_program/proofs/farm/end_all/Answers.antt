@@ -6,7 +6,9 @@ use Rattle.farm_program.specs.declared.users.User.{User}
 use Rattle.farm_program.proofs.farm.end_all.Goals as goal
 
 pub loop-user-preserved : goal.loop-user-preserved
-loop-user-preserved c =
-    (grind (arith, common_steps), grind (arith, common_steps),
-      All-append (λ (u : User). IsOk u.ended) c.loop-user.yielded (c.in-Some.user ∷ []) c.loop-user.invariant.2
-      (All-from_recursion (λ (u : User). IsOk u.ended) (c.in-Some.user ∷ []) (ap is_ok c.in_ok-ended.was, tt)))
+loop-user-preserved c = (
+  grind (arith, common_steps),
+  grind (arith, common_steps),
+  All-append (λ (u : User). IsOk u.ended) c.loop-user.yielded (c.in-Some.user ∷ []) c.loop-user.invariant.2
+      (All-from_recursion (λ (u : User). IsOk u.ended) (c.in-Some.user ∷ []) (ap is_ok c.in_ok-ended.was, tt)),
+)
