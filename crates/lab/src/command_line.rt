@@ -117,52 +117,35 @@ fn read_error<'a>(alloc: Global, error: clap::Error) -> Result<Request<'a>, Fail
 }
 
 fn lab_command<'a>(alloc: Global) -> Result<Command<'a>, AllocError> {
-    let mut lab = bare_command(alloc);
-    for (name, subcommand) in &SUBCOMMANDS {
-        lab = with_subcommand(alloc, lab, name, *subcommand)?;
-    }
-    Ok(lab)
-}
-
-fn bare_command<'a>(alloc: Global) -> Command<'a> {
-    Command::new(alloc, "lab")
+    let mut lab = Command::new(alloc, "lab")
         .about("A laboratory for the farm of T414 processors")
         .after_help(AFTER_HELP)
-        .subcommand_required(true)
-}
-
-fn with_subcommand<'a>(
-    alloc: Global,
-    lab: Command<'a>,
-    name: &'static str,
-    subcommand: Subcommand,
-) -> Result<Command<'a>, AllocError> {
-    let command = Command::new(alloc, name).about(subcommand.about());
-    lab.subcommand(with_arguments(alloc, command, subcommand)?)
+        .subcommand_required(true);
+    for (name, subcommand) in &SUBCOMMANDS {
+        lab = lab.subcommand(with_arguments(alloc, name, *subcommand)?)?;
+    }
+    Ok(lab)
 }
 
 // A subcommand with its arguments.
 fn with_arguments<'a>(
     alloc: Global,
-    command: Command<'a>,
+    name: &'static str,
     subcommand: Subcommand,
 ) -> Result<Command<'a>, AllocError> {
+    let command = Command::new(alloc, name).about(subcommand.about());
     match subcommand {
-        Subcommand::Trace => with_two(command, boot_argument(alloc), steps_argument(alloc)),
-        Subcommand::Assemble => with_two(command, listing_argument(alloc), pokes_argument(alloc)),
+        Subcommand::Trace => command
+            .arg(boot_argument(alloc))?
+            .arg(steps_argument(alloc)),
+        Subcommand::Assemble => command
+            .arg(listing_argument(alloc))?
+            .arg(pokes_argument(alloc)),
         Subcommand::Rows => command.arg(files_argument(alloc)),
         Subcommand::Replay | Subcommand::Plan | Subcommand::Draw | Subcommand::Disassemble => {
             Ok(command)
         }
     }
-}
-
-fn with_two<'a>(
-    command: Command<'a>,
-    first: Arg<'a>,
-    second: Arg<'a>,
-) -> Result<Command<'a>, AllocError> {
-    command.arg(first)?.arg(second)
 }
 
 fn boot_argument<'a>(alloc: Global) -> Arg<'a> {
