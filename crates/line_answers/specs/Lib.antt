@@ -2,5 +2,4 @@
 pub mod Asks
 pub mod Results
 pub mod Lines
--- what only helps contracts
 pub mod Sessions

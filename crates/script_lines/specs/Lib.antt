@@ -1,4 +1,4 @@
--- what only helps contracts
+-- what must be believed
 pub mod Verbs
 pub mod Words
 pub mod Lines
