@@ -1,7 +1,8 @@
 //! A script on a service: all users in sessions of their own, and workers beside them.
 ghost use Rattle.std.specs.Prelude.{◌≡◌, ◌<◌, IfOk, IsOk, All, length, map, string_bytes};
 ghost use Rattle.token_queue.specs.Passes.{AreItsPasses};
-ghost use Rattle.farm_service.specs.Closed.{AreDomainsOf, AreListed};
+ghost use Rattle.farm_core.specs.Places.{places_of};
+ghost use Rattle.farm_service.specs.Closed.{AreDomainsOf, AreListed, EachMergeRuns};
 ghost use Rattle.farm_program.specs.Closing.{AreAllListed};
 ghost use Rattle.farm_program.specs.Settings.{InRange};
 ghost use Rattle.farm_program.specs.Screens.{AreScreens};
@@ -95,6 +96,7 @@ fn close<R: Wait>(
 ) -> Result<Ended, Failure>
     requires { AreItsPasses service.plan service.queue passes.items }
     ensures domains { IfOk result (λ ended. AreDomainsOf service.plan ended.closed.domains.items) }
+    ensures runs { IfOk result (λ ended. EachMergeRuns (places_of service.plan) ended.closed.domains.items) }
     ensures users { IfOk result (λ ended. AreListed ended.closed.domains.items left.passes.items) }
     ensures screens { IfOk result (λ ended. ended.screens ≡ left.screens) }
 {
@@ -110,6 +112,7 @@ fn close<R: Wait>(
 
 /// Runs the lines of a script on a service of the plan, closes the service with the passes of all users, and gives
 /// what is left of it and the output lines of each user. So what users were told is what the journals hold.
+// Six clauses: what is asked for and whose lines there are, and what is left of domains, runs, users and screens.
 pub fn run_script<R: Threads + Wait + Sync>(
     rt: &R,
     alloc: Global,
@@ -120,6 +123,7 @@ pub fn run_script<R: Threads + Wait + Sync>(
     requires settings { InRange settings }
     requires lines { All (λ l. l.user < length (names_in plan)) lines.now }
     ensures domains { IfOk result (λ ended. AreDomainsOf plan ended.closed.domains.items) }
+    ensures runs { IfOk result (λ ended. EachMergeRuns (places_of plan) ended.closed.domains.items) }
     ensures users { IfOk result (λ ended. AreAllListed plan ended.closed.domains.items) }
     ensures screens { IfOk result (λ ended. AreScreens plan lines.now ended.closed.domains.items (map string_bytes ended.screens.items)) }
 {

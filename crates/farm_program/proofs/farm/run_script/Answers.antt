@@ -1,5 +1,8 @@
 use Rattle.std.proofs.Common.{◌∙◌, List, map, ap, subst}
+use Rattle.std.specs.Prelude.{IfOk}
 use Rattle.plan_rules.specs.Data.{DomainData}
+use Rattle.farm_core.specs.Places.{places_of}
+use Rattle.farm_service.specs.Closed.{EachMergeRuns}
 use Rattle.farm_program.specs.declared.farm.Ended.{Ended}
 use Rattle.farm_program.specs.declared.users.User.{User}
 use Rattle.farm_program.specs.Closing.{ArePassesOf}
@@ -29,3 +32,7 @@ returns-clause-screens g c =
     closed_screens c.args.plan c.in-Ok.opened.service.plan c.args.lines.now _ c.in_ok-users.users.items lent new _ c.in_ok-left.left c.close.result c.in-Ok.ensures.plan lent_is
     c.in_ok-users.ensures c.run_all.ensures.count c.run_all.ensures.lines back c.in_ok-left.ensures.ended c.in_ok-left.ensures.passes c.in_ok-left.ensures.screens
     c.close.ensures.users c.close.ensures.screens
+
+pub returns-clause-runs : goal.returns-clause-runs
+returns-clause-runs g c =
+    subst (λ (plan : List DomainData). IfOk c.close.result (λ ended. EachMergeRuns (places_of plan) ended.closed.domains.items)) c.in-Ok.ensures.plan c.close.ensures.runs
