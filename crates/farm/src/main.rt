@@ -12,13 +12,13 @@ fn main(rt: HostRuntime) -> ExitCode {
     let mut errors = rt.stderr();
     let words = match env::args(&rt) {
         Ok(words) => words,
-        Err(error) => return ExitCode::from(refuse_arguments(alloc, &error, &mut errors)),
+        Err(error) => return ExitCode::from(refuse_arguments(&error, &mut errors)),
     };
     let words: Vec<String> = match words.collect(alloc) {
         Ok(words) => words,
         Err(_) => {
             let error = io::Error::from(io::ErrorKind::OutOfMemory);
-            return ExitCode::from(refuse_arguments(alloc, &error, &mut errors));
+            return ExitCode::from(refuse_arguments(&error, &mut errors));
         }
     };
     ExitCode::from(run(

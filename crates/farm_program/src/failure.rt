@@ -1,94 +1,83 @@
-//! Why a run ends without its output.
-ghost use Rattle.std.specs.Prelude.{◌≡◌, ◌⊎◌};
+//! Why a run ends without its output, and what is told of it.
+ghost use Rattle.std.specs.Prelude.{◌≡◌, OnOk};
+ghost use Rattle.std.specs.Io.KnownBytes.{Appends};
 ghost use Rattle.farm_program.specs.declared.failure.Failure.TheVariants.{Memory};
-ghost use Rattle.farm_program.specs.Statuses.{failure_status};
+ghost use Rattle.farm_program.specs.Failures.{EndsBy, failure_of_input, failure_of_plan, failure_of_script, failure_status, failure_text, fault_word};
 
 use plan_checker::PlanFault;
 use script_lines::{LineFault, ScriptFault};
-use script_text::{ReadFault, write_whole};
-use std::alloc::{AllocError, AllocFailed, Global};
+use script_text::ReadFault;
+use std::alloc::AllocError;
 use std::io::{self, Write};
-use thiserror::Error;
 
-/// Why a run ends without its output, with the text for standard error.
-#[derive(Debug, Drop, Error)]
+/// Why a run ends without its output.
+#[derive(Clone, Copy, Debug, PartialEq, Eq)]
 pub enum Failure {
-    #[error("{0}")]
-    Words(clap::Error),
-    #[error("error: an argument isn't UTF-8\n")]
-    Arguments,
-    #[error("plan: {number}\n")]
-    Plan { number: u8 },
-    #[error("line {number}: {fault}\n")]
+    /// The plan is refused.
+    Plan(PlanFault),
+    /// The script is refused: its first line that is wrong, by its number from 1.
     Line { number: u64, fault: LineFault },
-    #[error("memory\n")]
+    /// There is no memory.
     Memory,
-    #[error("io\n")]
+    /// A stream failed.
     Io,
 }
 
-impl Failure {
-    /// The arguments of the process couldn't be read.
-    pub fn of_arguments(error: &io::Error) -> Failure {
-        match error.kind() {
-            io::ErrorKind::OutOfMemory => Failure::Memory,
-            _ => Failure::Arguments,
-        }
-    }
-
-    /// Standard input couldn't be read.
-    pub fn of_input(fault: ReadFault) -> Failure {
-        match fault {
-            ReadFault::Failed => Failure::Io,
-            ReadFault::NoMemory => Failure::Memory,
-        }
-    }
-
-    /// The plan was refused.
-    pub fn of_plan(fault: PlanFault) -> Failure {
-        match fault {
-            PlanFault::NoMemory => Failure::Memory,
-            _ => Failure::Plan {
-                number: fault.number(),
-            },
-        }
-    }
-
-    /// The script was refused.
-    pub fn of_script(fault: ScriptFault) -> Failure {
-        match fault {
-            ScriptFault::Line { number, fault } => Failure::Line { number, fault },
-            ScriptFault::NoMemory => Failure::Memory,
-        }
-    }
-
+/// How a run ends.
+#[derive(Clone, Copy, Debug, PartialEq, Eq)]
+pub struct Outcome {
     /// The status of the process.
-    fn status(&self) -> u8
-        ensures { result ≡ failure_status self.now }
+    pub status: u8,
+    /// Whether standard error took all that is told there.
+    pub is_told: bool,
+}
+
+// The word for what is wrong with a line.
+fn word_of(fault: LineFault) -> &'static str
+    ensures { result.now ≡ fault_word fault }
+{
+    match fault {
+        LineFault::User => "user",
+        LineFault::Verb => "verb",
+        LineFault::Args => "args",
+        LineFault::Hex => "hex",
+    }
+}
+
+impl Failure {
+    // The status of the process.
+    fn status(self) -> u8
+        ensures { result ≡ failure_status self }
     {
         match self {
-            Failure::Words(_) | Failure::Arguments => 2,
-            Failure::Plan { .. } => 3,
+            Failure::Plan(_) => 3,
             Failure::Line { .. } => 4,
             Failure::Memory => 5,
             Failure::Io => 6,
         }
     }
 
-    /// Writes the text, and gives the status: 5 if there is no memory for the text. Where the text can't be written the
-    /// status stays.
-    pub fn report<E: Write>(&self, alloc: Global, errors: &mut E) -> u8
-        ensures { (result ≡ failure_status self.now) ⊎ (result ≡ 5) }
+    // Writes what is told of it.
+    fn write<E: Write>(self, errors: &mut E) -> io::Result<()>
+        ensures { OnOk result (Appends (E.contents errors.old) (E.contents errors.new) (failure_text self)) }
     {
-        match format!(in alloc; "{self}") {
-            Ok(text) => {
-                let _ = write_whole(errors, text.as_bytes());
-                self.status()
+        match self {
+            Failure::Plan(fault) => write!(errors, "plan: {}\n", fault.number()),
+            Failure::Line { number, fault } => {
+                write!(errors, "line {number}: {}\n", word_of(fault))
             }
-            Err(_) => {
-                let _ = write_whole(errors, b"memory\n");
-                5
-            }
+            Failure::Memory => errors.write_all(b"memory\n"),
+            Failure::Io => errors.write_all(b"io\n"),
+        }
+    }
+
+    /// Ends a run by this failure: tells it, and gives its status, which stays if it can't be told.
+    pub fn report<E: Write>(self, errors: &mut E) -> Outcome
+        ensures { EndsBy self result (E.contents errors.old) (E.contents errors.new) }
+    {
+        Outcome {
+            status: self.status(),
+            is_told: self.write(errors).is_ok(),
         }
     }
 }
@@ -101,10 +90,35 @@ impl From<AllocError> for Failure {
     }
 }
 
-impl<T: Drop> From<AllocFailed<T>> for Failure {
-    ghost from_gives = { λ _ failure. failure ≡ Memory };
+impl From<ReadFault> for Failure {
+    ghost from_gives = { λ fault failure. failure ≡ failure_of_input fault };
 
-    fn from(_error: AllocFailed<T>) -> Failure {
-        Failure::Memory
+    fn from(fault: ReadFault) -> Failure {
+        match fault {
+            ReadFault::Failed => Failure::Io,
+            ReadFault::NoMemory => Failure::Memory,
+        }
+    }
+}
+
+impl From<PlanFault> for Failure {
+    ghost from_gives = { λ fault failure. failure ≡ failure_of_plan fault };
+
+    fn from(fault: PlanFault) -> Failure {
+        match fault {
+            PlanFault::NoMemory => Failure::Memory,
+            _ => Failure::Plan(fault),
+        }
+    }
+}
+
+impl From<ScriptFault> for Failure {
+    ghost from_gives = { λ fault failure. failure ≡ failure_of_script fault };
+
+    fn from(fault: ScriptFault) -> Failure {
+        match fault {
+            ScriptFault::Line { number, fault } => Failure::Line { number, fault },
+            ScriptFault::NoMemory => Failure::Memory,
+        }
     }
 }

@@ -9,7 +9,6 @@ ghost use Rattle.farm_program.specs.Screens.{AreScreens};
 ghost use Rattle.farm_program.specs.Users.{AreStill, HaveAnswered, names_in};
 
 use crate::configuration::Settings;
-use crate::failure::Failure;
 use crate::users::{User, users_of};
 use farm_service::{
     Closed, NoGate, NoMemory, Opened, Service, UserPass, WorkerPass, run_users_and_workers,
@@ -93,7 +92,7 @@ fn close<R: Wait>(
     service: Service,
     passes: Vec<WorkerPass>,
     left: Left,
-) -> Result<Ended, Failure>
+) -> Result<Ended, NoMemory>
     requires { AreItsPasses service.plan service.queue passes.items }
     ensures domains { IfOk result (λ ended. AreDomainsOf service.plan ended.closed.domains.items) }
     ensures runs { IfOk result (λ ended. EachMergeRuns (places_of service.plan) ended.closed.domains.items) }
@@ -106,7 +105,7 @@ fn close<R: Wait>(
     } = left;
     match service.close(rt, alloc, passes, users) {
         Ok(closed) => Ok(Ended { closed, screens }),
-        Err(_) => Err(Failure::Memory),
+        Err(_) => Err(NoMemory),
     }
 }
 
@@ -119,7 +118,7 @@ pub fn run_script<R: Threads + Wait + Sync>(
     plan: AcceptedPlan,
     lines: &[ScriptLine],
     settings: Settings,
-) -> Result<Ended, Failure>
+) -> Result<Ended, NoMemory>
     requires settings { InRange settings }
     requires lines { All (λ l. l.user < length (names_in plan)) lines.now }
     ensures domains { IfOk result (λ ended. AreDomainsOf plan ended.closed.domains.items) }
@@ -128,7 +127,7 @@ pub fn run_script<R: Threads + Wait + Sync>(
     ensures screens { IfOk result (λ ended. AreScreens plan lines.now ended.closed.domains.items (map string_bytes ended.screens.items)) }
 {
     let Ok(opened) = Service::open(rt, alloc, plan, settings.workers) else {
-        return Err(Failure::Memory);
+        return Err(NoMemory);
     };
     let Opened {
         service,

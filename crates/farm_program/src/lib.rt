@@ -2,6 +2,7 @@
 //! line, a plan and a script in, one line of output for each script line out.
 #![tactic(auto)]
 
+mod answering;
 mod command_line;
 mod configuration;
 mod failure;
@@ -9,6 +10,8 @@ mod farm;
 mod program;
 mod users;
 
+pub use answering::answer;
 pub use command_line::settings;
 pub use configuration::Settings;
+pub use failure::Outcome;
 pub use program::{refuse_arguments, run};

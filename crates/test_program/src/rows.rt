@@ -177,7 +177,7 @@ fn words_are_refused_or_helped(rt: HostRuntime) {
     ] {
         let mut errors = sink_of(rt.alloc(), 9, NEVER, NEVER);
         let error = io::Error::from(kind);
-        assert_eq!(rt; refuse_arguments(rt.alloc(), &error, &mut errors), status);
+        assert_eq!(rt; refuse_arguments(&error, &mut errors), status);
         assert!(rt; !errors.taken.is_empty());
     }
 }
