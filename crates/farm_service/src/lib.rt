@@ -4,6 +4,7 @@
 
 mod closed;
 mod closing;
+mod copying;
 mod crew;
 mod halves;
 mod lists;
@@ -11,9 +12,11 @@ mod locking;
 mod moves;
 mod opening;
 mod pass;
+mod restarting;
 mod schedule;
 mod service;
 mod session;
+mod status;
 mod told;
 mod turns;
 mod waiting;
@@ -26,6 +29,7 @@ pub use opening::Opened;
 pub use pass::UserPass;
 pub use service::Service;
 pub use session::{Session, Settled};
+pub use status::DomainStatus;
 pub use std::alloc::AllocError as NoMemory;
 pub use token_queue::{Token, WorkerPass};
 pub use told::Told;

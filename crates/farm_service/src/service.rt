@@ -14,6 +14,8 @@ ghost use Rattle.switch_table.specs.Seats.{seen_words};
 ghost use Rattle.token_queue.specs.Passes.{AreItsPasses};
 ghost use Rattle.token_queue.specs.Tokens.{HasEachOnce};
 ghost use Rattle.farm_service.specs.Answers.{IsAnswerIn};
+ghost use Rattle.std.specs.Sync.Mutex.{mutex_guard_value};
+ghost use Rattle.farm_service.specs.Domains.{IsFound};
 ghost use Rattle.farm_service.specs.Closed.{AreDomainsOf, EachMergeRuns, AreListed};
 ghost use Rattle.farm_service.specs.Passes.{fresh_passes};
 ghost use Rattle.farm_service.specs.Services.{IsItsOperator};
@@ -188,6 +190,25 @@ impl Service {
         Some(take(rt, lock))
     }
 
+    // The guard of the lock of a domain of the plan, none if the plan has no such domain. If the lock keeps another domain,
+    // waits for ever.
+    pub(crate) fn hold_found<R: Wait>(
+        &self,
+        rt: &R,
+        domain: u8,
+    ) -> Option<MutexGuard<'_, SeatedDomain>>
+        ensures found { IfSome result (λ guard. IsFound self.now.plan domain (mutex_guard_value guard)) }
+        ensures none { (result ≡ None) ↔ (length self.now.plan ≤ domain) }
+    {
+        let seated = self.hold(rt, domain)?;
+        if !seated.fits(&self.plan, domain) {
+            return wait(rt);
+        }
+        // A domain is what its journal says.
+        seated.meant();
+        Some(seated)
+    }
+
     // Asks a domain under its lock. Where that one isn't the plan's, waits for ever.
     pub(crate) fn ask<R: Wait>(
         &self,
@@ -198,13 +219,9 @@ impl Service {
     ) -> Result<Reply, Refusal>
         ensures { UnlessNoMemory result (IsAnswerIn self.now.plan domain (record { by = by; event = event }) result) }
     {
-        let Some(mut seated) = self.hold(rt, domain) else {
-            return Err(Refusal::NoSuch);
-        };
-        if seated.fits(&self.plan, domain) {
-            ask(&mut seated, &self.plan, domain, by, event)
-        } else {
-            wait(rt)
+        match self.hold_found(rt, domain) {
+            Some(mut seated) => ask(&mut seated, &self.plan, domain, by, event),
+            None => Err(Refusal::NoSuch),
         }
     }
 
