@@ -94,6 +94,8 @@ impl Service {
             return Err(Refusal::NoSuch);
         };
         begin_anew(&mut seated, self.plan(), domain, sessions);
+        drop(seated);
+        self.note_call(domain);
         Ok(())
     }
 }

@@ -139,9 +139,10 @@ impl Service {
         &self.plan
     }
 
-    /// Makes workers end at their next turn, for good. It waits for nobody.
+    /// Makes workers end at their next turn, for good, and wakes those that sleep. It waits for nobody.
     pub fn stop(&self) {
         self.stopped.store(true, Ordering::SeqCst);
+        self.schedule.rest().wake_all();
     }
 
     // Whether workers are to end.
@@ -219,10 +220,15 @@ impl Service {
     ) -> Result<Reply, Refusal>
         ensures { UnlessNoMemory result (IsAnswerIn self.now.plan domain (record { by = by; event = event }) result) }
     {
-        match self.hold_found(rt, domain) {
+        let told = match self.hold_found(rt, domain) {
             Some(mut seated) => ask(&mut seated, &self.plan, domain, by, event),
             None => Err(Refusal::NoSuch),
+        };
+        // A look gives no node work.
+        if told.is_ok() && !matches!(event, Event::Look(_)) {
+            self.note_call(domain);
         }
+        told
     }
 
     // Whether no Step and no Move of a domain would be recorded now.
@@ -265,10 +271,18 @@ impl Service {
         ensures elsewhere { length self.now.plan ≤ ticket.domain → result ≡ Ok Stale }
         ensures no_such { result ≢ Err NoSuch }
     {
-        match self.hold(rt, ticket.domain()) {
+        let domain = ticket.domain();
+        let committed = match self.hold(rt, domain) {
             Some(mut seated) => seated.commit(ticket),
             None => Ok(Committed::Stale),
-        }
+        };
+        self.note_call(domain);
+        committed
+    }
+
+    // Tells the workers that there may be work in a domain.
+    pub(crate) fn note_call(&self, domain: u8) {
+        self.schedule.rest().note_call(domain);
     }
 
     // Which bursts are to be done next.
