@@ -1,4 +1,5 @@
 pub mod Commits
+pub mod CopiedEntries
 pub mod Histories
 pub mod Joined
 pub mod Kept

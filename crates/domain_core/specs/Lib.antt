@@ -11,6 +11,7 @@ pub mod Domain
 pub mod Ticket
 pub mod Commands
 pub mod Answers
+pub mod Marks
 pub mod Peek
 pub mod Laws
 -- what only helps contracts

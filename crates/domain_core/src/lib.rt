@@ -2,6 +2,7 @@
 //! of what it answered.
 #![tactic(auto)]
 
+mod copying;
 mod device;
 mod devices;
 mod domain;
@@ -15,6 +16,7 @@ mod moves;
 mod table;
 mod ticket;
 
+pub use copying::Mark;
 pub use device::Device;
 pub use domain::{Committed, Domain};
 pub use event::{By, Event, Moved, Refusal, Reply};

@@ -4,4 +4,5 @@ pub mod Homecomings
 pub mod Listings
 pub mod Openings
 pub mod PortMoves
+pub mod Restarts
 pub mod Same

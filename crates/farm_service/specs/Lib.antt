@@ -4,6 +4,8 @@ pub mod Answers
 pub mod Services
 pub mod Commands
 pub mod Closed
+pub mod Restarts
+pub mod Domains
 -- what only helps contracts
 pub mod Endings
 pub mod PortMoves

@@ -6,7 +6,7 @@ ghost use Rattle.token_queue.specs.Passes.{AreOf, AreItsPasses, HoldNone};
 
 use crate::NoMemory;
 use crate::service::Service;
-use crate::worker::{Gate, Worked, work};
+use crate::worker::{Gate, UNTIL_STOPPED, Worked, work};
 use std::sync::Wait;
 use std::sync::atomic::{AtomicBool, Ordering};
 use std::thread;
@@ -135,7 +135,7 @@ pub fn run_users_and_workers<
     let mut work = ||
         requires { AreItsPasses service.now.plan service.now.queue passes.now.items × (1 ≤ quantum) × (quantum ≤ 4096) }
         ensures { AreItsPasses service.entry.now.plan service.entry.now.queue passes.exit.now.items }
-    { work_all(rt, service, passes, gate, quantum, u64::MAX) };
+    { work_all(rt, service, passes, gate, quantum, UNTIL_STOPPED) };
     let mut act_all = ||
         requires { AcceptsEach F.Fn act.now users.now }
         ensures { ChangesEach F.Fn act.entry.now users.entry.now users.exit.now }

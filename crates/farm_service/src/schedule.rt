@@ -4,6 +4,7 @@
 //! All of it is advice: no contract speaks of it, and a commit compares the node all the same.
 
 use crate::NoMemory;
+use crate::rest::{MOST_DOMAINS, MOST_NODES, Rest, place_of};
 use crate::waiting::{TRIES, back_off};
 use std::alloc::Global;
 use std::sync::Wait;
@@ -13,14 +14,43 @@ use std::thread::Threads;
 use std::time::Duration;
 use token_queue::Token;
 
-/// The most domains of a plan.
-const MOST_DOMAINS: usize = 16;
+/// After so many turns with nothing to do a worker naps, if somebody settles: his thread may have use for the core.
+const TURNS_BEFORE_NAP: u32 = 400;
 
-/// The most nodes of a domain.
-const NODES_OF_A_DOMAIN: usize = 8;
+/// After so many turns with nothing to do a worker looks through all tokens once more, and then sleeps, if nobody settles.
+const TURNS_BEFORE_SLEEP: u32 = 256;
 
-/// After so many turns with nothing to do a worker sleeps, if somebody settles: his thread may have use for the core.
-const IDLE_TURNS: u32 = 100;
+/// One of so many turns with nothing to do a worker gives its core away before.
+const TURNS_A_YIELD: u32 = 8;
+
+/// The turns since a worker had something to do.
+#[derive(Clone, Copy)]
+pub struct Idleness {
+    turns: u32,
+    // How often others than workers had changed domains when it began to look through all tokens once more.
+    calls: u64,
+}
+
+impl Idleness {
+    /// No turn yet.
+    pub fn none() -> Idleness {
+        Idleness { turns: 0, calls: 0 }
+    }
+
+    // Whether it looked through all tokens once more.
+    fn has_looked_through(self) -> bool {
+        self.turns >= TURNS_BEFORE_SLEEP + MOST_NODES as u32
+    }
+
+    /// A turn had something to do, or hadn't.
+    pub fn note(&mut self, was_busy: bool) {
+        self.turns = if was_busy {
+            0
+        } else {
+            self.turns.saturating_add(1)
+        };
+    }
+}
 
 /// What is known of a node.
 #[derive(Drop)]
@@ -38,18 +68,19 @@ pub struct Schedule {
     // How many settle in each domain, and in all.
     settlers: Vec<AtomicUsize>,
     settling: AtomicUsize,
-    workers: AtomicUsize,
     // How many threads the machine runs at once, `usize::MAX` until that is known.
     cores: AtomicUsize,
-    // What a worker sleeps on: it stays 0.
-    bed: AtomicU64,
+    // What a worker naps on: it stays 0.
+    nap: AtomicU64,
+    // Which nodes rest, and which workers sleep.
+    rest: Rest,
 }
 
 impl Schedule {
     /// No node is out or due, and nobody settles or works.
     pub fn empty(alloc: Global) -> Result<Schedule, NoMemory> {
-        let mut nodes = Vec::with_capacity(alloc, MOST_DOMAINS * NODES_OF_A_DOMAIN)?;
-        for _node in 0..MOST_DOMAINS * NODES_OF_A_DOMAIN {
+        let mut nodes = Vec::with_capacity(alloc, MOST_NODES)?;
+        for _node in 0..MOST_NODES {
             nodes.push(Marks {
                 is_out: AtomicBool::new(false),
                 is_due: AtomicBool::new(false),
@@ -63,16 +94,15 @@ impl Schedule {
             nodes,
             settlers,
             settling: AtomicUsize::new(0),
-            workers: AtomicUsize::new(0),
             cores: AtomicUsize::new(usize::MAX),
-            bed: AtomicU64::new(0),
+            nap: AtomicU64::new(0),
+            rest: Rest::empty(alloc)?,
         })
     }
 
     // The marks of a node of a domain.
     fn marks(&self, token: Token) -> Option<&Marks> {
-        let first = usize::from(token.domain) * NODES_OF_A_DOMAIN;
-        self.nodes.get(first + usize::from(token.node))
+        self.nodes.get(place_of(token))
     }
 
     // Whether somebody settles in a domain.
@@ -137,6 +167,7 @@ impl Schedule {
         if let Some(settlers) = self.settlers.get(usize::from(domain)) {
             settlers.fetch_add(1, Ordering::SeqCst);
             self.settling.fetch_add(1, Ordering::SeqCst);
+            self.rest.note_call(domain);
         }
     }
 
@@ -145,6 +176,7 @@ impl Schedule {
         if let Some(settlers) = self.settlers.get(usize::from(domain)) {
             settlers.fetch_sub(1, Ordering::SeqCst);
             self.settling.fetch_sub(1, Ordering::SeqCst);
+            self.rest.note_call(domain);
         }
     }
 
@@ -155,26 +187,33 @@ impl Schedule {
         }
     }
 
-    /// A worker begins; how many were there before it.
-    pub fn begin_work(&self) -> usize {
-        self.workers.fetch_add(1, Ordering::SeqCst)
+    /// Which nodes rest, and which workers sleep.
+    pub(crate) fn rest(&self) -> &Rest {
+        &self.rest
     }
 
-    /// A worker ends.
-    pub fn end_work(&self) {
-        self.workers.fetch_sub(1, Ordering::SeqCst);
-    }
-
-    /// Makes way for others before a worker's turn, which comes after so many turns with nothing to do. While somebody
-    /// settles, the worker sleeps a moment if those who settle and the workers before it use all cores, or if it has had
-    /// nothing to do for long. Else it gives its core away if its last turn had nothing to do, so that users go first.
-    pub fn make_way<R: Wait>(&self, rt: &R, workers_before: usize, idle_turns: u32) {
+    /// Makes way for others before a worker's turn. If it has had nothing to do for long and may sleep, it sleeps until
+    /// there may be work. While somebody settles, it naps if those who settle and the workers before it use all cores, or
+    /// if it has had nothing to do for a while. Else it gives its core away now and then, so that users go first.
+    pub fn make_way<R: Wait>(
+        &self,
+        rt: &R,
+        workers_before: usize,
+        idleness: &mut Idleness,
+        may_sleep: bool,
+    ) {
         let settling = self.settling.load(Ordering::SeqCst);
+        if idleness.turns == TURNS_BEFORE_SLEEP {
+            idleness.calls = self.rest.calls();
+        }
         let is_crowded = settling.saturating_add(workers_before)
             >= self.cores.load(Ordering::SeqCst);
-        if settling > 0 && (is_crowded || idle_turns > IDLE_TURNS) {
-            self.bed.park_timeout(rt, 0, Duration::from_millis(1));
-        } else if idle_turns > 0 {
+        if settling > 0 && (is_crowded || idleness.turns > TURNS_BEFORE_NAP) {
+            self.nap.park_timeout(rt, 0, Duration::from_millis(1));
+        } else if may_sleep && settling == 0 && idleness.has_looked_through() {
+            self.rest.sleep(rt, idleness.calls);
+            idleness.turns = 0;
+        } else if idleness.turns % TURNS_A_YIELD == 1 {
             thread::yield_now();
         }
     }

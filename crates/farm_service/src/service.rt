@@ -14,6 +14,8 @@ ghost use Rattle.switch_table.specs.Seats.{seen_words};
 ghost use Rattle.token_queue.specs.Passes.{AreItsPasses};
 ghost use Rattle.token_queue.specs.Tokens.{HasEachOnce};
 ghost use Rattle.farm_service.specs.Answers.{IsAnswerIn};
+ghost use Rattle.std.specs.Sync.Mutex.{mutex_guard_value};
+ghost use Rattle.farm_service.specs.Domains.{IsFound};
 ghost use Rattle.farm_service.specs.Closed.{AreDomainsOf, EachMergeRuns, AreListed};
 ghost use Rattle.farm_service.specs.Passes.{fresh_passes};
 ghost use Rattle.farm_service.specs.Services.{IsItsOperator};
@@ -137,9 +139,10 @@ impl Service {
         &self.plan
     }
 
-    /// Makes workers end at their next turn, for good. It waits for nobody.
+    /// Makes workers end at their next turn, for good, and wakes those that sleep. It waits for nobody.
     pub fn stop(&self) {
         self.stopped.store(true, Ordering::SeqCst);
+        self.schedule.rest().wake_all();
     }
 
     // Whether workers are to end.
@@ -188,6 +191,25 @@ impl Service {
         Some(take(rt, lock))
     }
 
+    // The guard of the lock of a domain of the plan, none if the plan has no such domain. If the lock keeps another domain,
+    // waits for ever.
+    pub(crate) fn hold_found<R: Wait>(
+        &self,
+        rt: &R,
+        domain: u8,
+    ) -> Option<MutexGuard<'_, SeatedDomain>>
+        ensures found { IfSome result (λ guard. IsFound self.now.plan domain (mutex_guard_value guard)) }
+        ensures none { (result ≡ None) ↔ (length self.now.plan ≤ domain) }
+    {
+        let seated = self.hold(rt, domain)?;
+        if !seated.fits(&self.plan, domain) {
+            return wait(rt);
+        }
+        // A domain is what its journal says.
+        seated.meant();
+        Some(seated)
+    }
+
     // Asks a domain under its lock. Where that one isn't the plan's, waits for ever.
     pub(crate) fn ask<R: Wait>(
         &self,
@@ -198,14 +220,15 @@ impl Service {
     ) -> Result<Reply, Refusal>
         ensures { UnlessNoMemory result (IsAnswerIn self.now.plan domain (record { by = by; event = event }) result) }
     {
-        let Some(mut seated) = self.hold(rt, domain) else {
-            return Err(Refusal::NoSuch);
+        let told = match self.hold_found(rt, domain) {
+            Some(mut seated) => ask(&mut seated, &self.plan, domain, by, event),
+            None => Err(Refusal::NoSuch),
         };
-        if seated.fits(&self.plan, domain) {
-            ask(&mut seated, &self.plan, domain, by, event)
-        } else {
-            wait(rt)
+        // A look gives no node work.
+        if told.is_ok() && !matches!(event, Event::Look(_)) {
+            self.note_call(domain);
         }
+        told
     }
 
     // Whether no Step and no Move of a domain would be recorded now.
@@ -248,10 +271,18 @@ impl Service {
         ensures elsewhere { length self.now.plan ≤ ticket.domain → result ≡ Ok Stale }
         ensures no_such { result ≢ Err NoSuch }
     {
-        match self.hold(rt, ticket.domain()) {
+        let domain = ticket.domain();
+        let committed = match self.hold(rt, domain) {
             Some(mut seated) => seated.commit(ticket),
             None => Ok(Committed::Stale),
-        }
+        };
+        self.note_call(domain);
+        committed
+    }
+
+    // Tells the workers that there may be work in a domain.
+    pub(crate) fn note_call(&self, domain: u8) {
+        self.schedule.rest().note_call(domain);
     }
 
     // Which bursts are to be done next.

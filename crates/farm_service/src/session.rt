@@ -5,6 +5,7 @@ ghost use Rattle.domain_core.specs.declared.event.Refusal.TheVariants.{NoSuch};
 ghost use Rattle.domain_core.specs.declared.event.Event.TheVariants.{Config, Write, Read, Reset, Look};
 ghost use Rattle.farm_service.specs.Answers.{IsTold};
 ghost use Rattle.farm_service.specs.Passes.{Gains};
+ghost use Rattle.farm_service.specs.Restarts.{begun_anew};
 
 use crate::pass::UserPass;
 use crate::service::Service;
@@ -65,6 +66,20 @@ impl Session<'_> {
         ensures { result.now ≡ self.now.pass.told }
     {
         self.pass.told()
+    }
+
+    // The pass.
+    pub(crate) fn pass(&self) -> &UserPass
+        ensures { result.now ≡ self.now.pass }
+    {
+        &self.pass
+    }
+
+    // Makes the user's list empty.
+    pub(crate) fn begin_anew(&mut self)
+        ensures { self.new ≡ begun_anew self.old }
+    {
+        self.pass.told.clear();
     }
 
     // Asks the user's domain, and lists what it answers.

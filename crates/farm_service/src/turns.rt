@@ -56,7 +56,7 @@ impl Service {
         }
     }
 
-    // A turn of a node that nobody else has out; whether there was anything to do.
+    // A turn of a node that nobody else has out.
     fn turn_alone<R: Wait, G: Gate>(
         &self,
         rt: &R,
@@ -64,7 +64,7 @@ impl Service {
         gate: &G,
         slot: &mut Option<Ticket>,
         quantum: u64,
-    ) -> Result<bool, Refusal> {
+    ) -> Result<Ended, Refusal> {
         let out = self.begin(rt, token, slot)?;
         gate.begins(rt, token);
         if out {
@@ -72,11 +72,27 @@ impl Service {
         }
         let ended = self.end(rt, token, out, slot);
         gate.ended(rt, token, &ended.map(|ended| ended.turned));
-        Ok(ended?.is_busy())
+        ended
+    }
+
+    // Notes what a turn found, which began after so many changes of its domain. A refusal for a full journal comes again
+    // until the domain is changed.
+    fn note_turn(&self, token: Token, changes: u64, ended: &Result<Ended, Refusal>) {
+        let rest = self.schedule().rest();
+        match ended {
+            Ok(ended) if ended.is_busy() => {
+                if ended.moved {
+                    rest.note_moved(token.domain);
+                }
+                rest.note_busy(token);
+            }
+            Ok(_) | Err(Refusal::JournalFull) => rest.note_idle(token, changes),
+            Err(_) => {}
+        }
     }
 
     // A turn: a burst of a node outside the lock, if it has a Step to do, and then the Moves of its domain; whether there
-    // was anything to do. There is no turn if the schedule doesn't give the node.
+    // was anything to do. There is no turn if the node rests, or if the schedule doesn't give it.
     pub(crate) fn turn<R: Wait, G: Gate>(
         &self,
         rt: &R,
@@ -85,12 +101,14 @@ impl Service {
         slot: &mut Option<Ticket>,
         quantum: u64,
     ) -> Result<bool, Refusal> {
-        if !self.schedule().take(token) {
+        let changes = self.schedule().rest().changes(token.domain);
+        if self.schedule().rest().is_resting(token) || !self.schedule().take(token) {
             return Ok(false);
         }
-        let done = self.turn_alone(rt, token, gate, slot, quantum);
+        let ended = self.turn_alone(rt, token, gate, slot, quantum);
         self.schedule().give_back(token);
-        done
+        self.note_turn(token, changes, &ended);
+        Ok(ended?.is_busy())
     }
 
     // A burst of a node outside the lock, if it has a Step to do. A stale ticket is passed over.

@@ -3,16 +3,20 @@
 ghost use Rattle.std.specs.Prelude.{◌≡◌, ◌≤◌, []};
 
 use crate::halves::Turned;
+use crate::schedule::Idleness;
 use crate::service::Service;
 use domain_core::{Refusal, Ticket};
 use std::sync::Wait;
 use token_queue::{Token, WorkerPass};
 
+/// As a number of turns: until the service is stopped.
+pub const UNTIL_STOPPED: u64 = u64::MAX;
+
 /// Who is told of a worker's turns. The calls come outside of every lock, and each `begins` is followed by one `ended` of
 /// the same token.
 pub trait Gate {
     /// After the first hold of the domain's lock, in which the token's node was copied or found to have no Step to do, and
-    /// before the burst. If the node couldn't be copied, nobody is told of the turn.
+    /// before the burst. If the node couldn't be copied, or rests, nobody is told of the turn.
     fn begins<R: Wait>(&self, rt: &R, token: Token);
 
     /// After the second hold of the domain's lock, with what became of the node in it before the domain's ports moved, or
@@ -76,16 +80,18 @@ fn take_turns<R: Wait, G: Gate>(
     ensures { pass.new ≡ pass.old }
 {
     let mut slot = None;
-    let mut idle_turns: u32 = 0;
+    let mut idleness = Idleness::none();
+    let may_sleep = turns == UNTIL_STOPPED;
     for _turn in 0..turns {
         if service.is_stopped() {
             return Worked::Stopped;
         }
-        service.schedule().make_way(rt, workers_before, idle_turns);
+        service
+            .schedule()
+            .make_way(rt, workers_before, &mut idleness, may_sleep);
         match turn(rt, service, pass, gate, &mut slot, quantum) {
-            Ok(true) => idle_turns = 0,
             Err(Refusal::NoMemory) => return Worked::NoMemory,
-            Ok(false) | Err(_) => idle_turns = idle_turns.saturating_add(1),
+            done => idleness.note(done == Ok(true)),
         }
     }
     Worked::Turns
@@ -93,11 +99,14 @@ fn take_turns<R: Wait, G: Gate>(
 
 /// Works for so many turns. In each a token is taken, its node does up to `quantum` Steps, 1 to 4,096,
 /// outside the lock of its domain, the packets of the domain's ports move, and the token goes back. A
-/// turn that finds no token is spent all the same; `JournalFull` ends a turn alone.
+/// turn that finds no token is spent all the same, and so is one of a node that rests, since nothing has changed in its
+/// domain since it had nothing to do; `JournalFull` ends a turn alone.
 ///
-/// The pass holds no token before the call and none after it, whatever it answers. Users go first: after a turn with
-/// nothing to do the thread gives its core away, and while somebody settles in a domain, his round and the workers do one
-/// burst of each node there, and workers for whom there is no core sleep.
+/// The pass holds no token before the call and none after it, whatever it answers. Users go first: a thread with
+/// nothing to do gives its core away, and while somebody settles in a domain, his round and the workers do one
+/// burst of each node there, and workers for whom there is no core nap. A worker for [`UNTIL_STOPPED`] turns that has
+/// looked through all tokens in vain sleeps until a domain is changed by others than workers, or more nodes are busy than
+/// workers are awake.
 pub fn work<R: Wait, G: Gate>(
     rt: &R,
     service: &Service,
@@ -112,8 +121,8 @@ pub fn work<R: Wait, G: Gate>(
     ensures none { pass.new.held ≡ [] }
     ensures pass { pass.new ≡ pass.old }
 {
-    let workers_before = service.schedule().begin_work();
+    let workers_before = service.schedule().rest().begin_work();
     let worked = take_turns(rt, service, pass, gate, quantum, turns, workers_before);
-    service.schedule().end_work();
+    service.schedule().rest().end_work();
     worked
 }

@@ -5,6 +5,7 @@
 #![tactic(auto)]
 
 mod acts;
+mod calls;
 mod chance;
 mod comparison;
 mod draws;

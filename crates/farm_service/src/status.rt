@@ -1,0 +1,54 @@
+//! How it is with a domain.
+ghost use Rattle.std.specs.Prelude.{◌≡◌, ◌≤◌, ◌↔◌, length, Err, IfOk, IfErr, IfSome, slice_get};
+ghost use Rattle.domain_core.specs.declared.event.Refusal.TheVariants.{NoSuch};
+ghost use Rattle.domain_core.specs.Domain.{DomainValue as SpecDomain};
+ghost use Rattle.plan_rules.specs.Part.{part_of};
+ghost use Rattle.farm_service.specs.Domains.{IsFound, IsStatusOf};
+
+use crate::service::{SeatedDomain, Service};
+use domain_core::Refusal;
+use std::sync::Wait;
+
+/// How it is with a domain.
+#[derive(Clone, Copy, Debug, PartialEq, Eq)]
+pub struct DomainStatus {
+    /// How many events are recorded since it was opened or restarted.
+    pub recorded: u64,
+    /// How many events it may record.
+    pub limit: u64,
+    /// Whether no Step and no Move would be recorded, the limit aside.
+    pub is_quiet: bool,
+}
+
+// How it is with a domain, which stays.
+fn status_of(domain: &mut SeatedDomain) -> DomainStatus
+    ensures status { IsStatusOf domain.old result }
+    ensures same { domain.new ≡ domain.old }
+{
+    DomainStatus {
+        recorded: domain.recorded(),
+        limit: domain.part().limit(),
+        is_quiet: domain.quiet(),
+    }
+}
+
+impl Service {
+    /// How it is with a domain, under its lock.
+    ///
+    /// # Errors
+    ///
+    /// `NoSuch` if the plan has no such domain.
+    // Five clauses: what is told of the domain, of its numbers, and when it is refused.
+    pub fn status<R: Wait>(&self, rt: &R, domain: u8) -> Result<DomainStatus, Refusal>
+        ensures status { IfOk result (λ status. (d : SpecDomain) × IsFound self.now.plan domain d × IsStatusOf d status) }
+        ensures limit { IfOk result (λ status. IfSome (slice_get self.now.plan domain) (λ d. status.limit ≡ (part_of d).limit)) }
+        ensures within { IfOk result (λ status. status.recorded ≤ status.limit) }
+        ensures no_such { (result ≡ Err NoSuch) ↔ (length self.now.plan ≤ domain) }
+        ensures err { IfErr result (λ refusal. refusal ≡ NoSuch) }
+    {
+        match self.hold_found(rt, domain) {
+            Some(mut seated) => Ok(status_of(&mut seated)),
+            None => Err(Refusal::NoSuch),
+        }
+    }
+}
