@@ -1,5 +1,6 @@
 -- What is wrong with the arguments of a verb, if it is a digit of an address or word.
-use Rattle.std.proofs.Common.{◌≡◌, ℕ, List, [], ◌∷◌, sym, subst}
+use Rattle.std.proofs.Common.{◌≡◌, ℕ, List, [], ◌∷◌, Ok, Err, sym, subst}
+use Rattle.std.specs.Prelude.{IfErr, Result}
 use Rattle.script_lines.specs.declared.command.Command.{Command}
 use Rattle.script_lines.specs.declared.command.Command.TheVariants as command
 use Rattle.script_lines.specs.declared.fault.LineFault.{LineFault}
@@ -10,7 +11,7 @@ use Rattle.script_lines.specs.declared.fault.Unread.TheVariants.{Faulty}
 use Rattle.script_lines.specs.declared.verb.Verb.{Verb}
 use Rattle.script_lines.specs.declared.verb.Verb.TheVariants.{Poke, Peek}
 use Rattle.script_lines.specs.Words.{IsDecimal, IsWord}
-use Rattle.script_lines.specs.Lines.{Requests, BeginsWith, IsOf, IsArgumentFault, IsLineFault}
+use Rattle.script_lines.specs.Lines.{Requests, BeginsWith, IsOf, IsArgumentFault, IsRestFault, IsLineFault}
 
 no_peek : (place at : List ℕ) → ((value : ℕ) → ¬ IsWord at value) → (c : Command) → ¬ Requests Peek (place ∷ at ∷ []) c
 no_peek place at none (command.Config bytes) asked = asked
@@ -66,10 +67,23 @@ poke_refused_of verb place at stored host u is number none f told =
     subst (λ v. IsArgumentFault v (place ∷ at ∷ stored ∷ []) f) (sym is)
     (subst (IsArgumentFault Poke (place ∷ at ∷ stored ∷ [])) (sym why.0) ((host, number), no_poke_of place at stored why.1))
 
--- a line whose arguments are wrong is wrong
-pub line_refused : (names words : List (List ℕ)) (user : ℕ) (rest : List (List ℕ)) (verb : Verb) (arguments : List (List ℕ)) (f : LineFault)
-    → BeginsWith names words user rest → IsOf rest verb arguments → IsArgumentFault verb arguments f → IsLineFault names words f
-line_refused names words user rest verb arguments fault.User begins of wrong = absurd wrong
-line_refused names words user rest verb arguments fault.Verb begins of wrong = absurd wrong
-line_refused names words user rest verb arguments fault.Args begins of wrong = (user, rest, begins, (verb, arguments, of, wrong))
-line_refused names words user rest verb arguments fault.Hex begins of wrong = (user, rest, begins, (verb, arguments, of, wrong))
+-- what follows a name is wrong if the arguments of its verb are
+rest_refused : (rest : List (List ℕ)) (verb : Verb) (arguments : List (List ℕ)) (f : LineFault) → IsOf rest verb arguments → IsArgumentFault verb arguments f → IsRestFault rest f
+rest_refused rest verb arguments fault.User of wrong = absurd wrong
+rest_refused rest verb arguments fault.Verb of wrong = absurd wrong
+rest_refused rest verb arguments fault.Args of wrong = (verb, arguments, of, wrong)
+rest_refused rest verb arguments fault.Hex of wrong = (verb, arguments, of, wrong)
+
+-- so it is with what is answered
+pub request_refused : (rest : List (List ℕ)) (verb : Verb) (arguments : List (List ℕ)) (r : Result Command Unread) → IsOf rest verb arguments
+    → IfErr r (λ u. (f : LineFault) → u ≡ Faulty f → IsArgumentFault verb arguments f) → IfErr r (λ u. (f : LineFault) → u ≡ Faulty f → IsRestFault rest f)
+request_refused rest verb arguments (Ok c) of wrong = tt
+request_refused rest verb arguments (Err u) of wrong = λ f told. rest_refused rest verb arguments f of (wrong f told)
+
+-- a line is wrong if what follows its user's name is
+pub line_refused : (names words : List (List ℕ)) (user : ℕ) (rest : List (List ℕ)) (f : LineFault) → BeginsWith names words user rest → IsRestFault rest f
+    → IsLineFault names words f
+line_refused names words user rest fault.User begins wrong = absurd wrong
+line_refused names words user rest fault.Verb begins wrong = (user, rest, begins, wrong)
+line_refused names words user rest fault.Args begins wrong = (user, rest, begins, wrong)
+line_refused names words user rest fault.Hex begins wrong = (user, rest, begins, wrong)

@@ -53,14 +53,18 @@ pub record BeginsWith (names words : List (List ℕ)) (user : ℕ) (rest : List 
 abbrev pub IsOf : List (List ℕ) → Verb → List (List ℕ) → Type 0
 IsOf words verb arguments = words ≡ name_of verb ∷ arguments
 
+-- the words behind a name ask this
+pub record IsRequest (rest : List (List ℕ)) (c : Command) : Type 0 where
+  pub verb : Verb
+  pub arguments : List (List ℕ)
+  pub of_verb : IsOf rest verb arguments
+  pub asked : Requests verb arguments c
+
 -- the words of a line ask this for this user
 pub record AskFor (names words : List (List ℕ)) (user : ℕ) (c : Command) : Type 0 where
   pub rest : List (List ℕ)
-  pub verb : Verb
-  pub arguments : List (List ℕ)
   pub begins : BeginsWith names words user rest
-  pub of_verb : IsOf rest verb arguments
-  pub asked : Requests verb arguments c
+  pub request : IsRequest rest c
 
 -- what follows a verb is wrong: the arguments, or else their digits
 abbrev pub IsArgumentFault : Verb → List (List ℕ) → LineFault → Type 0

@@ -35,8 +35,10 @@ pub enum ScriptFault {
 
 /// Why a line isn't read.
 #[derive(Clone, Copy, Debug, PartialEq, Eq)]
-pub(crate) enum Unread {
+pub enum Unread {
+    /// It is wrong.
     Faulty(LineFault),
+    /// There is no memory for it.
     NoMemory,
 }
 

@@ -10,6 +10,8 @@ mod verb;
 mod words;
 
 pub use command::Command;
-pub use fault::{LineFault, ScriptFault};
+pub use fault::{LineFault, ScriptFault, Unread};
+pub use line::{parse_request, user_named};
 pub use script::{ScriptLine, read_script};
 pub use verb::Verb;
+pub use words::Words;

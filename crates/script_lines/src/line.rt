@@ -3,7 +3,7 @@ ghost use Rattle.std.specs.Prelude.{◌≡◌, ◌∷◌, [], ℕ, List, map, If
 ghost use Rattle.script_lines.specs.declared.command.Command.{Command as SpecCommand};
 ghost use Rattle.script_lines.specs.declared.fault.LineFault.{LineFault as SpecLineFault};
 ghost use Rattle.script_lines.specs.declared.fault.Unread.TheVariants.{Faulty};
-ghost use Rattle.script_lines.specs.Lines.{Requests, IsArgumentFault, IsLineFault, IsUserName};
+ghost use Rattle.script_lines.specs.Lines.{Requests, IsRequest, IsArgumentFault, IsRestFault, IsLineFault, IsUserName};
 ghost use Rattle.script_lines.specs.Script.{IsAsked};
 ghost use Rattle.script_lines.specs.Words.{words_in};
 
@@ -102,8 +102,8 @@ fn parse_command(alloc: Global, verb: Verb, mut words: Words<'_>) -> Result<Comm
     }
 }
 
-// The place of a name among all.
-fn user_named(names: &[&str], name: &[u8]) -> Option<usize>
+/// The place of a name among all.
+pub fn user_named(names: &[&str], name: &[u8]) -> Option<usize>
     ensures { MatchOption result ((user : ℕ) → ¬ IsUserName (map (λ n. n.now) names.now) name.now user) (IsUserName (map (λ n. n.now) names.now) name.now) }
 {
     for (user, other) in names.iter().enumerate() {
@@ -112,6 +112,20 @@ fn user_named(names: &[&str], name: &[u8]) -> Option<usize>
         }
     }
     None
+}
+
+/// What the words behind a user's name ask, tested in the order verb, args, hex.
+pub fn parse_request(alloc: Global, mut words: Words<'_>) -> Result<Command, Unread>
+    ensures asked { IfOk result (IsRequest words.entry) }
+    ensures fault { IfErr result (λ u. (f : SpecLineFault) → u ≡ Faulty f → IsRestFault words.entry f) }
+{
+    let Some(word) = words.take() else {
+        return Err(Unread::Faulty(LineFault::Verb));
+    };
+    let Some(verb) = Verb::of(word) else {
+        return Err(Unread::Faulty(LineFault::Verb));
+    };
+    parse_command(alloc, verb, words)
 }
 
 /// A line that asks something, tested in the order user, verb, args, hex.
@@ -126,12 +140,6 @@ pub(crate) fn parse_line(alloc: Global, names: &[&str], line: &[u8]) -> Result<S
     let Some(user) = user_named(names, name) else {
         return Err(Unread::Faulty(LineFault::User));
     };
-    let Some(word) = words.take() else {
-        return Err(Unread::Faulty(LineFault::Verb));
-    };
-    let Some(verb) = Verb::of(word) else {
-        return Err(Unread::Faulty(LineFault::Verb));
-    };
-    let command = parse_command(alloc, verb, words)?;
+    let command = parse_request(alloc, words)?;
     Ok(ScriptLine { user, command })
 }

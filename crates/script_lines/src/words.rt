@@ -7,7 +7,7 @@ use std::marker::Model;
 
 /// The words of a line that are still to be read. Contracts see them as a list.
 #[derive(Drop)]
-pub(crate) struct Words<'a> {
+pub struct Words<'a> {
     // None behind the last word.
     rest: Option<&'a [u8]>,
 }
@@ -24,14 +24,21 @@ impl<'a> Model for Words<'a> {
 
 impl<'a> Words<'a> {
     /// The words of a line.
-    pub(crate) fn of(line: &'a [u8]) -> Words<'a>
+    pub fn of(line: &'a [u8]) -> Words<'a>
         ensures { result ≡ words_in line.now }
     {
         Words { rest: Some(line) }
     }
 
+    /// The same words, to be read apart.
+    pub fn copy(&self) -> Words<'a>
+        ensures { result ≡ self.now }
+    {
+        Words { rest: self.rest }
+    }
+
     /// Takes the next word.
-    pub(crate) fn take(&mut self) -> Option<&'a [u8]>
+    pub fn take(&mut self) -> Option<&'a [u8]>
         ensures { MatchOption result ((self.old ≡ []) × (self.new ≡ [])) (λ word. self.old ≡ word.now ∷ self.new) }
     {
         let line = self.rest?;
