@@ -5,7 +5,6 @@
 #![tactic(auto)]
 
 mod acts;
-mod calls;
 mod chance;
 mod comparison;
 mod draws;
