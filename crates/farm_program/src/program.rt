@@ -1,4 +1,7 @@
 //! The program over its words and its streams.
+ghost use Rattle.std.specs.Prelude.{◌≡◌, ◌≢◌, ◌⊎◌};
+ghost use Rattle.std.specs.Io.KnownBytes.{Keeps};
+
 use crate::answering::answer;
 use crate::command_line::settings;
 use crate::failure::Failure;
@@ -20,7 +23,9 @@ pub fn run<R: Threads + Wait + Sync, S: AsStr, I: Read, W: Write, E: Write>(
     input: &mut I,
     output: &mut W,
     errors: &mut E,
-) -> u8 {
+) -> u8
+    ensures kept { result ≢ 0 → result ≢ 6 → Keeps (W.contents output.old) (W.contents output.new) }
+{
     match settings(alloc, words) {
         Ok(settings) => answer(rt, alloc, settings, input, output, errors).status,
         Err(error) => refuse_words(alloc, error, output, errors),
@@ -33,7 +38,9 @@ fn refuse_words<W: Write, E: Write>(
     error: clap::Error,
     output: &mut W,
     errors: &mut E,
-) -> u8 {
+) -> u8
+    ensures kept { result ≢ 0 → result ≢ 6 → Keeps (W.contents output.old) (W.contents output.new) }
+{
     let kind = error.kind();
     if kind == ErrorKind::OutOfMemory {
         return Failure::Memory.report(errors).status;
@@ -52,7 +59,9 @@ fn refuse_words<W: Write, E: Write>(
 }
 
 /// The status where the words of the command line couldn't be read: 5 for want of memory, else 2.
-pub fn refuse_arguments<E: Write>(error: &io::Error, errors: &mut E) -> u8 {
+pub fn refuse_arguments<E: Write>(error: &io::Error, errors: &mut E) -> u8
+    ensures { (result ≡ 2) ⊎ (result ≡ 5) }
+{
     if error.kind() == io::ErrorKind::OutOfMemory {
         return Failure::Memory.report(errors).status;
     }
