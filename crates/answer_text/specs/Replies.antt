@@ -76,7 +76,7 @@ reply_text (reply.Look seen) = seen_text seen
 reply_text (reply.Stepped answer) = stepped_text answer
 reply_text (reply.Moved answer) = moved_text answer
 
--- why an event isn't answered; want of memory has no word
+-- why an event isn't answered; that there is no memory has no word
 abbrev pub refusal_text : Refusal → Option (List ℕ)
 refusal_text refusal.NoSuch = Some (codes "nosuch")
 refusal_text refusal.JournalFull = Some (codes "journalfull")

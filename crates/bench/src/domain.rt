@@ -4,11 +4,11 @@
 //! - `pings`: a byte from host to host, and its acknowledge back: a Write, two Moves and a Read each;
 //! - `configs`: three configuration bytes that connect an output, and two that enquire it;
 //! - `checkouts-2048`, `checkouts-65536`: tickets of a node with so many bytes of memory, dropped at once;
-//! - `turns-2048`, `turns-65536`: such tickets that do 256 Steps and come home;
+//! - `turns-2048`, `turns-65536`: such tickets that do 256 Steps and are committed;
 //! - `checkouts-used`, `turns-used`: the same of 65,536 bytes, of which the last word was written too.
 
-use crate::asked::Asked;
 use crate::faults::{failed, refused};
+use crate::selection::Selection;
 use crossbar::{Outputs, PlainOutputs};
 use domain_core::{By, Committed, Domain, Event, Moved, Refusal, Reply};
 use plan_checker::PlanFault;
@@ -57,7 +57,7 @@ const ANN: By = By::User(0);
 
 /// What is measured.
 #[derive(Clone, Copy)]
-enum Work {
+enum TimedWork {
     Pings,
     Configs,
     Steps,
@@ -70,16 +70,16 @@ enum Work {
 }
 
 /// All of it, by name.
-const WORKS: [(&str, Work); 9] = [
-    ("pings", Work::Pings),
-    ("configs", Work::Configs),
-    ("steps", Work::Steps),
-    ("checkouts-2048", Work::Checkouts(0)),
-    ("turns-2048", Work::Turns(0)),
-    ("checkouts-65536", Work::Checkouts(1)),
-    ("turns-65536", Work::Turns(1)),
-    ("checkouts-used", Work::CheckoutsUsed),
-    ("turns-used", Work::TurnsUsed),
+const WORKS: [(&str, TimedWork); 9] = [
+    ("pings", TimedWork::Pings),
+    ("configs", TimedWork::Configs),
+    ("steps", TimedWork::Steps),
+    ("checkouts-2048", TimedWork::Checkouts(0)),
+    ("turns-2048", TimedWork::Turns(0)),
+    ("checkouts-65536", TimedWork::Checkouts(1)),
+    ("turns-65536", TimedWork::Turns(1)),
+    ("checkouts-used", TimedWork::CheckoutsUsed),
+    ("turns-used", TimedWork::TurnsUsed),
 ];
 
 type Plain = Domain<PlainOutputs>;
@@ -207,7 +207,7 @@ fn checkouts(domain: &Plain, node: u8, count: u64) -> Result<u64, Refusal> {
     Ok(count)
 }
 
-// Tickets of a node that do Steps and come home, until one doesn't do them all; how many did.
+// Tickets of a node that do Steps and are committed, until one doesn't do them all; how many did.
 fn turns(domain: &mut Plain, node: u8, count: u64) -> Result<u64, Refusal> {
     for done in 0..count {
         let mut ticket = domain.checkout(0, node)?;
@@ -223,27 +223,27 @@ fn turns(domain: &mut Plain, node: u8, count: u64) -> Result<u64, Refusal> {
 }
 
 // Does so many rounds of a work, in a domain that is restarted for it; how many were done.
-fn done(domain: &mut Plain, work: Work, count: u64) -> Result<u64, Refusal> {
+fn done(domain: &mut Plain, work: TimedWork, count: u64) -> Result<u64, Refusal> {
     match work {
-        Work::Pings => pings(domain, count),
-        Work::Configs => configs(domain, count),
-        Work::Steps => {
+        TimedWork::Pings => pings(domain, count),
+        TimedWork::Configs => configs(domain, count),
+        TimedWork::Steps => {
             load(domain, &LOOP)?;
             Ok(steps(domain, count))
         }
-        Work::Checkouts(node) => {
+        TimedWork::Checkouts(node) => {
             load(domain, &LOOP)?;
             checkouts(domain, node, count)
         }
-        Work::Turns(node) => {
+        TimedWork::Turns(node) => {
             load(domain, &LOOP)?;
             turns(domain, node, count)
         }
-        Work::CheckoutsUsed => {
+        TimedWork::CheckoutsUsed => {
             load_used(domain)?;
             checkouts(domain, 1, count)
         }
-        Work::TurnsUsed => {
+        TimedWork::TurnsUsed => {
             load_used(domain)?;
             turns(domain, 1, count)
         }
@@ -251,11 +251,11 @@ fn done(domain: &mut Plain, work: Work, count: u64) -> Result<u64, Refusal> {
 }
 
 /// Does COUNT rounds of each of those that are asked for.
-pub fn measure(rt: &impl Print, alloc: Global, asked: Asked<'_>) -> io::Result<()> {
+pub fn measure(rt: &impl Print, alloc: Global, selection: Selection<'_>) -> io::Result<()> {
     let mut domain = opened(alloc).map_err(failed)?;
     for (name, work) in WORKS {
-        if asked.runs(name) {
-            let done = done(&mut domain, work, asked.count).map_err(refused)?;
+        if selection.runs(name) {
+            let done = done(&mut domain, work, selection.count).map_err(refused)?;
             println!(rt; "{name}: {done}")?;
         }
     }

@@ -10,17 +10,17 @@
 //! them run. Without words there is a short run of every work, and `--help` tells these words.
 #![tactic(auto)]
 
-mod asked;
 mod domain;
 mod faults;
 mod node;
 mod processor;
+mod selection;
 mod service;
 mod step;
 mod table;
 mod users;
 
-use crate::asked::Asked;
+use crate::selection::Selection;
 use std::alloc::Global;
 use std::sync::Wait;
 use std::thread::Threads;
@@ -28,7 +28,7 @@ use std::{env, io};
 
 /// What is measured.
 #[derive(Clone, Copy)]
-enum Work {
+enum Measurement {
     Step,
     Node,
     Domain,
@@ -36,26 +36,26 @@ enum Work {
     Service,
 }
 
-const WORKS: [Work; 5] = [
-    Work::Step,
-    Work::Node,
-    Work::Domain,
-    Work::Table,
-    Work::Service,
+const WORKS: [Measurement; 5] = [
+    Measurement::Step,
+    Measurement::Node,
+    Measurement::Domain,
+    Measurement::Table,
+    Measurement::Service,
 ];
 
 const USAGE: &str =
     "usage: bench [WORK [COUNT [NAME]]], where WORK is step, node, domain, table or service";
 
-impl Work {
+impl Measurement {
     // The work of this name.
-    fn of(word: &str) -> Option<Work> {
+    fn of(word: &str) -> Option<Measurement> {
         match word {
-            "step" => Some(Work::Step),
-            "node" => Some(Work::Node),
-            "domain" => Some(Work::Domain),
-            "table" => Some(Work::Table),
-            "service" => Some(Work::Service),
+            "step" => Some(Measurement::Step),
+            "node" => Some(Measurement::Node),
+            "domain" => Some(Measurement::Domain),
+            "table" => Some(Measurement::Table),
+            "service" => Some(Measurement::Service),
             _ => None,
         }
     }
@@ -63,8 +63,8 @@ impl Work {
     // How many rounds a short run has.
     fn few(self) -> u64 {
         match self {
-            Work::Step | Work::Node | Work::Table => 1000,
-            Work::Domain | Work::Service => 100,
+            Measurement::Step | Measurement::Node | Measurement::Table => 1000,
+            Measurement::Domain | Measurement::Service => 100,
         }
     }
 
@@ -73,14 +73,14 @@ impl Work {
         self,
         rt: &R,
         alloc: Global,
-        asked: Asked<'_>,
+        selection: Selection<'_>,
     ) -> io::Result<()> {
         match self {
-            Work::Step => step::measure(rt, alloc, asked),
-            Work::Node => node::measure(rt, alloc, asked),
-            Work::Domain => domain::measure(rt, alloc, asked),
-            Work::Table => table::measure(rt, alloc, asked),
-            Work::Service => service::measure(rt, alloc, asked),
+            Measurement::Step => step::measure(rt, alloc, selection),
+            Measurement::Node => node::measure(rt, alloc, selection),
+            Measurement::Domain => domain::measure(rt, alloc, selection),
+            Measurement::Table => table::measure(rt, alloc, selection),
+            Measurement::Service => service::measure(rt, alloc, selection),
         }
     }
 }
@@ -89,7 +89,7 @@ impl Work {
 fn measure_all<R: Print + Threads + Wait + Sync>(rt: &R, alloc: Global) -> io::Result<()> {
     for work in WORKS {
         let count = work.few();
-        work.measure(rt, alloc, Asked { count, name: None })?;
+        work.measure(rt, alloc, Selection { count, name: None })?;
     }
     Ok(())
 }
@@ -103,7 +103,7 @@ fn main(rt: HostRuntime) -> io::Result<()> {
     if word.as_str() == "--help" {
         return println!(rt; "{USAGE}");
     }
-    let Some(work) = Work::of(word.as_str()) else {
+    let Some(work) = Measurement::of(word.as_str()) else {
         return Err(io::Error::from(io::ErrorKind::InvalidInput));
     };
     let count = words
@@ -111,5 +111,5 @@ fn main(rt: HostRuntime) -> io::Result<()> {
         .and_then(|word| word.parse::<u64>().ok())
         .unwrap_or(work.few());
     let name = words.get(3).map(|word| word.as_str());
-    work.measure(&rt, alloc, Asked { count, name })
+    work.measure(&rt, alloc, Selection { count, name })
 }

@@ -1,8 +1,8 @@
 //! A loop of instruction bytes through a node's bursts, `node`, and through the processor's step alone, `processor`, so that
 //! their rates can be compared.
 
-use crate::asked::Asked;
 use crate::processor::{begun, place};
+use crate::selection::Selection;
 use bootstrap::{Node, boot_message};
 use link_channels::{LinkNumber, Links};
 use node_memory::Memory;
@@ -72,12 +72,12 @@ fn run_processor(rt: &impl Print, alloc: Global, count: u64) -> io::Result<()> {
 }
 
 /// Runs the loop as it is asked for, COUNT bytes each time.
-pub fn measure(rt: &impl Print, alloc: Global, asked: Asked<'_>) -> io::Result<()> {
-    if asked.runs("node") {
-        run_node(rt, alloc, asked.count)?;
+pub fn measure(rt: &impl Print, alloc: Global, selection: Selection<'_>) -> io::Result<()> {
+    if selection.runs("node") {
+        run_node(rt, alloc, selection.count)?;
     }
-    if asked.runs("processor") {
-        run_processor(rt, alloc, asked.count)?;
+    if selection.runs("processor") {
+        run_processor(rt, alloc, selection.count)?;
     }
     Ok(())
 }

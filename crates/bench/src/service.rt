@@ -7,13 +7,13 @@
 //!   1 in one domain, or 8 or 28 in four;
 //! - `surveys`: COUNT surveys of all 32 outputs, beside a user who does COUNT rounds.
 //!
-//! If all are asked for, the turns that came home aren't told, since they hang on the schedule.
+//! If all are asked for, the turns that were recorded aren't told, since they depend on the schedule.
 
 ghost use Rattle.std.specs.Prelude.{◌≡◌, ◌≤◌, IfOk};
 ghost use Rattle.farm_service.specs.Services.{IsItsOperator};
 ghost use Rattle.token_queue.specs.Passes.{AreOf, AreItsPasses, HoldNone};
 
-use crate::asked::Asked;
+use crate::selection::Selection;
 use crate::users::{ActiveUser, boot, send_each};
 use domain_core::Refusal;
 use farm_service::{Gate, Opened, Service, Token, Turned, UserPass, WorkerPass, work};
@@ -47,7 +47,7 @@ const TURNS: [(&str, u8, u8, u8); 12] = [
     ("steps-8-28", 8, 4, 7),
 ];
 
-// Counts the turns whose node came home.
+// Counts the turns whose burst was recorded.
 #[derive(Drop)]
 struct Counter {
     done: AtomicU64,
@@ -57,7 +57,7 @@ impl Gate for Counter {
     fn begins<R: Wait>(&self, _rt: &R, _token: Token) {}
 
     fn ended<R: Wait>(&self, _rt: &R, _token: Token, turned: &Result<Turned, Refusal>) {
-        if *turned == Ok(Turned::CameHome) {
+        if *turned == Ok(Turned::BurstRecorded) {
             self.done.fetch_add(1, Ordering::SeqCst);
         }
     }
@@ -124,7 +124,7 @@ fn commands<R: Threads + Wait + Sync>(
     send_all(rt, alloc, &service, users, count)
 }
 
-// Each worker works in a thread of his own; how many turns' nodes came home.
+// Each worker works in a thread of his own; how many turns' bursts were recorded.
 fn work_each<R: Threads + Wait + Sync>(
     rt: &R,
     service: &Service,
@@ -159,7 +159,7 @@ fn boot_all<R: Wait>(rt: &R, service: &Service, users: Vec<UserPass>, size: Size
     true
 }
 
-// Workers step the nodes; how many turns' nodes came home.
+// Workers step the nodes; how many turns' bursts were recorded.
 fn turns<R: Threads + Wait + Sync>(
     rt: &R,
     alloc: Global,
@@ -225,7 +225,7 @@ fn surveys<R: Threads + Wait + Sync>(rt: &R, alloc: Global, count: u64) -> Resul
 fn measure_commands<R: Print + Threads + Wait + Sync>(
     rt: &R,
     alloc: Global,
-    asked: Asked<'_>,
+    selection: Selection<'_>,
 ) -> io::Result<()> {
     for (name, domains, users) in [
         ("own-1", 1, 1),
@@ -236,14 +236,14 @@ fn measure_commands<R: Print + Threads + Wait + Sync>(
         ("shared-2", 1, 2),
         ("shared-4", 1, 4),
     ] {
-        if asked.runs(name) {
+        if selection.runs(name) {
             let size = Size {
                 domains,
                 nodes: 1,
                 users,
                 limit: MOST_EVENTS,
             };
-            let done = commands(rt, alloc, size, asked.count)?;
+            let done = commands(rt, alloc, size, selection.count)?;
             println!(rt; "{name}: {done}")?;
         }
     }
@@ -254,18 +254,18 @@ fn measure_commands<R: Print + Threads + Wait + Sync>(
 fn measure_turns<R: Print + Threads + Wait + Sync>(
     rt: &R,
     alloc: Global,
-    asked: Asked<'_>,
+    selection: Selection<'_>,
 ) -> io::Result<()> {
     for (name, workers, domains, nodes) in TURNS {
-        if asked.runs(name) {
+        if selection.runs(name) {
             let size = Size {
                 domains,
                 nodes,
                 users: 1,
                 limit: MOST_EVENTS,
             };
-            let done = turns(rt, alloc, size, workers.clamp(1, 8), asked.count)?;
-            if asked.name.is_some() {
+            let done = turns(rt, alloc, size, workers.clamp(1, 8), selection.count)?;
+            if selection.name.is_some() {
                 println!(rt; "{name}: {done}")?;
             } else {
                 println!(rt; "{name}")?;
@@ -279,12 +279,12 @@ fn measure_turns<R: Print + Threads + Wait + Sync>(
 pub fn measure<R: Print + Threads + Wait + Sync>(
     rt: &R,
     alloc: Global,
-    asked: Asked<'_>,
+    selection: Selection<'_>,
 ) -> io::Result<()> {
-    measure_commands(rt, alloc, asked)?;
-    measure_turns(rt, alloc, asked)?;
-    if asked.runs("surveys") {
-        let seen = surveys(rt, alloc, asked.count)?;
+    measure_commands(rt, alloc, selection)?;
+    measure_turns(rt, alloc, selection)?;
+    if selection.runs("surveys") {
+        let seen = surveys(rt, alloc, selection.count)?;
         println!(rt; "surveys: {seen:x}")?;
     }
     Ok(())

@@ -1,7 +1,7 @@
 //! Steps the processor through loops of instruction bytes: `arithmetic`, `memory`, `lend`, `channel` and `sieve`.
 
-use crate::asked::Asked;
 use crate::processor::{begun, place};
+use crate::selection::Selection;
 use link_channels::Links;
 use node_memory::Memory;
 use std::alloc::Global;
@@ -102,10 +102,10 @@ fn run(rt: &impl Print, alloc: Global, name: &str, code: &[u8], count: u32) -> i
 }
 
 /// Runs the loops that are asked for, COUNT bytes each, but no more than 2^32 - 1.
-pub fn measure(rt: &impl Print, alloc: Global, asked: Asked<'_>) -> io::Result<()> {
-    let count = u32::try_from(asked.count).unwrap_or(u32::MAX);
+pub fn measure(rt: &impl Print, alloc: Global, selection: Selection<'_>) -> io::Result<()> {
+    let count = u32::try_from(selection.count).unwrap_or(u32::MAX);
     for (name, code) in LOOPS {
-        if asked.runs(name) {
+        if selection.runs(name) {
             run(rt, alloc, name, code, count)?;
         }
     }

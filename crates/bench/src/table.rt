@@ -4,8 +4,8 @@
 ghost use Rattle.std.specs.Prelude.{◌≡◌, ◌<◌, IfOk};
 ghost use Rattle.switch_table.specs.Seats.{surveyed_table, table_of};
 
-use crate::asked::Asked;
 use crate::faults::failed;
+use crate::selection::Selection;
 use crossbar::{Outputs, PlainOutputs, connect};
 use plan_checker::{AcceptedPlan, PlanFault};
 use std::alloc::Global;
@@ -94,28 +94,28 @@ fn measure_outputs<O: Outputs>(
     rt: &impl Print,
     outputs: &mut O,
     names: [&str; 2],
-    asked: Asked<'_>,
+    selection: Selection<'_>,
 ) -> io::Result<()> {
     let [loading, storing] = names;
     wire_all(outputs);
-    if asked.runs(loading) {
-        let sum = loads(outputs, asked.count);
+    if selection.runs(loading) {
+        let sum = loads(outputs, selection.count);
         println!(rt; "{loading}: sum {sum}")?;
     }
-    if asked.runs(storing) {
-        let word = stores(outputs, asked.count);
+    if selection.runs(storing) {
+        let word = stores(outputs, selection.count);
         println!(rt; "{storing}: word {word}")?;
     }
     Ok(())
 }
 
 // The same of outputs that aren't shared.
-fn measure_plain(rt: &impl Print, plan: &AcceptedPlan, asked: Asked<'_>) -> io::Result<()> {
+fn measure_plain(rt: &impl Print, plan: &AcceptedPlan, selection: Selection<'_>) -> io::Result<()> {
     if plan.domains() == 0 {
         return Ok(());
     }
     let mut plain = PlainOutputs::unused(plan.ranges(0));
-    measure_outputs(rt, &mut plain, ["plain-loads", "plain-stores"], asked)
+    measure_outputs(rt, &mut plain, ["plain-loads", "plain-stores"], selection)
 }
 
 // Stores by a seat, while the operator surveys the output.
@@ -138,13 +138,17 @@ fn both<R: Threads>(
 }
 
 /// Does COUNT rounds of each of those that are asked for.
-pub fn measure<R: Print + Threads>(rt: &R, alloc: Global, asked: Asked<'_>) -> io::Result<()> {
+pub fn measure<R: Print + Threads>(
+    rt: &R,
+    alloc: Global,
+    selection: Selection<'_>,
+) -> io::Result<()> {
     let plan = plan_of(alloc, BOB_AT_PORT_8).map_err(failed)?;
     let (table, mut seat, operator) = opened(alloc, &plan).map_err(failed)?;
-    measure_outputs(rt, &mut seat, ["seat-loads", "seat-stores"], asked)?;
-    measure_plain(rt, &plan, asked)?;
-    if asked.runs("surveys-beside-stores") {
-        let (word, rises) = both(rt, &table, seat, operator, asked.count);
+    measure_outputs(rt, &mut seat, ["seat-loads", "seat-stores"], selection)?;
+    measure_plain(rt, &plan, selection)?;
+    if selection.runs("surveys-beside-stores") {
+        let (word, rises) = both(rt, &table, seat, operator, selection.count);
         println!(rt; "surveys-beside-stores: word {word}, counts rise {rises}")?;
     }
     Ok(())

@@ -17,8 +17,8 @@ use Rattle.t414_step.specs.Step.{step, StepAnswer}
 use Rattle.t414_step.specs.Laws.{IdleWhereItRests}
 use Rattle.bootstrap.specs.Step.{node_step, step_by_state, ran, fed, controlled, offered, answer_continued, has_halted, is_step_recorded, is_quiet}
 use Rattle.bootstrap.specs.declared.node.Node.{Node}
-use Rattle.bootstrap.specs.declared.state.State.{State}
-use Rattle.bootstrap.specs.declared.state.State.TheVariants.{WantsControl, Takes, Answers, Runs, Halted}
+use Rattle.bootstrap.specs.declared.state.NodeState.{NodeState}
+use Rattle.bootstrap.specs.declared.state.NodeState.TheVariants.{WantsControl, Takes, Answers, Runs, Halted}
 
 pub not-not : (b : Bool) → not (not b) ≡ b
 not-not true = refl
@@ -77,10 +77,10 @@ if-busy : (b : Bool) (x y : Node × Stepped) → is_idle x.1 ≡ false → is_id
 if-busy true x y e f = e
 if-busy false x y e f = f
 
-abbrev node-of : List ℕ → FourLinks → State → Node
+abbrev node-of : List ℕ → FourLinks → NodeState → Node
 node-of m ls st = record { memory = m; links = ls; state = st }
 
-unchanged : IdleWhereItRests → ServiceLeavesTheRest → (st : State) (ls : FourLinks) (m : List ℕ) → is_quiet (node-of m ls st) ≡ true → (node_step (node-of m ls st)).0 ≡ node-of m ls st
+unchanged : IdleWhereItRests → ServiceLeavesTheRest → (st : NodeState) (ls : FourLinks) (m : List ℕ) → is_quiet (node-of m ls st) ≡ true → (node_step (node-of m ls st)).0 ≡ node-of m ls st
 unfolding node_step
 unchanged idle rests WantsControl ls m q =
     controlled-idle (offered ls) (node-of m ls WantsControl) (sym (not-not (is_idle (controlled (offered ls) (node-of m ls WantsControl)).1)) ∙ q)
@@ -113,7 +113,7 @@ if-faults : (b : Bool) (x y : Node × Stepped) (fault : Fault) → (x.1 ≡ code
 if-faults true x y fault f g e = f e
 if-faults false x y fault f g e = g e
 
-halts : (st : State) (n : Node) (fault : Fault) → n.state ≡ st → (step_by_state st n).1 ≡ code.Fault fault → (step_by_state st n).0.state ≡ Halted fault
+halts : (st : NodeState) (n : Node) (fault : Fault) → n.state ≡ st → (step_by_state st n).1 ≡ code.Fault fault → (step_by_state st n).0.state ≡ Halted fault
 halts WantsControl n fault s e = controlled-faults (offered n.links) n fault e
 halts (Takes link task) n fault s e = fed-faults (at link n.links).end.input.buffer _ n fault e
 halts (Answers link left word) n fault s e =

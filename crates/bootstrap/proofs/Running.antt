@@ -16,8 +16,8 @@ use Rattle.bootstrap.specs.Step.{node_step, ran, has_halted, is_step_recorded, i
 use Rattle.bootstrap.specs.Steps.{last_answer, IsAfter, IsBurst, running, left_by}
 use Rattle.bootstrap.specs.declared.burst.Burst.{Burst}
 use Rattle.bootstrap.specs.declared.node.Node.{Node}
-use Rattle.bootstrap.specs.declared.state.State.{State}
-use Rattle.bootstrap.specs.declared.state.State.TheVariants.{Runs}
+use Rattle.bootstrap.specs.declared.state.NodeState.{NodeState}
+use Rattle.bootstrap.specs.declared.state.NodeState.TheVariants.{Runs}
 use Rattle.bootstrap.proofs.Counting.{one-more, last-more, after-add, last-add, last_answer-zero, last_answer-suc}
 use Rattle.bootstrap.proofs.Resting.{not-not, resting-step, quiet-runs}
 
@@ -92,4 +92,4 @@ steps-more x y z k quiet answer after is busy e =
 -- a node that is found running
 pub found-running : (x n : Node) (k : ℕ) (s : Cpu) → IsAfter x k n → n.state ≡ Runs s → IsAfter x k (running s n.links n.memory)
 found-running x n k s after e =
-    subst (λ (st : State). IsAfter x k (record { memory = n.memory; links = n.links; state = st })) e after
+    subst (λ (st : NodeState). IsAfter x k (record { memory = n.memory; links = n.links; state = st })) e after

@@ -18,7 +18,7 @@ use Rattle.link_channels.specs.declared.channel.Channel.TheVariants as channel
 use Rattle.link_channels.specs.declared.process.Process.{Process}
 use Rattle.link_channels.specs.declared.process.Transfer.{Transfer}
 use Rattle.link_channels.specs.declared.process.Turn.{Turn}
-use Rattle.link_channels.specs.Links.{at, within, input_channel, output_channel, heard, byte_taken}
+use Rattle.link_channels.specs.Links.{at, within, input_channel, output_channel, acknowledge_cleared, byte_taken}
 use Rattle.link_channels.specs.Kinds.{kind_of}
 use Rattle.link_channels.specs.Waiting.{waiting_at, descriptor_of, state_address, scheduled}
 use Rattle.link_channels.specs.Service.{marked_acted, complete, input_stored, input_of_buffer, input_byte, output_byte, woken, wakes, arrival, serve_link, serve, serve_all}
@@ -26,8 +26,8 @@ use Rattle.link_channels.specs.Soft as soft
 use Rattle.link_channels.specs.Hard.{chosen_if_held}
 use Rattle.link_channels.specs.Messages.{disable_at, enable_at, input_at, output_at, reset_at}
 use Rattle.link_channels.specs.Messages.{with_queue}
-use Rattle.link_channels.specs.Reply.{copied_then, put_then, read_then, requeued_then, store_then, written_then}
-use Rattle.link_channels.specs.Reply.{Reply, Gave, Halted, reply_and_then}
+use Rattle.link_channels.specs.Completion.{copied_then, put_then, read_then, requeued_then, store_then, written_then}
+use Rattle.link_channels.specs.Completion.{Completion, Gave, Halted, reply_and_then}
 use Rattle.t414_decode.specs.declared.instruction.PlainOperation.{PlainOperation}
 use Rattle.t414_decode.specs.declared.instruction.PlainOperation.TheVariants as op
 use Rattle.t414_decode.specs.declared.instruction.ChannelOperation.{ChannelOperation}
@@ -42,31 +42,31 @@ use Rattle.t414_step.specs.declared.stepping.Stepped.{Stepped}
 use Rattle.t414_step.specs.ChannelRows.{process_of, transfer, after_message, send, channel_row}
 use Rattle.t414_step.specs.Step.{Broke, Idle, Ran}
 use Rattle.t414_step.specs.Step.{StepAnswer, Resumption, Resumed, Nobody, Lost, fetched, byte_done, byte_answer, going_on, after_service, resumption, step}
-use Rattle.t414_step.specs.Outcome.{Effect, Outcome, Went, Stopped, upon, left, read, written, requeued, put}
+use Rattle.t414_step.specs.Outcome.{Effect, Outcome, Went, Stopped, with_links, plain_outcome, read, written, requeued, put}
 use Rattle.t414_step.specs.Rows.{operate, direct, row, error_if, wait, slice, schedule, divides_past}
-use Rattle.t414_step.specs.Registers.{un, bin, drop, goto, at_workspace, leave, carry, sign_of}
+use Rattle.t414_step.specs.Registers.{unary_result, binary_result, drop, goto, at_workspace, leave, carry, sign_of}
 use Rattle.bootstrap.specs.Boot.{or_kept, freed, shifted_in}
 use Rattle.bootstrap.specs.Step.{node_step, step_by_state, ran, fed, controlled, offered, given, loaded_to}
 use Rattle.bootstrap.specs.Steps.{after_steps}
 use Rattle.bootstrap.specs.declared.node.Node.{Node}
-use Rattle.bootstrap.specs.declared.state.State.{State}
-use Rattle.bootstrap.specs.declared.state.State.TheVariants.{WantsControl, Takes, Answers, Runs}
-use Rattle.bootstrap.specs.declared.state.State.TheVariants as state
+use Rattle.bootstrap.specs.declared.state.NodeState.{NodeState}
+use Rattle.bootstrap.specs.declared.state.NodeState.TheVariants.{WantsControl, Takes, Answers, Runs}
+use Rattle.bootstrap.specs.declared.state.NodeState.TheVariants as state
 use Rattle.bootstrap.specs.declared.state.Task.{Task}
 use Rattle.bootstrap.specs.declared.state.Task.TheVariants.{Poke, Peek, Load}
 use Rattle.bootstrap.proofs.Counting.{after_steps-zero, after_steps-suc}
 
-abbrev pub memory_of : {A L : Type 0} → Reply A L → List ℕ
+abbrev pub memory_of : {A L : Type 0} → Completion A L → List ℕ
 memory_of (Gave x l m) = m
 memory_of (Halted fault l m) = m
 
 -- memory has so many bytes afterwards
-pub record Sized {A L : Type 0} (k : ℕ) (r : Reply A L) : Type 0 where
+pub record Sized {A L : Type 0} (k : ℕ) (r : Completion A L) : Type 0 where
   pub size : length (memory_of r) ≡ k
 
 -- what an instruction leaves
 pub record Leaves (k : ℕ) (ls : FourLinks) (o : Outcome) : Type 0 where
-  pub sized : Sized k (upon ls o)
+  pub sized : Sized k (with_links ls o)
 
 went : (s : Cpu) (m : List ℕ) (ls : FourLinks) (k : ℕ) → length m ≡ k → Leaves k ls (Went s m)
 went s m ls k e = record { sized = record { size = e } }
@@ -82,9 +82,9 @@ o-error : (b : Bool) (s : Cpu) (m : List ℕ) (ls : FourLinks) (k : ℕ) → len
 o-error false s m ls k e = record { sized = record { size = e } }
 o-error true s m ls k e = leaves-if s.halt_on_error _ _ ls k (record { sized = record { size = e } }) (record { sized = record { size = e } })
 
-o-left : (r : Result (Unit {0}) Fault) (s : Cpu) (m : List ℕ) (ls : FourLinks) (k : ℕ) → length m ≡ k → Leaves k ls (left r s m)
-o-left (Ok u) s m ls k e = record { sized = record { size = e } }
-o-left (Err fault) s m ls k e = record { sized = record { size = e } }
+o-plain_outcome : (r : Result (Unit {0}) Fault) (s : Cpu) (m : List ℕ) (ls : FourLinks) (k : ℕ) → length m ≡ k → Leaves k ls (plain_outcome r s m)
+o-plain_outcome (Ok u) s m ls k e = record { sized = record { size = e } }
+o-plain_outcome (Err fault) s m ls k e = record { sized = record { size = e } }
 
 o-read : (r : Result ℕ Fault) (m : List ℕ) (next : ℕ → Outcome) (ls : FourLinks) (k : ℕ) → length m ≡ k → ((x : ℕ) → Leaves k ls (next x)) → Leaves k ls (read r m next)
 o-read (Ok x) m next ls k e f = f x
@@ -158,17 +158,17 @@ module _ (words : WordKeepsTheSize) (bytes : ByteKeepsTheSize) (copies : CopyKee
   size-row op.ByteSubscript s m ls k e = went _ m ls k e
   size-row op.EndProcess s m ls k e = o-read (word_at m (s.a ⊕ 4)) m _ ls k e (λ count. leaves-if (count == 1) _ _ ls k (o-read (word_at m s.a) m _ ls k e (λ i. went (goto i (at_workspace s.a s)) m ls k e)) (o-store m (s.a ⊕ 4) (count ⊖ 1) (λ m. Went (leave s) m) ls k e (λ n f. went (leave s) n ls k f)))
   size-row op.Difference s m ls k e = went _ m ls k e
-  size-row op.Add s m ls k e = o-error (sum_checked s.b s.a).1 (bin (sum_checked s.b s.a).0 s) m ls k e
+  size-row op.Add s m ls k e = o-error (sum_checked s.b s.a).1 (binary_result (sum_checked s.b s.a).0 s) m ls k e
   size-row op.GeneralCall s m ls k e = went _ m ls k e
   size-row op.Product s m ls k e = went _ m ls k e
   size-row op.GreaterThan s m ls k e = went _ m ls k e
   size-row op.WordSubscript s m ls k e = went _ m ls k e
-  size-row op.Subtract s m ls k e = o-error (difference_checked s.b s.a).1 (bin (difference_checked s.b s.a).0 s) m ls k e
+  size-row op.Subtract s m ls k e = o-error (difference_checked s.b s.a).1 (binary_result (difference_checked s.b s.a).0 s) m ls k e
   size-row op.StartProcess s m ls k e = o-store m _ _ _ ls k e (λ n f. o-put _ s n Went ls k f (λ t n f. went t n ls k f))
   size-row op.SetError s m ls k e = o-error true s m ls k e
   size-row op.CheckSubscriptFromZero s m ls k e = o-error (nat_le s.a s.b) (drop s) m ls k e
   size-row op.StopProcess s m ls k e = o-wait s m ls k e
-  size-row op.LongAdd s m ls k e = o-error (overflows (signed s.b +ℤ signed s.a +ℤ pos (carry s))) (un (s.b ⊕ s.a ⊕ carry s) s) m ls k e
+  size-row op.LongAdd s m ls k e = o-error (overflows (signed s.b +ℤ signed s.a +ℤ pos (carry s))) (unary_result (s.b ⊕ s.a ⊕ carry s) s) m ls k e
   size-row op.StoreLowBack s m ls k e = went _ m ls k e
   size-row op.StoreHighFront s m ls k e = leaves-if (s.a == not_process) _ _ ls k (went (drop s) m ls k e) (stopped HighPriority m ls k e)
   size-row op.Normalise s m ls k e = went _ m ls k e
@@ -177,13 +177,13 @@ module _ (words : WordKeepsTheSize) (bytes : ByteKeepsTheSize) (copies : CopyKee
   size-row op.StoreLowFront s m ls k e = went _ m ls k e
   size-row op.ExtendToDouble s m ls k e = went _ m ls k e
   size-row op.LoadPriority s m ls k e = went _ m ls k e
-  size-row op.Remainder s m ls k e = leaves-if (s.a == 0) _ _ ls k (o-error true (bin 0 s) m ls k e) (leaves-if (divides_past s) _ _ ls k (went _ m ls k e) (went _ m ls k e))
+  size-row op.Remainder s m ls k e = leaves-if (s.a == 0) _ _ ls k (o-error true (binary_result 0 s) m ls k e) (leaves-if (divides_past s) _ _ ls k (went _ m ls k e) (went _ m ls k e))
   size-row op.Return s m ls k e = o-read _ _ _ ls k e (λ x. went _ m ls k e)
   size-row op.LoopEnd s m ls k e = o-read (word_at m (s.b ⊕ 4)) m _ ls k e (λ count. o-store m (s.b ⊕ 4) (count ⊖ 1) _ ls k e (λ n f. leaves-if (int_lt (pos 1) (signed count)) _ _ ls k (o-read (word_at n s.b) n _ ls k f (λ i. o-store n s.b (i ⊕ 1) _ ls k f (λ n f. o-slice (goto (s.instruction ⊖ s.a) s) n ls k f))) (went s n ls k f)))
   size-row op.TestError s m ls k e = went _ m ls k e
   size-row op.TestProcessorAnalysing s m ls k e = went _ m ls k e
-  size-row op.Divide s m ls k e = leaves-if (s.a == 0 || divides_past s) _ _ ls k (o-error true (bin 0 s) m ls k e) (went _ m ls k e)
-  size-row op.DisableSkip s m ls k e = leaves-if (s.b == 0) _ _ ls k (went (bin 0 s) m ls k e) (o-read (word_at m s.workspace) m _ ls k e (λ selected. leaves-if (selected == none_selected) _ _ ls k (o-store m s.workspace s.a (λ m. Went (bin 1 s) m) ls k e (λ n f. went (bin 1 s) n ls k f)) (went (bin 0 s) m ls k e)))
+  size-row op.Divide s m ls k e = leaves-if (s.a == 0 || divides_past s) _ _ ls k (o-error true (binary_result 0 s) m ls k e) (went _ m ls k e)
+  size-row op.DisableSkip s m ls k e = leaves-if (s.b == 0) _ _ ls k (went (binary_result 0 s) m ls k e) (o-read (word_at m s.workspace) m _ ls k e (λ selected. leaves-if (selected == none_selected) _ _ ls k (o-store m s.workspace s.a (λ m. Went (binary_result 1 s) m) ls k e (λ n f. went (binary_result 1 s) n ls k f)) (went (binary_result 0 s) m ls k e)))
   size-row op.LongMultiply s m ls k e = went _ m ls k e
   size-row op.Not s m ls k e = went _ m ls k e
   size-row op.ExclusiveOr s m ls k e = went _ m ls k e
@@ -191,7 +191,7 @@ module _ (words : WordKeepsTheSize) (bytes : ByteKeepsTheSize) (copies : CopyKee
   size-row op.LongShiftRight s m ls k e = went _ m ls k e
   size-row op.LongShiftLeft s m ls k e = went _ m ls k e
   size-row op.LongSum s m ls k e = went _ m ls k e
-  size-row op.LongSubtract s m ls k e = o-error (overflows (signed s.b -ℤ signed s.a -ℤ pos (carry s))) (un (s.b ⊖ s.a ⊖ carry s) s) m ls k e
+  size-row op.LongSubtract s m ls k e = o-error (overflows (signed s.b -ℤ signed s.a -ℤ pos (carry s))) (unary_result (s.b ⊖ s.a ⊖ carry s) s) m ls k e
   size-row op.RunProcess s m ls k e = o-schedule s.a s m ls k e
   size-row op.ExtendToWord s m ls k e = went _ m ls k e
   size-row op.StoreByte s m ls k e = o-store_byte m _ _ _ ls k e (λ n f. went _ n ls k f)
@@ -206,14 +206,14 @@ module _ (words : WordKeepsTheSize) (bytes : ByteKeepsTheSize) (copies : CopyKee
   size-row op.AltEnd s m ls k e = o-read _ _ _ ls k e (λ x. went _ m ls k e)
   size-row op.And s m ls k e = went _ m ls k e
   size-row op.EnableSkip s m ls k e = leaves-if (s.a == 0) _ _ ls k (went s m ls k e) (o-store m (s.workspace ⊖ 12) ready (λ m. Went s m) ls k e (λ n f. went s n ls k f))
-  size-row op.MoveMessage s m ls k e = o-left (copied s.a m s.c s.b).0 s (copied s.a m s.c s.b).1 ls k (copies s.a m s.c s.b ∙ e)
+  size-row op.MoveMessage s m ls k e = o-plain_outcome (copied s.a m s.c s.b).0 s (copied s.a m s.c s.b).1 ls k (copies s.a m s.c s.b ∙ e)
   size-row op.Or s m ls k e = went _ m ls k e
   size-row op.CheckSingle s m ls k e = o-error (not (s.b == sign_of s.a)) (record s { b = s.c }) m ls k e
   size-row op.CheckCountFromOne s m ls k e = o-error (s.b == 0 || nat_lt s.a s.b) (drop s) m ls k e
   size-row op.LongDifference s m ls k e = went _ m ls k e
   size-row op.StoreHighBack s m ls k e = leaves-if (s.a == not_process) _ _ ls k (went (drop s) m ls k e) (stopped HighPriority m ls k e)
   size-row op.Sum s m ls k e = went _ m ls k e
-  size-row op.Multiply s m ls k e = o-error (product_checked s.b s.a).1 (bin (product_checked s.b s.a).0 s) m ls k e
+  size-row op.Multiply s m ls k e = o-error (product_checked s.b s.a).1 (binary_result (product_checked s.b s.a).0 s) m ls k e
   size-row op.StoreTimer s m ls k e = went _ m ls k e
   size-row op.StopOnError s m ls k e = leaves-if s.error _ _ ls k (o-wait s m ls k e) (went s m ls k e)
   size-row op.CheckWord s m ls k e = o-error (int_le (signed s.a) (signed s.b) || int_lt (signed s.b) (neg_ℤ (signed s.a))) (drop s) m ls k e
@@ -222,39 +222,39 @@ module _ (words : WordKeepsTheSize) (bytes : ByteKeepsTheSize) (copies : CopyKee
   size-row op.TestHaltOnError s m ls k e = went _ m ls k e
 
   -- replies: what operations on channels and services go on with
-  r-if : {A L : Type 0} (b : Bool) (x y : Reply A L) (k : ℕ) → Sized k x → Sized k y → Sized k (if b then x else y)
+  r-if : {A L : Type 0} (b : Bool) (x y : Completion A L) (k : ℕ) → Sized k x → Sized k y → Sized k (if b then x else y)
   r-if true x y k e f = e
   r-if false x y k e f = f
 
-  r-read : {A B L : Type 0} (r : Result B Fault) (l : L) (m : List ℕ) (next : B → Reply A L) (k : ℕ) → length m ≡ k → ((x : B) → Sized k (next x)) → Sized k (read_then r l m next)
+  r-read : {A B L : Type 0} (r : Result B Fault) (l : L) (m : List ℕ) (next : B → Completion A L) (k : ℕ) → length m ≡ k → ((x : B) → Sized k (next x)) → Sized k (read_then r l m next)
   r-read (Ok x) l m next k e f = f x
   r-read (Err fault) l m next k e f = record { size = e }
 
-  r-written : {A L : Type 0} (r : Result (List ℕ) Fault) (l : L) (m : List ℕ) (next : List ℕ → Reply A L) (k : ℕ) → ((n : List ℕ) → r ≡ Ok n → length n ≡ length m) → length m ≡ k
+  r-written : {A L : Type 0} (r : Result (List ℕ) Fault) (l : L) (m : List ℕ) (next : List ℕ → Completion A L) (k : ℕ) → ((n : List ℕ) → r ≡ Ok n → length n ≡ length m) → length m ≡ k
       → ((n : List ℕ) → length n ≡ k → Sized k (next n)) → Sized k (written_then r l m next)
   r-written (Ok n) l m next k h e f = f n (h n refl ∙ e)
   r-written (Err fault) l m next k h e f = record { size = e }
 
-  r-store : {A L : Type 0} (a w : ℕ) (l : L) (m : List ℕ) (next : List ℕ → Reply A L) (k : ℕ) → length m ≡ k → ((n : List ℕ) → length n ≡ k → Sized k (next n)) → Sized k (store_then a w l m next)
+  r-store : {A L : Type 0} (a w : ℕ) (l : L) (m : List ℕ) (next : List ℕ → Completion A L) (k : ℕ) → length m ≡ k → ((n : List ℕ) → length n ≡ k → Sized k (next n)) → Sized k (store_then a w l m next)
   r-store a w l m next k e f = r-written (with_word m a w) l m next k (λ n h. words m n a w h) e f
 
-  r-requeued : {A L : Type 0} (c : Change) (l : L) (next : Queue → List ℕ → Reply A L) (k : ℕ) → length (changed-memory c) ≡ k → ((q : Queue) (n : List ℕ) → length n ≡ k → Sized k (next q n)) → Sized k (requeued_then c l next)
+  r-requeued : {A L : Type 0} (c : Change) (l : L) (next : Queue → List ℕ → Completion A L) (k : ℕ) → length (changed-memory c) ≡ k → ((q : Queue) (n : List ℕ) → length n ≡ k → Sized k (next q n)) → Sized k (requeued_then c l next)
   unfolding changed-memory
   r-requeued (Changed q n) l next k e f = f q n e
   r-requeued (Kept fault q n) l next k e f = record { size = e }
 
-  r-put : {A L : Type 0} (w : ℕ) (l : L) (q : Queue) (m : List ℕ) (next : Queue → List ℕ → Reply A L) (k : ℕ) → length m ≡ k → ((q : Queue) (n : List ℕ) → length n ≡ k → Sized k (next q n)) → Sized k (put_then w l q m next)
+  r-put : {A L : Type 0} (w : ℕ) (l : L) (q : Queue) (m : List ℕ) (next : Queue → List ℕ → Completion A L) (k : ℕ) → length m ≡ k → ((q : Queue) (n : List ℕ) → length n ≡ k → Sized k (next q n)) → Sized k (put_then w l q m next)
   r-put w l q m next k e f = r-requeued (after_put q m w) l next k (size-put q m w ∙ e) f
 
-  r-moved : {A L : Type 0} (r : Result (Unit {0}) Fault) (l : L) (m : List ℕ) (next : List ℕ → Reply A L) (k : ℕ) → length m ≡ k → Sized k (next m) → Sized k (copied_then r l m next)
+  r-moved : {A L : Type 0} (r : Result (Unit {0}) Fault) (l : L) (m : List ℕ) (next : List ℕ → Completion A L) (k : ℕ) → length m ≡ k → Sized k (next m) → Sized k (copied_then r l m next)
   r-moved (Ok u) l m next k e f = f
   r-moved (Err fault) l m next k e f = record { size = e }
 
-  r-then : {A B L : Type 0} (r : Reply A L) (next : A → L → List ℕ → Reply B L) (k : ℕ) → Sized k r → ((x : A) (l : L) (m : List ℕ) → length m ≡ k → Sized k (next x l m)) → Sized k (reply_and_then r next)
+  r-then : {A B L : Type 0} (r : Completion A L) (next : A → L → List ℕ → Completion B L) (k : ℕ) → Sized k r → ((x : A) (l : L) (m : List ℕ) → length m ≡ k → Sized k (next x l m)) → Sized k (reply_and_then r next)
   r-then (Gave x l m) next k h f = f x l m h.size
   r-then (Halted fault l m) next k h f = record { size = h.size }
 
-  r-within : {A : Type 0} (n : LinkNumber) (ls : FourLinks) (r : Reply A Link) (k : ℕ) → Sized k r → Sized k (within n ls r)
+  r-within : {A : Type 0} (n : LinkNumber) (ls : FourLinks) (r : Completion A Link) (k : ℕ) → Sized k r → Sized k (within n ls r)
   r-within n ls (Gave x l m) k h = record { size = h.size }
   r-within n ls (Halted fault l m) k h = record { size = h.size }
 
@@ -268,7 +268,7 @@ module _ (words : WordKeepsTheSize) (bytes : ByteKeepsTheSize) (copies : CopyKee
   size-scheduled : {L : Type 0} (d : ℕ) (l : L) (q : Queue) (m : List ℕ) (k : ℕ) → length m ≡ k → Sized k (scheduled d l q m)
   size-scheduled d l q m k e = r-if _ _ _ k (gave _ l m k e) (r-if _ _ _ k (halted _ l m k e) (r-put (aligned d) l q m _ k e (λ q n f. gave _ l n k f)))
 
-  size-acted : (r : Reply (Unit {0} × Queue) Link) (k : ℕ) → Sized k r → Sized k (marked_acted r)
+  size-acted : (r : Completion (Unit {0} × Queue) Link) (k : ℕ) → Sized k r → Sized k (marked_acted r)
   size-acted r k h = r-then r _ k h (λ x l m f. gave _ l m k f)
 
   size-complete : (channel : ℕ) (l : Link) (q : Queue) (m : List ℕ) (k : ℕ) → length m ≡ k → Sized k (complete channel l q m)
@@ -285,7 +285,7 @@ module _ (words : WordKeepsTheSize) (bytes : ByteKeepsTheSize) (copies : CopyKee
 
   size-output_byte : (channel : ℕ) (l : Link) (q : Queue) (m : List ℕ) (k : ℕ) → length m ≡ k → Sized k (output_byte channel l q m)
   size-output_byte channel l q m k e =
-      r-if _ _ _ k (gave _ l m k e) (r-if _ _ _ k (size-acted _ k (size-complete channel (heard l) q m k e)) (r-read (byte_at m l.output_pointer) (heard l) m _ k e (λ byte. gave _ _ m k e)))
+      r-if _ _ _ k (gave _ l m k e) (r-if _ _ _ k (size-acted _ k (size-complete channel (acknowledge_cleared l) q m k e)) (r-read (byte_at m l.output_pointer) (acknowledge_cleared l) m _ k e (λ byte. gave _ _ m k e)))
 
   size-woken : (state v : ℕ) (l : Link) (q : Queue) (m : List ℕ) (k : ℕ) → length m ≡ k → Sized k (woken state v l q m)
   size-woken state v l q m k e =
@@ -363,7 +363,7 @@ module _ (words : WordKeepsTheSize) (bytes : ByteKeepsTheSize) (copies : CopyKee
   unfolding soft.soft_reset
   size-soft_reset channel ls m k e = r-read (word_at m channel) ls m _ k e (λ c. r-store _ _ ls m _ k e (λ m e. gave _ ls m k e))
 
-  size-with_queue : (q : Queue) (r : Reply Turn FourLinks) (k : ℕ) → Sized k r → Sized k (with_queue q r)
+  size-with_queue : (q : Queue) (r : Completion Turn FourLinks) (k : ℕ) → Sized k r → Sized k (with_queue q r)
   size-with_queue q (Gave turn ls m) k h = record { size = h.size }
   size-with_queue q (Halted fault ls m) k h = record { size = h.size }
 
@@ -404,7 +404,7 @@ module _ (words : WordKeepsTheSize) (bytes : ByteKeepsTheSize) (copies : CopyKee
   size-reset_at (channel.LinkOutput n) a ls m k e = r-then (soft.soft_reset a ls m) _ k (size-soft_reset a ls m k e) (λ c ls m e. gave _ _ m k e)
   size-reset_at channel.Event a ls m k e = halted _ ls m k e
 
-  size-message : (r : Reply (Turn × Queue) FourLinks) (s : Cpu) (k : ℕ) → Sized k r → Sized k (after_message r s)
+  size-message : (r : Completion (Turn × Queue) FourLinks) (s : Cpu) (k : ℕ) → Sized k r → Sized k (after_message r s)
   size-message r s k h = r-then r _ k h (λ x ls m e. gave _ ls m k e)
 
   size-send : (count : ℕ) (s : Cpu) (ls : FourLinks) (m : List ℕ) (k : ℕ) → length m ≡ k → Sized k (send count s ls m)
@@ -438,7 +438,7 @@ module _ (words : WordKeepsTheSize) (bytes : ByteKeepsTheSize) (copies : CopyKee
   size-direct LoadNonLocalPointer o s m ls k e = went _ m ls k e
   size-direct NegativePrefix o s m ls k e = went _ m ls k e
   size-direct LoadLocal o s m ls k e = o-read _ _ _ ls k e (λ x. went _ m ls k e)
-  size-direct AddConstant o s m ls k e = o-error (sum_checked s.a o).1 (un (sum_checked s.a o).0 s) m ls k e
+  size-direct AddConstant o s m ls k e = o-error (sum_checked s.a o).1 (unary_result (sum_checked s.a o).0 s) m ls k e
   size-direct Call o s m ls k e =
       o-store m _ _ _ ls k e (λ m e. o-store m _ _ _ ls k e (λ m e. o-store m _ _ _ ls k e (λ m e. o-store m _ _ _ ls k e (λ m e. went _ m ls k e))))
   size-direct ConditionalJump o s m ls k e = went _ m ls k e
@@ -454,7 +454,7 @@ module _ (words : WordKeepsTheSize) (bytes : ByteKeepsTheSize) (copies : CopyKee
   size-byte_answer (Gave s ls m) k h = h.size
   size-byte_answer (Halted fault ls m) k h = h.size
 
-  size-byte : (s : Cpu) (ls : FourLinks) (m : List ℕ) (k : ℕ) → length m ≡ k → length (answer-memory (byte_answer (upon ls (byte_done s m)))) ≡ k
+  size-byte : (s : Cpu) (ls : FourLinks) (m : List ℕ) (k : ℕ) → length m ≡ k → length (answer-memory (byte_answer (with_links ls (byte_done s m)))) ≡ k
   unfolding byte_done
   size-byte s ls m k e = size-byte_answer _ k (o-read (byte_at m s.instruction) m _ ls k e (λ byte. size-direct _ _ (fetched s) m ls k e)).sized
 
@@ -468,7 +468,7 @@ module _ (words : WordKeepsTheSize) (bytes : ByteKeepsTheSize) (copies : CopyKee
   size-going_on (Nobody s) marked_acted ls m k e = answer-if marked_acted _ _ k e e
   size-going_on (Lost fault) marked_acted ls m k e = e
 
-  size-after_service : (r : Reply (Bool × Queue) FourLinks) (s : Cpu) (k : ℕ) → Sized k r → length (answer-memory (after_service r s)) ≡ k
+  size-after_service : (r : Completion (Bool × Queue) FourLinks) (s : Cpu) (k : ℕ) → Sized k r → length (answer-memory (after_service r s)) ≡ k
   unfolding answer-memory
   size-after_service (Gave x ls m) s k h =
       answer-if s.running _ _ k (size-byte (record s { queue = x.1 }) ls m k h.size) (size-going_on (resumption (record s { queue = x.1 }) m) x.0 ls m k h.size)
@@ -491,16 +491,16 @@ module _ (words : WordKeepsTheSize) (bytes : ByteKeepsTheSize) (copies : CopyKee
   node-if true x y k e f = e
   node-if false x y k e f = f
 
-  size-loaded : (left end : ℕ) (link : LinkNumber) (m : List ℕ) (n : Node) (k : ℕ) → length m ≡ k → length (loaded_to left end link m n).memory ≡ k
-  size-loaded left end link m n k e = node-if (nat_lt 1 left) _ _ k e (size-freed 9 m ∙ e)
+  size-loaded : (plain_outcome end : ℕ) (link : LinkNumber) (m : List ℕ) (n : Node) (k : ℕ) → length m ≡ k → length (loaded_to plain_outcome end link m n).memory ≡ k
+  size-loaded plain_outcome end link m n k e = node-if (nat_lt 1 plain_outcome) _ _ k e (size-freed 9 m ∙ e)
 
   size-given : (task : Task) (byte : ℕ) (link : LinkNumber) (n : Node) → length (given task byte link n).memory ≡ length n.memory
-  size-given (Poke left address word) byte link n =
-      node-if (nat_lt 4 left) _ _ (length n.memory) refl (node-if (nat_lt 1 left) _ _ (length n.memory) refl
+  size-given (Poke plain_outcome address word) byte link n =
+      node-if (nat_lt 4 plain_outcome) _ _ (length n.memory) refl (node-if (nat_lt 1 plain_outcome) _ _ (length n.memory) refl
       (size-kept (with_word n.memory address (shifted_in byte word)) n.memory (λ k h. words n.memory k address (shifted_in byte word) h)))
-  size-given (Peek left address) byte link n = node-if (nat_lt 1 left) _ _ (length n.memory) refl refl
-  size-given (Load left address) byte link n =
-      size-loaded left (address ⊕ 1) link (or_kept (with_byte n.memory address byte) n.memory) n (length n.memory)
+  size-given (Peek plain_outcome address) byte link n = node-if (nat_lt 1 plain_outcome) _ _ (length n.memory) refl refl
+  size-given (Load plain_outcome address) byte link n =
+      size-loaded plain_outcome (address ⊕ 1) link (or_kept (with_byte n.memory address byte) n.memory) n (length n.memory)
       (size-kept (with_byte n.memory address byte) n.memory (λ k h. bytes n.memory k address byte h))
 
   size-fed : (byte : Option ℕ) (next : ℕ → Node) (n : Node) (k : ℕ) → length n.memory ≡ k → ((x : ℕ) → length (next x).memory ≡ k) → length (fed byte next n).0.memory ≡ k
@@ -521,11 +521,11 @@ module _ (words : WordKeepsTheSize) (bytes : ByteKeepsTheSize) (copies : CopyKee
   size-ran (Idle s ls m) = refl
   size-ran (Broke fault ls m) = refl
 
-  size-stepped : (st : State) (n : Node) → length (step_by_state st n).0.memory ≡ length n.memory
+  size-stepped : (st : NodeState) (n : Node) → length (step_by_state st n).0.memory ≡ length n.memory
   size-stepped WantsControl n = size-controlled (offered n.links) n
   size-stepped (Takes link task) n = size-fed (at link n.links).end.input.buffer _ n (length n.memory) refl (λ byte. size-given task byte link (record n { links = byte_taken link n.links }))
-  size-stepped (Answers link left word) n =
-      pair-if (not (at link n.links).end.output.acknowledged) _ _ (length n.memory) refl (pair-if (left == 0) _ _ (length n.memory) refl refl)
+  size-stepped (Answers link plain_outcome word) n =
+      pair-if (not (at link n.links).end.output.acknowledged) _ _ (length n.memory) refl (pair-if (plain_outcome == 0) _ _ (length n.memory) refl refl)
   size-stepped (Runs s) n = size-ran (step s n.links n.memory) ∙ size-step s n.links n.memory
   size-stepped (state.Halted fault) n = refl
 

@@ -3,11 +3,11 @@ use Rattle.std.specs.Prelude.{ℕ, List, Option, Some, None}
 use Rattle.link_channels.specs.declared.link.FourLinks.{FourLinks}
 use Rattle.t414_step.specs.declared.cpu.Cpu.{Cpu}
 use Rattle.bootstrap.specs.declared.node.Node.{Node}
-use Rattle.bootstrap.specs.declared.state.State.{State}
-use Rattle.bootstrap.specs.declared.state.State.TheVariants.{WantsControl, Takes, Answers, Runs, Halted}
+use Rattle.bootstrap.specs.declared.state.NodeState.{NodeState}
+use Rattle.bootstrap.specs.declared.state.NodeState.TheVariants.{WantsControl, Takes, Answers, Runs, Halted}
 
 -- the registers of what runs
-abbrev pub registers_of : State → Option Cpu
+abbrev pub registers_of : NodeState → Option Cpu
 registers_of (Runs registers) = Some registers
 registers_of WantsControl = None
 registers_of (Takes link task) = None

@@ -6,7 +6,7 @@ use Rattle.t414_step.specs.declared.stepping.Stepped.TheVariants as code
 use Rattle.bootstrap.specs.Step.{node_step, is_step_recorded, is_quiet}
 use Rattle.bootstrap.specs.Steps.{after_steps, IsAfter, last_answer}
 use Rattle.bootstrap.specs.declared.node.Node.{Node}
-use Rattle.bootstrap.specs.declared.state.State.TheVariants.{Halted}
+use Rattle.bootstrap.specs.declared.state.NodeState.TheVariants.{Halted}
 
 -- a Step that would not be recorded changes nothing
 abbrev pub QuietStepChangesNothing : Type 0

@@ -2,7 +2,7 @@
 use Rattle.std.specs.Prelude.{ℕ, replicate}
 use Rattle.link_channels.specs.Links.{fresh_links}
 use Rattle.bootstrap.specs.declared.node.Node.{Node}
-use Rattle.bootstrap.specs.declared.state.State.TheVariants.{WantsControl}
+use Rattle.bootstrap.specs.declared.state.NodeState.TheVariants.{WantsControl}
 
 -- memory is zero, nothing has happened at the links, and a control byte is wanted
 abbrev pub opened_node : ℕ → Node

@@ -6,11 +6,11 @@ use Rattle.bootstrap.specs.declared.node.Node.{Node}
 use Rattle.bootstrap.specs.declared.seen.Activity.{Activity}
 use Rattle.bootstrap.specs.declared.seen.Activity.TheVariants as activity
 use Rattle.bootstrap.specs.declared.seen.Seen.{Seen}
-use Rattle.bootstrap.specs.declared.state.State.{State}
-use Rattle.bootstrap.specs.declared.state.State.TheVariants.{WantsControl, Takes, Answers, Runs, Halted}
+use Rattle.bootstrap.specs.declared.state.NodeState.{NodeState}
+use Rattle.bootstrap.specs.declared.state.NodeState.TheVariants.{WantsControl, Takes, Answers, Runs, Halted}
 
 -- a node that runs is running if there is a current process or one in the queue, and else idle
-abbrev pub activity_of : State → Activity
+abbrev pub activity_of : NodeState → Activity
 activity_of WantsControl = activity.Booting
 activity_of (Takes link task) = activity.Booting
 activity_of (Answers link left word) = activity.Booting

@@ -4,7 +4,7 @@ use Rattle.std.specs.Prelude.{ℕ, ◌-◌, ◌/◌, ◌%◌, ◌^◌, ◌==◌,
 use Rattle.node_memory.specs.Bytes.{word_at, with_word, with_byte}
 use Rattle.node_memory.specs.Words.{◌⊕◌}
 use Rattle.node_memory.specs.declared.fault.Fault.{Fault}
-use Rattle.link_channels.specs.Links.{at, byte_posted, byte_taken, acknowledge_heard}
+use Rattle.link_channels.specs.Links.{at, byte_posted, byte_taken, acknowledge_cleared_at}
 use Rattle.link_channels.specs.declared.link.FourLinks.{FourLinks}
 use Rattle.link_channels.specs.declared.number.LinkNumber.{LinkNumber}
 use Rattle.link_channels.specs.declared.number.LinkNumber.TheVariants.{Zero, One, Two, Three}
@@ -15,8 +15,8 @@ use Rattle.t414_step.specs.declared.stepping.Stepped.TheVariants.{Ran, Idle}
 use Rattle.t414_step.specs.declared.stepping.Stepped.TheVariants as code
 use Rattle.bootstrap.specs.Boot.{code_start, or_kept, freed, shifted_in, begun}
 use Rattle.bootstrap.specs.declared.node.Node.{Node}
-use Rattle.bootstrap.specs.declared.state.State.{State}
-use Rattle.bootstrap.specs.declared.state.State.TheVariants.{WantsControl, Takes, Answers, Runs, Halted}
+use Rattle.bootstrap.specs.declared.state.NodeState.{NodeState}
+use Rattle.bootstrap.specs.declared.state.NodeState.TheVariants.{WantsControl, Takes, Answers, Runs, Halted}
 use Rattle.bootstrap.specs.declared.state.Task.{Task}
 use Rattle.bootstrap.specs.declared.state.Task.TheVariants.{Poke, Peek, Load}
 
@@ -77,8 +77,8 @@ given (Load left address) byte link n = loaded left address byte link n
 abbrev pub answer_continued : LinkNumber → ℕ → ℕ → Node → Node × Stepped
 answer_continued link left word n =
     if not (at link n.links).end.output.acknowledged then (n, Idle)
-    else (if left == 0 then (record n { links = acknowledge_heard link n.links; state = WantsControl }, Ran)
-    else (answering link (left - 1) word (record n { links = acknowledge_heard link n.links }), Ran))
+    else (if left == 0 then (record n { links = acknowledge_cleared_at link n.links; state = WantsControl }, Ran)
+    else (answering link (left - 1) word (record n { links = acknowledge_cleared_at link n.links }), Ran))
 
 -- a Step that takes a byte: Idle if there is none
 abbrev pub fed : Option ℕ → (ℕ → Node) → Node → Node × Stepped
@@ -102,7 +102,7 @@ ran (processor.Idle s ls m) = (record { memory = m; links = ls; state = Runs s }
 ran (processor.Broke fault ls m) = (record { memory = m; links = ls; state = Halted fault }, code.Fault fault)
 
 -- a Step, by what the node is doing
-abbrev pub step_by_state : State → Node → Node × Stepped
+abbrev pub step_by_state : NodeState → Node → Node × Stepped
 step_by_state WantsControl n = controlled (offered n.links) n
 step_by_state (Takes link task) n = feed link (λ byte k. given task byte link k) n
 step_by_state (Answers link left word) n = answer_continued link left word n
@@ -114,7 +114,7 @@ unfoldable pub node_step : Node → Node × Stepped
 node_step n = step_by_state n.state n
 
 -- a fault has halted the node
-abbrev pub has_halted : State → Bool
+abbrev pub has_halted : NodeState → Bool
 has_halted (Halted fault) = true
 has_halted WantsControl = false
 has_halted (Takes link task) = false

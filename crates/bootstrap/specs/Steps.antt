@@ -7,8 +7,8 @@ use Rattle.t414_step.specs.declared.stepping.Stepped.TheVariants as code
 use Rattle.bootstrap.specs.Step.{node_step, is_step_recorded, is_quiet}
 use Rattle.bootstrap.specs.declared.burst.Burst.{Burst}
 use Rattle.bootstrap.specs.declared.node.Node.{Node}
-use Rattle.bootstrap.specs.declared.state.State.{State}
-use Rattle.bootstrap.specs.declared.state.State.TheVariants.{Runs, Halted}
+use Rattle.bootstrap.specs.declared.state.NodeState.{NodeState}
+use Rattle.bootstrap.specs.declared.state.NodeState.TheVariants.{Runs, Halted}
 
 -- the node after so many Steps
 unfoldable pub after_steps : ℕ → Node → Node
@@ -37,7 +37,7 @@ abbrev pub running : Cpu → FourLinks → List ℕ → Node
 running s ls m = record { memory = m; links = ls; state = Runs s }
 
 -- what it does after its last answer: a fault has halted it
-abbrev pub state_after : Option Stepped → Cpu → State
+abbrev pub state_after : Option Stepped → Cpu → NodeState
 state_after None s = Runs s
 state_after (Some code.Ran) s = Runs s
 state_after (Some code.Idle) s = Runs s

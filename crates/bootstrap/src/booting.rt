@@ -5,7 +5,7 @@ ghost use Rattle.node_memory.specs.Bytes.{with_word, with_byte};
 ghost use Rattle.bootstrap.specs.Boot.{or_kept, freed, begun, shifted_in};
 
 use crate::node::Node;
-use crate::state::{State, Task};
+use crate::state::{NodeState, Task};
 use link_channels::LinkNumber;
 use node_memory::{MEMORY_START, Memory};
 use process_queue::{NOT_PROCESS, Queue};
@@ -106,7 +106,7 @@ impl Node {
         ensures state { self.new ≡ answering link left word self.old }
     {
         self.links.post(link, (word % 0x100) as u8);
-        self.state = State::Answers {
+        self.state = NodeState::Answers {
             link,
             left,
             word: word >> 8,
@@ -123,17 +123,17 @@ impl Node {
                 address: shifted_in(byte, address),
                 word,
             };
-            self.state = State::Takes { link, task };
+            self.state = NodeState::Takes { link, task };
         } else if left > 1 {
             let task = Task::Poke {
                 left: left - 1,
                 address,
                 word: shifted_in(byte, word),
             };
-            self.state = State::Takes { link, task };
+            self.state = NodeState::Takes { link, task };
         } else {
             store_inside(&mut self.memory, address, shifted_in(byte, word));
-            self.state = State::WantsControl;
+            self.state = NodeState::WantsControl;
         }
     }
 
@@ -147,7 +147,7 @@ impl Node {
                 left: left - 1,
                 address,
             };
-            self.state = State::Takes { link, task };
+            self.state = NodeState::Takes { link, task };
         } else {
             let word = self.memory.word(address).unwrap_or(0);
             self.post_next(link, 3, word);
@@ -165,10 +165,10 @@ impl Node {
                 left: left - 1,
                 address,
             };
-            self.state = State::Takes { link, task };
+            self.state = NodeState::Takes { link, task };
         } else {
             free_channels(&mut self.memory);
-            self.state = State::Runs(begun(link, address));
+            self.state = NodeState::Runs(begun(link, address));
         }
     }
 
@@ -195,7 +195,7 @@ impl Node {
             return Stepped::Idle;
         }
         if left == 0 {
-            self.state = State::WantsControl;
+            self.state = NodeState::WantsControl;
         } else {
             self.post_next(link, left - 1, word);
         }

@@ -4,7 +4,7 @@ ghost use Rattle.std.specs.Prelude.{◌≡◌};
 ghost use Rattle.bootstrap.specs.Steps.{IsBurst, running, left_by, state_after};
 
 use crate::node::Node;
-use crate::state::State;
+use crate::state::NodeState;
 use link_channels::{Links, services_act_on_work};
 use node_memory::Memory;
 use t414_step::{Cpu, Stepped, idle_where_it_rests, step};
@@ -44,12 +44,12 @@ fn run(cpu: &mut Cpu, memory: &mut Memory, links: &mut Links, n: u64) -> Burst
 }
 
 // What a node does whose processor answered so last: a fault has halted it.
-fn state_after(last: Option<Stepped>, cpu: Cpu) -> State
+fn state_after(last: Option<Stepped>, cpu: Cpu) -> NodeState
     ensures answer { result ≡ state_after last cpu }
 {
     match last {
-        Some(Stepped::Fault(fault)) => State::Halted(fault),
-        Some(Stepped::Ran | Stepped::Idle) | None => State::Runs(cpu),
+        Some(Stepped::Fault(fault)) => NodeState::Halted(fault),
+        Some(Stepped::Ran | Stepped::Idle) | None => NodeState::Runs(cpu),
     }
 }
 
@@ -61,7 +61,7 @@ impl Node {
     {
         let mut last = None;
         for steps in 0..n {
-            if let State::Runs(cpu) = self.state {
+            if let NodeState::Runs(cpu) = self.state {
                 // All that is left to do is done by the processor, which never boots again. Its registers are locals.
                 let mut cpu = cpu;
                 let ran = run(&mut cpu, &mut self.memory, &mut self.links, n - steps);

@@ -3,7 +3,7 @@
 ghost use Rattle.std.specs.Prelude.{◌≡◌};
 
 use crate::node::Node;
-use crate::state::State;
+use crate::state::NodeState;
 use link_channels::Links;
 use node_memory::Memory;
 use t414_step::Cpu;
@@ -18,7 +18,7 @@ impl Node {
         Node {
             memory,
             links,
-            state: State::Runs(registers),
+            state: NodeState::Runs(registers),
         }
     }
 
@@ -27,7 +27,7 @@ impl Node {
         ensures answer { result ≡ registers_of self.now.state }
     {
         match self.state {
-            State::Runs(registers) => Some(registers),
+            NodeState::Runs(registers) => Some(registers),
             _ => None,
         }
     }

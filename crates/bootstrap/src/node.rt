@@ -2,7 +2,7 @@
 
 ghost use Rattle.std.specs.Prelude.{◌≡◌, ◌↔◌};
 
-use crate::state::State;
+use crate::state::NodeState;
 use link_channels::{LinkNumber, Links};
 use node_memory::{Memory, NoMemory};
 use os_link::Packet;
@@ -13,7 +13,7 @@ use std::alloc::Global;
 pub struct Node {
     pub(crate) memory: Memory,
     pub(crate) links: Links,
-    pub(crate) state: State,
+    pub(crate) state: NodeState,
 }
 
 impl Node {
@@ -33,7 +33,7 @@ impl Node {
         Ok(Node {
             memory: Memory::new(alloc, memory)?,
             links: Links::new(),
-            state: State::WantsControl,
+            state: NodeState::WantsControl,
         })
     }
 
@@ -44,7 +44,7 @@ impl Node {
         ensures state { self.new ≡ restarted self.old }
     {
         self.links = Links::new();
-        self.state = State::WantsControl;
+        self.state = NodeState::WantsControl;
     }
 
     /// Makes memory zero, and resets: the node is as it was opened.
@@ -82,13 +82,13 @@ impl Node {
     }
 
     /// Whether two nodes are equal, whatever led to them.
-    pub fn same(&self, other: &Node) -> bool
-        ensures same { IsTrue result → self.now ≡ other.now }
+    pub fn equals(&self, other: &Node) -> bool
+        ensures equal { IsTrue result → self.now ≡ other.now }
         ensures different { self.now ≡ other.now → IsTrue result }
     {
         self.state == other.state
-            && self.links.same(&other.links)
-            && self.memory.same(&other.memory)
+            && self.links.equals(&other.links)
+            && self.memory.equals(&other.memory)
     }
 
     /// The packet that leaves a link next, which stays. A node that halted has its packets too.

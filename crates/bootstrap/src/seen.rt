@@ -3,7 +3,7 @@
 ghost use Rattle.std.specs.Prelude.{◌≡◌};
 
 use crate::node::Node;
-use crate::state::State;
+use crate::state::NodeState;
 use node_memory::Fault;
 use process_queue::NOT_PROCESS;
 
@@ -37,10 +37,12 @@ impl Node {
         ensures answer { result ≡ seen self.now }
     {
         let state = match &self.state {
-            State::WantsControl | State::Takes { .. } | State::Answers { .. } => Activity::Booting,
-            State::Runs(cpu) if cpu.running || cpu.queue.front != NOT_PROCESS => Activity::Running,
-            State::Runs(_) => Activity::Idle,
-            State::Halted(fault) => Activity::Halted(*fault),
+            NodeState::WantsControl | NodeState::Takes { .. } | NodeState::Answers { .. } =>
+                Activity::Booting,
+            NodeState::Runs(cpu) if cpu.running || cpu.queue.front != NOT_PROCESS =>
+                Activity::Running,
+            NodeState::Runs(_) => Activity::Idle,
+            NodeState::Halted(fault) => Activity::Halted(*fault),
         };
         let links = self.links.four();
         Seen {

@@ -21,7 +21,7 @@ pub enum Task {
 ///
 /// Source: Transputer Reference Manual, bootstrapping.
 #[derive(Clone, Copy, Debug, PartialEq, Eq)]
-pub enum State {
+pub enum NodeState {
     /// It waits for a control byte.
     WantsControl,
     /// It takes bytes from the link that gave the control byte.

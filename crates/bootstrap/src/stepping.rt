@@ -3,7 +3,7 @@
 ghost use Rattle.std.specs.Prelude.{◌≡◌};
 
 use crate::node::Node;
-use crate::state::{State, Task};
+use crate::state::{NodeState, Task};
 use process_queue::NOT_PROCESS;
 use t414_step::{Stepped, idle_where_it_rests, step};
 
@@ -23,7 +23,7 @@ impl Node {
         ensures answer { (self.new, result) ≡ node_step self.old }
     {
         match &mut self.state {
-            State::WantsControl => {
+            NodeState::WantsControl => {
                 let Some(link) = self.offered() else {
                     return Stepped::Idle;
                 };
@@ -31,10 +31,10 @@ impl Node {
                     return Stepped::Idle;
                 };
                 let task = Task::of(byte);
-                self.state = State::Takes { link, task };
+                self.state = NodeState::Takes { link, task };
                 Stepped::Ran
             }
-            State::Takes { link, task } => {
+            NodeState::Takes { link, task } => {
                 let (link, task) = (*link, *task);
                 let Some(byte) = self.links.take_byte(link) else {
                     return Stepped::Idle;
@@ -42,18 +42,18 @@ impl Node {
                 self.give(link, task, byte);
                 Stepped::Ran
             }
-            State::Answers { link, left, word } => {
+            NodeState::Answers { link, left, word } => {
                 let (link, left, word) = (*link, *left, *word);
                 self.answer(link, left, word)
             }
-            State::Runs(cpu) => {
+            NodeState::Runs(cpu) => {
                 let stepped = step(cpu, &mut self.memory, &mut self.links);
                 if let Stepped::Fault(fault) = stepped {
-                    self.state = State::Halted(fault);
+                    self.state = NodeState::Halted(fault);
                 }
                 stepped
             }
-            State::Halted(fault) => Stepped::Fault(*fault),
+            NodeState::Halted(fault) => Stepped::Fault(*fault),
         }
     }
 
@@ -66,13 +66,13 @@ impl Node {
         // A step is idle only if there is nothing to run and no link has work.
         idle_where_it_rests();
         match &self.state {
-            State::WantsControl => self.offered().is_none(),
-            State::Takes { link, .. } => self.links.at(*link).end.input.buffer.is_none(),
-            State::Answers { link, .. } => !self.links.at(*link).end.output.acknowledged,
-            State::Runs(cpu) => {
+            NodeState::WantsControl => self.offered().is_none(),
+            NodeState::Takes { link, .. } => self.links.at(*link).end.input.buffer.is_none(),
+            NodeState::Answers { link, .. } => !self.links.at(*link).end.output.acknowledged,
+            NodeState::Runs(cpu) => {
                 !cpu.running && cpu.queue.front == NOT_PROCESS && !self.links.has_work()
             }
-            State::Halted(_) => true,
+            NodeState::Halted(_) => true,
         }
     }
 }

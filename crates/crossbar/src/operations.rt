@@ -84,7 +84,7 @@ pub fn enquire<O: Outputs>(outputs: &mut O, output: u8) -> Option<u8>
     requires { output < length (O.ports outputs.old) }
     ensures input { result ≡ pairs.get (private_at (O.ports outputs.old) (O.words outputs.old)).pairs output }
     ensures below { IfSome result (λ input. input < 32) }
-    ensures same { IsUntouched (O.ports outputs.old) (O.ports outputs.new) (O.words outputs.old) (O.words outputs.new) }
+    ensures unchanged { IsUntouched (O.ports outputs.old) (O.ports outputs.new) (O.words outputs.old) (O.words outputs.new) }
 {
     let port = driver_of(outputs, output)?;
     outputs.virtual_of(port)
@@ -113,7 +113,7 @@ fn driver(word: Word) -> Option<u8>
 pub fn is_ready<O: Outputs>(outputs: &mut O, output: u8) -> bool
     requires { output < length (O.ports outputs.old) }
     ensures ready { result ≡ ready.contains (private_at (O.ports outputs.old) (O.words outputs.old)).ready output }
-    ensures same { IsUntouched (O.ports outputs.old) (O.ports outputs.new) (O.words outputs.old) (O.words outputs.new) }
+    ensures unchanged { IsUntouched (O.ports outputs.old) (O.ports outputs.new) (O.words outputs.old) (O.words outputs.new) }
 {
     says_ready(outputs.read(output))
 }
@@ -166,7 +166,7 @@ pub fn clear<O: Outputs>(outputs: &mut O)
 pub fn driven_by<O: Outputs>(outputs: &mut O, input: u8) -> u32
     requires { input < length (O.ports outputs.old) }
     ensures bits { (q : ℕ) → bit_at result q ≡ (if drives (private_at (O.ports outputs.old) (O.words outputs.old)) input q then 1 else 0) }
-    ensures same { IsUntouched (O.ports outputs.old) (O.ports outputs.new) (O.words outputs.old) (O.words outputs.new) }
+    ensures unchanged { IsUntouched (O.ports outputs.old) (O.ports outputs.new) (O.words outputs.old) (O.words outputs.new) }
 {
     let port = outputs.physical(input);
     let mut driven = 0;

@@ -134,7 +134,7 @@ length_told t ticket = ap (λ (o : Option Stepped). length (steps_told t.number 
 room_for : (before steps limit : ℕ) → before + steps ≤ limit → (now same : ℕ) → now ≡ before + steps → same ≡ limit → now ≤ same
 room_for before steps limit room now same long is = omega (arith, room, long, is)
 
--- a domain to which a ticket came home is still its journal
+-- a domain to which a ticket was committed is still its journal
 pub meant_committed : RecordedStepRan → (d : DomainValue) (t : TicketValue) (m : MachineValue) (entries : List Entry)
     → IsMeant d → IsTicket t → is_there d.machine.part (step_of t.number) ≡ true → slice_get d.machine.devices.nodes t.number ≡ Some t.start
     → length (expanded d.journal) + t.steps ≤ d.machine.part.limit

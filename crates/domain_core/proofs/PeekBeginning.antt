@@ -10,8 +10,8 @@ use Rattle.link_channels.specs.declared.number.LinkNumber.{LinkNumber}
 use Rattle.bootstrap.specs.Messages.{bytes_of_word}
 use Rattle.bootstrap.specs.Opening.{opened_node}
 use Rattle.bootstrap.specs.declared.node.Node.{Node}
-use Rattle.bootstrap.specs.declared.state.State as doing
-use Rattle.bootstrap.specs.declared.state.State.TheVariants.{WantsControl}
+use Rattle.bootstrap.specs.declared.state.NodeState as doing
+use Rattle.bootstrap.specs.declared.state.NodeState.TheVariants.{WantsControl}
 use Rattle.domain_core.specs.Hosts.{HostState}
 use Rattle.domain_core.specs.Hosts.{opened_host}
 use Rattle.domain_core.specs.Devices.{DeviceStates, node_at, host_at}
@@ -52,7 +52,7 @@ heard_at link n = (at link n.links).end.output.acknowledged
 pub listens-is : (link : LinkNumber) (n : Node) → Listens link n → n ≡ with_end link (listening (lost_at link n) (heard_at link n)) WantsControl n
 listens-is link n l =
     sym (own-end link n)
-    ∙ ap (λ (x : doing.State). with_end link (at link n.links).end x n) l.state
+    ∙ ap (λ (x : doing.NodeState). with_end link (at link n.links).end x n) l.state
     ∙ ap (λ (x : LinkEnd). with_end link x WantsControl n) (end-rests (at link n.links).end l.latch (l.buffers link) l.output)
 
 -- the node once its link knows of none

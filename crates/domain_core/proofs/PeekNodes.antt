@@ -12,8 +12,8 @@ use Rattle.t414_step.specs.declared.stepping.Stepped.TheVariants.{Ran}
 use Rattle.bootstrap.specs.Boot.{shifted_in}
 use Rattle.bootstrap.specs.Step.{node_step, task_of, or_zero}
 use Rattle.bootstrap.specs.declared.node.Node.{Node}
-use Rattle.bootstrap.specs.declared.state.State.{State}
-use Rattle.bootstrap.specs.declared.state.State.TheVariants.{WantsControl, Takes, Answers}
+use Rattle.bootstrap.specs.declared.state.NodeState.{NodeState}
+use Rattle.bootstrap.specs.declared.state.NodeState.TheVariants.{WantsControl, Takes, Answers}
 use Rattle.bootstrap.specs.declared.state.Task.TheVariants.{Peek}
 use Rattle.domain_core.specs.Peek.{quieted}
 use Rattle.domain_core.proofs.PeekPlaces.{packet_sent, packet_got}
@@ -53,7 +53,7 @@ acknowledging e = record e { latch = record e.latch { acknowledge = true } }
 
 -- ---- the node with this end at its link, in this state
 
-abbrev pub with_end : LinkNumber → LinkEnd → State → Node → Node
+abbrev pub with_end : LinkNumber → LinkEnd → NodeState → Node → Node
 with_end link e state n = record { memory = n.memory; links = with_link link (record (at link n.links) { end = e }) n.links; state = state }
 
 pub own-end : (link : LinkNumber) (n : Node) → with_end link (at link n.links).end n.state n ≡ n
@@ -62,19 +62,19 @@ own-end One n = refl
 own-end Two n = refl
 own-end Three n = refl
 
-pub end-there : (link : LinkNumber) (e : LinkEnd) (state : State) (n : Node) → (at link (with_end link e state n).links).end ≡ e
+pub end-there : (link : LinkNumber) (e : LinkEnd) (state : NodeState) (n : Node) → (at link (with_end link e state n).links).end ≡ e
 end-there Zero e state n = refl
 end-there One e state n = refl
 end-there Two e state n = refl
 end-there Three e state n = refl
 
-pub got-end : (link : LinkNumber) (e : LinkEnd) (state : State) (n : Node) (packet : Packet) → packet_got link packet (with_end link e state n) ≡ with_end link (arrived packet e) state n
+pub got-end : (link : LinkNumber) (e : LinkEnd) (state : NodeState) (n : Node) (packet : Packet) → packet_got link packet (with_end link e state n) ≡ with_end link (arrived packet e) state n
 got-end Zero e state n packet = refl
 got-end One e state n packet = refl
 got-end Two e state n packet = refl
 got-end Three e state n packet = refl
 
-pub sent-end : (link : LinkNumber) (e : LinkEnd) (state : State) (n : Node) → packet_sent link (with_end link e state n) ≡ with_end link (record e { latch = without_next e.latch }) state n
+pub sent-end : (link : LinkNumber) (e : LinkEnd) (state : NodeState) (n : Node) → packet_sent link (with_end link e state n) ≡ with_end link (record e { latch = without_next e.latch }) state n
 sent-end Zero e state n = refl
 sent-end One e state n = refl
 sent-end Two e state n = refl
@@ -131,7 +131,7 @@ last-answer-step Three n overruns word = refl
 
 -- ---- the node once its link knows of no acknowledge
 
-pub quieted-end : (link : LinkNumber) (overruns : ℕ) (heard : Bool) (state : State) (n : Node) → quieted link (with_end link (listening overruns heard) state n) ≡ with_end link (resting overruns) state n
+pub quieted-end : (link : LinkNumber) (overruns : ℕ) (heard : Bool) (state : NodeState) (n : Node) → quieted link (with_end link (listening overruns heard) state n) ≡ with_end link (resting overruns) state n
 quieted-end Zero overruns heard state n = refl
 quieted-end One overruns heard state n = refl
 quieted-end Two overruns heard state n = refl

@@ -27,33 +27,33 @@ use Rattle.domain_core.specs.Devices.{DeviceStates, device_at, node_at, host_at,
 use Rattle.domain_core.specs.Machine.{Machine, with_devices, acted, is_recorded}
 use Rattle.domain_core.specs.Moves.{driven, moved}
 use Rattle.domain_core.specs.PrivateFarm.{State, Call, is_known, is_there, next}
-use Rattle.domain_core.specs.Peek.{Route, CanPeek, packet_passed, node_ran}
+use Rattle.domain_core.specs.Peek.{PeekRoute, CanPeek, packet_passed, node_ran}
 use Rattle.domain_core.proofs.PeekBounds.{driven-below, node-below}
 use Rattle.domain_core.proofs.PeekCalls.{next-recorded}
 
 -- ---- devices in their places
 
 -- the devices with this host and this node in place of those on the route
-abbrev pub placed : Route → DeviceStates → HostState → Node → DeviceStates
+abbrev pub placed : PeekRoute → DeviceStates → HostState → Node → DeviceStates
 placed r d h n = with_host r.host h (with_node r.node n d)
 
-node-placed : (r : Route) (d : DeviceStates) (h : HostState) (n : Node) → r.node < length d.nodes → node_at (placed r d h n) r.node ≡ n
+node-placed : (r : PeekRoute) (d : DeviceStates) (h : HostState) (n : Node) → r.node < length d.nodes → node_at (placed r d h n) r.node ≡ n
 node-placed r d h n lt = get_or-set_same d.nodes r.node n (opened_node 0) lt
 
-host-placed : (r : Route) (d : DeviceStates) (h : HostState) (n : Node) → r.host < length d.hosts → host_at (placed r d h n) r.host ≡ h
+host-placed : (r : PeekRoute) (d : DeviceStates) (h : HostState) (n : Node) → r.host < length d.hosts → host_at (placed r d h n) r.host ≡ h
 host-placed r d h n lt = get_or-set_same d.hosts r.host h opened_host lt
 
-node-replaced : (r : Route) (d : DeviceStates) (h : HostState) (n m : Node) → with_node r.node m (placed r d h n) ≡ placed r d h m
+node-replaced : (r : PeekRoute) (d : DeviceStates) (h : HostState) (n m : Node) → with_node r.node m (placed r d h n) ≡ placed r d h m
 node-replaced r d h n m = rw (set-set d.nodes r.node n m) refl
 
-host-replaced : (r : Route) (d : DeviceStates) (h g : HostState) (n : Node) → with_host r.host g (placed r d h n) ≡ placed r d g n
+host-replaced : (r : PeekRoute) (d : DeviceStates) (h g : HostState) (n : Node) → with_host r.host g (placed r d h n) ≡ placed r d g n
 host-replaced r d h g n = rw (set-set d.hosts r.host h g) refl
 
-host-taken : (r : Route) (d : DeviceStates) (h : HostState) (n : Node) → r.host < length d.hosts → taken_from_device (Host r.host) (placed r d h n) ≡ placed r d (packet_left h) n
+host-taken : (r : PeekRoute) (d : DeviceStates) (h : HostState) (n : Node) → r.host < length d.hosts → taken_from_device (Host r.host) (placed r d h n) ≡ placed r d (packet_left h) n
 host-taken r d h n lt =
     ap (λ (g : HostState). with_host r.host (packet_left g) (placed r d h n)) (host-placed r d h n lt) ∙ host-replaced r d h (packet_left h) n
 
-host-arrived : (r : Route) (d : DeviceStates) (h : HostState) (n : Node) (packet : Packet) → r.host < length d.hosts
+host-arrived : (r : PeekRoute) (d : DeviceStates) (h : HostState) (n : Node) (packet : Packet) → r.host < length d.hosts
     → arrived_at_device packet (Some (Host r.host)) (placed r d h n) ≡ placed r d (delivered packet h) n
 host-arrived r d h n packet lt =
     ap (λ (g : HostState). with_host r.host (delivered packet g) (placed r d h n)) (host-placed r d h n lt) ∙ host-replaced r d h (delivered packet h) n
@@ -65,11 +65,11 @@ packet_sent link n = record n { links = packet_taken link n.links }
 abbrev pub packet_got : LinkNumber → Packet → Node → Node
 packet_got link packet n = record n { links = packet_arrived link packet n.links }
 
-node-taken : (r : Route) (d : DeviceStates) (h : HostState) (n : Node) → r.node < length d.nodes → taken_from_device (Link r.node r.link) (placed r d h n) ≡ placed r d h (packet_sent r.link n)
+node-taken : (r : PeekRoute) (d : DeviceStates) (h : HostState) (n : Node) → r.node < length d.nodes → taken_from_device (Link r.node r.link) (placed r d h n) ≡ placed r d h (packet_sent r.link n)
 node-taken r d h n lt =
     ap (λ (m : Node). with_node r.node (packet_sent r.link m) (placed r d h n)) (node-placed r d h n lt) ∙ node-replaced r d h n (packet_sent r.link n)
 
-node-arrived : (r : Route) (d : DeviceStates) (h : HostState) (n : Node) (packet : Packet) → r.node < length d.nodes
+node-arrived : (r : PeekRoute) (d : DeviceStates) (h : HostState) (n : Node) (packet : Packet) → r.node < length d.nodes
     → arrived_at_device packet (Some (Link r.node r.link)) (placed r d h n) ≡ placed r d h (packet_got r.link packet n)
 node-arrived r d h n packet lt =
     ap (λ (m : Node). with_node r.node (packet_got r.link packet m) (placed r d h n)) (node-placed r d h n lt) ∙ node-replaced r d h n (packet_got r.link packet n)
@@ -95,7 +95,7 @@ moved-across part s d port output from to packet e f drives ready waits = rw (e,
 pub record Peeking : Type 0 where
   pub part : PartData
   pub by : By
-  pub route : Route
+  pub route : PeekRoute
   pub address : ℕ
   pub start : State
   pub known : is_known part by ≡ true

@@ -7,7 +7,7 @@ use Rattle.os_link.specs.End.{arrived, without_next, next_of}
 use Rattle.t414_step.specs.declared.stepping.Stepped.TheVariants.{Ran}
 use Rattle.bootstrap.specs.Step.{node_step, has_halted}
 use Rattle.bootstrap.specs.declared.node.Node.{Node}
-use Rattle.bootstrap.specs.declared.state.State as doing
+use Rattle.bootstrap.specs.declared.state.NodeState as doing
 use Rattle.domain_core.specs.declared.event.Event.TheVariants.{Step, Move}
 use Rattle.domain_core.specs.Hosts.{HostState, delivered, packet_left, sending_on, is_full}
 use Rattle.domain_core.specs.PrivateFarm.{State, Answer, Call, next}
@@ -27,7 +27,7 @@ abbrev pub host_resting : List ℕ → List ℕ → ℕ → HostState
 host_resting sending received overruns = host_of sending received (resting overruns)
 
 -- the state so many events later, where the link of this node has this end and the node does this
-abbrev pub reached : Peeking → ℕ → HostState → LinkEnd → doing.State → Node → State
+abbrev pub reached : Peeking → ℕ → HostState → LinkEnd → doing.NodeState → Node → State
 reached p count h e state n = standing p count h (with_end p.route.link e state n)
 
 -- the calls of a round, and their answers
@@ -44,21 +44,21 @@ abbrev pub answers_back : List Answer
 answers_back = packet_passed ∷ packet_passed ∷ node_ran ∷ []
 
 -- a Move of the host
-host-sends : (p : Peeking) (count : ℕ) (h : HostState) (e : LinkEnd) (state : doing.State) (n : Node) (packet : Packet) → count < 27 → next_of h.end.latch ≡ Some packet
+host-sends : (p : Peeking) (count : ℕ) (h : HostState) (e : LinkEnd) (state : doing.NodeState) (n : Node) (packet : Packet) → count < 27 → next_of h.end.latch ≡ Some packet
     → next p.part (reached p count h e state n) (asked p.by (Move p.route.host_port)) ≡ (reached p (count + 1) (packet_left h) (arrived packet e) state n, packet_passed)
 host-sends p count h e state n packet lt waits =
     host-moves p count h (with_end p.route.link e state n) packet lt waits
     ∙ ap (λ (m : Node). (standing p (count + 1) (packet_left h) m, packet_passed)) (got-end p.route.link e state n packet)
 
 -- a Move of the link
-link-sends : (p : Peeking) (count : ℕ) (h : HostState) (e : LinkEnd) (state : doing.State) (n : Node) (packet : Packet) → count < 27 → next_of e.latch ≡ Some packet
+link-sends : (p : Peeking) (count : ℕ) (h : HostState) (e : LinkEnd) (state : doing.NodeState) (n : Node) (packet : Packet) → count < 27 → next_of e.latch ≡ Some packet
     → next p.part (reached p count h e state n) (asked p.by (Move p.route.link_port)) ≡ (reached p (count + 1) (delivered packet h) (record e { latch = without_next e.latch }) state n, packet_passed)
 link-sends p count h e state n packet lt waits =
     link-moves p count h (with_end p.route.link e state n) packet lt (ap (λ (x : LinkEnd). next_of x.latch) (end-there p.route.link e state n) ∙ waits)
     ∙ ap (λ (m : Node). (standing p (count + 1) (delivered packet h) m, packet_passed)) (sent-end p.route.link e state n)
 
 -- a byte of the message: the node takes it, and the host posts the next, if there is one
-pub round-there : (p : Peeking) (count byte : ℕ) (rest received : List ℕ) (overruns lost : ℕ) (heard : Bool) (latched : Option ℕ) (awaits known later : Bool) (before after : doing.State) (n : Node)
+pub round-there : (p : Peeking) (count byte : ℕ) (rest received : List ℕ) (overruns lost : ℕ) (heard : Bool) (latched : Option ℕ) (awaits known later : Bool) (before after : doing.NodeState) (n : Node)
     → count + 3 ≤ 27 → has_halted before ≡ false
     → node_step (with_end p.route.link (holding byte lost known) before n) ≡ (with_end p.route.link (end_of latched true None lost awaits later) after n, Ran)
     → Leads p.part (reached p count (host_posting byte rest received overruns heard) (listening lost known) before n) (calls_there p) answers_there
@@ -74,7 +74,7 @@ round-there p count byte rest received overruns lost heard latched awaits known 
     (leads-none p.part _)))
 
 -- a byte of the word: the host takes it, and the node hears the acknowledge
-pub round-back : (p : Peeking) (count byte : ℕ) (received : List ℕ) (overruns lost : ℕ) (e : LinkEnd) (before after : doing.State) (n : Node)
+pub round-back : (p : Peeking) (count byte : ℕ) (received : List ℕ) (overruns lost : ℕ) (e : LinkEnd) (before after : doing.NodeState) (n : Node)
     → count + 3 ≤ 27 → has_halted before ≡ false → is_full received ≡ false
     → node_step (with_end p.route.link (acknowledged lost) before n) ≡ (with_end p.route.link e after n, Ran)
     → Leads p.part (reached p count (host_resting [] received overruns) (posting byte lost) before n) (calls_back p) answers_back

@@ -7,8 +7,8 @@ use Rattle.node_memory.specs.Bytes.{word_at}
 use Rattle.t414_step.specs.declared.stepping.Stepped.TheVariants.{Ran}
 use Rattle.bootstrap.specs.Boot.{shifted_in}
 use Rattle.bootstrap.specs.Step.{or_zero, node_step, has_halted}
-use Rattle.bootstrap.specs.declared.state.State as doing
-use Rattle.bootstrap.specs.declared.state.State.TheVariants.{WantsControl, Takes, Answers}
+use Rattle.bootstrap.specs.declared.state.NodeState as doing
+use Rattle.bootstrap.specs.declared.state.NodeState.TheVariants.{WantsControl, Takes, Answers}
 use Rattle.bootstrap.specs.declared.state.Task.TheVariants.{Peek}
 use Rattle.domain_core.specs.Hosts.{HostState, is_full}
 use Rattle.domain_core.specs.PrivateFarm.{State}
@@ -47,7 +47,7 @@ message-goes p =
     let overruns : ℕ = (first_host p).end.input.overruns in
     let lost : ℕ = first_lost p in
     let heard : Bool = first_heard p in
-    let takes : ℕ → ℕ → doing.State = λ left address. Takes p.route.link (Peek left address) in
+    let takes : ℕ → ℕ → doing.NodeState = λ left address. Takes p.route.link (Peek left address) in
     let word : ℕ = word_of p in
     leads-on p.part _ _ _ _ _ _ _
     (round-there p 0 1 (first ∷ second ∷ third ∷ fourth ∷ []) received overruns lost (first_host p).end.output.acknowledged None false heard heard WantsControl (takes 4 0) (first_node p) (omega arith) refl
@@ -78,7 +78,7 @@ has-room xs ys few room =
 abbrev pub with_bytes : Peeking → List ℕ → HostState
 with_bytes p bytes = host_resting [] ((first_host p).received ++ bytes) (first_host p).end.input.overruns
 
-byte-comes : (p : Peeking) (count byte : ℕ) (bytes : List ℕ) (e : LinkEnd) (before after : doing.State) → count + 3 ≤ 27 → has_halted before ≡ false → length bytes < 4
+byte-comes : (p : Peeking) (count byte : ℕ) (bytes : List ℕ) (e : LinkEnd) (before after : doing.NodeState) → count + 3 ≤ 27 → has_halted before ≡ false → length bytes < 4
     → node_step (with_end p.route.link (acknowledged (first_lost p)) before (first_node p)) ≡ (with_end p.route.link e after (first_node p), Ran)
     → Leads p.part (reached p count (with_bytes p bytes) (posting byte (first_lost p)) before (first_node p)) (calls_back p) answers_back
     (reached p (count + 1 + 1 + 1) (with_bytes p (bytes ++ byte ∷ [])) e after (first_node p))

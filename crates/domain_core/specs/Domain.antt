@@ -33,7 +33,7 @@ gained part s call (Ok reply) =
     if is_recorded part s.machine call.event then record { call = call; reply = reply } ∷ [] else []
 gained part s call (Err refusal) = []
 
--- a fact, but for want of memory
+-- a fact, unless memory ran out
 abbrev pub UnlessNoMemory : Answer → Type 0 → Type 0
 UnlessNoMemory (Ok reply) P = P
 UnlessNoMemory (Err NoSuch) P = P

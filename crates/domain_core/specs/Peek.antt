@@ -4,7 +4,7 @@ use Rattle.std.specs.Prelude.{ℕ, zero, suc, ◌+◌, ◌<◌, ◌≤◌, ◌^�
 use Rattle.std.specs.FinSet as set
 use Rattle.os_link.specs.End.{fresh_end}
 use Rattle.os_link.specs.declared.end.LinkEnd.{LinkEnd}
-use Rattle.link_channels.specs.Links.{at, acknowledge_heard}
+use Rattle.link_channels.specs.Links.{at, acknowledge_cleared_at}
 use Rattle.link_channels.specs.declared.number.LinkNumber.{LinkNumber}
 use Rattle.node_memory.specs.Bytes.{word_at}
 use Rattle.crossbar.specs.Switch.{Switch}
@@ -12,7 +12,7 @@ use Rattle.t414_step.specs.declared.stepping.Stepped.TheVariants.{Ran}
 use Rattle.bootstrap.specs.Messages.{bytes_of_word}
 use Rattle.bootstrap.specs.Step.{or_zero}
 use Rattle.bootstrap.specs.declared.node.Node.{Node}
-use Rattle.bootstrap.specs.declared.state.State.TheVariants.{WantsControl}
+use Rattle.bootstrap.specs.declared.state.NodeState.TheVariants.{WantsControl}
 use Rattle.plan_rules.specs.Part.{PartData}
 use Rattle.domain_core.specs.declared.device.Device.TheVariants.{Host, Link}
 use Rattle.domain_core.specs.declared.event.By.{By}
@@ -27,7 +27,7 @@ use Rattle.domain_core.specs.Moves.{driven}
 use Rattle.domain_core.specs.PrivateFarm.{State, Answer, Call, is_known, answers, after}
 
 -- a host and a link of a node, each with the port that it is joined to
-pub record Route : Type 0 where
+pub record PeekRoute : Type 0 where
   pub host : ℕ
   pub host_port : ℕ
   pub node : ℕ
@@ -37,12 +37,12 @@ pub record Route : Type 0 where
 -- ---- where a peek may begin
 
 -- the part has both devices at their ports
-pub record HasRoute (part : PartData) (r : Route) : Type 0 where
+pub record HasRoute (part : PartData) (r : PeekRoute) : Type 0 where
   pub host_device : device_at part r.host_port ≡ Some (Host r.host)
   pub link_device : device_at part r.link_port ≡ Some (Link r.node r.link)
 
 -- each port drives the other alone, and both outputs are ready
-pub record IsOpen (part : PartData) (s : Switch) (r : Route) : Type 0 where
+pub record IsOpen (part : PartData) (s : Switch) (r : PeekRoute) : Type 0 where
   pub there : driven part s r.host_port ≡ r.link_port ∷ []
   pub back : driven part s r.link_port ≡ r.host_port ∷ []
   pub host_ready : set.contains s.ready r.host_port ≡ true
@@ -69,7 +69,7 @@ pub record Listens (link : LinkNumber) (n : Node) : Type 0 where
   pub output : (at link n.links).end.output.awaits ≡ false
 
 -- the machine has both devices, the host asks for the word, the node listens, and 27 events have room
-pub record CanPeek (part : PartData) (r : Route) (address : ℕ) (s : State) : Type 0 where
+pub record CanPeek (part : PartData) (r : PeekRoute) (address : ℕ) (s : State) : Type 0 where
   pub route : HasRoute part r
   pub switch : IsOpen part s.machine.switch r
   pub host : r.host < length s.machine.devices.hosts
@@ -87,15 +87,15 @@ repeated zero xs = []
 repeated (suc count) xs = xs ++ repeated count xs
 
 -- a byte goes from the host to the node, which takes it, and the acknowledge goes back
-abbrev pub byte_there : Route → List Event
+abbrev pub byte_there : PeekRoute → List Event
 byte_there r = Move r.host_port ∷ Step r.node ∷ Move r.link_port ∷ []
 
 -- a byte goes from the node to the host, and the acknowledge goes back to the node, which takes it
-abbrev pub byte_back : Route → List Event
+abbrev pub byte_back : PeekRoute → List Event
 byte_back r = Move r.link_port ∷ Move r.host_port ∷ Step r.node ∷ []
 
 -- the five bytes of the message, and the four of the word
-abbrev pub peek_calls : By → Route → List Call
+abbrev pub peek_calls : By → PeekRoute → List Call
 peek_calls by r = map (λ event. record { by = by; event = event }) (repeated 5 (byte_there r) ++ repeated 4 (byte_back r))
 
 -- ---- what comes of them
@@ -127,22 +127,22 @@ word_bytes n address = bytes_of_word (or_zero (word_at n.memory address))
 
 -- a node whose link no longer knows of an acknowledge that came
 abbrev pub quieted : LinkNumber → Node → Node
-quieted link n = record n { links = acknowledge_heard link n.links }
+quieted link n = record n { links = acknowledge_cleared_at link n.links }
 
 -- the machine after a peek: the host was told the word, the link knows of no acknowledge, and all else is as before, so
 -- the node wants a control byte again
-abbrev pub after_peek : Route → ℕ → Machine → Machine
+abbrev pub after_peek : PeekRoute → ℕ → Machine → Machine
 after_peek r address m =
     let n = node_at m.devices r.node in
     let h = host_at m.devices r.host in
     with_devices (with_host r.host (host_after_peek (word_bytes n address) h) (with_node r.node (quieted r.link n) m.devices)) m
 
 -- the events leave just that, each is recorded, and no packet is lost or stays
-pub record Peeks (part : PartData) (by : By) (r : Route) (address : ℕ) (s : State) : Type 0 where
+pub record Peeks (part : PartData) (by : By) (r : PeekRoute) (address : ℕ) (s : State) : Type 0 where
   pub state : after part s (peek_calls by r) ≡ record { machine = after_peek r address s.machine; recorded = s.recorded + 27 }
   pub answers : answers part s (peek_calls by r) ≡ peek_answers
 
 -- a host that asks a node which listens is told the word, whoever asks for the events
 abbrev pub PeekAnswersTheWord : Type 0
 PeekAnswersTheWord =
-    (part : PartData) (by : By) (r : Route) (address : ℕ) (s : State) → is_known part by ≡ true → CanPeek part r address s → Peeks part by r address s
+    (part : PartData) (by : By) (r : PeekRoute) (address : ℕ) (s : State) → is_known part by ≡ true → CanPeek part r address s → Peeks part by r address s

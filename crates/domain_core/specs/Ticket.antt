@@ -1,4 +1,4 @@
--- A ticket: a node that was copied from its home, and the Steps that the copy has done since.
+-- A ticket: a node that was copied, and the Steps that the copy has done since.
 use Rattle.std.specs.Prelude.{ℕ, ◌+◌, ◌<◌, ◌≤◌, ◌^◌, ◌≡◌, ◌⊎◌, true, List, [], ◌++◌, Option, Some, None, slice_get}
 use Rattle.t414_step.specs.declared.stepping.Stepped.{Stepped}
 use Rattle.bootstrap.specs.declared.node.Node.{Node}
@@ -12,7 +12,7 @@ use Rattle.domain_core.specs.Journal.{AnsweredCall, expanded, steps}
 
 -- what contracts see of a ticket
 pub record TicketValue : Type 0 where
-  -- the numbers of the home's domain and node
+  -- the numbers of its domain and its node there
   pub domain : ℕ
   pub number : ℕ
   -- the home node at the checkout, and the copy now
@@ -49,15 +49,15 @@ pub record Bursts (n : ℕ) (t u : TicketValue) : Type 0 where
   pub start : u.start ≡ t.start
 
 -- the home node is there, and is the ticket's start
-abbrev pub IsHome : DomainValue → TicketValue → Type 0
-IsHome d t = slice_get d.machine.devices.nodes t.number ≡ Some t.start
+abbrev pub IsCurrent : DomainValue → TicketValue → Type 0
+IsCurrent d t = slice_get d.machine.devices.nodes t.number ≡ Some t.start
 
 -- the ticket's Steps, for which the farm asked
 abbrev pub steps_told : ℕ → ℕ → Option Stepped → List AnsweredCall
 steps_told node count None = []
 steps_told node count (Some last) = steps Farm node count last
 
--- the node comes home and the journal gains just the ticket's Steps; all else stays
+-- the copy is put in the node's place and the journal gains just the ticket's Steps; all else stays
 pub record Commits (d : DomainValue) (t : TicketValue) (e : DomainValue) : Type 0 where
   pub devices : e.machine.devices ≡ with_node t.number t.node d.machine.devices
   pub journal : expanded e.journal ≡ expanded d.journal ++ steps_told t.number t.steps t.last

@@ -203,14 +203,14 @@ impl Devices {
         self.nodes.get(usize::from(number))
     }
 
-    /// Brings a ticket's node home.
-    pub(crate) fn take_home(&mut self, ticket: &mut Ticket)
+    /// Puts a ticket's copy in its node's place.
+    pub(crate) fn commit_node(&mut self, ticket: &mut Ticket)
         requires there { ticket.old.number < length self.old.nodes }
         requires start { node_at self.old ticket.old.number ≡ ticket.old.start }
         ensures home { self.new ≡ with_node ticket.old.number ticket.old.node self.old }
         ensures spent { ticket.new ≡ fresh_ticket ticket.old.domain ticket.old.number ticket.old.start }
     {
         let number = usize::from(ticket.number());
-        ticket.come_home(&mut self.nodes[number]);
+        ticket.commit_to(&mut self.nodes[number]);
     }
 }

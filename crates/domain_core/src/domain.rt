@@ -13,12 +13,12 @@ ghost use Rattle.domain_core.specs.MachineValue.{machine_of};
 ghost use Rattle.domain_core.specs.PrivateFarm.{opening};
 ghost use Rattle.domain_core.specs.Journal.{expanded};
 ghost use Rattle.domain_core.specs.Domain.{state_of, IsMeant, IsCalled, IsPastLimit, Fits, IsQuiet};
-ghost use Rattle.domain_core.specs.Ticket.{IsHome, Commits, fresh_ticket};
+ghost use Rattle.domain_core.specs.Ticket.{IsCurrent, Commits, fresh_ticket};
 
 use crate::NoMemory;
 use crate::event::{By, Event, Refusal, Reply};
 use crate::journal::Journal;
-use crate::machine::{Acted, Machine};
+use crate::machine::{Acted, RunningMachine};
 use crate::moves::has_moved;
 use crate::ticket::Ticket;
 use bootstrap::Node;
@@ -31,7 +31,7 @@ use std::marker::Model;
 /// What became of a ticket.
 #[derive(Clone, Copy, Debug, PartialEq, Eq)]
 pub enum Committed {
-    /// The node came home, and its Steps are in the journal.
+    /// The copy is in the node's place, and its Steps are in the journal.
     Done,
     /// The home node isn't the ticket's start, or isn't there. Nothing has changed.
     Stale,
@@ -42,7 +42,7 @@ pub enum Committed {
 /// domain alone comes by the same events, which it answers alike.
 #[derive(Drop)]
 pub struct Domain<O: Outputs> {
-    machine: Machine<O>,
+    machine: RunningMachine<O>,
     journal: Journal,
     recorded: u64,
 }
@@ -74,7 +74,7 @@ impl<O: Outputs + Drop> Domain<O> {
         ensures ports { IfOk result (λ d. d.machine.switch.ports ≡ O.ports outputs) }
         ensures words { IfOk result (λ d. d.machine.switch.words ≡ O.words outputs) }
     {
-        let machine = Machine::open(alloc, part, outputs)?;
+        let machine = RunningMachine::open(alloc, part, outputs)?;
         Ok(Domain {
             machine,
             journal: Journal::new(alloc),
@@ -93,14 +93,14 @@ impl<O: Outputs + Drop> Domain<O> {
     /// many nodes as the part.
     ///
     /// The call does nothing: its contract is the law.
-    pub fn meant(&self)
+    pub fn meant_law(&self)
         ensures journal { IsMeant self.now }
         ensures row { AreWordsOf self.now.machine.switch.ports self.now.machine.switch.words }
         ensures count { length self.now.machine.switch.ports ≡ self.now.machine.part.count }
         ensures nodes { length self.now.machine.devices.nodes ≡ length self.now.machine.part.nodes }
     {
         // A machine has the ports and nodes of its part.
-        self.machine.of_part();
+        self.machine.of_part_law();
     }
 
     /// Answers an event as a farm does that holds the domain alone.
@@ -117,7 +117,7 @@ impl<O: Outputs + Drop> Domain<O> {
     {
         // Words that stay count no change.
         unchanged_words_count_nothing();
-        if !self.machine.has(by, event) {
+        if !self.machine.has_target(by, event) {
             return Err(Refusal::NoSuch);
         }
         if self.recorded == self.machine.part().limit() {
@@ -171,7 +171,7 @@ impl<O: Outputs + Drop> Domain<O> {
     /// Whether no Step and no Move would be recorded, the limit aside. Nothing changes.
     pub fn quiet(&mut self) -> bool
         ensures quiet { IsTrue result ↔ IsQuiet self.old.machine.part (machine_of self.old.machine) }
-        ensures same { self.new ≡ self.old }
+        ensures unchanged { self.new ≡ self.old }
     {
         self.machine.quiet()
     }
@@ -196,7 +196,7 @@ impl<O: Outputs + Drop> Domain<O> {
         requires { output < self.old.machine.part.count }
         ensures word { slice_get self.old.machine.switch.words output ≡ Some result }
         ensures row { AreWordsOf self.old.machine.switch.ports self.old.machine.switch.words }
-        ensures same { self.new ≡ self.old }
+        ensures unchanged { self.new ≡ self.old }
     {
         self.machine.word(output)
     }
@@ -214,7 +214,7 @@ impl<O: Outputs + Drop> Domain<O> {
         ensures { IsTrue result ↔ Fits plan.now number self.now }
     {
         number < plan.domains()
-            && self.machine.part().same(plan.part(number))
+            && self.machine.part().equals(plan.part(number))
             && self.machine.is_at(plan.ports(number))
     }
 
@@ -293,34 +293,34 @@ impl<O: Outputs + Drop> Domain<O> {
         Ok(Ticket::put(slot, domain, node, self.home(node)?)?)
     }
 
-    /// Brings a ticket's node home, where the home node is still the ticket's start, and records its
+    /// Puts a ticket's copy in its node's place, if the home node is still the ticket's start, and records its
     /// Steps, for which the farm asked. The ticket is spent in each case.
     ///
     /// `Stale` where the home node isn't the start or isn't there; else `JournalFull` where the
     /// recorded events and the ticket's Steps pass the limit; else `NoMemory` where the journal can't
     /// grow. In each of these nothing has changed.
     pub fn commit(&mut self, mut ticket: Ticket) -> Result<Committed, Refusal>
-        ensures stale { (result ≡ Ok Stale) ↔ ¬ IsHome self.old ticket }
-        ensures full { (result ≡ Err JournalFull) ↔ (IsHome self.old ticket × IsPastLimit self.old ticket.steps) }
+        ensures stale { (result ≡ Ok Stale) ↔ ¬ IsCurrent self.old ticket }
+        ensures full { (result ≡ Err JournalFull) ↔ (IsCurrent self.old ticket × IsPastLimit self.old ticket.steps) }
         ensures no_such { result ≢ Err NoSuch }
         ensures done { result ≡ Ok Done → Commits self.old ticket self.new }
-        ensures same { result ≢ Ok Done → self.new ≡ self.old }
+        ensures unchanged { result ≢ Ok Done → self.new ≡ self.old }
     {
-        self.bring_home(&mut ticket)
+        self.commit_lent(&mut ticket)
     }
 
-    /// As [`Domain::commit`], but the ticket is lent. If its node came home it is a ticket of no Steps
+    /// As [`Domain::commit`], but the ticket is lent. If it was committed it is a ticket of no Steps
     /// of its start, and else what it was.
     // Six clauses: those of `commit`, and what becomes of the ticket.
-    pub fn bring_home(&mut self, ticket: &mut Ticket) -> Result<Committed, Refusal>
-        ensures stale { (result ≡ Ok Stale) ↔ ¬ IsHome self.old ticket.old }
-        ensures full { (result ≡ Err JournalFull) ↔ (IsHome self.old ticket.old × IsPastLimit self.old ticket.old.steps) }
+    pub fn commit_lent(&mut self, ticket: &mut Ticket) -> Result<Committed, Refusal>
+        ensures stale { (result ≡ Ok Stale) ↔ ¬ IsCurrent self.old ticket.old }
+        ensures full { (result ≡ Err JournalFull) ↔ (IsCurrent self.old ticket.old × IsPastLimit self.old ticket.old.steps) }
         ensures no_such { result ≢ Err NoSuch }
         ensures done { result ≡ Ok Done → Commits self.old ticket.old self.new }
         ensures spent { result ≡ Ok Done → ticket.new ≡ fresh_ticket ticket.old.domain ticket.old.number ticket.old.start }
-        ensures same { result ≢ Ok Done → (self.new ≡ self.old) × (ticket.new ≡ ticket.old) }
+        ensures unchanged { result ≢ Ok Done → (self.new ≡ self.old) × (ticket.new ≡ ticket.old) }
     {
-        if !self.machine.is_home(ticket) {
+        if !self.machine.is_current(ticket) {
             return Ok(Committed::Stale);
         }
         if self.machine.part().limit() - self.recorded < ticket.steps() {
@@ -335,11 +335,11 @@ impl<O: Outputs + Drop> Domain<O> {
         // A recorded Step that leaves a node which can step again ran.
         bootstrap::recorded_step_ran();
         // A ticket's node is its start after its Steps.
-        ticket.stepped();
+        ticket.stepped_law();
         let number = ticket.number();
         let steps = ticket.steps();
         let last = ticket.last();
-        self.machine.take_home(ticket);
+        self.machine.commit_node(ticket);
         journal.entries.push_ticket(number, steps, last);
         self.recorded += steps;
         Ok(Committed::Done)

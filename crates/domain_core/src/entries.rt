@@ -92,7 +92,7 @@ impl SmallEntry {
     fn extend_run(&mut self, by: By, node: u8, count: u64, last: Stepped) -> bool
         requires { (before : ℕ) → self.old ≡ Run by node Ran before → before + count ≤ 2 ^ 40 }
         ensures grown { IsTrue result → (before : ℕ) × (self.old ≡ Run by node Ran before) × (self.new ≡ Run by node last (before + count)) }
-        ensures same { ¬ IsTrue result → self.new ≡ self.old }
+        ensures unchanged { ¬ IsTrue result → self.new ≡ self.old }
     {
         if let SmallEntry::Run {
             by: asked,
@@ -181,7 +181,7 @@ impl Entries {
     /// Reserves memory for one more entry that is no look.
     pub(crate) fn reserve(&mut self) -> Result<(), NoMemory>
         ensures room { IfOk result (λ _. 0 < self.new.room) }
-        ensures same { self.new.entries ≡ self.old.entries }
+        ensures unchanged { self.new.entries ≡ self.old.entries }
     {
         self.small.reserve(1)
     }
@@ -190,7 +190,7 @@ impl Entries {
     pub(crate) fn reserve_for(&mut self, event: Event) -> Result<(), NoMemory>
         ensures room { IfOk result (λ _. 0 < self.new.room) }
         ensures look_room { IfOk result (λ _. HasRoomToLook event self.new.look_room) }
-        ensures same { self.new.entries ≡ self.old.entries }
+        ensures unchanged { self.new.entries ≡ self.old.entries }
     {
         if let Event::Look(_) = event {
             self.seen.reserve(1)?;
@@ -261,7 +261,7 @@ impl Entries {
         requires some { 0 < count }
         requires few { length (expanded self.old.entries) + count ≤ 2 ^ 40 }
         ensures grown { IsTrue result → expanded self.new.entries ≡ expanded self.old.entries ++ steps by node count last }
-        ensures same { ¬ IsTrue result → self.new ≡ self.old }
+        ensures unchanged { ¬ IsTrue result → self.new ≡ self.old }
     {
         let Some(entry) = self.small.last_mut() else {
             return false;

@@ -38,14 +38,14 @@ pub(crate) struct Acted {
 
 /// A domain's switch, nodes and hosts, with its part and the device of each port.
 #[derive(Drop)]
-pub(crate) struct Machine<O: Outputs> {
+pub(crate) struct RunningMachine<O: Outputs> {
     part: Part,
     switch: VirtualSwitch<O>,
     devices: Devices,
     table: DeviceTable,
 }
 
-impl<O: Outputs> Model for Machine<O> {
+impl<O: Outputs> Model for RunningMachine<O> {
     ghost use Rattle.domain_core.specs.MachineValue.{MachineValue, IsOfPart, AreJoined};
 
     ghost Value = { MachineValue };
@@ -55,10 +55,10 @@ impl<O: Outputs> Model for Machine<O> {
     ghost invariant = { λ m. IsOfPart (record { part = m.part; switch = m.switch; devices = m.devices }) × AreJoined m.part m.table };
 }
 
-impl<O: Outputs + Drop> Machine<O> {
+impl<O: Outputs + Drop> RunningMachine<O> {
     /// A machine as it is opened.
     // Six clauses: what outputs may be given, and each part of the machine that is opened.
-    pub(crate) fn open(alloc: Global, part: Part, outputs: O) -> Result<Machine<O>, NoMemory>
+    pub(crate) fn open(alloc: Global, part: Part, outputs: O) -> Result<RunningMachine<O>, NoMemory>
         requires count { length (O.ports outputs) ≡ part.count }
         requires cleared { switch_of (O.words outputs) ≡ cleared }
         ensures state { IfOk result (λ m. machine_of m ≡ fresh_machine part) }
@@ -68,7 +68,7 @@ impl<O: Outputs + Drop> Machine<O> {
     {
         let devices = Devices::open(alloc, &part)?;
         let table = table_of(&part);
-        Ok(Machine {
+        Ok(RunningMachine {
             part,
             switch: VirtualSwitch::new(outputs),
             devices,
@@ -94,13 +94,13 @@ impl<O: Outputs + Drop> Machine<O> {
     }
 
     /// The words are a row of the ports, which are as many as the part's count, and the nodes are as many as the part's.
-    pub(crate) fn of_part(&self)
+    pub(crate) fn of_part_law(&self)
         ensures row { AreWordsOf self.now.switch.ports self.now.switch.words }
         ensures count { length self.now.switch.ports ≡ self.now.part.count }
         ensures nodes { length self.now.devices.nodes ≡ length self.now.part.nodes }
     {
         // The words of a switch are a row of its ports.
-        self.switch.row();
+        self.switch.row_law();
     }
 
     /// Whether a Step of a node would not be recorded.
@@ -112,7 +112,7 @@ impl<O: Outputs + Drop> Machine<O> {
     }
 
     /// Whether he who asks is known, and the host, node or port of his event is there for him.
-    pub(crate) fn has(&self, by: By, event: Event) -> bool
+    pub(crate) fn has_target(&self, by: By, event: Event) -> bool
         ensures there { result ≡ is_there self.now.part (record { by = by; event = event }) }
         ensures named { result ≡ true → IsIn self.now.part event }
     {
@@ -184,7 +184,7 @@ impl<O: Outputs + Drop> Machine<O> {
                 Reply::Stepped(self.devices.step(node))
             }
             Event::Move(port) => {
-                let moved = self.pass(port);
+                let moved = self.move_packet(port);
                 recorded = has_moved(moved);
                 Reply::Moved(moved)
             }
@@ -195,7 +195,7 @@ impl<O: Outputs + Drop> Machine<O> {
     /// Whether no Step and no Move would be recorded.
     pub(crate) fn quiet(&mut self) -> bool
         ensures quiet { IsTrue result ↔ IsQuiet self.old.part (machine_of self.old) }
-        ensures same { self.new ≡ self.old }
+        ensures unchanged { self.new ≡ self.old }
     {
         self.devices.are_quiet() && self.ports_are_quiet()
     }
@@ -203,7 +203,7 @@ impl<O: Outputs + Drop> Machine<O> {
     // Whether no Move would be recorded.
     fn ports_are_quiet(&mut self) -> bool
         ensures quiet { IsTrue result ↔ PortsAreQuiet self.old.part (machine_of self.old) }
-        ensures same { self.new ≡ self.old }
+        ensures unchanged { self.new ≡ self.old }
     {
         for port in 0..self.part.count() {
             if !self.port_is_quiet(port) {
@@ -217,7 +217,7 @@ impl<O: Outputs + Drop> Machine<O> {
     pub(crate) fn port_is_quiet(&mut self, port: u8) -> bool
         requires { port < self.old.part.count }
         ensures quiet { result ≡ not (is_recorded self.old.part (machine_of self.old) (SpecEvent.Move port)) }
-        ensures same { self.new ≡ self.old }
+        ensures unchanged { self.new ≡ self.old }
     {
         !has_moved(self.route(port).answer())
     }
@@ -227,7 +227,7 @@ impl<O: Outputs + Drop> Machine<O> {
         requires { output < self.old.part.count }
         ensures word { slice_get self.old.switch.words output ≡ Some result }
         ensures row { AreWordsOf self.old.switch.ports self.old.switch.words }
-        ensures same { self.new ≡ self.old }
+        ensures unchanged { self.new ≡ self.old }
     {
         self.switch.word(output)
     }
@@ -261,8 +261,8 @@ impl<O: Outputs + Drop> Machine<O> {
         self.devices.node(number)
     }
 
-    /// Whether the home of a ticket is there, and is the ticket's start.
-    pub(crate) fn is_home(&self, ticket: &Ticket) -> bool
+    /// Whether the home node of a ticket is there, and is the ticket's start.
+    pub(crate) fn is_current(&self, ticket: &Ticket) -> bool
         ensures home { IsTrue result ↔ (slice_get self.now.devices.nodes ticket.now.number ≡ Some ticket.now.start) }
         ensures there { result ≡ true → ticket.now.number < length self.now.part.nodes }
     {
@@ -272,15 +272,15 @@ impl<O: Outputs + Drop> Machine<O> {
         }
     }
 
-    /// Brings a ticket's node home, whose memory is of the size of its start's.
-    pub(crate) fn take_home(&mut self, ticket: &mut Ticket)
+    /// Puts a ticket's copy in its node's place. Its memory is of the size of its start's.
+    pub(crate) fn commit_node(&mut self, ticket: &mut Ticket)
         requires there { ticket.old.number < length self.old.devices.nodes }
         requires start { node_at self.old.devices ticket.old.number ≡ ticket.old.start }
         requires size { length ticket.old.node.memory ≡ length ticket.old.start.memory }
         ensures home { self.new ≡ record self.old { devices = with_node ticket.old.number ticket.old.node self.old.devices } }
         ensures spent { ticket.new ≡ fresh_ticket ticket.old.domain ticket.old.number ticket.old.start }
     {
-        self.devices.take_home(ticket);
+        self.devices.commit_node(ticket);
     }
 
     /// What a Move of a port would do. Nothing changes.
@@ -289,7 +289,7 @@ impl<O: Outputs + Drop> Machine<O> {
         ensures answer { route_answer result ≡ (moved self.old.part (private_of self.old.switch) self.old.devices port).1 }
         ensures leaves { route_leaves self.old.part result self.old.devices ≡ (moved self.old.part (private_of self.old.switch) self.old.devices port).0 }
         ensures device { HasItsDevice self.old.devices result }
-        ensures same { self.new ≡ self.old }
+        ensures unchanged { self.new ≡ self.old }
     {
         let Some(device) = self.table[usize::from(port)] else {
             return Route::Nothing;
@@ -329,7 +329,7 @@ impl<O: Outputs + Drop> Machine<O> {
     }
 
     // Moves the packet that waits at a port.
-    fn pass(&mut self, port: u8) -> Moved
+    fn move_packet(&mut self, port: u8) -> Moved
         requires { port < self.old.part.count }
         ensures answer { result ≡ (moved self.old.part (private_of self.old.switch) self.old.devices port).1 }
         ensures devices { self.new.devices ≡ (moved self.old.part (private_of self.old.switch) self.old.devices port).0 }

@@ -92,7 +92,7 @@ fn fate_with<O: Outputs>(
     requires there { output < length switch.old.ports }
     ensures answer { (xs : List ℕ) → fate_answer before ≡ outcome (private_of switch.old) xs →
         fate_answer result ≡ outcome (private_of switch.old) (xs ++ marked_in outputs (output ∷ [])) }
-    ensures same { switch.new ≡ switch.old }
+    ensures unchanged { switch.new ≡ switch.old }
 {
     if !is_marked(outputs, output) {
         return before;
@@ -111,7 +111,7 @@ fn fate_with<O: Outputs>(
 pub(crate) fn fate_of<O: Outputs>(switch: &mut VirtualSwitch<O>, outputs: u32) -> Fate
     requires { length switch.old.ports ≤ 32 }
     ensures answer { fate_answer result ≡ outcome (private_of switch.old) (marked_in outputs (range_with_len 0 (length switch.old.ports))) }
-    ensures same { switch.new ≡ switch.old }
+    ensures unchanged { switch.new ≡ switch.old }
 {
     let mut fate = Fate::Lost;
     for output in 0..switch.count() {

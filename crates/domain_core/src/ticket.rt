@@ -53,7 +53,7 @@ impl Ticket {
         })
     }
 
-    // Makes it a ticket of no Steps of a home whose memory is of the size of its own; whether it is. Else nothing
+    // Makes it a ticket of no Steps of a node whose memory is of the size of its own; whether it is. Else nothing
     // changes. No memory is allocated.
     fn renew(&mut self, domain: u8, number: u8, home: &Node) -> bool
         ensures renewed { IsTrue result → self.new ≡ fresh_ticket domain number home.now }
@@ -70,7 +70,7 @@ impl Ticket {
         true
     }
 
-    // Makes the ticket of a slot one of no Steps of this home. It is made in place of the one that lies there if it can
+    // Makes the ticket of a slot one of no Steps of this node. It is made in place of the one that lies there if it can
     // be. After `NoMemory` the slot is what it was.
     pub(crate) fn put(
         slot: &mut Option<Ticket>,
@@ -134,7 +134,7 @@ impl Ticket {
     /// The copy is its start after the Steps since, each of which would be recorded.
     ///
     /// The call does nothing: its contract is the law.
-    pub fn stepped(&self)
+    pub fn stepped_law(&self)
         ensures { IsTicket self.now }
     {
         let _ = &self.node;
@@ -144,11 +144,11 @@ impl Ticket {
     pub(crate) fn starts_at(&self, home: &Node) -> bool
         ensures { IsTrue result ↔ (home.now ≡ self.now.start) }
     {
-        home.same(&self.start)
+        home.equals(&self.start)
     }
 
-    // Puts the copy in the place of its home, which is the start, and takes that for it: it is a ticket of no Steps then.
-    pub(crate) fn come_home(&mut self, home: &mut Node)
+    // Puts the copy in the place of the home node, which is the start, and takes that for it: it is a ticket of no Steps then.
+    pub(crate) fn commit_to(&mut self, home: &mut Node)
         requires { home.old ≡ self.old.start }
         ensures home { home.new ≡ self.old.node }
         ensures spent { self.new ≡ fresh_ticket self.old.domain self.old.number self.old.start }

@@ -33,7 +33,7 @@ pub told_nothing : (plan : List Place) (calls : List (ℕ × Call)) (domains : L
     → IsToldSoFar plan [] calls calls domains
 told_nothing plan calls domains places made = record { farm = whole_opening plan; places = places; made = made; told_is = refl }
 
--- an answer that isn't want of memory
+-- an answer that isn't NoMemory
 pub but_for_memory : (told : Answer) {P : Type 0} → (told ≡ Err NoMemory → ⊥) → UnlessNoMemory told P → P
 but_for_memory (Ok reply) not p = p
 but_for_memory (Err NoSuch) not p = p

@@ -60,7 +60,7 @@ called_at domains later domain old new call told is called =
     subst (λ found. IsCalledAt call told found (slice_get later domain)) (sym is.there)
     (subst (λ found. IsCalledAt call told (Some old) found) (sym (new_at domains later domain old new is)) called)
 
--- what holds of each answer but want of memory, by what the domain alone says
+-- what holds of each answer but NoMemory, by what the domain alone says
 unless_no_memory : (told : Answer) {P Q R : Type 0} → (P → Q → R) → UnlessNoMemory told P → UnlessNoMemory told Q → UnlessNoMemory told R
 unless_no_memory (Ok reply) make p q = make p q
 unless_no_memory (Err NoSuch) make p q = make p q

@@ -15,7 +15,7 @@ use Rattle.domain_core.specs.declared.journal.Entry.{Entry}
 use Rattle.domain_core.specs.PrivateFarm.{State, Answer, Call, opening}
 use Rattle.domain_core.specs.Domain.{DomainValue, state_of, Fits, IsCalled}
 use Rattle.domain_core.specs.Journal.{expanded}
-use Rattle.domain_core.specs.Ticket.{TicketValue, IsHome, Commits}
+use Rattle.domain_core.specs.Ticket.{TicketValue, IsCurrent, Commits}
 use Rattle.farm_core.specs.Places.{Place}
 use Rattle.farm_core.specs.Whole.{Farm, whole_next}
 use Rattle.farm_core.specs.Projection.{lowered_for}
@@ -65,10 +65,10 @@ IsCallOfEachWhole domain call told old new = (farm : Farm) → IsMadeOfDomains f
 abbrev pub node_in : Option DomainValue → ℕ → Option Node
 node_in found number = option_and_then (λ d. slice_get d.machine.devices.nodes number) found
 
--- the copy comes home if the home is still the ticket's start and the Steps are within the limit; else nothing changes
+-- the copy is put in the node's place if the home node is still the ticket's start and the Steps are within the limit; else nothing changes
 pub record IsCommitted (t : TicketValue) (told : Result Committed Refusal) (old new : DomainValue) : Type 0 where
-  pub stale : (told ≡ Ok Stale) ↔ ¬ IsHome old t
-  pub full : (told ≡ Err JournalFull) ↔ (IsHome old t × (old.machine.part.limit < length (expanded old.journal) + t.steps))
+  pub stale : (told ≡ Ok Stale) ↔ ¬ IsCurrent old t
+  pub full : (told ≡ Err JournalFull) ↔ (IsCurrent old t × (old.machine.part.limit < length (expanded old.journal) + t.steps))
   pub no_such : told ≢ Err NoSuch
   pub done : told ≡ Ok Done → Commits old t new
   pub same : told ≢ Ok Done → new ≡ old

@@ -14,14 +14,14 @@ use std::alloc::Global;
 /// What each event of a run is answered, in order.
 pub type Answers = Vec<Result<Reply, Refusal>>;
 
-// Whether an event met want of memory.
+// Whether memory ran out at an event.
 fn met_want(answer: Result<Reply, Refusal>) -> bool
     ensures { IsTrue result ↔ (answer ≡ Err WantOfMemory) }
 {
     matches!(answer, Err(Refusal::NoMemory))
 }
 
-// The answers of a run, in which want of memory is the only error.
+// The answers of a run, in which NoMemory is the only error.
 fn answers_to(
     alloc: Global,
     plan: &AcceptedPlan,
@@ -61,7 +61,7 @@ pub fn run(
     // What a private switch has is what its words say.
     switches_say_their_words();
     // The domains of an accepted plan share no port.
-    plan.separate();
+    plan.separate_law();
     match answers_to(alloc, plan, calls) {
         Ok(told) => Ok(told),
         Err(_) => Err(Refusal::NoMemory),

@@ -57,7 +57,7 @@ fn open_domain(
     ensures words { IfOk result IsUnused }
 {
     // The domains of an accepted plan share no port.
-    plan.separate();
+    plan.separate_law();
     let part = plan.part(number).copy(alloc)?;
     Domain::open(alloc, part, PlainOutputs::unused(plan.ranges(number)))
 }
@@ -66,10 +66,10 @@ fn open_domain(
 fn word_of(domain: &mut Domain<PlainOutputs>, output: u8) -> Option<Word>
     ensures word { result ≡ slice_get domain.old.machine.switch.words output }
     ensures proper { IfSome result IsProper }
-    ensures same { domain.new ≡ domain.old }
+    ensures unchanged { domain.new ≡ domain.old }
 {
     // A domain is what its journal says.
-    domain.meant();
+    domain.meant_law();
     if output < domain.part().count() {
         Some(domain.word(output))
     } else {
@@ -108,7 +108,7 @@ impl PlainFarm {
         // What a private switch has is what its words say.
         switches_say_their_words();
         // The domains of an accepted plan share no port.
-        plan.separate();
+        plan.separate_law();
         let domains = open_domains(alloc, plan)?;
         Ok(PlainFarm { domains })
     }
@@ -118,7 +118,7 @@ impl PlainFarm {
     /// journal, and the words of each are a row of its ports.
     ///
     /// The call changes nothing: its contract is the law.
-    pub fn whole(&self)
+    pub fn whole_law(&self)
         ensures separate { AreSeparatePlaces (places_in self.now) }
         ensures meant { All IsMeant self.now }
         ensures rows { All HasRow self.now }
@@ -128,7 +128,7 @@ impl PlainFarm {
         switches_say_their_words();
         for domain in &self.domains {
             // A domain is what its journal says.
-            domain.meant();
+            domain.meant_law();
         }
     }
 
@@ -189,7 +189,7 @@ impl PlainFarm {
         home.checkout(domain, node)
     }
 
-    /// Brings a ticket's node home to a domain, where the home node is still the ticket's start, and
+    /// Commits a ticket to a domain, if the home node is still the ticket's start, and
     /// records its Steps, for which the farm asked. The ticket is spent in each case, and all other
     /// domains stay.
     ///
@@ -201,7 +201,7 @@ impl PlainFarm {
         ensures own { IsCommittedAt ticket result (slice_get self.old domain) (slice_get self.new domain) }
         ensures others { OthersStay domain self.old self.new }
         ensures places { places_in self.new ≡ places_in self.old }
-        ensures same { result ≢ Ok Done → self.new ≡ self.old }
+        ensures unchanged { result ≢ Ok Done → self.new ≡ self.old }
     {
         let Some(home) = self.domains.get_mut(usize::from(domain)) else {
             return Err(Refusal::NoSuch);
@@ -234,7 +234,7 @@ impl PlainFarm {
     pub fn domain_word(&mut self, domain: u8, output: u8) -> Option<Word>
         ensures word { result ≡ word_in (slice_get self.old domain) output }
         ensures proper { IfSome result IsProper }
-        ensures same { self.new ≡ self.old }
+        ensures unchanged { self.new ≡ self.old }
     {
         match self.domains.get_mut(usize::from(domain)) {
             Some(domain) => word_of(domain, output),
@@ -250,7 +250,7 @@ impl PlainFarm {
         ensures owner { IsWordOfOwner self.old output result }
         ensures free { IsFree (places_in self.old) output → result ≡ record { bits = 0 } }
         ensures whole { SaysEachWhole self.old output result }
-        ensures same { self.new ≡ self.old }
+        ensures unchanged { self.new ≡ self.old }
     {
         // What a private switch has is what its words say.
         switches_say_their_words();
@@ -280,7 +280,7 @@ impl PlainFarm {
     pub fn quiet(&mut self, domain: u8) -> bool
         requires { domain < length self.old }
         ensures quiet { IfSome (slice_get self.old domain) (λ d. IsTrue result ↔ IsQuiet d.machine.part (machine_of d.machine)) }
-        ensures same { self.new ≡ self.old }
+        ensures unchanged { self.new ≡ self.old }
     {
         self.domains[usize::from(domain)].quiet()
     }

@@ -17,8 +17,8 @@ use Rattle.farm_service.specs.Closed.{AreListed, IsListed, history_of}
 use Rattle.farm_service.specs.Commands.{commands_of}
 use Rattle.line_answers.specs.Lines.{AreAnsweredLines}
 use Rattle.line_answers.specs.Sessions.{with_all}
-use Rattle.farm_program.specs.declared.farm.Ended.{Ended}
-use Rattle.farm_program.specs.declared.farm.Left.{Left}
+use Rattle.farm_program.specs.declared.farm.ScriptEnd.{ScriptEnd}
+use Rattle.farm_program.specs.declared.farm.UsersEnd.{UsersEnd}
 use Rattle.farm_program.specs.declared.users.User.{User}
 use Rattle.farm_program.specs.Users.{names_in, commands_at, session_of, AreUsersOf, HasAnswered, HaveAnswered}
 use Rattle.farm_program.specs.Screens.{IsScreen, AreScreens}
@@ -138,7 +138,7 @@ all_screens plan lines steps opened after passes screens closed users count answ
         each_of (λ u. u.session.pass) (IsListed closed) after (subst (λ (ps : List UserPassValue). All (IsListed closed) ps) are listed) i d less
 
 -- the same where the users were lent, and their passes close the service
-pub closed_screens : {E : Type 0} (plan opened_plan : List DomainData) (lines : List ScriptLine) (steps : ℕ) (opened lent after back : List User) (left : Left) (r : Result Ended E)
+pub closed_screens : {E : Type 0} (plan opened_plan : List DomainData) (lines : List ScriptLine) (steps : ℕ) (opened lent after back : List User) (left : UsersEnd) (r : Result ScriptEnd E)
     → opened_plan ≡ plan → lent ≡ opened → AreUsersOf opened_plan lines steps opened → length after ≡ length lent → HaveAnswered lent after → back ≡ after
     → All (λ u. IsOk u.ended) back → left.passes.items ≡ map (λ u. u.session.pass) back → map string_bytes left.screens.items ≡ map (λ u. string_bytes u.screen) back
     → IfOk r (λ e. AreListed e.closed.domains.items left.passes.items) → IfOk r (λ e. e.screens ≡ left.screens)

@@ -45,7 +45,7 @@ pub record AreUsersOf (plan : List DomainData) (lines : List ScriptLine) (steps 
 abbrev pub HasAnswered : User → User → Type 0
 HasAnswered u v = AreAnswered u.name.now (map (λ c. c.now) u.commands.items) u.session v.session (string_bytes v.screen)
 
--- so were those of each user who met no want of memory
+-- so were those of each user who didn't run out of memory
 abbrev pub HaveAnswered : List User → List User → Type 0
 HaveAnswered before after =
     (i : ℕ) (d : User) → i < length before → OnOk (slice_index_or after i d).ended (HasAnswered (slice_index_or before i d) (slice_index_or after i d))

@@ -4,7 +4,7 @@ ghost use Rattle.std.specs.List.{concat};
 ghost use Rattle.std.specs.Io.KnownBytes.{Appends, Keeps};
 ghost use Rattle.std.specs.Str.Lines.{lines};
 ghost use Rattle.script_lines.specs.Script.{IsScript};
-ghost use Rattle.farm_program.specs.declared.failure.Failure.{Failure as SpecFailure};
+ghost use Rattle.farm_program.specs.declared.failure.FarmFailure.{FarmFailure as SpecFailure};
 ghost use Rattle.farm_program.specs.Failures.{EndsBy, IsFailure, IsPlanFailure, IsScriptFailure};
 ghost use Rattle.farm_program.specs.Output.{IsOutput, Prints};
 ghost use Rattle.farm_program.specs.Requests.{IsAcceptedText};
@@ -12,7 +12,7 @@ ghost use Rattle.farm_program.specs.Settings.{InRange};
 ghost use Rattle.farm_program.specs.Users.{names_in};
 
 use crate::configuration::Settings;
-use crate::failure::{Failure, Outcome};
+use crate::failure::{Ending, FarmFailure};
 use crate::farm::run_script;
 use crate::users::names_of;
 use farm_core::laws::each_domain_of_a_plan_is_private;
@@ -25,7 +25,7 @@ use std::sync::Wait;
 use std::thread::Threads;
 
 // The plan that a text gives, if the checker accepts it.
-fn accepted(alloc: Global, text: &[u8]) -> Result<AcceptedPlan, Failure>
+fn accepted(alloc: Global, text: &[u8]) -> Result<AcceptedPlan, FarmFailure>
     ensures plan { IfOk result (IsAcceptedText text.now) }
     ensures fault { IfErr result (IsPlanFailure text.now) }
 {
@@ -34,7 +34,11 @@ fn accepted(alloc: Global, text: &[u8]) -> Result<AcceptedPlan, Failure>
 }
 
 // What the lines of a script ask, for which users of the plan.
-fn lines_of(alloc: Global, plan: &AcceptedPlan, script: &[u8]) -> Result<Vec<ScriptLine>, Failure>
+fn lines_of(
+    alloc: Global,
+    plan: &AcceptedPlan,
+    script: &[u8],
+) -> Result<Vec<ScriptLine>, FarmFailure>
     ensures asked { IfOk result (λ asked. IsScript (names_in plan.now) (lines script.now) asked.items) }
     ensures users { IfOk result (λ asked. All (λ l. l.user < length (names_in plan.now)) asked.items) }
     ensures fault { IfErr result (IsScriptFailure (names_in plan.now) (lines script.now)) }
@@ -49,7 +53,7 @@ fn screens_of<R: Threads + Wait + Sync>(
     alloc: Global,
     settings: Settings,
     text: &[u8],
-) -> Result<Vec<String>, Failure>
+) -> Result<Vec<String>, FarmFailure>
     requires { InRange settings }
     ensures output { IfOk result (λ screens. IsOutput text.now (concat (map string_bytes screens.items))) }
     ensures failure { IfErr result (IsFailure text.now) }
@@ -79,7 +83,7 @@ fn screens_read<R: Threads + Wait + Sync, I: Read>(
     alloc: Global,
     settings: Settings,
     input: &mut I,
-) -> Result<Vec<String>, Failure>
+) -> Result<Vec<String>, FarmFailure>
     requires { InRange settings }
     ensures output { IfOk result (λ screens. IfSome (I.remaining input.old) (λ text. IsOutput text (concat (map string_bytes screens.items)))) }
     ensures failure { IfErr result (λ failure. IfSome (I.remaining input.old) (λ text. IsFailure text failure)) }
@@ -88,7 +92,7 @@ fn screens_read<R: Threads + Wait + Sync, I: Read>(
     screens_of(rt, alloc, settings, text.as_slice())
 }
 
-/// Reads a plan and a script to the end of the input, runs the script on a farm of the plan, and writes a line for each of its
+/// ReadsPlan a plan and a script to the end of the input, runs the script on a farm of the plan, and writes a line for each of its
 /// lines.
 ///
 /// The status is 0 if all is written, 3 if the plan is refused, 4 if a line of the script is, 5 for want of memory, and 6 if a
@@ -100,7 +104,7 @@ pub fn answer<R: Threads + Wait + Sync, I: Read, W: Write, E: Write>(
     input: &mut I,
     output: &mut W,
     errors: &mut E,
-) -> Outcome
+) -> Ending
     requires { InRange settings }
     ensures printed { result.status ≡ 0 → IfSome (I.remaining input.old) (λ text. Prints text (W.contents output.old) (W.contents output.new)) }
     ensures silent { result.status ≡ 0 → Keeps (E.contents errors.old) (E.contents errors.new) }
@@ -110,11 +114,11 @@ pub fn answer<R: Threads + Wait + Sync, I: Read, W: Write, E: Write>(
 {
     match screens_read(rt, alloc, settings, input) {
         Ok(screens) => match write_screens(output, screens.as_slice()) {
-            Ok(()) => Outcome {
+            Ok(()) => Ending {
                 status: 0,
                 is_told: true,
             },
-            Err(WriteFailed) => Failure::Io.report(errors),
+            Err(WriteFailed) => FarmFailure::Io.report(errors),
         },
         Err(failure) => failure.report(errors),
     }

@@ -1,7 +1,7 @@
 //! Why a run ends without its output, and what is told of it.
 ghost use Rattle.std.specs.Prelude.{◌≡◌, OnOk};
 ghost use Rattle.std.specs.Io.KnownBytes.{Appends};
-ghost use Rattle.farm_program.specs.declared.failure.Failure.TheVariants.{Memory};
+ghost use Rattle.farm_program.specs.declared.failure.FarmFailure.TheVariants.{Memory};
 ghost use Rattle.farm_program.specs.Failures.{EndsBy, failure_of_input, failure_of_plan, failure_of_script, failure_status, failure_text, fault_word};
 
 use plan_checker::PlanFault;
@@ -12,7 +12,7 @@ use std::io::{self, Write};
 
 /// Why a run ends without its output.
 #[derive(Clone, Copy, Debug, PartialEq, Eq)]
-pub enum Failure {
+pub enum FarmFailure {
     /// The plan is refused.
     Plan(PlanFault),
     /// The script is refused: its first line that is wrong, by its number from 1.
@@ -25,7 +25,7 @@ pub enum Failure {
 
 /// How a run ends.
 #[derive(Clone, Copy, Debug, PartialEq, Eq)]
-pub struct Outcome {
+pub struct Ending {
     /// The status of the process.
     pub status: u8,
     /// Whether standard error took all that is told there.
@@ -44,16 +44,16 @@ fn word_of(fault: LineFault) -> &'static str
     }
 }
 
-impl Failure {
+impl FarmFailure {
     // The status of the process.
     fn status(self) -> u8
         ensures { result ≡ failure_status self }
     {
         match self {
-            Failure::Plan(_) => 3,
-            Failure::Line { .. } => 4,
-            Failure::Memory => 5,
-            Failure::Io => 6,
+            FarmFailure::Plan(_) => 3,
+            FarmFailure::Line { .. } => 4,
+            FarmFailure::Memory => 5,
+            FarmFailure::Io => 6,
         }
     }
 
@@ -62,63 +62,63 @@ impl Failure {
         ensures { OnOk result (Appends (E.contents errors.old) (E.contents errors.new) (failure_text self)) }
     {
         match self {
-            Failure::Plan(fault) => write!(errors, "plan: {}\n", fault.number()),
-            Failure::Line { number, fault } => {
+            FarmFailure::Plan(fault) => write!(errors, "plan: {}\n", fault.number()),
+            FarmFailure::Line { number, fault } => {
                 write!(errors, "line {number}: {}\n", word_of(fault))
             }
-            Failure::Memory => errors.write_all(b"memory\n"),
-            Failure::Io => errors.write_all(b"io\n"),
+            FarmFailure::Memory => errors.write_all(b"memory\n"),
+            FarmFailure::Io => errors.write_all(b"io\n"),
         }
     }
 
     /// Ends a run by this failure: tells it, and gives its status, which stays if it can't be told.
-    pub fn report<E: Write>(self, errors: &mut E) -> Outcome
+    pub fn report<E: Write>(self, errors: &mut E) -> Ending
         ensures { EndsBy self result (E.contents errors.old) (E.contents errors.new) }
     {
-        Outcome {
+        Ending {
             status: self.status(),
             is_told: self.write(errors).is_ok(),
         }
     }
 }
 
-impl From<AllocError> for Failure {
+impl From<AllocError> for FarmFailure {
     ghost from_gives = { λ _ failure. failure ≡ Memory };
 
-    fn from(_error: AllocError) -> Failure {
-        Failure::Memory
+    fn from(_error: AllocError) -> FarmFailure {
+        FarmFailure::Memory
     }
 }
 
-impl From<ReadFault> for Failure {
+impl From<ReadFault> for FarmFailure {
     ghost from_gives = { λ fault failure. failure ≡ failure_of_input fault };
 
-    fn from(fault: ReadFault) -> Failure {
+    fn from(fault: ReadFault) -> FarmFailure {
         match fault {
-            ReadFault::Failed => Failure::Io,
-            ReadFault::NoMemory => Failure::Memory,
+            ReadFault::Failed => FarmFailure::Io,
+            ReadFault::NoMemory => FarmFailure::Memory,
         }
     }
 }
 
-impl From<PlanFault> for Failure {
+impl From<PlanFault> for FarmFailure {
     ghost from_gives = { λ fault failure. failure ≡ failure_of_plan fault };
 
-    fn from(fault: PlanFault) -> Failure {
+    fn from(fault: PlanFault) -> FarmFailure {
         match fault {
-            PlanFault::NoMemory => Failure::Memory,
-            _ => Failure::Plan(fault),
+            PlanFault::NoMemory => FarmFailure::Memory,
+            _ => FarmFailure::Plan(fault),
         }
     }
 }
 
-impl From<ScriptFault> for Failure {
+impl From<ScriptFault> for FarmFailure {
     ghost from_gives = { λ fault failure. failure ≡ failure_of_script fault };
 
-    fn from(fault: ScriptFault) -> Failure {
+    fn from(fault: ScriptFault) -> FarmFailure {
         match fault {
-            ScriptFault::Line { number, fault } => Failure::Line { number, fault },
-            ScriptFault::NoMemory => Failure::Memory,
+            ScriptFault::Line { number, fault } => FarmFailure::Line { number, fault },
+            ScriptFault::NoMemory => FarmFailure::Memory,
         }
     }
 }

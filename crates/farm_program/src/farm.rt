@@ -47,15 +47,15 @@ fn run_all<R: Threads + Wait + Sync>(
 
 /// What the users leave behind, in their order.
 #[derive(Drop)]
-struct Left {
+struct UsersEnd {
     /// Their passes.
     passes: Vec<UserPass>,
     /// Their output lines.
     screens: Vec<String>,
 }
 
-// Ends the users' sessions. The first who met want of memory is an error.
-fn end_all(alloc: Global, users: Vec<User<'_>>) -> Result<Left, NoMemory>
+// Ends the users' sessions. The first who ran out of memory is an error.
+fn end_all(alloc: Global, users: Vec<User<'_>>) -> Result<UsersEnd, NoMemory>
     ensures passes { IfOk result (λ left. left.passes.items ≡ map (λ u. u.session.pass) users.entry.items) }
     ensures screens { IfOk result (λ left. map string_bytes left.screens.items ≡ map (λ u. string_bytes u.screen) users.entry.items) }
     ensures ended { IfOk result (λ _. All (λ u. IsOk u.ended) users.entry.items) }
@@ -73,12 +73,12 @@ fn end_all(alloc: Global, users: Vec<User<'_>>) -> Result<Left, NoMemory>
         passes.push(session.end())?;
         screens.push(screen)?;
     }
-    Ok(Left { passes, screens })
+    Ok(UsersEnd { passes, screens })
 }
 
 /// A service that was closed, and what its users were shown.
 #[derive(Drop)]
-pub struct Ended {
+pub struct ScriptEnd {
     /// What is left of the service.
     pub closed: Closed,
     /// The output lines of each user, in the order of the plan.
@@ -91,20 +91,20 @@ fn close<R: Wait>(
     alloc: Global,
     service: Service,
     passes: Vec<WorkerPass>,
-    left: Left,
-) -> Result<Ended, NoMemory>
+    left: UsersEnd,
+) -> Result<ScriptEnd, NoMemory>
     requires { AreItsPasses service.plan service.queue passes.items }
     ensures domains { IfOk result (λ ended. AreDomainsOf service.plan ended.closed.domains.items) }
     ensures runs { IfOk result (λ ended. EachMergeRuns (places_of service.plan) ended.closed.domains.items) }
     ensures users { IfOk result (λ ended. AreListed ended.closed.domains.items left.passes.items) }
     ensures screens { IfOk result (λ ended. ended.screens ≡ left.screens) }
 {
-    let Left {
+    let UsersEnd {
         passes: users,
         screens,
     } = left;
     match service.close(rt, alloc, passes, users) {
-        Ok(closed) => Ok(Ended { closed, screens }),
+        Ok(closed) => Ok(ScriptEnd { closed, screens }),
         Err(_) => Err(NoMemory),
     }
 }
@@ -118,7 +118,7 @@ pub fn run_script<R: Threads + Wait + Sync>(
     plan: AcceptedPlan,
     lines: &[ScriptLine],
     settings: Settings,
-) -> Result<Ended, NoMemory>
+) -> Result<ScriptEnd, NoMemory>
     requires settings { InRange settings }
     requires lines { All (λ l. l.user < length (names_in plan)) lines.now }
     ensures domains { IfOk result (λ ended. AreDomainsOf plan ended.closed.domains.items) }

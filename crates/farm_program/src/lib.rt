@@ -13,5 +13,5 @@ mod users;
 pub use answering::answer;
 pub use command_line::settings;
 pub use configuration::Settings;
-pub use failure::Outcome;
+pub use failure::Ending;
 pub use program::{refuse_arguments, run};

@@ -4,7 +4,7 @@ ghost use Rattle.std.specs.Io.KnownBytes.{Keeps};
 
 use crate::answering::answer;
 use crate::command_line::settings;
-use crate::failure::Failure;
+use crate::failure::FarmFailure;
 use clap::error::ErrorKind;
 use script_text::write_whole;
 use std::alloc::Global;
@@ -43,10 +43,10 @@ fn refuse_words<W: Write, E: Write>(
 {
     let kind = error.kind();
     if kind == ErrorKind::OutOfMemory {
-        return Failure::Memory.report(errors).status;
+        return FarmFailure::Memory.report(errors).status;
     }
     let Ok(text) = format!(in alloc; "{error}") else {
-        return Failure::Memory.report(errors).status;
+        return FarmFailure::Memory.report(errors).status;
     };
     if kind != ErrorKind::DisplayHelp {
         let _ = write_whole(errors, text.as_bytes());
@@ -54,16 +54,16 @@ fn refuse_words<W: Write, E: Write>(
     }
     match write_whole(output, text.as_bytes()) {
         Ok(()) => 0,
-        Err(_) => Failure::Io.report(errors).status,
+        Err(_) => FarmFailure::Io.report(errors).status,
     }
 }
 
-/// The status where the words of the command line couldn't be read: 5 for want of memory, else 2.
+/// The status where the words of the command line couldn't be read: 5 if memory ran out, else 2.
 pub fn refuse_arguments<E: Write>(error: &io::Error, errors: &mut E) -> u8
     ensures { (result ≡ 2) ⊎ (result ≡ 5) }
 {
     if error.kind() == io::ErrorKind::OutOfMemory {
-        return Failure::Memory.report(errors).status;
+        return FarmFailure::Memory.report(errors).status;
     }
     let _ = write_whole(errors, b"error: an argument isn't UTF-8\n");
     2

@@ -99,7 +99,7 @@ impl User<'_> {
     /// His lines of the script, in their order. What is on his screen before goes.
     #[tactic(auto, using(crate::proofs::Sessions::gains_keep))]
     pub fn run<R: Wait>(&mut self, rt: &R, alloc: Global)
-        ensures same { as_opened self.new.session ≡ as_opened self.old.session }
+        ensures unchanged { as_opened self.new.session ≡ as_opened self.old.session }
         ensures lines { OnOk self.new.ended (HasAnswered self.old self.new) }
     {
         self.screen.clear();

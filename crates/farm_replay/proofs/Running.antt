@@ -81,7 +81,7 @@ answers_call call old new text l m shows more = record {
   gains = λ earlier has. one_more_answer earlier shows.answer text l m has shows.words more;
 }
 
--- a call that is answered by these words, unless by want of memory
+-- a call that is answered by these words, unless memory runs out
 pub shows_call : (domain : ℕ) (call : Call) (told : Answer) (old new : List DomainValue) (text : List ℕ) → UnlessNoMemory told (IsCallOfEachWhole domain call told old new)
     → places_in new ≡ places_in old → answer_words told ≡ Some text → ShowsCall (domain, call) old new text
 shows_call domain call (Ok reply) old new text is places words = record { answer = Ok reply; run = one_call domain call (Ok reply) old new is places; words = words }

@@ -1,7 +1,7 @@
 //! Why a text isn't replayed.
 
 use plan_checker::PlanFault;
-use script_text::LineFault;
+use script_text::NumberedLineFault;
 use std::alloc::AllocError;
 use thiserror::Error;
 
@@ -27,11 +27,11 @@ impl From<PlanFault> for ReplayFault {
     }
 }
 
-impl From<LineFault> for ReplayFault {
-    fn from(fault: LineFault) -> ReplayFault {
+impl From<NumberedLineFault> for ReplayFault {
+    fn from(fault: NumberedLineFault) -> ReplayFault {
         match fault {
-            LineFault::Wrong(line) => ReplayFault::Line(line),
-            LineFault::Memory(error) => ReplayFault::Memory(error),
+            NumberedLineFault::Wrong(line) => ReplayFault::Line(line),
+            NumberedLineFault::Memory(error) => ReplayFault::Memory(error),
         }
     }
 }

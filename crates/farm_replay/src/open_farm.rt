@@ -69,7 +69,7 @@ impl OpenFarm {
             Request::Domain(domain, request) => {
                 if let Err(refusal) = self.write_answer(*domain, *request, &mut text) {
                     let written = write_refusal(text.as_mut_string(), refusal);
-                    text.note(written);
+                    text.keep_failure(written);
                 }
             }
         }
@@ -97,7 +97,7 @@ impl OpenFarm {
         }
     }
 
-    fn has(&self, domain: u8) -> bool
+    fn has_domain(&self, domain: u8) -> bool
         ensures { IsTrue result ↔ (domain < length self.now.farm) }
     {
         usize::from(domain) < self.farm.domains()
@@ -134,7 +134,7 @@ impl OpenFarm {
     fn write_quiet(&mut self, domain: u8, text: &mut TextWriter) -> Result<(), Refusal>
         ensures farm { self.new.farm ≡ self.old.farm }
     {
-        if !self.has(domain) {
+        if !self.has_domain(domain) {
             return Err(Refusal::NoSuch);
         }
         text.push(if self.farm.quiet(domain) {
@@ -162,7 +162,7 @@ impl OpenFarm {
     }
 
     fn restart(&mut self, domain: u8, text: &mut TextWriter) -> Result<(), Refusal> {
-        if !self.has(domain) {
+        if !self.has_domain(domain) {
             return Err(Refusal::NoSuch);
         }
         self.farm.restart(domain);
@@ -175,7 +175,7 @@ impl OpenFarm {
         for index in 0..journal.len() {
             if let Some(entry) = journal.get(index) {
                 let written = write_entry(text.as_mut_string(), entry);
-                text.note(written);
+                text.keep_failure(written);
                 text.push("\n");
             }
         }
@@ -223,7 +223,7 @@ impl OpenFarm {
         Ok(())
     }
 
-    // Rounds as the service's sessions do them: each node's burst comes home, and then each port's packet is moved.
+    // Rounds as the service's sessions do them: each node's burst is committed, and then each port's packet is moved.
     fn settle(
         &mut self,
         domain: u8,
@@ -231,7 +231,7 @@ impl OpenFarm {
         rounds: u64,
         text: &mut TextWriter,
     ) -> Result<(), Refusal> {
-        if !self.has(domain) {
+        if !self.has_domain(domain) {
             return Err(Refusal::NoSuch);
         }
         for _ in 0..rounds {
@@ -249,7 +249,7 @@ impl OpenFarm {
     }
 
     fn is_quiet(&mut self, domain: u8) -> bool {
-        self.has(domain) && self.farm.quiet(domain)
+        self.has_domain(domain) && self.farm.quiet(domain)
     }
 
     fn round(&mut self, domain: u8, quantum: u64) -> Result<(), Refusal> {

@@ -13,7 +13,7 @@ const MOST_QUANTUM: u64 = 4096;
 
 // The word behind the number of a domain.
 #[derive(Clone, Copy)]
-enum Verb {
+enum RequestVerb {
     Quiet,
     Word,
     Recorded,
@@ -46,26 +46,35 @@ enum EventKind {
     Look,
 }
 
-const VERBS: [(&str, Verb); 19] = [
-    ("quiet", Verb::Quiet),
-    ("word", Verb::Word),
-    ("recorded", Verb::Recorded),
-    ("restart", Verb::Restart),
-    ("journal", Verb::Journal),
-    ("checkout", Verb::Checkout),
-    ("burst", Verb::Burst),
-    ("commit", Verb::Commit),
-    ("settle", Verb::Settle),
-    ("moves", Verb::Events(EventVerb::Moves)),
-    ("configs", Verb::Events(EventVerb::Configs)),
-    ("writes", Verb::Events(EventVerb::Writes)),
-    ("step", Verb::Events(EventVerb::One(EventKind::Step))),
-    ("move", Verb::Events(EventVerb::One(EventKind::Move))),
-    ("config", Verb::Events(EventVerb::One(EventKind::Config))),
-    ("write", Verb::Events(EventVerb::One(EventKind::Write))),
-    ("read", Verb::Events(EventVerb::One(EventKind::Read))),
-    ("reset", Verb::Events(EventVerb::One(EventKind::Reset))),
-    ("look", Verb::Events(EventVerb::One(EventKind::Look))),
+const VERBS: [(&str, RequestVerb); 19] = [
+    ("quiet", RequestVerb::Quiet),
+    ("word", RequestVerb::Word),
+    ("recorded", RequestVerb::Recorded),
+    ("restart", RequestVerb::Restart),
+    ("journal", RequestVerb::Journal),
+    ("checkout", RequestVerb::Checkout),
+    ("burst", RequestVerb::Burst),
+    ("commit", RequestVerb::Commit),
+    ("settle", RequestVerb::Settle),
+    ("moves", RequestVerb::Events(EventVerb::Moves)),
+    ("configs", RequestVerb::Events(EventVerb::Configs)),
+    ("writes", RequestVerb::Events(EventVerb::Writes)),
+    ("step", RequestVerb::Events(EventVerb::One(EventKind::Step))),
+    ("move", RequestVerb::Events(EventVerb::One(EventKind::Move))),
+    (
+        "config",
+        RequestVerb::Events(EventVerb::One(EventKind::Config)),
+    ),
+    (
+        "write",
+        RequestVerb::Events(EventVerb::One(EventKind::Write)),
+    ),
+    ("read", RequestVerb::Events(EventVerb::One(EventKind::Read))),
+    (
+        "reset",
+        RequestVerb::Events(EventVerb::One(EventKind::Reset)),
+    ),
+    ("look", RequestVerb::Events(EventVerb::One(EventKind::Look))),
 ];
 
 /// What a line asks, and how often. `Wrong` if a word of it is wrong or missing, or one stands behind its end.
@@ -96,17 +105,20 @@ fn read_once(alloc: Global, words: &mut Words) -> Result<Request, AllocError> {
         return Ok(Request::Reopen);
     }
     let domain = words.small_decimal();
-    Ok(match words.named(&VERBS, Verb::Quiet) {
-        Verb::Quiet => Request::Domain(domain, DomainRequest::Quiet),
-        Verb::Word => Request::Domain(domain, DomainRequest::Word(words.small_decimal())),
-        Verb::Recorded => Request::Domain(domain, DomainRequest::Recorded),
-        Verb::Restart => Request::Domain(domain, DomainRequest::Restart),
-        Verb::Journal => Request::Domain(domain, DomainRequest::Journal),
-        Verb::Checkout => Request::Domain(domain, DomainRequest::Checkout(words.small_decimal())),
-        Verb::Burst => Request::Domain(domain, read_burst(words)),
-        Verb::Commit => Request::Domain(domain, DomainRequest::Commit(read_ticket(words))),
-        Verb::Settle => Request::Domain(domain, read_settle(words)),
-        Verb::Events(verb) => {
+    Ok(match words.named(&VERBS, RequestVerb::Quiet) {
+        RequestVerb::Quiet => Request::Domain(domain, DomainRequest::Quiet),
+        RequestVerb::Word => Request::Domain(domain, DomainRequest::Word(words.small_decimal())),
+        RequestVerb::Recorded => Request::Domain(domain, DomainRequest::Recorded),
+        RequestVerb::Restart => Request::Domain(domain, DomainRequest::Restart),
+        RequestVerb::Journal => Request::Domain(domain, DomainRequest::Journal),
+        RequestVerb::Checkout => Request::Domain(
+            domain,
+            DomainRequest::Checkout(words.small_decimal()),
+        ),
+        RequestVerb::Burst => Request::Domain(domain, read_burst(words)),
+        RequestVerb::Commit => Request::Domain(domain, DomainRequest::Commit(read_ticket(words))),
+        RequestVerb::Settle => Request::Domain(domain, read_settle(words)),
+        RequestVerb::Events(verb) => {
             let events = read_events(alloc, verb, words)?;
             Request::Events(domain, read_asker(usual_asker(verb), words), events)
         }

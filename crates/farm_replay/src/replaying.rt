@@ -13,7 +13,7 @@ use crossbar::{PORTS, Word};
 use domain_core::NoMemory;
 use farm_core::laws::runs_add_up;
 use plan_checker::{AcceptedPlan, check, read_plan};
-use script_text::{Answered, LineFault, Question, divide, read_questions};
+use script_text::{Answered, NumberedLineFault, Question, divide, read_questions};
 use std::alloc::Global;
 
 /// What divides one farm of a text from the next.
@@ -61,7 +61,7 @@ pub struct Replayed<'a> {
 /// is read before any line asks; then each line has its answer, in order.
 ///
 /// The first fault of the text is answered: `Plan` if a plan is refused, and `Line` if a line asks nothing that there
-/// is; `Memory` if memory is wanted anywhere.
+/// is; `Memory` if memory runs out anywhere.
 pub fn replay(alloc: Global, text: &[u8]) -> Result<Replayed<'_>, ReplayFault> {
     let scripts = read_scripts(alloc, text)?;
     let mut replayed = Replayed {
@@ -112,7 +112,7 @@ fn read_script(alloc: Global, text: &[u8], before: u64) -> Result<Script<'_>, Re
 fn read_requests(
     alloc: Global,
     questions: &[Question<'_>],
-) -> Result<Vec<RepeatedRequest>, LineFault> {
+) -> Result<Vec<RepeatedRequest>, NumberedLineFault> {
     let mut requests = Vec::new(alloc);
     for question in questions {
         match read_request(alloc, question.text) {

@@ -39,7 +39,7 @@ pub enum DomainRequest {
     Checkout(u8),
     /// Steps of a ticket, at most so many.
     Burst(usize, u64),
-    /// To bring a ticket's node home.
+    /// To commit a ticket.
     Commit(usize),
     /// To let its nodes run, in bursts of so many Steps, for at most so many rounds.
     Settle(u64, u64),

@@ -1,6 +1,6 @@
 pub mod Asked
 pub mod Closings
-pub mod Homecomings
+pub mod LentCommits
 pub mod Listings
 pub mod Openings
 pub mod PortMoves

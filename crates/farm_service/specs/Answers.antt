@@ -14,6 +14,6 @@ use Rattle.farm_service.specs.Passes.{SessionValue, call_of}
 abbrev pub IsAnswerIn : List DomainData → ℕ → Call → Answer → Type 0
 IsAnswerIn plan domain call answer = MatchOption (slice_get plan domain) (answer ≡ Err NoSuch) (λ d. IsAnswer (part_of d) call answer)
 
--- the same of a session's command, but for want of memory
+-- the same of a session's command, unless memory ran out
 abbrev pub IsTold : SessionValue → Event → Answer → Type 0
 IsTold s event answer = UnlessNoMemory answer (IsAnswerIn s.plan s.pass.domain (call_of s.pass event) answer)

@@ -36,7 +36,7 @@ pub record AreDone (calls : List Call) (d : DomainValue) (went : Bool) (e : Doma
   pub part : e.machine.part ≡ d.machine.part
   pub ports : e.machine.switch.ports ≡ d.machine.switch.ports
 
--- a call is refused just as the farm refuses it, want of memory aside
+-- a call is refused just as the farm refuses it, NoMemory aside
 abbrev pub IsRefused : Call → DomainValue → Refusal → Type 0
 IsRefused call d refusal = UnlessNoMemory (Err refusal) (Err refusal ≡ (next d.machine.part (state_of d) call).1)
 

@@ -6,40 +6,40 @@ use Rattle.domain_core.specs.declared.event.Refusal.TheVariants.{NoSuch, Journal
 use Rattle.domain_core.specs.Machine.{is_recorded}
 use Rattle.domain_core.specs.MachineValue.{machine_of}
 use Rattle.domain_core.specs.Domain.{DomainValue, IsPastLimit}
-use Rattle.domain_core.specs.Ticket.{TicketValue, IsHome, Commits, fresh_ticket}
-use Rattle.farm_service.specs.declared.halves.Ended.{Ended}
+use Rattle.domain_core.specs.Ticket.{TicketValue, IsCurrent, Commits, fresh_ticket}
+use Rattle.farm_service.specs.declared.halves.TurnEnd.{TurnEnd}
 use Rattle.farm_service.specs.declared.halves.Turned.{Turned}
-use Rattle.farm_service.specs.declared.halves.Turned.TheVariants.{CameHome, Stale, NoStep}
+use Rattle.farm_service.specs.declared.halves.Turned.TheVariants.{BurstRecorded, Stale, NoStep}
 use Rattle.farm_service.specs.PortMoves.{HaveMoved}
 
 -- the node is there, and a Step of it would be recorded, the limit aside
 abbrev pub has_step : DomainValue → ℕ → Bool
 has_step d node = nat_lt node (length d.machine.part.nodes) && is_recorded d.machine.part (machine_of d.machine) (Step node)
 
--- the ticket that is out is brought home, as `Domain::bring_home` says
-pub record BringsHome (d : DomainValue) (t : TicketValue) (told : Result Turned Refusal) (e : DomainValue) (left : Option TicketValue) : Type 0 where
-  pub stale : (told ≡ Ok Stale) ↔ ¬ IsHome d t
-  pub full : (told ≡ Err JournalFull) ↔ (IsHome d t × IsPastLimit d t.steps)
+-- the ticket that is checked out is committed, as `Domain::commit_lent` says
+pub record CommitsLent (d : DomainValue) (t : TicketValue) (told : Result Turned Refusal) (e : DomainValue) (left : Option TicketValue) : Type 0 where
+  pub stale : (told ≡ Ok Stale) ↔ ¬ IsCurrent d t
+  pub full : (told ≡ Err JournalFull) ↔ (IsCurrent d t × IsPastLimit d t.steps)
   pub no_such : told ≢ Err NoSuch
   pub copied : told ≢ Ok NoStep
-  pub home : told ≡ Ok CameHome → Commits d t e × (left ≡ Some (fresh_ticket t.domain t.number t.start))
-  pub same : told ≢ Ok CameHome → (e ≡ d) × (left ≡ Some t)
+  pub home : told ≡ Ok BurstRecorded → Commits d t e × (left ≡ Some (fresh_ticket t.domain t.number t.start))
+  pub same : told ≢ Ok BurstRecorded → (e ≡ d) × (left ≡ Some t)
 
--- the same of a slot, of which is said whether its ticket is out; if none is, nothing changes
-abbrev pub Homes : Bool → DomainValue → Option TicketValue → Result Turned Refusal → DomainValue → Option TicketValue → Type 0
-Homes true d (Some t) told e left = BringsHome d t told e left
-Homes true d None told e left = (told ≡ Ok NoStep) × (e ≡ d) × (left ≡ None)
-Homes false d slot told e left = (told ≡ Ok NoStep) × (e ≡ d) × (left ≡ slot)
+-- the same of a slot, of which is said whether its ticket is checked out; if none is, nothing changes
+abbrev pub CommitsSlot : Bool → DomainValue → Option TicketValue → Result Turned Refusal → DomainValue → Option TicketValue → Type 0
+CommitsSlot true d (Some t) told e left = CommitsLent d t told e left
+CommitsSlot true d None told e left = (told ≡ Ok NoStep) × (e ≡ d) × (left ≡ None)
+CommitsSlot false d slot told e left = (told ≡ Ok NoStep) × (e ≡ d) × (left ≡ slot)
 
 -- and then all ports move, unless the ticket was refused
-abbrev pub ThenMoves : DomainValue → Result Turned Refusal → Result Ended Refusal → DomainValue → Type 0
+abbrev pub ThenMoves : DomainValue → Result Turned Refusal → Result TurnEnd Refusal → DomainValue → Type 0
 ThenMoves home (Ok turned) (Ok ended) e = (ended.turned ≡ turned) × HaveMoved home (Ok ended.moved) e
 ThenMoves home (Ok turned) (Err refusal) e = HaveMoved home (Err refusal) e
 ThenMoves home (Err first) told e = (told ≡ Err first) × (e ≡ home)
 
 -- the end of a turn: first the one and then the other
-pub record EndsTurn (out : Bool) (d : DomainValue) (slot : Option TicketValue) (told : Result Ended Refusal) (e : DomainValue) (left : Option TicketValue) : Type 0 where
+pub record EndsTurn (checked_out : Bool) (d : DomainValue) (slot : Option TicketValue) (told : Result TurnEnd Refusal) (e : DomainValue) (left : Option TicketValue) : Type 0 where
   pub came : Result Turned Refusal
   pub home : DomainValue
-  pub first : Homes out d slot came home left
+  pub first : CommitsSlot checked_out d slot came home left
   pub moves : ThenMoves home came told e

@@ -7,7 +7,7 @@ ghost use Rattle.farm_service.specs.Endings.{IsEndOf};
 use crate::NoMemory;
 use crate::closed::ClosedDomain;
 use crate::service::SeatedDomain;
-use crate::waiting::wait;
+use crate::waiting::block_forever;
 use crossbar::Word;
 use farm_core::laws::{
     each_merge_is_a_run, each_word_is_of_its_output, numbered_domains_are_separate,
@@ -19,7 +19,7 @@ use token_queue::{PLACES, Token};
 
 // Room for the words of a domain.
 #[derive(Drop)]
-pub(crate) struct WordRoom {
+pub(crate) struct WordMemory {
     words: Vec<Word>,
     ghost empty: { words.items ≡ [] },
     ghost wide: { 32 ≤ vec_capacity words },
@@ -27,9 +27,9 @@ pub(crate) struct WordRoom {
 
 /// All memory that a closing takes.
 #[derive(Drop)]
-pub(crate) struct Room {
+pub(crate) struct ClosingMemory {
     pub(crate) domains: Vec<ClosedDomain>,
-    pub(crate) words: Vec<WordRoom>,
+    pub(crate) words: Vec<WordMemory>,
     pub(crate) tokens: Vec<Token>,
     ghost no_domain: { domains.items ≡ [] },
     ghost domains_wide: { length words.items ≤ vec_capacity domains },
@@ -37,20 +37,20 @@ pub(crate) struct Room {
     ghost tokens_wide: { 128 ≤ vec_capacity tokens },
 }
 
-impl Room {
+impl ClosingMemory {
     /// Room for so many domains.
-    pub(crate) fn of(alloc: Global, count: usize) -> Result<Room, NoMemory>
+    pub(crate) fn of(alloc: Global, count: usize) -> Result<ClosingMemory, NoMemory>
         ensures { IfOk result (λ room. length room.words.items ≡ count) }
     {
         let domains = Vec::with_capacity(alloc, count)?;
         let tokens = Vec::with_capacity(alloc, PLACES)?;
         let mut words = Vec::with_capacity(alloc, count)?;
         for _domain in 0..count {
-            words.push(WordRoom {
+            words.push(WordMemory {
                 words: Vec::with_capacity(alloc, 32)?,
             })?;
         }
-        Ok(Room {
+        Ok(ClosingMemory {
             domains,
             words,
             tokens,
@@ -59,13 +59,13 @@ impl Room {
 }
 
 // The words of a domain.
-fn words_of(domain: &mut SeatedDomain, room: WordRoom) -> Vec<Word>
+fn words_of(domain: &mut SeatedDomain, room: WordMemory) -> Vec<Word>
     ensures words { result.items ≡ domain.old.machine.switch.words }
-    ensures same { domain.new ≡ domain.old }
+    ensures unchanged { domain.new ≡ domain.old }
 {
     // A domain is what its journal says.
-    domain.meant();
-    let WordRoom { mut words } = room;
+    domain.meant_law();
+    let WordMemory { mut words } = room;
     for output in 0..domain.part().count() {
         words.push_reserved(domain.word(output));
     }
@@ -73,20 +73,20 @@ fn words_of(domain: &mut SeatedDomain, room: WordRoom) -> Vec<Word>
 }
 
 // What is left of a domain. Where it isn't the plan's of this number, waits for ever.
-fn end_of<R: Wait>(
+fn close_domain<R: Wait>(
     rt: &R,
     plan: &AcceptedPlan,
     number: u8,
     mut domain: SeatedDomain,
-    room: WordRoom,
+    room: WordMemory,
 ) -> ClosedDomain
     ensures { IsEndOf plan.now number domain result }
 {
     if !domain.fits(plan, number) {
-        return wait(rt);
+        return block_forever(rt);
     }
     // A domain is what its journal says.
-    domain.meant();
+    domain.meant_law();
     let words = words_of(&mut domain, room);
     ClosedDomain {
         domain: number,
@@ -97,12 +97,12 @@ fn end_of<R: Wait>(
 
 /// What is left of a plan's domains.
 // Six clauses: there is a lock and room for each domain, and what is left is theirs.
-pub(crate) fn ends_of<R: Wait>(
+pub(crate) fn close_domains<R: Wait>(
     rt: &R,
     plan: &AcceptedPlan,
     locks: Vec<Mutex<SeatedDomain>>,
     mut closed: Vec<ClosedDomain>,
-    mut rooms: Vec<WordRoom>,
+    mut rooms: Vec<WordMemory>,
 ) -> Vec<ClosedDomain>
     requires locks { length locks.items ≡ length plan.now }
     requires rooms { length rooms.items ≡ length plan.now }
@@ -112,7 +112,7 @@ pub(crate) fn ends_of<R: Wait>(
     ensures runs { EachMergeRuns (places_of plan.now) result.items }
 {
     // The domains of an accepted plan share no port.
-    plan.separate();
+    plan.separate_law();
     // Domains that share no port have places that are separate.
     numbered_domains_are_separate();
     // Every merge of the journals is a run of the farm.
@@ -123,7 +123,7 @@ pub(crate) fn ends_of<R: Wait>(
         let number = closed.len() as u8;
         match rooms.pop() {
             Some(room) => {
-                closed.push_reserved(end_of(rt, plan, number, lock.into_inner(), room));
+                closed.push_reserved(close_domain(rt, plan, number, lock.into_inner(), room));
             }
             None => unreachable!(),
         }

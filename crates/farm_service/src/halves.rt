@@ -4,7 +4,7 @@
 ghost use Rattle.std.specs.Prelude.{◌≡◌, ◌≢◌, true, Ok, Some, IfOk, IfErr, IfSome, slice_get};
 ghost use Rattle.domain_core.specs.declared.event.Refusal.TheVariants.{NoMemory};
 ghost use Rattle.domain_core.specs.Ticket.{fresh_ticket};
-ghost use Rattle.farm_service.specs.Turns.{has_step, Homes, EndsTurn};
+ghost use Rattle.farm_service.specs.Turns.{has_step, CommitsSlot, EndsTurn};
 
 use crate::moves::move_ports;
 use crate::service::SeatedDomain;
@@ -13,8 +13,8 @@ use domain_core::{Committed, Refusal, Ticket};
 /// What became of the node of a turn.
 #[derive(Clone, Copy, Debug, PartialEq, Eq)]
 pub enum Turned {
-    /// It came home, and its Steps are in the journal.
-    CameHome,
+    /// It was committed, and its Steps are in the journal.
+    BurstRecorded,
     /// The home node had changed since it was copied, so that the burst is lost.
     Stale,
     /// It had no Step to do, and was not copied.
@@ -23,7 +23,7 @@ pub enum Turned {
 
 /// What became of a turn: of its node, and whether a packet moved after it.
 #[derive(Clone, Copy)]
-pub(crate) struct Ended {
+pub(crate) struct TurnEnd {
     pub(crate) turned: Turned,
     pub(crate) moved: bool,
 }
@@ -36,13 +36,13 @@ pub(crate) fn begin_turn(
     node: u8,
     slot: &mut Option<Ticket>,
 ) -> Result<bool, Refusal>
-    ensures step { IfOk result (λ out. out ≡ has_step domain.now node) }
+    ensures step { IfOk result (λ checked_out. checked_out ≡ has_step domain.now node) }
     ensures ticket { result ≡ Ok true → IfSome (slice_get domain.now.machine.devices.nodes node) (λ home. slot.new ≡ Some (fresh_ticket number node home)) }
-    ensures same { result ≢ Ok true → slot.new ≡ slot.old }
+    ensures unchanged { result ≢ Ok true → slot.new ≡ slot.old }
     ensures err { IfErr result (λ refusal. (refusal ≡ NoMemory) × (has_step domain.now node ≡ true)) }
 {
     // A domain has as many nodes as its part.
-    domain.meant();
+    domain.meant_law();
     if usize::from(node) < domain.part().nodes().len() && !domain.node_is_quiet(node) {
         domain.checkout_to(slot, number, node)?;
         Ok(true)
@@ -51,32 +51,32 @@ pub(crate) fn begin_turn(
     }
 }
 
-/// Brings the ticket of a slot home, if it is out, unless it is stale.
-pub(crate) fn bring_home(
+/// Commits the ticket of a slot, if one is checked out, unless it is stale.
+pub(crate) fn commit_lent(
     domain: &mut SeatedDomain,
-    out: bool,
+    checked_out: bool,
     slot: &mut Option<Ticket>,
 ) -> Result<Turned, Refusal>
-    ensures { Homes out domain.old slot.old result domain.new slot.new }
+    ensures { CommitsSlot checked_out domain.old slot.old result domain.new slot.new }
 {
     match slot {
-        Some(ticket) if out => match domain.bring_home(ticket)? {
-            Committed::Done => Ok(Turned::CameHome),
+        Some(ticket) if checked_out => match domain.commit_lent(ticket)? {
+            Committed::Done => Ok(Turned::BurstRecorded),
             Committed::Stale => Ok(Turned::Stale),
         },
         _ => Ok(Turned::NoStep),
     }
 }
 
-/// Ends a turn: the ticket of the slot is brought home, if it is out, and then all ports move, in order.
+/// Ends a turn: the ticket of the slot is committed, if one is checked out, and then all ports move, in order.
 pub(crate) fn end_turn(
     domain: &mut SeatedDomain,
-    out: bool,
+    checked_out: bool,
     slot: &mut Option<Ticket>,
-) -> Result<Ended, Refusal>
-    ensures { EndsTurn out domain.old slot.old result domain.new slot.new }
+) -> Result<TurnEnd, Refusal>
+    ensures { EndsTurn checked_out domain.old slot.old result domain.new slot.new }
 {
-    let turned = bring_home(domain, out, slot)?;
+    let turned = commit_lent(domain, checked_out, slot)?;
     let moved = move_ports(domain)?;
-    Ok(Ended { turned, moved })
+    Ok(TurnEnd { turned, moved })
 }

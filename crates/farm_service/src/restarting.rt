@@ -39,7 +39,7 @@ fn domain_of_all(plan: &AcceptedPlan, sessions: &[Session<'_>]) -> Option<u8>
     ensures { MatchOption result (¬ AreAllOfOne plan.now sessions.now) (λ number. AreAllOf plan.now number sessions.now) }
 {
     // A domain of an accepted plan has users.
-    plan.separate();
+    plan.separate_law();
     let Some(first) = sessions.first() else {
         return None;
     };

@@ -54,9 +54,9 @@ impl Idleness {
 
 /// What is known of a node.
 #[derive(Drop)]
-struct Marks {
+struct NodeMarks {
     // A thread does a burst of it.
-    is_out: AtomicBool,
+    is_checked_out: AtomicBool,
     // A round has begun, and its burst of this node hasn't.
     is_due: AtomicBool,
 }
@@ -64,7 +64,7 @@ struct Marks {
 /// The marks of each node that a plan can have, and how many threads there are for how many cores.
 #[derive(Drop)]
 pub struct Schedule {
-    nodes: Vec<Marks>,
+    nodes: Vec<NodeMarks>,
     // How many settle in each domain, and in all.
     settlers: Vec<AtomicUsize>,
     settling: AtomicUsize,
@@ -77,12 +77,12 @@ pub struct Schedule {
 }
 
 impl Schedule {
-    /// No node is out or due, and nobody settles or works.
+    /// No node is checked out or due, and nobody settles or works.
     pub fn empty(alloc: Global) -> Result<Schedule, NoMemory> {
         let mut nodes = Vec::with_capacity(alloc, MOST_NODES)?;
         for _node in 0..MOST_NODES {
-            nodes.push(Marks {
-                is_out: AtomicBool::new(false),
+            nodes.push(NodeMarks {
+                is_checked_out: AtomicBool::new(false),
                 is_due: AtomicBool::new(false),
             })?;
         }
@@ -101,7 +101,7 @@ impl Schedule {
     }
 
     // The marks of a node of a domain.
-    fn marks(&self, token: Token) -> Option<&Marks> {
+    fn marks(&self, token: Token) -> Option<&NodeMarks> {
         self.nodes.get(place_of(token))
     }
 
@@ -113,7 +113,7 @@ impl Schedule {
         }
     }
 
-    /// Takes a node for a burst; whether it did. It doesn't if another thread has the node out, or if somebody settles in
+    /// Takes a node for a burst; whether it did. It doesn't if another thread has checked the node out, or if somebody settles in
     /// its domain and the round has had its burst already.
     pub fn take(&self, token: Token) -> bool {
         let Some(marks) = self.marks(token) else {
@@ -122,7 +122,9 @@ impl Schedule {
         if self.is_settled(token.domain) && !marks.is_due.load(Ordering::SeqCst) {
             return false;
         }
-        if marks.is_out.load(Ordering::SeqCst) || marks.is_out.swap(true, Ordering::SeqCst) {
+        if marks.is_checked_out.load(Ordering::SeqCst)
+            || marks.is_checked_out.swap(true, Ordering::SeqCst)
+        {
             return false;
         }
         marks.is_due.store(false, Ordering::SeqCst);
@@ -132,7 +134,7 @@ impl Schedule {
     /// Gives a node back that was taken.
     pub fn give_back(&self, token: Token) {
         if let Some(marks) = self.marks(token) {
-            marks.is_out.store(false, Ordering::SeqCst);
+            marks.is_checked_out.store(false, Ordering::SeqCst);
         }
     }
 
@@ -145,21 +147,21 @@ impl Schedule {
         }
     }
 
-    /// Waits a moment for a node to come home that another thread has; whether its burst of this round is over then. If it
+    /// Waits a moment for the commit of a node that another thread has checked out; whether its burst of this round is over then. If it
     /// isn't, it is due no more: the caller does it.
-    pub fn await_home(&self, token: Token) -> bool {
+    pub fn await_commit(&self, token: Token) -> bool {
         let Some(marks) = self.marks(token) else {
             return true;
         };
         for tries in 0..TRIES {
-            if !marks.is_out.load(Ordering::SeqCst) {
+            if !marks.is_checked_out.load(Ordering::SeqCst) {
                 break;
             }
             back_off(tries);
         }
-        let is_out = marks.is_out.load(Ordering::SeqCst);
+        let is_checked_out = marks.is_checked_out.load(Ordering::SeqCst);
         let was_due = marks.is_due.swap(false, Ordering::SeqCst);
-        !is_out && !was_due
+        !is_checked_out && !was_due
     }
 
     /// Somebody begins to settle in a domain.

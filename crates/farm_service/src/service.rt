@@ -21,13 +21,13 @@ ghost use Rattle.farm_service.specs.Passes.{fresh_passes};
 ghost use Rattle.farm_service.specs.Services.{IsItsOperator};
 
 use crate::closed::{Closed, NotClosed};
-use crate::closing::{Room, ends_of};
+use crate::closing::{ClosingMemory, close_domains};
 use crate::lists::are_listed;
 use crate::locking::take;
 use crate::opening::{Opened, open_domains, open_users};
 use crate::pass::UserPass;
 use crate::schedule::Schedule;
-use crate::waiting::wait;
+use crate::waiting::block_forever;
 use crossbar::Word;
 use domain_core::laws::histories_grow;
 use domain_core::{By, Committed, Domain, Event, Refusal, Reply, Ticket};
@@ -83,7 +83,7 @@ fn ask(
     ensures { UnlessNoMemory result (IsAnswerIn plan.now number (record { by = by; event = event }) result) }
 {
     // A domain is what its journal says.
-    domain.meant();
+    domain.meant_law();
     // A history with one more reply is a history.
     histories_grow();
     domain.apply(by, event)
@@ -203,10 +203,10 @@ impl Service {
     {
         let seated = self.hold(rt, domain)?;
         if !seated.fits(&self.plan, domain) {
-            return wait(rt);
+            return block_forever(rt);
         }
         // A domain is what its journal says.
-        seated.meant();
+        seated.meant_law();
         Some(seated)
     }
 
@@ -259,7 +259,7 @@ impl Service {
         }
     }
 
-    /// Brings a ticket's node home under its domain's lock, where the home node is still the ticket's
+    /// Commits a ticket under its domain's lock, if the home node is still the ticket's
     /// start, and else answers `Stale`, as where there is no such domain. The ticket is spent in each
     /// case.
     ///
@@ -316,7 +316,7 @@ impl Service {
         ensures tokens { IfOk result (λ closed. HasEachOnce self.plan closed.tokens.items) }
         ensures err { IfErr result (λ e. (e.service ≡ self) × (e.passes.items ≡ passes.items) × (e.users.items ≡ users.items)) }
     {
-        let Ok(room) = Room::of(alloc, self.domains.len()) else {
+        let Ok(room) = ClosingMemory::of(alloc, self.domains.len()) else {
             return Err(NotClosed {
                 service: self,
                 passes,
@@ -331,14 +331,14 @@ impl Service {
             stopped: _,
             schedule: _,
         } = self;
-        let Room {
+        let ClosingMemory {
             domains: closed,
             words,
             tokens: mut left,
         } = room;
-        let closed = ends_of(rt, &plan, domains, closed, words);
+        let closed = close_domains(rt, &plan, domains, closed, words);
         if !are_listed(closed.as_slice(), users.as_slice()) {
-            return wait(rt);
+            return block_forever(rt);
         }
         tokens.end(rt, &plan, passes, &mut left);
         Ok(Closed {

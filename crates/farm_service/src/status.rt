@@ -23,7 +23,7 @@ pub struct DomainStatus {
 // How it is with a domain, which stays.
 fn status_of(domain: &mut SeatedDomain) -> DomainStatus
     ensures status { IsStatusOf domain.old result }
-    ensures same { domain.new ≡ domain.old }
+    ensures unchanged { domain.new ≡ domain.old }
 {
     DomainStatus {
         recorded: domain.recorded(),

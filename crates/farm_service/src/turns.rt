@@ -3,7 +3,7 @@
 ghost use Rattle.std.specs.Prelude.{◌≡◌, ◌≢◌, ◌<◌, ◌≤◌, Err, length};
 ghost use Rattle.domain_core.specs.declared.event.Refusal.TheVariants.{NoSuch};
 
-use crate::halves::{Ended, Turned, begin_turn, bring_home, end_turn};
+use crate::halves::{TurnEnd, Turned, begin_turn, commit_lent, end_turn};
 use crate::moves::move_ports;
 use crate::service::Service;
 use crate::session::Settled;
@@ -19,7 +19,7 @@ fn burst(slot: &mut Option<Ticket>, quantum: u64) {
     }
 }
 
-impl Ended {
+impl TurnEnd {
     // Whether there was anything to do.
     fn is_busy(self) -> bool {
         self.moved || self.turned != Turned::NoStep
@@ -47,11 +47,11 @@ impl Service {
         &self,
         rt: &R,
         token: Token,
-        out: bool,
+        checked_out: bool,
         slot: &mut Option<Ticket>,
-    ) -> Result<Ended, Refusal> {
+    ) -> Result<TurnEnd, Refusal> {
         match self.hold(rt, token.domain) {
-            Some(mut seated) => end_turn(&mut seated, out, slot),
+            Some(mut seated) => end_turn(&mut seated, checked_out, slot),
             None => Err(Refusal::NoSuch),
         }
     }
@@ -64,20 +64,20 @@ impl Service {
         gate: &G,
         slot: &mut Option<Ticket>,
         quantum: u64,
-    ) -> Result<Ended, Refusal> {
-        let out = self.begin(rt, token, slot)?;
+    ) -> Result<TurnEnd, Refusal> {
+        let checked_out = self.begin(rt, token, slot)?;
         gate.begins(rt, token);
-        if out {
+        if checked_out {
             burst(slot, quantum);
         }
-        let ended = self.end(rt, token, out, slot);
+        let ended = self.end(rt, token, checked_out, slot);
         gate.ended(rt, token, &ended.map(|ended| ended.turned));
         ended
     }
 
     // Notes what a turn found, which began after so many changes of its domain. A refusal for a full journal comes again
     // until the domain is changed.
-    fn note_turn(&self, token: Token, changes: u64, ended: &Result<Ended, Refusal>) {
+    fn note_turn(&self, token: Token, changes: u64, ended: &Result<TurnEnd, Refusal>) {
         let rest = self.schedule().rest();
         match ended {
             Ok(ended) if ended.is_busy() => {
@@ -124,7 +124,7 @@ impl Service {
         if self.begin(rt, token, slot)? {
             burst(slot, quantum);
             if let Some(mut seated) = self.hold(rt, token.domain) {
-                bring_home(&mut seated, true, slot)?;
+                commit_lent(&mut seated, true, slot)?;
             }
         }
         Ok(())
@@ -148,7 +148,7 @@ impl Service {
         done
     }
 
-    // Sees that the burst of a node in a round is over. A worker that keeps it out for long may have no core: then the
+    // Sees that the burst of a node in a round is over. A worker that keeps it checked out for long may have no core: then the
     // burst is done here, and the worker's is stale.
     fn finish_burst<R: Wait>(
         &self,
@@ -159,7 +159,7 @@ impl Service {
     ) -> Result<(), Refusal>
         ensures there { token.domain < length self.now.plan → result ≢ Err NoSuch }
     {
-        if self.schedule().await_home(token) {
+        if self.schedule().await_commit(token) {
             Ok(())
         } else {
             self.burst_alone(rt, token, slot, quantum)

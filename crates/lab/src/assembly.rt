@@ -1,6 +1,6 @@
 //! Texts as code, and code as text.
 
-use crate::failure::Failure;
+use crate::failure::LabFailure;
 use script_text::{Answered, Question, TextWriter, read_questions};
 use std::alloc::{AllocError, Global};
 use t414_assembly::{
@@ -24,7 +24,7 @@ pub fn print_assembled(
     alloc: Global,
     options: AssemblyOptions,
     text: &[u8],
-) -> Result<String, Failure> {
+) -> Result<String, LabFailure> {
     let origin = if options.pokes.is_some() {
         LOADED
     } else {
@@ -42,20 +42,20 @@ pub fn print_assembled(
 }
 
 // The lines of a script that load code.
-fn print_pokes(alloc: Global, host: &str, user: &str, code: &[u8]) -> Result<String, Failure> {
+fn print_pokes(alloc: Global, host: &str, user: &str, code: &[u8]) -> Result<String, LabFailure> {
     if code.is_empty() || code.len() > (MOST_CODE - (LOADED - BOOTED)) as usize {
-        return Err(Failure::Poked(code.len()));
+        return Err(LabFailure::Poked(code.len()));
     }
     match loader(alloc, code.len() as u32) {
         Ok(boot) => Ok(pokes(alloc, host, user, boot.as_slice(), code)?),
-        Err(_) => Err(Failure::Memory),
+        Err(_) => Err(LabFailure::Memory),
     }
 }
 
 // The line of digits by which a boot takes code.
-fn print_boot(alloc: Global, code: &[u8]) -> Result<String, Failure> {
+fn print_boot(alloc: Global, code: &[u8]) -> Result<String, LabFailure> {
     if !(2..=255).contains(&code.len()) {
-        return Err(Failure::Length(code.len()));
+        return Err(LabFailure::Length(code.len()));
     }
     let mut line = TextWriter::new(alloc);
     line.push_bytes(code);
@@ -64,7 +64,7 @@ fn print_boot(alloc: Global, code: &[u8]) -> Result<String, Failure> {
 }
 
 /// The instructions that hexadecimal digits spell, one a line.
-pub fn print_disassembled(alloc: Global, text: &[u8]) -> Result<String, Failure> {
+pub fn print_disassembled(alloc: Global, text: &[u8]) -> Result<String, LabFailure> {
     let bytes = bytes_of_digits(alloc, text)?;
     Ok(code_as_text(alloc, bytes.as_slice())?)
 }
@@ -74,12 +74,15 @@ pub fn print_disassembled(alloc: Global, text: &[u8]) -> Result<String, Failure>
 /// disassembled and assembled again.
 ///
 /// `Line` if a line isn't UTF-8.
-pub fn try_programs(alloc: Global, text: &[u8]) -> Result<Vec<Answered<'_>>, Failure> {
+pub fn try_programs(alloc: Global, text: &[u8]) -> Result<Vec<Answered<'_>>, LabFailure> {
     let questions = read_questions(alloc, text, 0)?;
     answer_all(alloc, questions.as_slice())
 }
 
-fn answer_all<'a>(alloc: Global, questions: &[Question<'a>]) -> Result<Vec<Answered<'a>>, Failure> {
+fn answer_all<'a>(
+    alloc: Global,
+    questions: &[Question<'a>],
+) -> Result<Vec<Answered<'a>>, LabFailure> {
     let mut answers = Vec::new(alloc);
     for question in questions {
         let answer = answer_row(alloc, question.text)?;
@@ -91,7 +94,7 @@ fn answer_all<'a>(alloc: Global, questions: &[Question<'a>]) -> Result<Vec<Answe
     Ok(answers)
 }
 
-fn answer_row(alloc: Global, row: &str) -> Result<String, Failure> {
+fn answer_row(alloc: Global, row: &str) -> Result<String, LabFailure> {
     let answered = match row.strip_prefix("hex ") {
         Some(digits) => print_disassembled(alloc, digits.as_bytes()),
         None => answer_program(alloc, row),
@@ -100,7 +103,7 @@ fn answer_row(alloc: Global, row: &str) -> Result<String, Failure> {
 }
 
 // The code of a program in digits, or that its disassembly isn't the same code.
-fn answer_program(alloc: Global, row: &str) -> Result<String, Failure> {
+fn answer_program(alloc: Global, row: &str) -> Result<String, LabFailure> {
     let code = code_of(alloc, lines_of(alloc, row)?.as_bytes())?;
     let disassembled = code_as_text(alloc, code.as_slice())?;
     let again = code_of(alloc, disassembled.as_bytes())?;
@@ -121,7 +124,7 @@ fn lines_of(alloc: Global, row: &str) -> Result<String, AllocError> {
 }
 
 // The code of a text that a boot takes.
-fn code_of(alloc: Global, text: &[u8]) -> Result<Vec<u8>, Failure> {
+fn code_of(alloc: Global, text: &[u8]) -> Result<Vec<u8>, LabFailure> {
     let Assembly {
         statements: _,
         lines: _,
@@ -132,10 +135,10 @@ fn code_of(alloc: Global, text: &[u8]) -> Result<Vec<u8>, Failure> {
 }
 
 // An answer without the line feed at its end, or a fault as it is told.
-fn without_end(alloc: Global, answer: Result<String, Failure>) -> Result<String, Failure> {
+fn without_end(alloc: Global, answer: Result<String, LabFailure>) -> Result<String, LabFailure> {
     match answer {
         Ok(text) => Ok(trimmed(alloc, text.as_str())?),
-        Err(Failure::Text(fault)) => Ok(format!(in alloc; "{fault}")?),
+        Err(LabFailure::Text(fault)) => Ok(format!(in alloc; "{fault}")?),
         Err(failure) => Err(failure),
     }
 }

@@ -1,7 +1,7 @@
 //! What the words of the command line ask.
 
 use crate::assembly::AssemblyOptions;
-use crate::failure::Failure;
+use crate::failure::LabFailure;
 use clap::error::ErrorKind;
 use clap::{Arg, ArgAction, ArgMatches, Command, value_parser};
 use script_text::{HexFault, bytes_of, value_named};
@@ -20,7 +20,7 @@ Each subcommand tells by --help what it reads. docs/LAB.md has them all.";
 
 /// What the words ask.
 #[derive(Drop)]
-pub enum Request<'a> {
+pub enum LabRequest<'a> {
     /// The text of `--help`.
     Help(String),
     /// To compare files of rows with what they expect.
@@ -99,7 +99,10 @@ const SUBCOMMANDS: [(&str, Subcommand); 7] = [
 ];
 
 /// Reads the words of the command line, of which the first is the program's name.
-pub fn read_words<'a, S: AsStr>(alloc: Global, words: &'a [S]) -> Result<Request<'a>, Failure> {
+pub fn read_words<'a, S: AsStr>(
+    alloc: Global,
+    words: &'a [S],
+) -> Result<LabRequest<'a>, LabFailure> {
     let command = lab_command(alloc)?;
     match command.try_get_matches_from(words) {
         Ok(matches) => read_matches(alloc, &matches),
@@ -108,11 +111,11 @@ pub fn read_words<'a, S: AsStr>(alloc: Global, words: &'a [S]) -> Result<Request
 }
 
 // Help that is asked for, or what is wrong with the words.
-fn read_error<'a>(alloc: Global, error: clap::Error) -> Result<Request<'a>, Failure> {
+fn read_error<'a>(alloc: Global, error: clap::Error) -> Result<LabRequest<'a>, LabFailure> {
     match error.kind() {
-        ErrorKind::OutOfMemory => Err(Failure::Memory),
-        ErrorKind::DisplayHelp => Ok(Request::Help(format!(in alloc; "{error}")?)),
-        _ => Err(Failure::Words(error)),
+        ErrorKind::OutOfMemory => Err(LabFailure::Memory),
+        ErrorKind::DisplayHelp => Ok(LabRequest::Help(format!(in alloc; "{error}")?)),
+        _ => Err(LabFailure::Words(error)),
     }
 }
 
@@ -193,19 +196,19 @@ fn pokes_argument<'a>(alloc: Global) -> Arg<'a> {
         .action(ArgAction::Append)
 }
 
-fn read_matches<'a>(alloc: Global, matches: &ArgMatches<'a>) -> Result<Request<'a>, Failure> {
+fn read_matches<'a>(alloc: Global, matches: &ArgMatches<'a>) -> Result<LabRequest<'a>, LabFailure> {
     let Some((name, matches)) = matches.subcommand() else {
-        return Err(Failure::Subcommand);
+        return Err(LabFailure::Subcommand);
     };
-    let subcommand = value_named(&SUBCOMMANDS, name).ok_or(Failure::Subcommand)?;
+    let subcommand = value_named(&SUBCOMMANDS, name).ok_or(LabFailure::Subcommand)?;
     Ok(match subcommand {
-        Subcommand::Replay => Request::Read(Reading::Replay),
-        Subcommand::Plan => Request::Read(Reading::Plan),
-        Subcommand::Draw => Request::Read(Reading::Draw),
-        Subcommand::Trace => Request::Read(read_trace(alloc, matches)?),
-        Subcommand::Assemble => Request::Read(Reading::Assemble(read_options(matches))),
-        Subcommand::Disassemble => Request::Read(Reading::Disassemble),
-        Subcommand::Rows => Request::Rows(read_files(alloc, matches)?),
+        Subcommand::Replay => LabRequest::Read(Reading::Replay),
+        Subcommand::Plan => LabRequest::Read(Reading::Plan),
+        Subcommand::Draw => LabRequest::Read(Reading::Draw),
+        Subcommand::Trace => LabRequest::Read(read_trace(alloc, matches)?),
+        Subcommand::Assemble => LabRequest::Read(Reading::Assemble(read_options(matches))),
+        Subcommand::Disassemble => LabRequest::Read(Reading::Disassemble),
+        Subcommand::Rows => LabRequest::Rows(read_files(alloc, matches)?),
     })
 }
 
@@ -223,14 +226,14 @@ fn read_files<'a>(alloc: Global, matches: &ArgMatches<'a>) -> Result<Vec<&'a str
     Vec::from_slice(alloc, matches.get_strs("file").unwrap_or(&[]))
 }
 
-fn read_trace<'a>(alloc: Global, matches: &ArgMatches<'a>) -> Result<Reading<'a>, Failure> {
+fn read_trace<'a>(alloc: Global, matches: &ArgMatches<'a>) -> Result<Reading<'a>, LabFailure> {
     let Some(digits) = matches.get_str("boot") else {
         return Ok(Reading::Trace);
     };
     let steps = matches.get_one::<u32>("steps").unwrap_or(USUAL_STEPS);
     match bytes_of(alloc, digits) {
         Ok(code) if (2..=255).contains(&code.len()) => Ok(Reading::Boot(code, steps)),
-        Err(HexFault::NoMemory) => Err(Failure::Memory),
-        _ => Err(Failure::Code),
+        Err(HexFault::NoMemory) => Err(LabFailure::Memory),
+        _ => Err(LabFailure::Code),
     }
 }

@@ -3,7 +3,7 @@
 use farm_replay::ReplayFault;
 use node_trace::BootFault;
 use plan_views::PlanRefusal;
-use script_text::{LineFault, ReadFault, write_whole};
+use script_text::{NumberedLineFault, ReadFault, write_whole};
 use std::alloc::{AllocError, AllocFailed, Global};
 use std::fmt;
 use std::io::{self, Write};
@@ -11,7 +11,7 @@ use t414_assembly::TextFault;
 
 /// Why the lab ends without its output.
 #[derive(Drop)]
-pub enum Failure {
+pub enum LabFailure {
     /// `clap` refuses the words.
     Words(clap::Error),
     Arguments,
@@ -35,59 +35,65 @@ pub enum Failure {
 }
 
 /// The text for standard error.
-impl fmt::Display for Failure {
+impl fmt::Display for LabFailure {
     fn fmt<W: fmt::Write>(&self, f: &mut fmt::Formatter<W>) -> fmt::Result {
         match self {
-            Failure::Words(error) => write!(f, "{error}"),
-            Failure::Arguments => f.write_str("error: an argument isn't UTF-8\n"),
-            Failure::Subcommand => f.write_str("error: a subcommand is missing\n"),
-            Failure::Code => {
+            LabFailure::Words(error) => write!(f, "{error}"),
+            LabFailure::Arguments => f.write_str("error: an argument isn't UTF-8\n"),
+            LabFailure::Subcommand => f.write_str("error: a subcommand is missing\n"),
+            LabFailure::Code => {
                 f.write_str("error: the code is not 2 to 255 bytes in hexadecimal digits\n")
             }
-            Failure::Plan(number) => write!(f, "plan: {number}\n"),
-            Failure::RefusedPlan(refusal) => write!(f, "{refusal}\n"),
-            Failure::Line(number) => write!(f, "line {number}\n"),
-            Failure::Text(fault) => write!(f, "{fault}\n"),
-            Failure::Length(count) => {
+            LabFailure::Plan(number) => write!(f, "plan: {number}\n"),
+            LabFailure::RefusedPlan(refusal) => write!(f, "{refusal}\n"),
+            LabFailure::Line(number) => write!(f, "line {number}\n"),
+            LabFailure::Text(fault) => write!(f, "{fault}\n"),
+            LabFailure::Length(count) => {
                 write!(f, "the code has {count} bytes, and a boot takes 2 to 255\n")
             }
-            Failure::Poked(count) => {
+            LabFailure::Poked(count) => {
                 write!(
                     f,
                     "the code has {count} bytes, and 1 to 65456 can be poked\n"
                 )
             }
-            Failure::Memory => f.write_str("memory\n"),
-            Failure::Io => f.write_str("io\n"),
+            LabFailure::Memory => f.write_str("memory\n"),
+            LabFailure::Io => f.write_str("io\n"),
         }
     }
 }
 
-impl Failure {
+impl LabFailure {
     /// The arguments of the process couldn't be read.
-    pub fn of_arguments(error: &io::Error) -> Failure {
+    pub fn of_arguments(error: &io::Error) -> LabFailure {
         match error.kind() {
-            io::ErrorKind::OutOfMemory => Failure::Memory,
-            _ => Failure::Arguments,
+            io::ErrorKind::OutOfMemory => LabFailure::Memory,
+            _ => LabFailure::Arguments,
         }
     }
 
     /// A file or a stream couldn't be read.
-    pub fn of_input(error: &io::Error) -> Failure {
+    pub fn of_input(error: &io::Error) -> LabFailure {
         match error.kind() {
-            io::ErrorKind::OutOfMemory => Failure::Memory,
-            _ => Failure::Io,
+            io::ErrorKind::OutOfMemory => LabFailure::Memory,
+            _ => LabFailure::Io,
         }
     }
 
     // The status of the process.
     fn status(&self) -> u8 {
         match self {
-            Failure::Words(_) | Failure::Arguments | Failure::Subcommand | Failure::Code => 2,
-            Failure::Plan(_) | Failure::RefusedPlan(_) => 3,
-            Failure::Line(_) | Failure::Text(_) | Failure::Length(_) | Failure::Poked(_) => 4,
-            Failure::Memory => 5,
-            Failure::Io => 6,
+            LabFailure::Words(_)
+            | LabFailure::Arguments
+            | LabFailure::Subcommand
+            | LabFailure::Code => 2,
+            LabFailure::Plan(_) | LabFailure::RefusedPlan(_) => 3,
+            LabFailure::Line(_)
+            | LabFailure::Text(_)
+            | LabFailure::Length(_)
+            | LabFailure::Poked(_) => 4,
+            LabFailure::Memory => 5,
+            LabFailure::Io => 6,
         }
     }
 
@@ -106,69 +112,69 @@ impl Failure {
     }
 }
 
-impl From<AllocError> for Failure {
-    fn from(_error: AllocError) -> Failure {
-        Failure::Memory
+impl From<AllocError> for LabFailure {
+    fn from(_error: AllocError) -> LabFailure {
+        LabFailure::Memory
     }
 }
 
-impl<T: Drop> From<AllocFailed<T>> for Failure {
-    fn from(_error: AllocFailed<T>) -> Failure {
-        Failure::Memory
+impl<T: Drop> From<AllocFailed<T>> for LabFailure {
+    fn from(_error: AllocFailed<T>) -> LabFailure {
+        LabFailure::Memory
     }
 }
 
-impl From<ReadFault> for Failure {
-    fn from(fault: ReadFault) -> Failure {
+impl From<ReadFault> for LabFailure {
+    fn from(fault: ReadFault) -> LabFailure {
         match fault {
-            ReadFault::Failed => Failure::Io,
-            ReadFault::NoMemory => Failure::Memory,
+            ReadFault::Failed => LabFailure::Io,
+            ReadFault::NoMemory => LabFailure::Memory,
         }
     }
 }
 
-impl From<LineFault> for Failure {
-    fn from(fault: LineFault) -> Failure {
+impl From<NumberedLineFault> for LabFailure {
+    fn from(fault: NumberedLineFault) -> LabFailure {
         match fault {
-            LineFault::Wrong(line) => Failure::Line(line),
-            LineFault::Memory(_) => Failure::Memory,
+            NumberedLineFault::Wrong(line) => LabFailure::Line(line),
+            NumberedLineFault::Memory(_) => LabFailure::Memory,
         }
     }
 }
 
-impl From<ReplayFault> for Failure {
-    fn from(fault: ReplayFault) -> Failure {
+impl From<ReplayFault> for LabFailure {
+    fn from(fault: ReplayFault) -> LabFailure {
         match fault {
-            ReplayFault::Plan(number) => Failure::Plan(number),
-            ReplayFault::Line(number) => Failure::Line(number),
-            ReplayFault::Memory(_) => Failure::Memory,
+            ReplayFault::Plan(number) => LabFailure::Plan(number),
+            ReplayFault::Line(number) => LabFailure::Line(number),
+            ReplayFault::Memory(_) => LabFailure::Memory,
         }
     }
 }
 
-impl From<PlanRefusal> for Failure {
-    fn from(refusal: PlanRefusal) -> Failure {
+impl From<PlanRefusal> for LabFailure {
+    fn from(refusal: PlanRefusal) -> LabFailure {
         match refusal {
-            PlanRefusal::NoMemory => Failure::Memory,
-            refusal => Failure::RefusedPlan(refusal),
+            PlanRefusal::NoMemory => LabFailure::Memory,
+            refusal => LabFailure::RefusedPlan(refusal),
         }
     }
 }
 
-impl From<BootFault> for Failure {
-    fn from(fault: BootFault) -> Failure {
+impl From<BootFault> for LabFailure {
+    fn from(fault: BootFault) -> LabFailure {
         match fault {
-            BootFault::TooShort | BootFault::TooLong => Failure::Code,
-            BootFault::NoMemory => Failure::Memory,
+            BootFault::TooShort | BootFault::TooLong => LabFailure::Code,
+            BootFault::NoMemory => LabFailure::Memory,
         }
     }
 }
 
-impl From<TextFault> for Failure {
-    fn from(fault: TextFault) -> Failure {
+impl From<TextFault> for LabFailure {
+    fn from(fault: TextFault) -> LabFailure {
         match fault {
-            TextFault::Memory(_) => Failure::Memory,
-            TextFault::Wrong(_, _) => Failure::Text(fault),
+            TextFault::Memory(_) => LabFailure::Memory,
+            TextFault::Wrong(_, _) => LabFailure::Text(fault),
         }
     }
 }

@@ -8,8 +8,8 @@ mod plans;
 mod reports;
 mod rows;
 
-use crate::command_line::{Request, read_words};
-use crate::failure::Failure;
+use crate::command_line::{LabRequest, read_words};
+use crate::failure::LabFailure;
 use crate::reports::{Report, report_of};
 use crate::rows::report_rows;
 use script_text::{read_whole, write_whole};
@@ -20,27 +20,27 @@ fn main(rt: HostRuntime) -> ExitCode {
     ExitCode::from(match report(&rt) {
         Ok(Report { text, status }) => match write_whole(&mut rt.stdout(), text.as_bytes()) {
             Ok(()) => status,
-            Err(_) => Failure::Io.tell(rt.alloc(), &mut rt.stderr()),
+            Err(_) => LabFailure::Io.tell(rt.alloc(), &mut rt.stderr()),
         },
         Err(failure) => failure.tell(rt.alloc(), &mut rt.stderr()),
     })
 }
 
-fn words_of(rt: &HostRuntime) -> Result<Vec<String>, Failure> {
+fn words_of(rt: &HostRuntime) -> Result<Vec<String>, LabFailure> {
     match env::args(rt) {
         Ok(words) => Ok(words.collect(rt.alloc())?),
-        Err(error) => Err(Failure::of_arguments(&error)),
+        Err(error) => Err(LabFailure::of_arguments(&error)),
     }
 }
 
 // What goes to standard output, and the status.
-fn report(rt: &HostRuntime) -> Result<Report, Failure> {
+fn report(rt: &HostRuntime) -> Result<Report, LabFailure> {
     let alloc = rt.alloc();
     let words = words_of(rt)?;
     match read_words(alloc, words.as_slice())? {
-        Request::Help(text) => Ok(Report { text, status: 0 }),
-        Request::Rows(files) => report_rows(rt, files.as_slice()),
-        Request::Read(reading) => {
+        LabRequest::Help(text) => Ok(Report { text, status: 0 }),
+        LabRequest::Rows(files) => report_rows(rt, files.as_slice()),
+        LabRequest::Read(reading) => {
             let text = read_whole(alloc, &mut rt.reader())?;
             report_of(alloc, &reading, text.as_slice())
         }

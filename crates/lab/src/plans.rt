@@ -1,7 +1,7 @@
 //! Plans that stand in files, each with what the checker is to answer.
 
 use plan_views::{PlanRefusal, accepted};
-use script_text::{Answered, LineFault, Question, TextWriter, numbered_lines};
+use script_text::{Answered, NumberedLineFault, Question, TextWriter, numbered_lines};
 use std::alloc::{AllocError, Global};
 
 // What a heading says: what is expected, and why, and whether the plan is the base of those that follow.
@@ -18,7 +18,7 @@ struct Heading<'a> {
 /// passed over. What stands below `=== # ...` or before the first heading is a remark.
 ///
 /// `Wrong` if a line isn't UTF-8 or a change can't be made.
-pub fn try_plans(alloc: Global, text: &[u8]) -> Result<Vec<Answered<'_>>, LineFault> {
+pub fn try_plans(alloc: Global, text: &[u8]) -> Result<Vec<Answered<'_>>, NumberedLineFault> {
     let lines = read_lines(alloc, text)?;
     let mut trials = Trials {
         base: String::new(alloc),
@@ -33,7 +33,7 @@ pub fn try_plans(alloc: Global, text: &[u8]) -> Result<Vec<Answered<'_>>, LineFa
     Ok(trials.answers)
 }
 
-fn read_lines(alloc: Global, text: &[u8]) -> Result<Vec<&str>, LineFault> {
+fn read_lines(alloc: Global, text: &[u8]) -> Result<Vec<&str>, NumberedLineFault> {
     let mut lines = Vec::new(alloc);
     for line in &numbered_lines(alloc, text)? {
         lines.push(line.as_str()?)?;
@@ -72,7 +72,7 @@ impl<'a> Trials<'a> {
         number: u64,
         heading: &'a str,
         lines: &[&str],
-    ) -> Result<(), LineFault> {
+    ) -> Result<(), NumberedLineFault> {
         if heading.starts_with("#") {
             return Ok(());
         }
@@ -116,7 +116,12 @@ fn try_plan<'a>(
 }
 
 // The plan below a heading, whose line has this number: the lines there, or the changed base.
-fn plan_of(alloc: Global, base: &str, number: u64, lines: &[&str]) -> Result<String, LineFault> {
+fn plan_of(
+    alloc: Global,
+    base: &str,
+    number: u64,
+    lines: &[&str],
+) -> Result<String, NumberedLineFault> {
     match lines.first() {
         Some(line) if line.starts_with("replace: ") => changed_plan(alloc, base, number, lines),
         _ => Ok(joined(alloc, lines)?),
@@ -138,7 +143,7 @@ fn changed_plan(
     base: &str,
     number: u64,
     lines: &[&str],
-) -> Result<String, LineFault> {
+) -> Result<String, NumberedLineFault> {
     let mut plan = String::from_str(alloc, base)?;
     let mut old = None;
     let mut number = number;
@@ -149,7 +154,7 @@ fn changed_plan(
         }
     }
     match old {
-        Some(_) => Err(LineFault::Wrong(number)),
+        Some(_) => Err(NumberedLineFault::Wrong(number)),
         None => Ok(plan),
     }
 }
@@ -161,8 +166,8 @@ fn change<'a>(
     old: Option<&str>,
     line: &'a str,
     number: u64,
-) -> Result<Option<&'a str>, LineFault> {
-    let wrong = LineFault::Wrong(number);
+) -> Result<Option<&'a str>, NumberedLineFault> {
+    let wrong = NumberedLineFault::Wrong(number);
     let Some(text) = old else {
         return Ok(Some(line.strip_prefix("replace: ").ok_or(wrong)?));
     };

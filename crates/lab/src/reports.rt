@@ -2,7 +2,7 @@
 
 use crate::assembly::{print_assembled, print_disassembled};
 use crate::command_line::Reading;
-use crate::failure::Failure;
+use crate::failure::LabFailure;
 use farm_replay::{Replayed, replay};
 use node_trace::{trace, trace_boot};
 use plan_views::{accepted, draw, table_of};
@@ -17,12 +17,12 @@ pub struct Report {
 }
 
 /// What standard input comes to.
-pub fn report_of(alloc: Global, reading: &Reading, text: &[u8]) -> Result<Report, Failure> {
+pub fn report_of(alloc: Global, reading: &Reading, text: &[u8]) -> Result<Report, LabFailure> {
     let text = print_reading(alloc, reading, text)?;
     Ok(Report { text, status: 0 })
 }
 
-fn print_reading(alloc: Global, reading: &Reading, text: &[u8]) -> Result<String, Failure> {
+fn print_reading(alloc: Global, reading: &Reading, text: &[u8]) -> Result<String, LabFailure> {
     match reading {
         Reading::Replay => print_replayed(alloc, text),
         Reading::Plan => print_plan(alloc, text),
@@ -34,24 +34,24 @@ fn print_reading(alloc: Global, reading: &Reading, text: &[u8]) -> Result<String
     }
 }
 
-fn print_replayed(alloc: Global, text: &[u8]) -> Result<String, Failure> {
+fn print_replayed(alloc: Global, text: &[u8]) -> Result<String, LabFailure> {
     let Replayed { answers, last: _ } = replay(alloc, text)?;
     Ok(print_answers(alloc, answers.as_slice())?)
 }
 
-fn print_traced(alloc: Global, text: &[u8]) -> Result<String, Failure> {
+fn print_traced(alloc: Global, text: &[u8]) -> Result<String, LabFailure> {
     let answers = trace(alloc, text)?;
     Ok(print_answers(alloc, answers.as_slice())?)
 }
 
 // The plan of a text as a table.
-fn print_plan(alloc: Global, text: &[u8]) -> Result<String, Failure> {
+fn print_plan(alloc: Global, text: &[u8]) -> Result<String, LabFailure> {
     let plan = accepted(alloc, divide(text, b"---").0)?;
     Ok(table_of(alloc, &plan)?)
 }
 
 // The switch of the last farm of a text.
-fn print_drawing(alloc: Global, text: &[u8]) -> Result<String, Failure> {
+fn print_drawing(alloc: Global, text: &[u8]) -> Result<String, LabFailure> {
     let Replayed { answers: _, last } = replay(alloc, text)?;
     match last {
         Some(farm) => Ok(draw(alloc, &farm.plan, farm.words.as_slice())?),

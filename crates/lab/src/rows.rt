@@ -1,7 +1,7 @@
 //! Worked rows that stand in files, compared with the answers that they expect.
 
 use crate::assembly::try_programs;
-use crate::failure::Failure;
+use crate::failure::LabFailure;
 use crate::plans::try_plans;
 use crate::reports::Report;
 use farm_replay::{Replayed, replay};
@@ -12,7 +12,7 @@ use std::fs;
 
 /// Compares the rows of files. Each wrong row has a line that names its file and line, what it asked, the answer and
 /// what was expected; each file has a line that counts. The status is 1 if a row is wrong or a file has none.
-pub fn report_rows(rt: &HostRuntime, files: &[&str]) -> Result<Report, Failure> {
+pub fn report_rows(rt: &HostRuntime, files: &[&str]) -> Result<Report, LabFailure> {
     let mut text = TextWriter::new(rt.alloc());
     let mut status = 0;
     for file in files {
@@ -25,13 +25,13 @@ pub fn report_rows(rt: &HostRuntime, files: &[&str]) -> Result<Report, Failure> 
 }
 
 // Compares the rows of a file, and tells whether there are rows and all are right.
-fn report_file(rt: &HostRuntime, file: &str, text: &mut TextWriter) -> Result<bool, Failure> {
+fn report_file(rt: &HostRuntime, file: &str, text: &mut TextWriter) -> Result<bool, LabFailure> {
     match fs::read(rt, file) {
         Ok(bytes) => {
             let answers = answer_rows(rt.alloc(), file, bytes.as_slice())?;
             Ok(compare(text, file, answers.as_slice()))
         }
-        Err(error) => Err(Failure::of_input(&error)),
+        Err(error) => Err(LabFailure::of_input(&error)),
     }
 }
 
@@ -40,7 +40,7 @@ fn answer_rows<'a>(
     alloc: Global,
     file: &str,
     text: &'a [u8],
-) -> Result<Vec<Answered<'a>>, Failure> {
+) -> Result<Vec<Answered<'a>>, LabFailure> {
     if file.ends_with(".replay") {
         let Replayed { answers, last: _ } = replay(alloc, text)?;
         Ok(answers)

@@ -16,7 +16,7 @@ use std::sync::Wait;
 ///
 /// # Errors
 ///
-/// `NoMemory` if a command, a boot message or the text met want of memory. What was taken before it stands.
+/// `NoMemory` if a command, a boot message or the text ran out of memory. What was taken before it stands.
 pub fn answer_line<R: Wait>(
     rt: &R,
     alloc: Global,
@@ -39,7 +39,7 @@ pub fn answer_line<R: Wait>(
 ///
 /// # Errors
 ///
-/// `NoMemory` as [`answer_line`], and if a settling met want of memory. The lines after it are not answered.
+/// `NoMemory` as [`answer_line`], and if a settling ran out of memory. The lines after it are not answered.
 pub fn answer_lines<R: Wait>(
     rt: &R,
     alloc: Global,

@@ -256,7 +256,7 @@ fn write_outcome(
 
 /// Appends the output line of a line: the user's name, the verb, the number of a host or node, and what came of it.
 ///
-/// `NoMemory` too if want of memory ended the line, which has no word.
+/// `NoMemory` too if the line ended because memory ran out, which has no word.
 pub(crate) fn write_line(
     text: &mut String,
     name: &str,

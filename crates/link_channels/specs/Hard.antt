@@ -10,12 +10,12 @@ use Rattle.link_channels.specs.declared.process.Process.{Process}
 use Rattle.link_channels.specs.declared.process.Transfer.{Transfer}
 use Rattle.link_channels.specs.declared.process.Turn.{Turn}
 use Rattle.link_channels.specs.declared.process.Turn.TheVariants.{GoesOn, Waits}
-use Rattle.link_channels.specs.Reply.{Reply, Gave, read_then, load_then, store_then}
+use Rattle.link_channels.specs.Completion.{Completion, Gave, read_then, load_then, store_then}
 use Rattle.link_channels.specs.Soft.{chosen}
 use Rattle.link_channels.specs.Waiting.{descriptor_of, state_address, save_then}
 
 -- in: the channel becomes the own descriptor, pointer and count are set, the watch is cleared, save, leave
-abbrev pub link_input : Process → Transfer → Link → List ℕ → Reply Turn Link
+abbrev pub link_input : Process → Transfer → Link → List ℕ → Completion Turn Link
 link_input p t l m =
     if t.count == 0 then Gave GoesOn l m
     else store_then t.channel (descriptor_of p) l m (λ m.
@@ -28,24 +28,24 @@ sending byte t l =
     record l { end = posted byte l.end; output_pointer = t.pointer ⊕ 1; output_count = t.count - 1 }
 
 -- out: the channel becomes the own descriptor, save, the first byte is read and posted, leave
-abbrev pub link_output : Process → Transfer → Link → List ℕ → Reply Turn Link
+abbrev pub link_output : Process → Transfer → Link → List ℕ → Completion Turn Link
 link_output p t l m =
     if t.count == 0 then Gave GoesOn l m
     else store_then t.channel (descriptor_of p) l m (λ m. save_then p l m (λ m.
     read_then (byte_at m t.pointer) l m (λ byte. Gave Waits (sending byte t l) m)))
 
 -- enbc, if the guard isn't 0: ready if a byte is there, else watched
-abbrev pub link_enable : Process → ℕ → Link → List ℕ → Reply (Unit {0}) Link
+abbrev pub link_enable : Process → ℕ → Link → List ℕ → Completion (Unit {0}) Link
 link_enable p channel l m =
     if is_some l.end.input.buffer then store_then (state_address p.workspace) ready l m (λ m. Gave tt l m)
     else store_then channel (descriptor_of p) l m (λ m. Gave tt (record l { watched = true }) m)
 
 -- whether a byte is there, and the branch the one that the alternative chooses
-abbrev pub chosen_if_held : Process → ℕ → Link → List ℕ → Reply Bool Link
+abbrev pub chosen_if_held : Process → ℕ → Link → List ℕ → Completion Bool Link
 chosen_if_held p offset l m = if is_some l.end.input.buffer then chosen p offset l m else Gave false l m
 
 -- disc, if the guard isn't 0: the watch is cleared, and the channel is given up if it is the own
-abbrev pub link_disable : Process → ℕ → ℕ → Link → List ℕ → Reply Bool Link
+abbrev pub link_disable : Process → ℕ → ℕ → Link → List ℕ → Completion Bool Link
 link_disable p channel offset l m =
     let unwatched : Link = record l { watched = false } in
     load_then channel unwatched m (λ c.

@@ -6,7 +6,7 @@ use Rattle.process_queue.specs.declared.queue.Queue.{Queue}
 use Rattle.link_channels.specs.declared.link.FourLinks.{FourLinks}
 use Rattle.link_channels.specs.declared.process.Transfer.{Transfer}
 use Rattle.link_channels.specs.Links.{any_has_work}
-use Rattle.link_channels.specs.Reply.{Gave, Halted, acts}
+use Rattle.link_channels.specs.Completion.{Gave, Halted, does_something}
 use Rattle.link_channels.specs.Service.{serve_all}
 use Rattle.link_channels.specs.Soft.{exchange}
 
@@ -17,7 +17,7 @@ MessageStopsAtTheEdge = (from to v : ℕ) (t : Transfer) (ls : FourLinks) (q : Q
 
 -- a service of the links does something, or meets a fault, exactly if one of them has work
 abbrev pub ServiceActsOnWork : Type 0
-ServiceActsOnWork = (ls : FourLinks) (q : Queue) (m : List ℕ) → acts (serve_all ls q m) ≡ any_has_work ls
+ServiceActsOnWork = (ls : FourLinks) (q : Queue) (m : List ℕ) → does_something (serve_all ls q m) ≡ any_has_work ls
 
 -- if none has, it changes nothing
 abbrev pub ServiceLeavesTheRest : Type 0

@@ -1,5 +1,5 @@
 -- what must be believed
-pub mod Reply
+pub mod Completion
 pub mod Links
 pub mod Kinds
 pub mod Waiting

@@ -4,7 +4,7 @@ use Rattle.link_channels.specs.declared.link.Link.{Link}
 use Rattle.link_channels.specs.declared.number.LinkNumber.{LinkNumber}
 use Rattle.link_channels.specs.declared.number.LinkNumber.TheVariants.{Zero, One, Two, Three}
 use Rattle.link_channels.specs.declared.link.FourLinks.{FourLinks}
-use Rattle.link_channels.specs.Reply.{Reply, Gave, Halted}
+use Rattle.link_channels.specs.Completion.{Completion, Gave, Halted}
 use Rattle.os_link.specs.End.{fresh_end, arrived, without_next, posted, emptied}
 use Rattle.os_link.specs.declared.latch.Packet.{Packet}
 
@@ -27,7 +27,7 @@ with_link Two l ls = record ls { two = l }
 with_link Three l ls = record ls { three = l }
 
 -- what was done to one link, as done to the four
-abbrev pub within : {A : Type 0} → LinkNumber → FourLinks → Reply A Link → Reply A FourLinks
+abbrev pub within : {A : Type 0} → LinkNumber → FourLinks → Completion A Link → Completion A FourLinks
 within n ls (Gave x l m) = Gave x (with_link n l ls) m
 within n ls (Halted fault l m) = Halted fault (with_link n l ls) m
 
@@ -87,9 +87,9 @@ abbrev pub byte_taken : LinkNumber → FourLinks → FourLinks
 byte_taken n ls = let l = at n ls in with_link n (record l { end = emptied l.end }) ls
 
 -- the flag that an acknowledge has come is cleared
-abbrev pub heard : Link → Link
-heard l = record l { end = record l.end { output = record l.end.output { acknowledged = false } } }
+abbrev pub acknowledge_cleared : Link → Link
+acknowledge_cleared l = record l { end = record l.end { output = record l.end.output { acknowledged = false } } }
 
 -- the same of one of the four
-abbrev pub acknowledge_heard : LinkNumber → FourLinks → FourLinks
-acknowledge_heard n ls = with_link n (heard (at n ls)) ls
+abbrev pub acknowledge_cleared_at : LinkNumber → FourLinks → FourLinks
+acknowledge_cleared_at n ls = with_link n (acknowledge_cleared (at n ls)) ls

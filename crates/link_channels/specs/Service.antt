@@ -10,37 +10,37 @@ use Rattle.link_channels.specs.declared.link.Link.{Link}
 use Rattle.link_channels.specs.declared.link.FourLinks.{FourLinks}
 use Rattle.link_channels.specs.declared.number.LinkNumber.{LinkNumber}
 use Rattle.link_channels.specs.declared.number.LinkNumber.TheVariants.{Zero, One, Two, Three}
-use Rattle.link_channels.specs.Links.{at, within, input_channel, output_channel, heard}
-use Rattle.link_channels.specs.Reply.{Reply, Gave, read_then, written_then, reply_and_then, load_then, store_then, put_then}
+use Rattle.link_channels.specs.Links.{at, within, input_channel, output_channel, acknowledge_cleared}
+use Rattle.link_channels.specs.Completion.{Completion, Gave, read_then, written_then, reply_and_then, load_then, store_then, put_then}
 use Rattle.link_channels.specs.Waiting.{waiting_at, state_address, scheduled}
 
 -- whether something was done, and the queue then
-abbrev pub Service : Type 0
-Service = Reply (Bool × Queue) Link
+abbrev pub LinkService : Type 0
+LinkService = Completion (Bool × Queue) Link
 
 -- something was done, whatever else was
-abbrev pub marked_acted : Reply (Unit {0} × Queue) Link → Service
+abbrev pub marked_acted : Completion (Unit {0} × Queue) Link → LinkService
 marked_acted r = reply_and_then r (λ done l m. Gave (true, done.1) l m)
 
 -- complete: d is the channel's word, which becomes NotProcess; if d isn't NotProcess, schedule d
-abbrev pub complete : ℕ → Link → Queue → List ℕ → Reply (Unit {0} × Queue) Link
+abbrev pub complete : ℕ → Link → Queue → List ℕ → Completion (Unit {0} × Queue) Link
 complete channel l q m = load_then channel l m (λ d. store_then channel not_process l m (λ m. scheduled d l q m))
 
 -- the byte was stored: it is taken, the pointer goes up and the count down, and at 0 the input is complete
-abbrev pub input_stored : ℕ → Link → Queue → List ℕ → Service
+abbrev pub input_stored : ℕ → Link → Queue → List ℕ → LinkService
 input_stored channel l q m =
     let k : Link = record l { end = emptied l.end; input_pointer = l.input_pointer ⊕ 1; input_count = l.input_count - 1 } in
     if k.input_count == 0 then marked_acted (complete channel k q m) else Gave (true, q) k m
 
 -- the byte in the buffer, if there is one and a process waits for it, is stored at the pointer
-abbrev pub input_of_buffer : Option ℕ → ℕ → Link → Queue → List ℕ → Service
+abbrev pub input_of_buffer : Option ℕ → ℕ → Link → Queue → List ℕ → LinkService
 input_of_buffer None channel l q m = Gave (false, q) l m
 input_of_buffer (Some byte) channel l q m =
     if l.input_count == 0 then Gave (false, q) l m
     else written_then (with_byte m l.input_pointer byte) l m (λ m. input_stored channel l q m)
 
 -- first: the input count is above 0 and a byte is in the buffer
-abbrev pub input_byte : ℕ → Link → Queue → List ℕ → Service
+abbrev pub input_byte : ℕ → Link → Queue → List ℕ → LinkService
 input_byte channel l q m = input_of_buffer l.end.input.buffer channel l q m
 
 -- the next byte is posted, the pointer goes up and the count down
@@ -49,33 +49,33 @@ sent_on byte l =
     record l { end = posted byte l.end; output_pointer = l.output_pointer ⊕ 1; output_count = l.output_count - 1 }
 
 -- second: "acknowledged" is set. It is cleared, and the next byte is posted or the output is complete
-abbrev pub output_byte : ℕ → Link → Queue → List ℕ → Service
+abbrev pub output_byte : ℕ → Link → Queue → List ℕ → LinkService
 output_byte channel l q m =
     if not l.end.output.acknowledged then Gave (false, q) l m
-    else (if l.output_count == 0 then marked_acted (complete channel (heard l) q m)
-    else read_then (byte_at m l.output_pointer) (heard l) m (λ byte. Gave (true, q) (sent_on byte (heard l)) m))
+    else (if l.output_count == 0 then marked_acted (complete channel (acknowledge_cleared l) q m)
+    else read_then (byte_at m l.output_pointer) (acknowledge_cleared l) m (λ byte. Gave (true, q) (sent_on byte (acknowledge_cleared l)) m))
 
 -- an alternative that was enabling becomes ready, one that waited becomes ready and is put
-abbrev pub woken : ℕ → ℕ → Link → Queue → List ℕ → Service
+abbrev pub woken : ℕ → ℕ → Link → Queue → List ℕ → LinkService
 woken state v l q m =
     if state == enabling then store_then (state_address v) ready l m (λ m. Gave (true, q) l m)
     else (if state == waiting then store_then (state_address v) ready l m (λ m. put_then v l q m (λ q m. Gave (true, q) l m))
     else Gave (true, q) l m)
 
 -- the alternative at a channel, if there is one, becomes ready
-abbrev pub wakes : Option ℕ → Link → Queue → List ℕ → Service
+abbrev pub wakes : Option ℕ → Link → Queue → List ℕ → LinkService
 wakes None l q m = Gave (true, q) l m
 wakes (Some v) l q m = load_then (state_address v) l m (λ state. woken state v l q m)
 
 -- third: watched and a byte in the buffer. The watch is cleared, and the process at the input channel is woken
-abbrev pub arrival : ℕ → Link → Queue → List ℕ → Service
+abbrev pub arrival : ℕ → Link → Queue → List ℕ → LinkService
 arrival channel l q m =
     if not l.watched || is_none l.end.input.buffer then Gave (false, q) l m
     else (let unwatched : Link = record l { watched = false } in
     read_then (waiting_at m channel) unwatched m (λ other. wakes other unwatched q m))
 
 -- the three in their order
-unfoldable pub serve_link : ℕ → ℕ → Link → Queue → List ℕ → Service
+unfoldable pub serve_link : ℕ → ℕ → Link → Queue → List ℕ → LinkService
 serve_link input output l q m =
     reply_and_then (input_byte input l q m) (λ took l m.
     reply_and_then (output_byte output l took.1 m) (λ gave l m.
@@ -83,11 +83,11 @@ serve_link input output l q m =
     Gave (took.0 || gave.0 || woke.0, woke.1) l m)))
 
 -- the service of one of the four links
-abbrev pub serve : LinkNumber → FourLinks → Queue → List ℕ → Reply (Bool × Queue) FourLinks
+abbrev pub serve : LinkNumber → FourLinks → Queue → List ℕ → Completion (Bool × Queue) FourLinks
 serve n ls q m = within n ls (serve_link (input_channel n) (output_channel n) (at n ls) q m)
 
 -- the service of the four in their order
-unfoldable pub serve_all : FourLinks → Queue → List ℕ → Reply (Bool × Queue) FourLinks
+unfoldable pub serve_all : FourLinks → Queue → List ℕ → Completion (Bool × Queue) FourLinks
 serve_all ls q m =
     reply_and_then (serve Zero ls q m) (λ zero ls m.
     reply_and_then (serve One ls zero.1 m) (λ one ls m.

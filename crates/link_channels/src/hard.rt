@@ -2,7 +2,7 @@
 
 ghost use Rattle.std.specs.Prelude.{◌≡◌};
 ghost use Rattle.link_channels.specs.Hard.{input_reset, link_disable, link_enable, link_input, link_output, output_reset};
-ghost use Rattle.link_channels.specs.Reply.{gave};
+ghost use Rattle.link_channels.specs.Completion.{gave};
 
 use crate::link::Link;
 use crate::process::{Process, Transfer, Turn};

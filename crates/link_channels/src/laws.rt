@@ -15,6 +15,6 @@ pub fn messages_stop_at_the_edge()
 /// A service of the four links does something, or meets a fault, exactly where one of them has work, and changes
 /// nothing where none has.
 pub fn services_act_on_work()
-    ensures acts { ServiceActsOnWork }
+    ensures does_something { ServiceActsOnWork }
     ensures rest { ServiceLeavesTheRest }
 {}

@@ -49,11 +49,11 @@ impl Link {
     }
 
     /// Whether two links are equal.
-    pub fn same(&self, other: &Link) -> bool
-        ensures same { IsTrue result → self.now ≡ other.now }
+    pub fn equals(&self, other: &Link) -> bool
+        ensures equal { IsTrue result → self.now ≡ other.now }
         ensures different { self.now ≡ other.now → IsTrue result }
     {
-        self.end.same(&other.end)
+        self.end.equals(&other.end)
             && self.input_pointer == other.input_pointer
             && self.input_count == other.input_count
             && self.output_pointer == other.output_pointer
@@ -120,13 +120,13 @@ impl FourLinks {
     }
 
     // Whether the links are equal.
-    pub(crate) fn same(&self, other: &FourLinks) -> bool
-        ensures same { IsTrue result → self.now ≡ other.now }
+    pub(crate) fn equals(&self, other: &FourLinks) -> bool
+        ensures equal { IsTrue result → self.now ≡ other.now }
         ensures different { self.now ≡ other.now → IsTrue result }
     {
-        self.zero.same(&other.zero)
-            && self.one.same(&other.one)
-            && self.two.same(&other.two)
-            && self.three.same(&other.three)
+        self.zero.equals(&other.zero)
+            && self.one.equals(&other.one)
+            && self.two.equals(&other.two)
+            && self.three.equals(&other.three)
     }
 }

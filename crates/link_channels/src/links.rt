@@ -31,8 +31,8 @@ impl Model for Links {
 
 impl Links {
     ghost use Rattle.std.specs.Prelude.{IsTrue, OnErr, false};
-    ghost use Rattle.link_channels.specs.Links.{at, with_link, fresh_links, any_has_work, packet_arrived, packet_taken, byte_posted, byte_taken, acknowledge_heard};
-    ghost use Rattle.link_channels.specs.Reply.{served, has_acted};
+    ghost use Rattle.link_channels.specs.Links.{at, with_link, fresh_links, any_has_work, packet_arrived, packet_taken, byte_posted, byte_taken, acknowledge_cleared_at};
+    ghost use Rattle.link_channels.specs.Completion.{served, has_acted};
     ghost use Rattle.link_channels.specs.Service.{serve, serve_all};
     ghost use Rattle.os_link.specs.End.{next_of};
 
@@ -131,7 +131,7 @@ impl Links {
     /// Whether a link's byte was acknowledged, which is then told no more.
     pub fn take_acknowledged(&mut self, number: LinkNumber) -> bool
         ensures answer { result ≡ (at number self.old).end.output.acknowledged }
-        ensures state { self.new ≡ acknowledge_heard number self.old }
+        ensures state { self.new ≡ acknowledge_cleared_at number self.old }
     {
         let mut link = self.at(number);
         let acknowledged = link.end.output.take_acked();
@@ -147,11 +147,11 @@ impl Links {
     }
 
     /// Whether two nodes' links are equal.
-    pub fn same(&self, other: &Links) -> bool
-        ensures same { IsTrue result → self.now ≡ other.now }
+    pub fn equals(&self, other: &Links) -> bool
+        ensures equal { IsTrue result → self.now ≡ other.now }
         ensures different { self.now ≡ other.now → IsTrue result }
     {
-        self.links.same(&other.links)
+        self.links.equals(&other.links)
     }
 
     /// Serves one of the links; whether that did anything: Transputer Reference Manual, links.

@@ -10,7 +10,7 @@ use process_queue::Queue;
 
 impl Process {
     ghost use Rattle.link_channels.specs.Messages.{input, output, enable, disable};
-    ghost use Rattle.link_channels.specs.Reply.{gave, served};
+    ghost use Rattle.link_channels.specs.Completion.{gave, served};
 
     /// Takes a message from a channel, or waits for it: instruction set handbook, in.
     ///

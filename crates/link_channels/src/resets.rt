@@ -9,7 +9,7 @@ use node_memory::{Fault, Memory};
 
 impl Links {
     ghost use Rattle.link_channels.specs.Messages.{reset};
-    ghost use Rattle.link_channels.specs.Reply.{gave};
+    ghost use Rattle.link_channels.specs.Completion.{gave};
 
     /// Frees a channel, and gives up what its link had under way; the word that the channel had: instruction set
     /// handbook, resetch.

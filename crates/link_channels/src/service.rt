@@ -1,7 +1,7 @@
 //! What waits at a link is served: bytes into memory, bytes out of it, and arrivals that are watched for.
 
 ghost use Rattle.std.specs.Prelude.{◌≡◌};
-ghost use Rattle.link_channels.specs.Reply.{served};
+ghost use Rattle.link_channels.specs.Completion.{served};
 ghost use Rattle.link_channels.specs.Service.{complete, input_byte, output_byte, arrival, serve_link, serve, serve_all};
 ghost use Rattle.link_channels.specs.declared.link.Link.{Link};
 

@@ -1,7 +1,7 @@
 //! Soft channels: two processes of one node meet at a word of its memory. What they do leaves the links.
 
 ghost use Rattle.std.specs.Prelude.{◌≡◌, OnErr};
-ghost use Rattle.link_channels.specs.Reply.{gave, served};
+ghost use Rattle.link_channels.specs.Completion.{gave, served};
 ghost use Rattle.link_channels.specs.declared.link.FourLinks.{FourLinks};
 ghost use Rattle.link_channels.specs.declared.link.Link.{Link};
 ghost use Rattle.link_channels.specs.Soft.{chosen, soft_disable, soft_enable, soft_input, soft_output, soft_reset, wait_there};

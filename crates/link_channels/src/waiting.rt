@@ -1,7 +1,7 @@
 //! Who waits at a channel.
 
 ghost use Rattle.std.specs.Prelude.{◌≡◌};
-ghost use Rattle.link_channels.specs.Reply.{served};
+ghost use Rattle.link_channels.specs.Completion.{served};
 ghost use Rattle.link_channels.specs.Waiting.{waiting_at, scheduled};
 ghost use Rattle.link_channels.specs.declared.link.Link.{Link};
 

@@ -43,7 +43,7 @@ fn reach(kept: &mut Vec<u8>, size: usize, offset: usize) -> bool
     requires kept { AreKept kept.old.items size (vec_capacity kept.old) }
     requires behind { length kept.old.items ≤ offset }
     ensures answer { result ≡ nat_lt offset size }
-    ensures same { memory_of kept.new.items size ≡ memory_of kept.old.items size }
+    ensures unchanged { memory_of kept.new.items size ≡ memory_of kept.old.items size }
     ensures kept { AreKept kept.new.items size (vec_capacity kept.new) }
     ensures there { IsTrue result → offset < length kept.new.items }
 {
@@ -246,8 +246,8 @@ impl Memory {
     }
 
     /// Whether the sizes and all bytes are the same.
-    pub fn same(&self, other: &Memory) -> bool
-        ensures same { IsTrue result → self.now ≡ other.now }
+    pub fn equals(&self, other: &Memory) -> bool
+        ensures equal { IsTrue result → self.now ≡ other.now }
         ensures different { self.now ≡ other.now → IsTrue result }
     {
         if self.size != other.size {

@@ -24,14 +24,14 @@ enum Value {
 
 /// A value with its name.
 #[derive(Clone, Copy)]
-struct Field {
+struct ChangedField {
     name: &'static str,
     value: Value,
 }
 
-impl Field {
-    fn new(name: &'static str, value: Value) -> Field {
-        Field { name, value }
+impl ChangedField {
+    fn new(name: &'static str, value: Value) -> ChangedField {
+        ChangedField { name, value }
     }
 }
 
@@ -72,46 +72,46 @@ pub fn write_all_registers(text: &mut TextWriter, registers: &Cpu) {
     }
 }
 
-fn register_fields(registers: &Cpu) -> [Field; 12] {
+fn register_fields(registers: &Cpu) -> [ChangedField; 12] {
     [
-        Field::new("Iptr", Value::Word(registers.instruction)),
-        Field::new("W", Value::Word(registers.workspace)),
-        Field::new("A", Value::Word(registers.a)),
-        Field::new("B", Value::Word(registers.b)),
-        Field::new("C", Value::Word(registers.c)),
-        Field::new("O", Value::Word(registers.operand)),
-        Field::new("bytes", Value::Count(registers.bytes)),
-        Field::new("Front", Value::Word(registers.queue.front)),
-        Field::new("Back", Value::Word(registers.queue.back)),
-        Field::new("Error", Value::Flag(registers.error)),
-        Field::new("HaltOnError", Value::Flag(registers.halt_on_error)),
-        Field::new("running", Value::Flag(registers.running)),
+        ChangedField::new("Iptr", Value::Word(registers.instruction)),
+        ChangedField::new("W", Value::Word(registers.workspace)),
+        ChangedField::new("A", Value::Word(registers.a)),
+        ChangedField::new("B", Value::Word(registers.b)),
+        ChangedField::new("C", Value::Word(registers.c)),
+        ChangedField::new("O", Value::Word(registers.operand)),
+        ChangedField::new("bytes", Value::Count(registers.bytes)),
+        ChangedField::new("Front", Value::Word(registers.queue.front)),
+        ChangedField::new("Back", Value::Word(registers.queue.back)),
+        ChangedField::new("Error", Value::Flag(registers.error)),
+        ChangedField::new("HaltOnError", Value::Flag(registers.halt_on_error)),
+        ChangedField::new("running", Value::Flag(registers.running)),
     ]
 }
 
-fn link_fields(link: &Link) -> [Field; 9] {
+fn link_fields(link: &Link) -> [ChangedField; 9] {
     let (input, output) = (&link.end.input, &link.end.output);
     [
-        Field::new("sends", Value::Byte(link.end.latch.byte)),
-        Field::new("acknowledges", Value::Flag(link.end.latch.acknowledge)),
-        Field::new("holds", Value::Byte(input.buffer)),
-        Field::new("overruns", Value::Count(input.overruns)),
-        Field::new("awaits", Value::Flag(output.awaits)),
-        Field::new("acknowledged", Value::Flag(output.acknowledged)),
-        Field::new(
+        ChangedField::new("sends", Value::Byte(link.end.latch.byte)),
+        ChangedField::new("acknowledges", Value::Flag(link.end.latch.acknowledge)),
+        ChangedField::new("holds", Value::Byte(input.buffer)),
+        ChangedField::new("overruns", Value::Count(input.overruns)),
+        ChangedField::new("awaits", Value::Flag(output.awaits)),
+        ChangedField::new("acknowledged", Value::Flag(output.acknowledged)),
+        ChangedField::new(
             "input",
             Value::Message(link.input_pointer, link.input_count),
         ),
-        Field::new(
+        ChangedField::new(
             "output",
             Value::Message(link.output_pointer, link.output_count),
         ),
-        Field::new("watched", Value::Flag(link.watched)),
+        ChangedField::new("watched", Value::Flag(link.watched)),
     ]
 }
 
 // Writes the new fields whose values differ from the old.
-fn write_differing(text: &mut TextWriter, old: &[Field], new: &[Field]) {
+fn write_differing(text: &mut TextWriter, old: &[ChangedField], new: &[ChangedField]) {
     for (old, new) in old.iter().zip(new.iter()) {
         if old.value != new.value {
             write_field(text, *new);
@@ -119,7 +119,7 @@ fn write_differing(text: &mut TextWriter, old: &[Field], new: &[Field]) {
     }
 }
 
-fn write_field(text: &mut TextWriter, field: Field) {
+fn write_field(text: &mut TextWriter, field: ChangedField) {
     text.push(" ");
     text.push(field.name);
     text.push(" ");
@@ -160,7 +160,7 @@ fn write_links(text: &mut TextWriter, old: &FourLinks, new: &FourLinks) {
 }
 
 fn write_link(text: &mut TextWriter, name: &str, old: &Link, new: &Link) {
-    if !new.same(old) {
+    if !new.equals(old) {
         text.push(name);
         write_differing(text, &link_fields(old), &link_fields(new));
     }

@@ -1,22 +1,22 @@
 //! The lines of a text, each read as what it asks for.
 
 use crate::codes::read_instruction;
-use crate::settings::{Settings, read_link};
+use crate::settings::{NodeSettings, read_link};
 use bootstrap::{LinkNumber, Packet, is_memory_size};
 use script_text::{WordFault, Words, value_named};
 use std::alloc::{AllocError, Global};
 
 /// What a line asks for.
 #[derive(Drop)]
-pub enum Command {
+pub enum TraceCommand {
     /// A fresh node that runs, of so many bytes of memory, and what is put into it.
-    Node(usize, Settings),
+    Node(usize, NodeSettings),
     /// A fresh node that boots.
     Open(usize),
     /// Something is put into the node.
-    Set(Settings),
+    Set(NodeSettings),
     /// Instructions on a node of their own.
-    Try(Settings),
+    Try(NodeSettings),
     /// The instructions that bytes spell.
     Decode(Vec<u8>),
     /// Something that is seen of the node.
@@ -28,7 +28,7 @@ pub enum Command {
     /// A host asks by link 0 for a word of memory.
     Peek(u32),
     /// Something whose changes are told.
-    Change(Change),
+    NodeChange(NodeChange),
 }
 
 /// What is asked of a node and changes nothing.
@@ -46,7 +46,7 @@ pub enum Query {
 
 /// What is done to a node.
 #[derive(Drop)]
-pub enum Change {
+pub enum NodeChange {
     /// Steps up to one that would not be recorded, told together.
     Run(u64),
     /// A packet arrives at a link.
@@ -67,7 +67,7 @@ pub enum Change {
 
 // The first word of a line.
 #[derive(Clone, Copy)]
-enum Verb {
+enum TraceVerb {
     Node,
     Open,
     Set,
@@ -90,27 +90,27 @@ enum Verb {
     Poke,
 }
 
-const VERBS: [(&str, Verb); 20] = [
-    ("node", Verb::Node),
-    ("open", Verb::Open),
-    ("set", Verb::Set),
-    ("try", Verb::Try),
-    ("decode", Verb::Decode),
-    ("look", Verb::Look),
-    ("quiet", Verb::Quiet),
-    ("registers", Verb::Registers),
-    ("word", Verb::Word),
-    ("step", Verb::Step),
-    ("take", Verb::Take),
-    ("peek", Verb::Peek),
-    ("run", Verb::Run),
-    ("deliver", Verb::Deliver),
-    ("reset", Verb::Reset),
-    ("clear", Verb::Clear),
-    ("send", Verb::Send),
-    ("boot", Verb::Boot),
-    ("receive", Verb::Receive),
-    ("poke", Verb::Poke),
+const VERBS: [(&str, TraceVerb); 20] = [
+    ("node", TraceVerb::Node),
+    ("open", TraceVerb::Open),
+    ("set", TraceVerb::Set),
+    ("try", TraceVerb::Try),
+    ("decode", TraceVerb::Decode),
+    ("look", TraceVerb::Look),
+    ("quiet", TraceVerb::Quiet),
+    ("registers", TraceVerb::Registers),
+    ("word", TraceVerb::Word),
+    ("step", TraceVerb::Step),
+    ("take", TraceVerb::Take),
+    ("peek", TraceVerb::Peek),
+    ("run", TraceVerb::Run),
+    ("deliver", TraceVerb::Deliver),
+    ("reset", TraceVerb::Reset),
+    ("clear", TraceVerb::Clear),
+    ("send", TraceVerb::Send),
+    ("boot", TraceVerb::Boot),
+    ("receive", TraceVerb::Receive),
+    ("poke", TraceVerb::Poke),
 ];
 
 // What the kind of a packet is called.
@@ -126,7 +126,7 @@ const PACKET_KINDS: [(&str, PacketKind); 2] = [
 ];
 
 /// What a line asks for. `Wrong` if a word of it is wrong or missing, or one stands behind its end.
-pub fn read_command(alloc: Global, line: &str) -> Result<Command, WordFault> {
+pub fn read_command(alloc: Global, line: &str) -> Result<TraceCommand, WordFault> {
     let mut words = Words::of(line);
     let verb = value_named(&VERBS, words.take()).ok_or(WordFault::Wrong)?;
     let command = read_behind(alloc, verb, &mut words)?;
@@ -134,28 +134,47 @@ pub fn read_command(alloc: Global, line: &str) -> Result<Command, WordFault> {
 }
 
 // What a line asks for whose first word was read.
-fn read_behind(alloc: Global, verb: Verb, words: &mut Words) -> Result<Command, AllocError> {
+fn read_behind(
+    alloc: Global,
+    verb: TraceVerb,
+    words: &mut Words,
+) -> Result<TraceCommand, AllocError> {
     Ok(match verb {
-        Verb::Node => Command::Node(read_size(words), Settings::read(alloc, words, false)?),
-        Verb::Open => Command::Open(read_size(words)),
-        Verb::Set => Command::Set(Settings::read(alloc, words, false)?),
-        Verb::Try => Command::Try(read_trial(alloc, words)?),
-        Verb::Decode => Command::Decode(words.bytes(alloc)?),
-        Verb::Look => Command::Ask(Query::Look),
-        Verb::Quiet => Command::Ask(Query::Quiet),
-        Verb::Registers => Command::Ask(Query::Registers),
-        Verb::Word => Command::Ask(Query::Word(words.hexadecimal())),
-        Verb::Step => Command::Step(read_steps(words)),
-        Verb::Take => Command::Take(read_link(words)),
-        Verb::Peek => Command::Peek(words.hexadecimal()),
-        Verb::Run => Command::Change(Change::Run(words.decimal(u64::MAX))),
-        Verb::Deliver => Command::Change(Change::Deliver(read_link(words), read_packet(words))),
-        Verb::Reset => Command::Change(Change::Reset),
-        Verb::Clear => Command::Change(Change::Clear),
-        Verb::Send => Command::Change(Change::Send(read_link(words), words.bytes(alloc)?)),
-        Verb::Boot => Command::Change(Change::Boot(read_link(words), read_code(alloc, words)?)),
-        Verb::Receive => Command::Change(Change::Receive(read_link(words))),
-        Verb::Poke => Command::Change(Change::Poke(words.hexadecimal(), words.hexadecimal())),
+        TraceVerb::Node => TraceCommand::Node(
+            read_size(words),
+            NodeSettings::read(alloc, words, false)?,
+        ),
+        TraceVerb::Open => TraceCommand::Open(read_size(words)),
+        TraceVerb::Set => TraceCommand::Set(NodeSettings::read(alloc, words, false)?),
+        TraceVerb::Try => TraceCommand::Try(read_trial(alloc, words)?),
+        TraceVerb::Decode => TraceCommand::Decode(words.bytes(alloc)?),
+        TraceVerb::Look => TraceCommand::Ask(Query::Look),
+        TraceVerb::Quiet => TraceCommand::Ask(Query::Quiet),
+        TraceVerb::Registers => TraceCommand::Ask(Query::Registers),
+        TraceVerb::Word => TraceCommand::Ask(Query::Word(words.hexadecimal())),
+        TraceVerb::Step => TraceCommand::Step(read_steps(words)),
+        TraceVerb::Take => TraceCommand::Take(read_link(words)),
+        TraceVerb::Peek => TraceCommand::Peek(words.hexadecimal()),
+        TraceVerb::Run => TraceCommand::NodeChange(NodeChange::Run(words.decimal(u64::MAX))),
+        TraceVerb::Deliver => TraceCommand::NodeChange(NodeChange::Deliver(
+            read_link(words),
+            read_packet(words),
+        )),
+        TraceVerb::Reset => TraceCommand::NodeChange(NodeChange::Reset),
+        TraceVerb::Clear => TraceCommand::NodeChange(NodeChange::Clear),
+        TraceVerb::Send => TraceCommand::NodeChange(NodeChange::Send(
+            read_link(words),
+            words.bytes(alloc)?,
+        )),
+        TraceVerb::Boot => TraceCommand::NodeChange(NodeChange::Boot(
+            read_link(words),
+            read_code(alloc, words)?,
+        )),
+        TraceVerb::Receive => TraceCommand::NodeChange(NodeChange::Receive(read_link(words))),
+        TraceVerb::Poke => TraceCommand::NodeChange(NodeChange::Poke(
+            words.hexadecimal(),
+            words.hexadecimal(),
+        )),
     })
 }
 
@@ -172,8 +191,8 @@ fn read_size(words: &mut Words) -> usize {
 }
 
 // Instructions, one at least, and what the node has besides.
-fn read_trial(alloc: Global, words: &mut Words) -> Result<Settings, AllocError> {
-    let settings = Settings::read(alloc, words, true)?;
+fn read_trial(alloc: Global, words: &mut Words) -> Result<NodeSettings, AllocError> {
+    let settings = NodeSettings::read(alloc, words, true)?;
     if settings.code.is_empty() {
         words.reject();
     }

@@ -20,4 +20,4 @@ mod trial;
 pub use crate::boot::trace_boot;
 pub use crate::tracing::trace;
 pub use bootstrap::BootFault;
-pub use script_text::LineFault;
+pub use script_text::NumberedLineFault;

@@ -1,10 +1,10 @@
 //! What the lines do, and how they are answered.
 
 use crate::changes::{write_all_registers, write_changes};
-use crate::commands::{Change, Command, Query};
+use crate::commands::{NodeChange, Query, TraceCommand};
 use crate::instruction::InstructionByte;
 use crate::packets::{peek, poke, receive, send, write_packet};
-use crate::settings::Settings;
+use crate::settings::NodeSettings;
 use crate::sizes::memory_size;
 use crate::snapshot::Snapshot;
 use crate::trial::write_trial;
@@ -49,26 +49,26 @@ pub fn or_dash(alloc: Global, text: &str) -> Result<String, NoMemory> {
 pub fn perform(
     alloc: Global,
     node: Node,
-    command: &Command,
+    command: &TraceCommand,
     text: &mut TextWriter,
 ) -> Result<Node, NoMemory> {
     let mut node = node;
     match command {
-        Command::Node(size, settings) => {
+        TraceCommand::Node(size, settings) => {
             return Ok(put(open_running(alloc, *size)?, settings, text));
         }
-        Command::Open(size) => return Node::open(alloc, memory_size(*size)),
-        Command::Set(settings) => return Ok(put(node, settings, text)),
-        Command::Try(settings) => write_trial(alloc, settings, text)?,
-        Command::Decode(bytes) => write_decoded(bytes.as_slice(), text),
-        Command::Ask(query) => write_answer(&node, *query, text),
-        Command::Step(count) => write_steps(&mut node, *count, text)?,
-        Command::Take(link) => write_packet(text, node.take(*link)),
-        Command::Peek(address) => match peek(&mut node, *address) {
+        TraceCommand::Open(size) => return Node::open(alloc, memory_size(*size)),
+        TraceCommand::Set(settings) => return Ok(put(node, settings, text)),
+        TraceCommand::Try(settings) => write_trial(alloc, settings, text)?,
+        TraceCommand::Decode(bytes) => write_decoded(bytes.as_slice(), text),
+        TraceCommand::Ask(query) => write_answer(&node, *query, text),
+        TraceCommand::Step(count) => write_steps(&mut node, *count, text)?,
+        TraceCommand::Take(link) => write_packet(text, node.take(*link)),
+        TraceCommand::Peek(address) => match peek(&mut node, *address) {
             Some(word) => text.push_word(word),
             None => text.push("none"),
         },
-        Command::Change(change) => {
+        TraceCommand::NodeChange(change) => {
             let before = Snapshot::of(&node)?;
             make_change(alloc, &mut node, change, text)?;
             write_changes(text, &before, &node, 0);
@@ -80,11 +80,11 @@ pub fn perform(
 /// Writes what a Step answered.
 pub fn push_stepped(text: &mut TextWriter, stepped: Stepped) {
     let written = write_stepped(text.as_mut_string(), stepped);
-    text.note(written);
+    text.keep_failure(written);
 }
 
 // Puts settings into a node.
-fn put(node: Node, settings: &Settings, text: &mut TextWriter) -> Node {
+fn put(node: Node, settings: &NodeSettings, text: &mut TextWriter) -> Node {
     let (node, stored) = settings.put(node);
     match stored {
         None => text.push("no registers"),
@@ -99,7 +99,7 @@ fn write_answer(node: &Node, query: Query, text: &mut TextWriter) {
     match query {
         Query::Look => {
             let written = write_seen(text.as_mut_string(), node.look());
-            text.note(written);
+            text.keep_failure(written);
         }
         Query::Quiet => text.push(if node.quiet() { "quiet" } else { "not quiet" }),
         Query::Registers => match node.registers() {
@@ -117,16 +117,16 @@ fn write_answer(node: &Node, query: Query, text: &mut TextWriter) {
 fn make_change(
     alloc: Global,
     node: &mut Node,
-    change: &Change,
+    change: &NodeChange,
     text: &mut TextWriter,
 ) -> Result<(), NoMemory> {
     match change {
-        Change::Run(count) => run(node, *count, text),
-        Change::Deliver(link, packet) => node.deliver(*link, *packet),
-        Change::Reset => node.reset(),
-        Change::Clear => node.clear(),
-        Change::Send(link, bytes) => send(node, *link, bytes.as_slice()),
-        Change::Boot(link, code) => match boot_message(alloc, code.as_slice()) {
+        NodeChange::Run(count) => run(node, *count, text),
+        NodeChange::Deliver(link, packet) => node.deliver(*link, *packet),
+        NodeChange::Reset => node.reset(),
+        NodeChange::Clear => node.clear(),
+        NodeChange::Send(link, bytes) => send(node, *link, bytes.as_slice()),
+        NodeChange::Boot(link, code) => match boot_message(alloc, code.as_slice()) {
             Ok(message) => send(node, *link, message.as_slice()),
             Err(BootFault::NoMemory) => return Err(NoMemory),
             Err(fault) => {
@@ -134,11 +134,11 @@ fn make_change(
                 text.push_decimal(u64::from(fault.number()));
             }
         },
-        Change::Receive(link) => match receive(node, *link) {
+        NodeChange::Receive(link) => match receive(node, *link) {
             Some(byte) => text.push_byte(byte),
             None => text.push("none"),
         },
-        Change::Poke(address, word) => poke(node, *address, *word),
+        NodeChange::Poke(address, word) => poke(node, *address, *word),
     }
     Ok(())
 }

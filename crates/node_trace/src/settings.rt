@@ -66,15 +66,15 @@ pub enum LinkFlag {
 
 /// What a line puts into a node, and the code that it puts where Iptr points then.
 #[derive(Drop)]
-pub struct Settings {
+pub struct NodeSettings {
     pub settings: Vec<Setting>,
     pub code: Vec<u8>,
 }
 
-impl Settings {
+impl NodeSettings {
     /// Nothing.
-    pub fn none(alloc: Global) -> Settings {
-        Settings {
+    pub fn none(alloc: Global) -> NodeSettings {
+        NodeSettings {
             settings: Vec::new(alloc),
             code: Vec::new(alloc),
         }
@@ -85,8 +85,8 @@ impl Settings {
         alloc: Global,
         words: &mut Words,
         begins_with_code: bool,
-    ) -> Result<Settings, AllocError> {
-        let mut read = Settings::none(alloc);
+    ) -> Result<NodeSettings, AllocError> {
+        let mut read = NodeSettings::none(alloc);
         let mut is_code = begins_with_code;
         let mut link = None;
         for _ in 0..words.count() {
@@ -199,7 +199,7 @@ pub fn read_link(words: &mut Words) -> LinkNumber {
 
 // What the name of a setting stands for.
 #[derive(Clone, Copy)]
-enum Field {
+enum SettingField {
     Register(Register),
     Flag(Flag),
     Bytes,
@@ -217,45 +217,51 @@ enum LinkField {
     Output,
 }
 
-const FIELDS: [(&str, Field); 22] = [
-    ("Iptr", Field::Register(Register::Instruction)),
-    ("W", Field::Register(Register::Workspace)),
-    ("A", Field::Register(Register::A)),
-    ("B", Field::Register(Register::B)),
-    ("C", Field::Register(Register::C)),
-    ("O", Field::Register(Register::Operand)),
-    ("Front", Field::Register(Register::Front)),
-    ("Back", Field::Register(Register::Back)),
-    ("Error", Field::Flag(Flag::Error)),
-    ("HaltOnError", Field::Flag(Flag::HaltOnError)),
-    ("running", Field::Flag(Flag::Running)),
-    ("bytes", Field::Bytes),
-    ("word", Field::Word),
-    ("sends", Field::AtLink(LinkField::Sends)),
-    ("holds", Field::AtLink(LinkField::Holds)),
-    ("overruns", Field::AtLink(LinkField::Overruns)),
+const FIELDS: [(&str, SettingField); 22] = [
+    ("Iptr", SettingField::Register(Register::Instruction)),
+    ("W", SettingField::Register(Register::Workspace)),
+    ("A", SettingField::Register(Register::A)),
+    ("B", SettingField::Register(Register::B)),
+    ("C", SettingField::Register(Register::C)),
+    ("O", SettingField::Register(Register::Operand)),
+    ("Front", SettingField::Register(Register::Front)),
+    ("Back", SettingField::Register(Register::Back)),
+    ("Error", SettingField::Flag(Flag::Error)),
+    ("HaltOnError", SettingField::Flag(Flag::HaltOnError)),
+    ("running", SettingField::Flag(Flag::Running)),
+    ("bytes", SettingField::Bytes),
+    ("word", SettingField::Word),
+    ("sends", SettingField::AtLink(LinkField::Sends)),
+    ("holds", SettingField::AtLink(LinkField::Holds)),
+    ("overruns", SettingField::AtLink(LinkField::Overruns)),
     (
         "acknowledges",
-        Field::AtLink(LinkField::Flag(LinkFlag::Acknowledges)),
+        SettingField::AtLink(LinkField::Flag(LinkFlag::Acknowledges)),
     ),
-    ("awaits", Field::AtLink(LinkField::Flag(LinkFlag::Awaits))),
+    (
+        "awaits",
+        SettingField::AtLink(LinkField::Flag(LinkFlag::Awaits)),
+    ),
     (
         "acknowledged",
-        Field::AtLink(LinkField::Flag(LinkFlag::Acknowledged)),
+        SettingField::AtLink(LinkField::Flag(LinkFlag::Acknowledged)),
     ),
-    ("watched", Field::AtLink(LinkField::Flag(LinkFlag::Watched))),
-    ("input", Field::AtLink(LinkField::Input)),
-    ("output", Field::AtLink(LinkField::Output)),
+    (
+        "watched",
+        SettingField::AtLink(LinkField::Flag(LinkFlag::Watched)),
+    ),
+    ("input", SettingField::AtLink(LinkField::Input)),
+    ("output", SettingField::AtLink(LinkField::Output)),
 ];
 
 // One setting. A field of a link is wrong before a link is named.
 fn read_setting(link: Option<LinkNumber>, words: &mut Words) -> Setting {
-    match words.named(&FIELDS, Field::Bytes) {
-        Field::Register(register) => Setting::Register(register, words.hexadecimal()),
-        Field::Flag(flag) => Setting::Flag(flag, words.flag()),
-        Field::Bytes => Setting::Bytes(read_count(words)),
-        Field::Word => Setting::Word(words.hexadecimal(), words.hexadecimal()),
-        Field::AtLink(field) => {
+    match words.named(&FIELDS, SettingField::Bytes) {
+        SettingField::Register(register) => Setting::Register(register, words.hexadecimal()),
+        SettingField::Flag(flag) => Setting::Flag(flag, words.flag()),
+        SettingField::Bytes => Setting::Bytes(read_count(words)),
+        SettingField::Word => Setting::Word(words.hexadecimal(), words.hexadecimal()),
+        SettingField::AtLink(field) => {
             let number = words.or_reject(link, LinkNumber::Zero);
             Setting::AtLink(number, read_link_setting(field, words))
         }

@@ -1,22 +1,25 @@
 //! The lines of a text, all read before any is done.
 
-use crate::commands::{Command, read_command};
+use crate::commands::{TraceCommand, read_command};
 use crate::performing::{open_running, or_dash, perform};
 use bootstrap::Node;
-use script_text::{Answered, LineFault, Question, TextWriter, read_questions};
+use script_text::{Answered, NumberedLineFault, Question, TextWriter, read_questions};
 use std::alloc::{AllocError, Global};
 
 /// The answers to the lines of a text, in their order.
 ///
 /// `Wrong` if a line is wrong, and then none is done: all are read before. `Memory` if an allocation fails.
-pub fn trace(alloc: Global, text: &[u8]) -> Result<Vec<Answered<'_>>, LineFault> {
+pub fn trace(alloc: Global, text: &[u8]) -> Result<Vec<Answered<'_>>, NumberedLineFault> {
     let questions = read_questions(alloc, text, 0)?;
     let commands = read_commands(alloc, questions.as_slice())?;
     Ok(answer_all(alloc, questions.as_slice(), commands.as_slice())?)
 }
 
 // What each line asks for.
-fn read_commands(alloc: Global, questions: &[Question<'_>]) -> Result<Vec<Command>, LineFault> {
+fn read_commands(
+    alloc: Global,
+    questions: &[Question<'_>],
+) -> Result<Vec<TraceCommand>, NumberedLineFault> {
     let mut commands = Vec::new(alloc);
     for question in questions {
         match read_command(alloc, question.text) {
@@ -31,7 +34,7 @@ fn read_commands(alloc: Global, questions: &[Question<'_>]) -> Result<Vec<Comman
 fn answer_all<'a>(
     alloc: Global,
     questions: &[Question<'a>],
-    commands: &[Command],
+    commands: &[TraceCommand],
 ) -> Result<Vec<Answered<'a>>, AllocError> {
     let mut answers = Vec::new(alloc);
     let mut node = open_running(alloc, 4096)?;
@@ -47,7 +50,7 @@ fn answer_all<'a>(
 }
 
 // Does what a line asks for on a node, and gives it as it is then, with the answer.
-fn answer(alloc: Global, node: Node, command: &Command) -> Result<(Node, String), AllocError> {
+fn answer(alloc: Global, node: Node, command: &TraceCommand) -> Result<(Node, String), AllocError> {
     let mut text = TextWriter::new(alloc);
     let node = perform(alloc, node, command, &mut text)?;
     let answer = or_dash(alloc, text.finish()?.as_str())?;

@@ -2,7 +2,7 @@
 
 use crate::changes::write_changes;
 use crate::performing::{open_running, or_dash, push_stepped};
-use crate::settings::{Flag, Setting, Settings};
+use crate::settings::{Flag, NodeSettings, Setting};
 use crate::snapshot::Snapshot;
 use bootstrap::{Node, Stepped};
 use script_text::TextWriter;
@@ -12,7 +12,7 @@ use std::alloc::{AllocError, Global};
 /// set: if that halts by fault 3 a line `halts` follows, and if it differs otherwise a line says how.
 pub fn write_trial(
     alloc: Global,
-    settings: &Settings,
+    settings: &NodeSettings,
     text: &mut TextWriter,
 ) -> Result<(), AllocError> {
     let has_flag = settings
@@ -40,7 +40,7 @@ fn write_second(text: &mut TextWriter, first: &str, second: &str) {
 }
 
 // What the instructions come to, with HaltOnError set first if that is asked for.
-fn outcome(alloc: Global, settings: &Settings, halts: bool) -> Result<String, AllocError> {
+fn outcome(alloc: Global, settings: &NodeSettings, halts: bool) -> Result<String, AllocError> {
     let mut text = TextWriter::new(alloc);
     write_outcome(&mut text, open_running(alloc, 4096)?, settings, halts)?;
     or_dash(alloc, text.finish()?.as_str())
@@ -49,7 +49,7 @@ fn outcome(alloc: Global, settings: &Settings, halts: bool) -> Result<String, Al
 fn write_outcome(
     text: &mut TextWriter,
     node: Node,
-    settings: &Settings,
+    settings: &NodeSettings,
     halts: bool,
 ) -> Result<(), AllocError> {
     let (node, stored) = settings.put(node);

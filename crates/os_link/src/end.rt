@@ -72,8 +72,8 @@ impl LinkEnd {
     }
 
     /// Whether two link ends are equal.
-    pub fn same(&self, other: &LinkEnd) -> bool
-        ensures same { IsTrue result → self.now ≡ other.now }
+    pub fn equals(&self, other: &LinkEnd) -> bool
+        ensures equal { IsTrue result → self.now ≡ other.now }
         ensures different { self.now ≡ other.now → IsTrue result }
     {
         self.latch == other.latch && self.input == other.input && self.output == other.output

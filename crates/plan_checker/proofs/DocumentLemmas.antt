@@ -6,7 +6,7 @@ use Rattle.toml.specs.declared.value.Value.{Value}
 use Rattle.toml.proofs.Views.{items_view-push, get_item_within}
 use Rattle.plan_checker.specs.Fields.{keys_of}
 use Rattle.plan_rules.specs.Data.{DomainData}
-use Rattle.plan_checker.specs.Document.{ReadsValue, list, document, IsDocument, ReadsDocument, Reads}
+use Rattle.plan_checker.specs.Document.{ReadsValue, list, document, IsDocument, ReadsDocument, ReadsPlan}
 use Rattle.plan_rules.specs.declared.fault.PlanFault.{PlanFault}
 use Rattle.plan_rules.specs.declared.fault.PlanFault.TheVariants.{Text, Shape, DomainCount, Name, NameTwice, Range, SharedPort, NodeCount, Memory, Port, PortTwice, HostCount, UnwiredNode, Limit, NoMemory, RangeCount, UserCount}
 use Rattle.std.proofs.lemmas.List.{take_more}
@@ -200,7 +200,7 @@ document_fields (member a s (member b t no_members)) domain version keys h1 h2 =
 document_fields _ domain version keys h1 h2 = cc
 
 -- what the reader of a document says of the bytes that write it
-pub reads_document : (bytes : List ℕ) (ms : Members) (r : Result (List DomainData) PlanFault) → IsDocument bytes ms → ReadsDocument ms r → Reads bytes r
+pub reads_document : (bytes : List ℕ) (ms : Members) (r : Result (List DomainData) PlanFault) → IsDocument bytes ms → ReadsDocument ms r → ReadsPlan bytes r
 reads_document bytes ms (Ok plan) is h = (h.0, (is.0, is.1 ∙ ap Some h.1.0), h.1.1)
 reads_document bytes ms (Err Shape) is h =
     ((ms, is), λ plan given. let same : Some ms ≡ Some (document given.0 plan) = sym is.1 ∙ given.1.1 in h given.0 plan (cc, given.2))

@@ -108,12 +108,12 @@ abbrev pub IsPlan : List ℕ → List DomainData → Type 0
 IsPlan bytes plan = (version : PlanVersion) × IsDocument bytes (document version plan) × All (IsWhole version) plan
 
 -- what each answer of the reader says of the bytes
-abbrev pub Reads : List ℕ → Result (List DomainData) PlanFault → Type 0
-Reads bytes (Ok plan) = IsPlan bytes plan
-Reads bytes (Err Text) = (members : Members) → ¬ IsDocument bytes members
-Reads bytes (Err Shape) = ((members : Members) × IsDocument bytes members) × ((plan : List DomainData) → ¬ IsPlan bytes plan)
-Reads bytes (Err NoMemory) = Unit {0}
-Reads bytes (Err _) = ⊥
+abbrev pub ReadsPlan : List ℕ → Result (List DomainData) PlanFault → Type 0
+ReadsPlan bytes (Ok plan) = IsPlan bytes plan
+ReadsPlan bytes (Err Text) = (members : Members) → ¬ IsDocument bytes members
+ReadsPlan bytes (Err Shape) = ((members : Members) × IsDocument bytes members) × ((plan : List DomainData) → ¬ IsPlan bytes plan)
+ReadsPlan bytes (Err NoMemory) = Unit {0}
+ReadsPlan bytes (Err _) = ⊥
 
 -- what each answer of the document's reader says of its fields
 abbrev pub ReadsDocument : Members → Result (List DomainData) PlanFault → Type 0

@@ -3,7 +3,7 @@ ghost use Rattle.std.specs.Prelude.{◌≡◌, ℤ, [], ◌∷◌, length, Match
 ghost use Rattle.toml.specs.Data.{integer};
 ghost use Rattle.toml.specs.View.{view, table_view};
 ghost use Rattle.plan_checker.specs.declared.version.PlanVersion.TheVariants.{One, Two, Three};
-ghost use Rattle.plan_checker.specs.Document.{Reads, ReadsDocument, ReadsValue, list, node, range, user, domain, HasFourLinks, IsWhole};
+ghost use Rattle.plan_checker.specs.Document.{ReadsPlan, ReadsDocument, ReadsValue, list, node, range, user, domain, HasFourLinks, IsWhole};
 
 use crate::fields::has_fields;
 use crate::values::{FromValue, integer_of, integers_of, list_of, table_of, text_of, value_at};
@@ -107,8 +107,8 @@ fn domain_of_one_range(alloc: Global, value: &Value) -> Result<DomainPlan, PlanF
     let limit = integer_of(value_at(table, "limit")?)?;
     let name = text_of(alloc, value_at(table, "name")?)?;
     let nodes = list_of(alloc, PlanVersion::One, value_at(table, "node")?)?;
-    let users = alone(alloc, UserPlan { name, hosts })?;
-    let ranges = alone(alloc, RangePlan { first, last })?;
+    let users = list_of_one(alloc, UserPlan { name, hosts })?;
+    let ranges = list_of_one(alloc, RangePlan { first, last })?;
     Ok(DomainPlan {
         users,
         ranges,
@@ -127,7 +127,7 @@ fn domain_of_one_user(alloc: Global, value: &Value) -> Result<DomainPlan, PlanFa
     let name = text_of(alloc, value_at(table, "name")?)?;
     let nodes = list_of(alloc, PlanVersion::Two, value_at(table, "node")?)?;
     let ranges = list_of(alloc, PlanVersion::Two, value_at(table, "range")?)?;
-    let users = alone(alloc, UserPlan { name, hosts })?;
+    let users = list_of_one(alloc, UserPlan { name, hosts })?;
     Ok(DomainPlan {
         users,
         ranges,
@@ -154,7 +154,7 @@ fn domain_of_users(alloc: Global, value: &Value) -> Result<DomainPlan, PlanFault
 }
 
 /// A list of one item.
-fn alone<T: Drop>(alloc: Global, item: T) -> Result<Vec<T>, PlanFault>
+fn list_of_one<T: Drop>(alloc: Global, item: T) -> Result<Vec<T>, PlanFault>
     ensures { MatchResult result (λ v. v.items ≡ item ∷ []) (λ e. e ≡ PlanFault.NoMemory) }
 {
     let mut items = Vec::with_capacity(alloc, 1)?;
@@ -179,14 +179,14 @@ fn plan_of(alloc: Global, document: &Table) -> Result<Plan, PlanFault>
     }
 }
 
-/// Reads the text of a plan, in any of the three versions.
+/// ReadsPlan the text of a plan, in any of the three versions.
 ///
 /// # Errors
 ///
 /// `Text` exactly where the bytes aren't UTF-8 or aren't TOML, `Shape` exactly where the document
 /// is no plan's, and `NoMemory`.
 pub fn read_plan(alloc: Global, text: &[u8]) -> Result<Plan, PlanFault>
-    ensures { Reads text.now result }
+    ensures { ReadsPlan text.now result }
 {
     let text = std::str::from_utf8(text).map_err(|_| PlanFault::Text)?;
     match toml::table_from_str(alloc, text) {

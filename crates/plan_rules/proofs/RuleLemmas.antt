@@ -11,9 +11,9 @@ use Rattle.plan_rules.specs.declared.plan.RangePlan.{RangePlan}
 use Rattle.plan_rules.specs.Separate.{IsRange, length_of, count_of}
 
 -- Two ranges share no port exactly where the least of the lasts lies below the greatest of the firsts.
-pub apart : (a b c d low high : ℤ) → low ≡ int_max a c → high ≡ int_min b d
+pub differs_from : (a b c d low high : ℤ) → low ≡ int_max a c → high ≡ int_min b d
     → IsTrue (lt_z high low) ↔ ((port : ℤ) → (a ≤ℤ port) × (port ≤ℤ b) → (c ≤ℤ port) × (port ≤ℤ d) → ⊥)
-apart a b c d low high is_low is_high =
+differs_from a b c d low high is_low is_high =
     let a_low : a ≤ℤ low = omega (arith, ints, clamps) in
     let c_low : c ≤ℤ low = omega (arith, ints, clamps) in
     let b_high : high ≤ℤ b = omega (arith, ints, clamps) in

@@ -122,7 +122,7 @@ impl AcceptedPlan {
     /// No two domains have a port in common, and each domain numbers its ports one to one.
     ///
     /// The call does nothing: its contract is the law.
-    pub fn separate(&self)
+    pub fn separate_law(&self)
         ensures plan { IsSeparate self.now }
         ensures own { All IsNumbered self.now }
         ensures apart { AllPairs AreSeparate self.now }

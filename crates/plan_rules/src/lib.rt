@@ -3,7 +3,7 @@
 #![tactic(auto)]
 
 mod accepted;
-mod apart;
+mod differing;
 mod fault;
 pub mod laws;
 mod part;

@@ -88,7 +88,7 @@ impl Part {
     }
 
     /// Whether the two parts are equal.
-    pub fn same(&self, other: &Part) -> bool
+    pub fn equals(&self, other: &Part) -> bool
         ensures { IsTrue result ↔ (self.now ≡ other.now) }
     {
         other.count == self.count

@@ -3,7 +3,7 @@ ghost use Rattle.std.specs.Prelude.{◌≡◌, ◌↔◌, ◌++◌, IsTrue, IfOk
 ghost use Rattle.plan_rules.specs.Separate.{IsRange, length_of, IsVirtualPort, IsDistinct, Rule, wired_links, used_ports};
 
 use crate::NoMemory;
-use crate::apart::are_apart;
+use crate::differing::are_apart;
 use crate::fault::PlanFault;
 use crate::plan::{DomainPlan, NodePlan, RangePlan};
 use crate::rules::is_wired;

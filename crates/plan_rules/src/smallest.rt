@@ -4,7 +4,7 @@ ghost use Rattle.plan_rules.specs.Fault.{plan_fault_number};
 ghost use Rattle.plan_rules.specs.Separate.{Rule, IsSeparate, KeepsBelow, IsSmallestFault};
 
 use crate::NoMemory;
-use crate::apart::differ;
+use crate::differing::differ;
 use crate::fault::PlanFault;
 use crate::plan::{DomainPlan, RangePlan, UserPlan};
 use crate::ports::{have_distinct_ports, have_virtual_ports};

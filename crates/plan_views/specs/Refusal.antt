@@ -3,7 +3,7 @@ use Rattle.std.specs.Prelude.{◌≢◌, ◌⊎◌, ℕ, List, Err}
 use Rattle.plan_rules.specs.declared.fault.PlanFault.{PlanFault}
 use Rattle.plan_rules.specs.declared.fault.PlanFault.TheVariants as plan_fault
 use Rattle.plan_rules.specs.Data.{DomainData}
-use Rattle.plan_checker.specs.Document.{IsPlan, Reads}
+use Rattle.plan_checker.specs.Document.{IsPlan, ReadsPlan}
 use Rattle.plan_rules.specs.Separate.{IsSmallestFault}
 use Rattle.plan_views.specs.declared.view.PlanRefusal.{PlanRefusal}
 use Rattle.plan_views.specs.declared.view.PlanRefusal.TheVariants.{Refused, NoMemory}
@@ -12,7 +12,7 @@ use Rattle.plan_views.specs.declared.view.PlanRefusal.TheVariants.{Refused, NoMe
 abbrev pub HasSmallestFault : List ℕ → PlanFault → Type 0
 HasSmallestFault bytes fault = (plan : List DomainData) × IsPlan bytes plan × IsSmallestFault plan fault
 
--- the refusal names the fault for which the checker refuses the text; want of memory is no fault of a text
+-- the refusal names the fault for which the checker refuses the text; NoMemory is no fault of a text
 abbrev pub IsRefusalOf : List ℕ → PlanRefusal → Type 0
 IsRefusalOf bytes NoMemory = Unit {0}
-IsRefusalOf bytes (Refused fault reason) = (fault ≢ plan_fault.NoMemory) × (Reads bytes (Err fault) ⊎ HasSmallestFault bytes fault)
+IsRefusalOf bytes (Refused fault reason) = (fault ≢ plan_fault.NoMemory) × (ReadsPlan bytes (Err fault) ⊎ HasSmallestFault bytes fault)

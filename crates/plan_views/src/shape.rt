@@ -35,11 +35,11 @@ impl Kind {
 }
 
 /// A field of a table: its name, and the kind of its value.
-type Field = (&'static str, Kind);
+type PlanField = (&'static str, Kind);
 
-const PLAN: [Field; 2] = [("version", Kind::Integer), ("domain", Kind::Domains)];
+const PLAN: [PlanField; 2] = [("version", Kind::Integer), ("domain", Kind::Domains)];
 
-const DOMAIN_ONE: [Field; 6] = [
+const DOMAIN_ONE: [PlanField; 6] = [
     ("name", Kind::Text),
     ("first", Kind::Integer),
     ("last", Kind::Integer),
@@ -48,7 +48,7 @@ const DOMAIN_ONE: [Field; 6] = [
     ("node", Kind::Nodes),
 ];
 
-const DOMAIN_TWO: [Field; 5] = [
+const DOMAIN_TWO: [PlanField; 5] = [
     ("name", Kind::Text),
     ("range", Kind::Ranges),
     ("limit", Kind::Integer),
@@ -56,16 +56,16 @@ const DOMAIN_TWO: [Field; 5] = [
     ("node", Kind::Nodes),
 ];
 
-const DOMAIN_THREE: [Field; 4] = [
+const DOMAIN_THREE: [PlanField; 4] = [
     ("user", Kind::Users),
     ("range", Kind::Ranges),
     ("limit", Kind::Integer),
     ("node", Kind::Nodes),
 ];
 
-const USER: [Field; 2] = [("name", Kind::Text), ("host", Kind::Integers)];
+const USER: [PlanField; 2] = [("name", Kind::Text), ("host", Kind::Integers)];
 
-const NODE: [Field; 2] = [("memory", Kind::Integer), ("links", Kind::FourIntegers)];
+const NODE: [PlanField; 2] = [("memory", Kind::Integer), ("links", Kind::FourIntegers)];
 
 /// Where the text isn't UTF-8 or isn't TOML; `None` if it is a document.
 pub fn unread(alloc: Global, text: &[u8]) -> Result<Option<String>, AllocError> {
@@ -117,17 +117,17 @@ pub fn misshapen(alloc: Global, text: &[u8]) -> Result<Option<String>, AllocErro
 
 // Where a table stands: the plan, a domain, or a user or a node of one.
 #[derive(Clone, Copy)]
-enum Place {
+enum PlanPlace {
     Plan,
     Domain(usize),
     Item(usize, &'static str, usize),
 }
 
-fn write_table_place(misfit: &mut TextWriter, place: Place) {
+fn write_table_place(misfit: &mut TextWriter, place: PlanPlace) {
     match place {
-        Place::Plan => misfit.push("the plan"),
-        Place::Domain(domain) => write_place(misfit, "domain ", domain),
-        Place::Item(domain, what, number) => {
+        PlanPlace::Plan => misfit.push("the plan"),
+        PlanPlace::Domain(domain) => write_place(misfit, "domain ", domain),
+        PlanPlace::Item(domain, what, number) => {
             write_place(misfit, "domain ", domain);
             write_place(misfit, what, number);
         }
@@ -136,12 +136,12 @@ fn write_table_place(misfit: &mut TextWriter, place: Place) {
 
 // Writes the first misfit of a document, if it has one.
 fn write_document_misfit(misfit: &mut TextWriter, document: &Table) {
-    write_table_misfit(misfit, document, &PLAN, Place::Plan);
+    write_table_misfit(misfit, document, &PLAN, PlanPlace::Plan);
     let version = document
         .get("version")
         .and_then(Value::as_integer)
         .unwrap_or(0);
-    let fields: &[Field] = match version {
+    let fields: &[PlanField] = match version {
         1 => &DOMAIN_ONE,
         2 => &DOMAIN_TWO,
         3 => &DOMAIN_THREE,
@@ -155,7 +155,7 @@ fn write_document_misfit(misfit: &mut TextWriter, document: &Table) {
         }
     };
     for (number, domain) in items_of(document.get("domain")).iter().enumerate() {
-        write_value_misfit(misfit, domain, fields, Place::Domain(number));
+        write_value_misfit(misfit, domain, fields, PlanPlace::Domain(number));
         write_items_misfit(misfit, domain, &USER, "user", number);
         write_items_misfit(misfit, domain, &NODE, "node", number);
     }
@@ -173,18 +173,28 @@ fn items_of(value: Option<&Value>) -> &[Value] {
 fn write_items_misfit(
     misfit: &mut TextWriter,
     domain: &Value,
-    fields: &[Field],
+    fields: &[PlanField],
     name: &'static str,
     number: usize,
 ) {
     let what = if name == "user" { ", user " } else { ", node " };
     for (item_number, item) in items_of(domain.get(name)).iter().enumerate() {
-        write_value_misfit(misfit, item, fields, Place::Item(number, what, item_number));
+        write_value_misfit(
+            misfit,
+            item,
+            fields,
+            PlanPlace::Item(number, what, item_number),
+        );
     }
 }
 
 // Writes the first misfit of a value that is to be a table, if none is written yet.
-fn write_value_misfit(misfit: &mut TextWriter, value: &Value, fields: &[Field], place: Place) {
+fn write_value_misfit(
+    misfit: &mut TextWriter,
+    value: &Value,
+    fields: &[PlanField],
+    place: PlanPlace,
+) {
     match value.as_table() {
         Some(table) => write_table_misfit(misfit, table, fields, place),
         None => {
@@ -197,7 +207,12 @@ fn write_value_misfit(misfit: &mut TextWriter, value: &Value, fields: &[Field], 
 }
 
 // Writes the first field that a table lacks, has of a wrong kind or has too much, if no misfit is written yet.
-fn write_table_misfit(misfit: &mut TextWriter, table: &Table, fields: &[Field], place: Place) {
+fn write_table_misfit(
+    misfit: &mut TextWriter,
+    table: &Table,
+    fields: &[PlanField],
+    place: PlanPlace,
+) {
     for (name, kind) in fields {
         if misfit.is_empty() {
             write_wanted_field(misfit, table.get(*name), name, *kind, place);
@@ -216,7 +231,7 @@ fn write_wanted_field(
     value: Option<&Value>,
     name: &str,
     kind: Kind,
-    place: Place,
+    place: PlanPlace,
 ) {
     match value {
         None => write_field_misfit(misfit, place, name, "` is missing, ", kind),
@@ -228,14 +243,20 @@ fn write_wanted_field(
     }
 }
 
-fn write_unknown_field(misfit: &mut TextWriter, name: &str, place: Place) {
+fn write_unknown_field(misfit: &mut TextWriter, name: &str, place: PlanPlace) {
     write_table_place(misfit, place);
     misfit.push(": there is no field `");
     write_quoted(misfit, name);
     misfit.push("`");
 }
 
-fn write_field_misfit(misfit: &mut TextWriter, place: Place, name: &str, wrong: &str, kind: Kind) {
+fn write_field_misfit(
+    misfit: &mut TextWriter,
+    place: PlanPlace,
+    name: &str,
+    wrong: &str,
+    kind: Kind,
+) {
     write_table_place(misfit, place);
     misfit.push(": the field `");
     misfit.push(name);

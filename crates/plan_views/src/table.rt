@@ -79,7 +79,7 @@ fn write_ports(text: &mut TextWriter, plan: &AcceptedPlan, domain: u8)
     for number in 0..plan.ports(domain).count() {
         let PortView { physical, device } = port_view(plan, domain, number);
         let written = write!(text.as_mut_string(), "{number:7}  {physical:8}  ");
-        text.note(written);
+        text.keep_failure(written);
         write_device(text, plan, domain, device);
         text.push("\n");
     }

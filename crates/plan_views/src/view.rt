@@ -43,7 +43,7 @@ impl<T: Drop> From<AllocFailed<T>> for PlanRefusal {
     }
 }
 
-/// Reads and checks the text of a plan.
+/// ReadsPlan and checks the text of a plan.
 ///
 /// # Errors
 ///

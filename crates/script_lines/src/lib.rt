@@ -14,4 +14,4 @@ pub use fault::{LineFault, ScriptFault, Unread};
 pub use line::{parse_request, user_named};
 pub use script::{ScriptLine, read_script};
 pub use verb::Verb;
-pub use words::Words;
+pub use words::LineWords;

@@ -12,7 +12,7 @@ use crate::fault::{LineFault, Unread};
 use crate::numbers::{parse_bytes, parse_place, parse_word};
 use crate::script::ScriptLine;
 use crate::verb::Verb;
-use crate::words::Words;
+use crate::words::LineWords;
 use std::alloc::Global;
 
 // What a verb with one word asks.
@@ -85,7 +85,7 @@ fn with_three(
 }
 
 // What a verb asks with the words after it.
-fn parse_command(alloc: Global, verb: Verb, mut words: Words<'_>) -> Result<Command, Unread>
+fn parse_command(alloc: Global, verb: Verb, mut words: LineWords<'_>) -> Result<Command, Unread>
     ensures asked { IfOk result (Requests verb words.entry) }
     ensures fault { IfErr result (λ u. (f : SpecLineFault) → u ≡ Faulty f → IsArgumentFault verb words.entry f) }
 {
@@ -115,7 +115,7 @@ pub fn user_named(names: &[&str], name: &[u8]) -> Option<usize>
 }
 
 /// What the words behind a user's name ask, tested in the order verb, args, hex.
-pub fn parse_request(alloc: Global, mut words: Words<'_>) -> Result<Command, Unread>
+pub fn parse_request(alloc: Global, mut words: LineWords<'_>) -> Result<Command, Unread>
     ensures asked { IfOk result (IsRequest words.entry) }
     ensures fault { IfErr result (λ u. (f : SpecLineFault) → u ≡ Faulty f → IsRestFault words.entry f) }
 {
@@ -133,7 +133,7 @@ pub(crate) fn parse_line(alloc: Global, names: &[&str], line: &[u8]) -> Result<S
     ensures asked { IfOk result (IsAsked (map (λ n. n.now) names.now) line.now) }
     ensures fault { IfErr result (λ u. (f : SpecLineFault) → u ≡ Faulty f → IsLineFault (map (λ n. n.now) names.now) (words_in line.now) f) }
 {
-    let mut words = Words::of(line);
+    let mut words = LineWords::of(line);
     let Some(name) = words.take() else {
         return Err(Unread::Faulty(LineFault::User));
     };

@@ -7,12 +7,12 @@ use std::marker::Model;
 
 /// The words of a line that are still to be read. Contracts see them as a list.
 #[derive(Drop)]
-pub struct Words<'a> {
+pub struct LineWords<'a> {
     // None behind the last word.
     rest: Option<&'a [u8]>,
 }
 
-impl<'a> Model for Words<'a> {
+impl<'a> Model for LineWords<'a> {
     ghost use Rattle.std.specs.Prelude.{ℕ, List, []};
     ghost use Rattle.std.specs.Option.{option_map_or};
     ghost use Rattle.script_lines.specs.Words.{words_in};
@@ -22,19 +22,19 @@ impl<'a> Model for Words<'a> {
     ghost view = { λ w. option_map_or (λ rest. words_in rest.now) w.rest [] };
 }
 
-impl<'a> Words<'a> {
+impl<'a> LineWords<'a> {
     /// The words of a line.
-    pub fn of(line: &'a [u8]) -> Words<'a>
+    pub fn of(line: &'a [u8]) -> LineWords<'a>
         ensures { result ≡ words_in line.now }
     {
-        Words { rest: Some(line) }
+        LineWords { rest: Some(line) }
     }
 
     /// The same words, to be read apart.
-    pub fn copy(&self) -> Words<'a>
+    pub fn copy(&self) -> LineWords<'a>
         ensures { result ≡ self.now }
     {
-        Words { rest: self.rest }
+        LineWords { rest: self.rest }
     }
 
     /// Takes the next word.

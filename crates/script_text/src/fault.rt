@@ -15,17 +15,17 @@ pub enum WordFault {
 
 impl WordFault {
     /// The same fault, of the line of this number.
-    pub fn at(self, line: u64) -> LineFault {
+    pub fn at(self, line: u64) -> NumberedLineFault {
         match self {
-            WordFault::Wrong => LineFault::Wrong(line),
-            WordFault::Memory(error) => LineFault::Memory(error),
+            WordFault::Wrong => NumberedLineFault::Wrong(line),
+            WordFault::Memory(error) => NumberedLineFault::Memory(error),
         }
     }
 }
 
 /// Why the lines of a text can't be done.
 #[derive(Clone, Copy, Debug, PartialEq, Eq, Error)]
-pub enum LineFault {
+pub enum NumberedLineFault {
     /// The line of this number, from 1, is wrong.
     #[error("line {0}")]
     Wrong(u64),

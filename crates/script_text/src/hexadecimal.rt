@@ -16,7 +16,7 @@ pub enum HexFault {
 }
 
 impl HexFault {
-    /// The number of the fault: 1 where the word isn't hexadecimal, 2 for want of memory.
+    /// The number of the fault: 1 where the word isn't hexadecimal, 2 if memory ran out.
     pub fn number(self) -> u8
         ensures { result ≡ hex_fault_number self }
     {

@@ -14,7 +14,7 @@ mod words;
 mod writer;
 mod writing;
 
-pub use fault::{LineFault, WordFault};
+pub use fault::{NumberedLineFault, WordFault};
 pub use hexadecimal::{HexFault, bytes_of};
 pub use lines::{divide, is_passed_over, split_line};
 pub use names::value_named;

@@ -2,7 +2,7 @@
 ghost use Rattle.std.specs.Prelude.{◌≡◌, ◌+◌, ℕ, [], IfOk, IfSome, length, slice_get};
 ghost use Rattle.script_text.specs.Lines.{from_line, IsLine};
 
-use crate::fault::LineFault;
+use crate::fault::NumberedLineFault;
 use crate::lines::split_line;
 use std::alloc::{AllocError, Global};
 
@@ -17,12 +17,12 @@ pub struct NumberedLine<'a> {
 
 impl<'a> NumberedLine<'a> {
     /// The line as a text; `Wrong` if it isn't UTF-8.
-    pub fn as_str(self) -> Result<&'a str, LineFault>
+    pub fn as_str(self) -> Result<&'a str, NumberedLineFault>
         ensures { IfOk result (λ text. text.now ≡ self.entry.text.now) }
     {
         match std::str::from_utf8(self.text) {
             Ok(text) => Ok(text),
-            Err(_) => Err(LineFault::Wrong(self.number)),
+            Err(_) => Err(NumberedLineFault::Wrong(self.number)),
         }
     }
 }

@@ -2,7 +2,7 @@
 ghost use Rattle.std.specs.Prelude.{◌≡◌, ◌<◌, ◌∷◌, ◌↔◌, [], IsTrue, None, IfSome, MatchOption, length, string_bytes};
 ghost use Rattle.script_text.specs.Rows.{expected_lines};
 
-use crate::fault::LineFault;
+use crate::fault::NumberedLineFault;
 use crate::lines::is_passed_over;
 use crate::numbered::{NumberedLine, numbered_lines};
 use std::alloc::Global;
@@ -45,13 +45,13 @@ fn are_the_lines(answer: &[u8], expected: &[u8]) -> bool
     ensures { IsTrue result ↔ (answer.now ≡ expected_lines expected.now) }
 {
     let mut rest = answer;
-    let mut wanted = expected;
-    while let Some((next, after)) = next_expected(wanted) {
+    let mut unmatched = expected;
+    while let Some((next, after)) = next_expected(unmatched) {
         match rest {
             [first, left @ ..] if *first == next => rest = left,
             _ => return false,
         }
-        wanted = after;
+        unmatched = after;
     }
     rest.is_empty()
 }
@@ -77,7 +77,7 @@ pub fn read_questions<'a>(
     alloc: Global,
     text: &'a [u8],
     before: u64,
-) -> Result<Vec<Question<'a>>, LineFault> {
+) -> Result<Vec<Question<'a>>, NumberedLineFault> {
     let mut questions = Vec::new(alloc);
     for line in &numbered_lines(alloc, text)? {
         if !is_passed_over(line.text) {
@@ -88,7 +88,7 @@ pub fn read_questions<'a>(
 }
 
 // The question of a line behind so many others.
-fn read_question(line: NumberedLine<'_>, before: u64) -> Result<Question<'_>, LineFault> {
+fn read_question(line: NumberedLine<'_>, before: u64) -> Result<Question<'_>, NumberedLineFault> {
     let line = NumberedLine {
         number: line.number.saturating_add(before),
         text: line.text,

@@ -31,7 +31,7 @@ impl TextWriter {
     }
 
     /// Notes what became of a piece that was written to the `String`.
-    pub fn note(&mut self, written: Result<(), AllocError>) {
+    pub fn keep_failure(&mut self, written: Result<(), AllocError>) {
         if self.written.is_ok() {
             self.written = written;
         }

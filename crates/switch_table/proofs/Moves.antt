@@ -163,7 +163,7 @@ module _ (domains : List (List ℕ)) where
         let left : View = record v { held = drop 1 v.held } in
         let right : View = record v { held = take 1 v.held } in
         let views : List View = set s.views id left in
-        -- what a seat holds afterwards some seat held before: itself, or the dealer
+        -- what a seat holds afterwards some seat held before: itself, or the opener
         let from_left : (i : ℕ) → StoresAlone left i → StoresAlone v i = λ i h. (suc h.0, h.1, left_over v.held h.0 h.1 h.2, h.3) in
         let from_right : (i : ℕ) → StoresAlone right i → StoresAlone v i = λ i h. (0, h.1, (taken v.held h.0 h.1 h.2).1, h.3) in
         let never_both : (i : ℕ) → StoresAlone left i → StoresAlone right i → ⊥ = λ i l t.

@@ -43,9 +43,9 @@ first_held [] ports is = absurd (none-some ports is)
 first_held (d ∷ held) ports is = ap (λ (p : List ℕ). p ∷ []) (same_Some d ports is)
 
 -- a seat that was just dealt
-pub dealt : NumberingsAreFew → (board seat : TableId) (view : View) (me : Me (Unit {0}) View) (ports : List ℕ) → seat ≡ board → seat.words ≡ 32 → view.words ≡ replicate 32 0 → slice_get view.held 0 ≡ Some ports → IsNumbering ports
-    → me.0 ≡ record view { held = take 1 view.held } → me.1 ≡ [] → IsSeated board seat me ports
-dealt few board seat view me ports here wide clear next numbering is no_slot = record {
+pub dealt : NumberingsAreFew → (shared_words seat : TableId) (view : View) (me : Me (Unit {0}) View) (ports : List ℕ) → seat ≡ shared_words → seat.words ≡ 32 → view.words ≡ replicate 32 0 → slice_get view.held 0 ≡ Some ports → IsNumbering ports
+    → me.0 ≡ record view { held = take 1 view.held } → me.1 ≡ [] → IsSeated shared_words seat me ports
+dealt few shared_words seat view me ports here wide clear next numbering is no_slot = record {
   here = here;
   wide = wide;
   view_wide = ap (λ (v : View). length v.words) is ∙ ap length clear;
@@ -77,9 +77,9 @@ words_set view ports number port bits row wide low is =
     ∙ map-set (bits_of view ports) number bits
 
 -- and what the seat is stays
-pub written_seat : RowTakesAWord → (board seat next : TableId) (me now : Me (Unit {0}) View) (ports : List ℕ) (number port bits : ℕ) → IsSeated board seat me ports → IsWordOf ports (word_of bits) → port < 32 → slice_get ports number ≡ Some port → next ≡ seat
-    → now ≡ (with_view_word me.0 port bits, me.1) → IsSeated board next now ports
-written_seat set_row board seat next me now ports number port bits s proper low is same then = record {
+pub written_seat : RowTakesAWord → (shared_words seat next : TableId) (me now : Me (Unit {0}) View) (ports : List ℕ) (number port bits : ℕ) → IsSeated shared_words seat me ports → IsWordOf ports (word_of bits) → port < 32 → slice_get ports number ≡ Some port → next ≡ seat
+    → now ≡ (with_view_word me.0 port bits, me.1) → IsSeated shared_words next now ports
+written_seat set_row shared_words seat next me now ports number port bits s proper low is same then = record {
   here = same ∙ s.here;
   wide = ap (λ (t : TableId). t.words) same ∙ s.wide;
   view_wide = ap (λ (m : Me (Unit {0}) View). length m.0.words) then ∙ length-set me.0.words port bits ∙ s.view_wide;

@@ -52,12 +52,12 @@ abbrev pub opening_view : List (List ℕ) → List (List ℕ) → View
 opening_view domains held = record { domains = domains; held = held; words = replicate 32 0 }
 
 -- who holds every domain at the opening, and takes no slot
-abbrev pub dealer_of : List (List ℕ) → Me (Unit {0}) View
-dealer_of domains = (opening_view domains domains, [])
+abbrev pub opener_of : List (List ℕ) → Me (Unit {0}) View
+opener_of domains = (opening_view domains domains, [])
 
 -- and once the first domain that he holds is dealt
-abbrev pub dealt_view : View → View
-dealt_view view = record view { held = drop 1 view.held }
+abbrev pub view_after_first : View → View
+view_after_first view = record view { held = drop 1 view.held }
 
 -- the view with another word at an output
 abbrev pub with_view_word : View → ℕ → ℕ → View

@@ -13,8 +13,8 @@ pub record SeatState : Type 0 where
   pub ports : List ℕ
 
 -- it belongs to the table of its board, holds its domain alone, and its words are a row
-pub record IsSeated (board seat : TableId) (me : Me (Unit {0}) View) (ports : List ℕ) : Type 0 where
-  pub here : seat ≡ board
+pub record IsSeated (shared_words seat : TableId) (me : Me (Unit {0}) View) (ports : List ℕ) : Type 0 where
+  pub here : seat ≡ shared_words
   pub wide : seat.words ≡ 32
   pub view_wide : length me.0.words ≡ 32
   pub holds_its_domain : me.0.held ≡ ports ∷ []

@@ -10,7 +10,7 @@ use Rattle.switch_table.specs.declared.table.OperatorSeat.{OperatorSeat}
 
 -- which table it is
 abbrev pub table_of : SwitchTable → TableId
-table_of t = (arc_value t.board).shared.table_id
+table_of t = (arc_value t.shared_words).shared.table_id
 
 -- the words of a domain's outputs, by virtual number: those that its seat's view holds
 abbrev pub seat_words : SeatState → List Word

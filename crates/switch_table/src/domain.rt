@@ -2,11 +2,11 @@
 ghost use Rattle.std.specs.Prelude.{◌≡◌, ℕ, List, [], ◌∷◌, length, replicate, Some, slice_get, IfOk};
 ghost use Rattle.std.specs.Arc.{arc_value};
 ghost use Rattle.crossbar.specs.Ranges.{IsNumbering};
-ghost use Rattle.switch_table.specs.Rule.{words_of, dealt_view};
+ghost use Rattle.switch_table.specs.Rule.{words_of, view_after_first};
 ghost use Rattle.switch_table.specs.Seats.{seat_words};
 
 use crate::NoMemory;
-use crate::board::{Board, BoardSeat, Deals, Reads, Writes};
+use crate::shared_words::{LoadsOwn, SharedWords, StoresOwn, TakesFirst, WordsSeat};
 use crossbar::laws::rows_are_words_of_ports;
 use crossbar::{Numbering, Outputs, Word};
 use std::marker::Model;
@@ -16,8 +16,8 @@ use std::sync::Arc;
 /// of the table. Contracts see its table, what it knows of it (its view), and its ports.
 #[derive(Drop)]
 pub struct DomainSeat {
-    board: Arc<Board>,
-    seat: BoardSeat,
+    shared_words: Arc<SharedWords>,
+    seat: WordsSeat,
     numbering: Numbering,
 }
 
@@ -29,32 +29,32 @@ impl Model for DomainSeat {
 
     ghost view = { λ s. record { table = s.seat.table_id; view = s.seat.me.0; ports = s.numbering } };
 
-    ghost invariant = { λ s. IsSeated (arc_value s.board).shared.table_id s.seat.table_id s.seat.me s.numbering };
+    ghost invariant = { λ s. IsSeated (arc_value s.shared_words).shared.table_id s.seat.table_id s.seat.me s.numbering };
 }
 
 impl DomainSeat {
-    /// Cuts the first domain off what the dealer holds.
-    // Eight clauses: the dealer's seat is known by six facts, of which each is met by another, and both seats change.
-    pub(crate) fn deal(
-        board: &Arc<Board>,
-        dealer: &mut BoardSeat,
+    /// Cuts the first domain off what the opener holds.
+    // Eight clauses: the opener's seat is known by six facts, of which each is met by another, and both seats change.
+    pub(crate) fn take_first_domain(
+        shared_words: &Arc<SharedWords>,
+        opener: &mut WordsSeat,
         numbering: Numbering,
     ) -> Result<DomainSeat, NoMemory>
-        requires here { dealer.old.table_id ≡ (arc_value board.now).shared.table_id }
-        requires wide { dealer.old.table_id.words ≡ 32 }
-        requires clear { dealer.old.me.0.words ≡ replicate 32 0 }
-        requires slots { dealer.old.me.1 ≡ [] }
-        requires next { slice_get dealer.old.me.0.held 0 ≡ Some numbering }
+        requires here { opener.old.table_id ≡ (arc_value shared_words.now).shared.table_id }
+        requires wide { opener.old.table_id.words ≡ 32 }
+        requires clear { opener.old.me.0.words ≡ replicate 32 0 }
+        requires slots { opener.old.me.1 ≡ [] }
+        requires next { slice_get opener.old.me.0.held 0 ≡ Some numbering }
         requires numbering { IsNumbering numbering }
-        ensures seat { IfOk result (λ s. (s.ports ≡ numbering) × (s.table ≡ dealer.old.table_id) × (s.view.words ≡ dealer.old.me.0.words)) }
-        ensures rest { IfOk result (λ _. (dealer.new.table_id ≡ dealer.old.table_id) × (dealer.new.me ≡ (dealt_view dealer.old.me.0, dealer.old.me.1))) }
+        ensures seat { IfOk result (λ s. (s.ports ≡ numbering) × (s.table ≡ opener.old.table_id) × (s.view.words ≡ opener.old.me.0.words)) }
+        ensures rest { IfOk result (λ _. (opener.new.table_id ≡ opener.old.table_id) × (opener.new.me ≡ (view_after_first opener.old.me.0, opener.old.me.1))) }
     {
         // A row with another proper word is a row.
         rows_are_words_of_ports();
-        let board = Arc::try_clone(board)?;
-        let seat = board.shared.split_seat::<Deals>(dealer);
+        let shared_words = Arc::try_clone(shared_words)?;
+        let seat = shared_words.shared.split_seat::<TakesFirst>(opener);
         Ok(DomainSeat {
-            board,
+            shared_words,
             seat,
             numbering,
         })
@@ -62,7 +62,7 @@ impl DomainSeat {
 
     /// The law that ties the outputs to the table: their words are those that the seat's view holds,
     /// and their ports those that it alone stores. The call does nothing.
-    pub fn is_seated(&self)
+    pub fn seated_law(&self)
         ensures words { ⟦<DomainSeat as Outputs>⟧.words self.now ≡ words_of self.now.view self.now.ports }
         ensures ports { ⟦<DomainSeat as Outputs>⟧.ports self.now ≡ self.now.ports }
         ensures held { self.now.view.held ≡ self.now.ports ∷ [] }
@@ -91,10 +91,10 @@ impl Outputs for DomainSeat {
     /// One atomic load.
     fn read(&mut self, number: u8) -> Word {
         let port = self.numbering.physical(number);
-        let board = &self.board;
-        let bits = board
+        let shared_words = &self.shared_words;
+        let bits = shared_words
             .shared
-            .load::<Reads>(&mut self.seat, usize::from(port));
+            .load::<LoadsOwn>(&mut self.seat, usize::from(port));
         Word { bits }
     }
 
@@ -103,9 +103,9 @@ impl Outputs for DomainSeat {
         // A row with another proper word is a row.
         rows_are_words_of_ports();
         let port = self.numbering.physical(number);
-        let board = &self.board;
-        board
+        let shared_words = &self.shared_words;
+        shared_words
             .shared
-            .store::<Writes>(&mut self.seat, usize::from(port), word.bits);
+            .store::<StoresOwn>(&mut self.seat, usize::from(port), word.bits);
     }
 }

@@ -4,8 +4,8 @@
 //! look and every store is one atomic step.
 #![tactic(auto)]
 
-mod board;
 mod domain;
+mod shared_words;
 mod table;
 mod view;
 

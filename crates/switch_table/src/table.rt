@@ -1,12 +1,12 @@
 //! The switch table, and the operator's seat.
 ghost use Rattle.std.specs.Prelude.{◌≡◌, [], length, IfOk};
 ghost use Rattle.switch_table.specs.Domains.{domains_of};
-ghost use Rattle.switch_table.specs.Rule.{dealer_of};
+ghost use Rattle.switch_table.specs.Rule.{opener_of};
 ghost use Rattle.std.specs.Arc.{arc_value};
 
 use crate::NoMemory;
-use crate::board::{Board, BoardSeat, Surveys};
 use crate::domain::DomainSeat;
+use crate::shared_words::{SharedWords, Surveys, WordsSeat};
 use atomic_table::Table;
 use crossbar::laws::rows_are_words_of_ports;
 use crossbar::{Numbering, Word};
@@ -18,26 +18,26 @@ use std::sync::Arc;
 /// any.
 #[derive(Drop)]
 pub struct SwitchTable {
-    board: Arc<Board>,
-    ghost wide: { (arc_value board).shared.table_id.words ≡ 32 },
+    shared_words: Arc<SharedWords>,
+    ghost wide: { (arc_value shared_words).shared.table_id.words ≡ 32 },
 }
 
 /// The operator's seat: it knows the newest word that it has seen of each output, and stores none.
 #[derive(Drop)]
 pub struct OperatorSeat {
-    seat: BoardSeat,
+    seat: WordsSeat,
     ghost takes_no_slot: { seat.me.1 ≡ [] },
     ghost wide: { length seat.me.0.words ≡ 32 },
 }
 
 /// The words of a plan's outputs, all 0, and the seat that holds every domain.
-fn board_of(alloc: Global, plan: &AcceptedPlan) -> Result<(Arc<Board>, BoardSeat), NoMemory>
-    ensures { IfOk result (λ o. (o.1.table_id ≡ (arc_value o.0).shared.table_id) × (o.1.table_id.words ≡ 32) × (o.1.me ≡ dealer_of (domains_of plan.now))) }
+fn open_words(alloc: Global, plan: &AcceptedPlan) -> Result<(Arc<SharedWords>, WordsSeat), NoMemory>
+    ensures { IfOk result (λ o. (o.1.table_id ≡ (arc_value o.0).shared.table_id) × (o.1.table_id.words ≡ 32) × (o.1.me ≡ opener_of (domains_of plan.now))) }
 {
     // The domains of an accepted plan share no port.
-    plan.separate();
-    let (table, dealer): (Board, BoardSeat) = Table::of_words(alloc, &[0; 32], plan)?;
-    Ok((Arc::new(alloc, table)?, dealer))
+    plan.separate_law();
+    let (table, opener): (SharedWords, WordsSeat) = Table::of_words(alloc, &[0; 32], plan)?;
+    Ok((Arc::new(alloc, table)?, opener))
 }
 
 impl SwitchTable {
@@ -66,15 +66,19 @@ impl SwitchTable {
         // A row with another proper word is a row.
         rows_are_words_of_ports();
         // The domains of an accepted plan share no port.
-        plan.separate();
+        plan.separate_law();
         let domains = plan.domains();
         let mut seats = Vec::with_capacity(alloc, usize::from(domains))?;
-        let (board, mut dealer) = board_of(alloc, plan)?;
+        let (shared_words, mut opener) = open_words(alloc, plan)?;
         for domain in 0..domains {
             let numbering = Numbering::of(plan.ranges(domain));
-            seats.push(DomainSeat::deal(&board, &mut dealer, numbering)?)?;
+            seats.push(DomainSeat::take_first_domain(&shared_words, &mut opener, numbering)?)?;
         }
-        Ok((SwitchTable { board }, seats, OperatorSeat { seat: dealer }))
+        Ok((
+            SwitchTable { shared_words },
+            seats,
+            OperatorSeat { seat: opener },
+        ))
     }
 
     /// The word of a physical output, below 32, by one atomic load: at least as new as the one that the
@@ -86,10 +90,10 @@ impl SwitchTable {
         ensures seen { seen_words operator.new ≡ slice_set (seen_words operator.old) output result.bits }
         ensures newer { IsAtLeastAsNew result (word_of (slice_index (seen_words operator.old) output)) }
         ensures confined { IsConfined (surveyed_domains operator.old) output result.bits }
-        ensures same { (surveyed_table operator.new ≡ surveyed_table operator.old) × (surveyed_domains operator.new ≡ surveyed_domains operator.old) }
+        ensures unchanged { (surveyed_table operator.new ≡ surveyed_table operator.old) × (surveyed_domains operator.new ≡ surveyed_domains operator.old) }
     {
         let bits = self
-            .board
+            .shared_words
             .shared
             .load::<Surveys>(&mut operator.seat, usize::from(output));
         Word { bits }

@@ -2,7 +2,7 @@
 use Rattle.std.proofs.Common.{ℕ, ◌≡◌, ◌<◌, ◌/◌, ◌%◌, ◌++◌, [], ◌∷◌, Bool, true, false, cond, zero, suc, refl, sym, ap, ◌∙◌, arith}
 use Rattle.t414_decode.specs.Codes.{function_of}
 use Rattle.t414_decode.specs.declared.instruction.Function.{Function}
-use Rattle.t414_assembly.specs.Meaning.{goes_on}
+use Rattle.t414_assembly.specs.Meaning.{continues}
 use Rattle.t414_assembly.specs.Usual.{nibble_of, byte_with, prefixes_of, usual}
 use Rattle.t414_assembly.proofs.Usual.{none_of}
 
@@ -33,4 +33,4 @@ usual_byte byte f n fits is nibble =
     let front : (b : Bool) → cond b [] (prefixes_of n) ≡ [] = λ b. elim b as (λ t. cond t [] (prefixes_of n) ≡ []) [ true ↦ refl | false ↦ sym (none_of n small) ] in
     let back : nibble_of f ≡ byte / 16 = ap nibble_of is ∙ nibble_back (byte / 16) (omega (arith, fits)) in
     let value : byte_with f n ≡ byte = omega (arith, back, nibble, small) in
-    ap (λ xs. xs ++ byte_with f n ∷ []) (front (goes_on f)) ∙ ap (λ b. b ∷ []) value
+    ap (λ xs. xs ++ byte_with f n ∷ []) (front (continues f)) ∙ ap (λ b. b ∷ []) value

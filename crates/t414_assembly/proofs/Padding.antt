@@ -3,11 +3,11 @@ use Rattle.std.proofs.Common.{ℕ, ◌≡◌, ◌≤◌, ◌/◌, ◌++◌, List
 use Rattle.t414_decode.specs.Codes.{function_of, accumulated, shifted}
 use Rattle.t414_decode.specs.declared.instruction.Function.{Function}
 use Rattle.t414_decode.specs.declared.instruction.Function.TheVariants.{Prefix}
-use Rattle.t414_assembly.specs.Meaning.{read_from, goes_on}
+use Rattle.t414_assembly.specs.Meaning.{read_from, continues}
 use Rattle.t414_assembly.specs.Spelled.{Means}
 use Rattle.t414_assembly.proofs.Bytes.{passes, taken_in}
 
-on : goes_on (function_of (0x20 / 16)) ≡ true
+on : continues (function_of (0x20 / 16)) ≡ true
 unfolding function_of
 on = refl
 

@@ -5,7 +5,7 @@ use Rattle.t414_decode.specs.declared.instruction.Function.{Function}
 use Rattle.t414_assembly.specs.declared.statement.Operand.{Operand}
 use Rattle.t414_assembly.specs.declared.statement.Operand.TheVariants.{Number, Label, Difference}
 use Rattle.t414_assembly.specs.declared.statement.Statement.TheVariants.{Instruction, Align}
-use Rattle.t414_assembly.specs.Meaning.{goes_on}
+use Rattle.t414_assembly.specs.Meaning.{continues}
 use Rattle.t414_assembly.specs.Spelled.{Means, IsShortest, IsByteOf}
 use Rattle.t414_assembly.specs.Program.{operand_of, address_of, IsInstruction, IsPiece}
 use Rattle.t414_assembly.specs.Layout.{gap, IsTight}
@@ -13,7 +13,7 @@ use Rattle.t414_assembly.specs.Usual.{usual}
 use Rattle.t414_assembly.proofs.Padding.{pad_means, no_pads}
 use Rattle.t414_assembly.proofs.Gaps.{gap_lt, gap_reaches}
 
-tight_prefix : (room : ℕ) (f : Function) (o : Operand) → IsTight room (Instruction f o) → goes_on f ≡ true → room ≡ 1
+tight_prefix : (room : ℕ) (f : Function) (o : Operand) → IsTight room (Instruction f o) → continues f ≡ true → room ≡ 1
 tight_prefix room f (Number n) tight on = tight.0 on
 tight_prefix room f (Label p) tight on = tight on
 tight_prefix room f (Difference p q) tight on = tight on
@@ -26,8 +26,8 @@ not_padded : (room : ℕ) (short : List ℕ) → room ≤ length short → repli
 not_padded room short h = let none : room - length short ≡ 0 = omega (arith, h) in ap (λ n. replicate n 0x20 ++ short) none
 
 number_short : (address : ℕ → ℕ) (next room : ℕ) (f : Function) (o : Operand) (short : List ℕ)
-    → (goes_on f ≡ false → Means short f (operand_of address next f o)) → (goes_on f ≡ false → IsShortest short f (operand_of address next f o)) → IsTight room (Instruction f o)
-    → (n : ℕ) → o ≡ Number n → goes_on f ≡ false → IsShortest (replicate (room - length short) 0x20 ++ short) f n
+    → (continues f ≡ false → Means short f (operand_of address next f o)) → (continues f ≡ false → IsShortest short f (operand_of address next f o)) → IsTight room (Instruction f o)
+    → (n : ℕ) → o ≡ Number n → continues f ≡ false → IsShortest (replicate (room - length short) 0x20 ++ short) f n
 number_short address next room f (Number m) short means shortest tight n is off =
     let same : m ≡ n = ap number_in is in
     let less : room ≤ length short = no_pads short room f m (means off) (λ others h. tight.1 others off h) in
@@ -42,12 +42,12 @@ prefix_byte room nibble f short one is =
     let less : room ≤ length short = omega (arith, one, count) in
     (is.0, not_padded room short less ∙ is.1, is.2, is.3)
 
-number_usual : (address : ℕ → ℕ) (next room : ℕ) (f : Function) (o : Operand) (short : List ℕ) → (goes_on f ≡ false → Means short f (operand_of address next f o))
-    → (goes_on f ≡ true → IsByteOf f (operand_of address next f o % 16) short) → short ≡ usual f (operand_of address next f o) → IsTight room (Instruction f o)
+number_usual : (address : ℕ → ℕ) (next room : ℕ) (f : Function) (o : Operand) (short : List ℕ) → (continues f ≡ false → Means short f (operand_of address next f o))
+    → (continues f ≡ true → IsByteOf f (operand_of address next f o % 16) short) → short ≡ usual f (operand_of address next f o) → IsTight room (Instruction f o)
     → (n : ℕ) → o ≡ Number n → replicate (room - length short) 0x20 ++ short ≡ usual f n
 number_usual address next room f (Number m) short means prefix usual_is tight n is =
     let same : m ≡ n = ap number_in is in
-    let less : room ≤ length short = (elim (goes_on f) as (λ g. goes_on f ≡ g → room ≤ length short) [
+    let less : room ≤ length short = (elim (continues f) as (λ g. continues f ≡ g → room ≤ length short) [
       | true ↦ λ on. (let count : length short ≡ 1 = ap length (prefix on).1 in omega (arith, tight.0 on, count))
       | false ↦ λ off. no_pads short room f m (means off) (λ others h. tight.1 others off h)
     ]) refl in
@@ -56,8 +56,8 @@ number_usual address next room f (Label p) short means prefix usual_is tight n i
 number_usual address next room f (Difference p q) short means prefix usual_is tight n is = cc
 
 pub instruction_piece : (address : ℕ → ℕ) (next room : ℕ) (f : Function) (o : Operand) (short : List ℕ)
-    → (goes_on f ≡ false → Means short f (operand_of address next f o)) → (goes_on f ≡ false → IsShortest short f (operand_of address next f o))
-    → (goes_on f ≡ true → IsByteOf f (operand_of address next f o % 16) short) → short ≡ usual f (operand_of address next f o) → IsTight room (Instruction f o)
+    → (continues f ≡ false → Means short f (operand_of address next f o)) → (continues f ≡ false → IsShortest short f (operand_of address next f o))
+    → (continues f ≡ true → IsByteOf f (operand_of address next f o % 16) short) → short ≡ usual f (operand_of address next f o) → IsTight room (Instruction f o)
     → IsInstruction address next f o (replicate (room - length short) 0x20 ++ short)
 instruction_piece address next room f o short means shortest prefix usual_is tight = record {
   prefix = λ on. prefix_byte room (operand_of address next f o % 16) f short (tight_prefix room f o tight on) (prefix on);

@@ -3,7 +3,7 @@ use Rattle.std.proofs.Common.{ℕ, ◌≡◌, ◌<◌, ◌≤◌, ◌+◌, ◌-�
 use Rattle.t414_decode.specs.Codes.{function_of, accumulated, shifted}
 use Rattle.t414_decode.specs.declared.instruction.Function.{Function}
 use Rattle.t414_decode.specs.declared.instruction.Function.TheVariants.{Prefix, NegativePrefix}
-use Rattle.t414_assembly.specs.Meaning.{Meant, read_from, goes_on}
+use Rattle.t414_assembly.specs.Meaning.{Meant, read_from, continues}
 use Rattle.std.proofs.Math.Nat.{pow-suc, pow-le-pow_right}
 use Rattle.std.proofs.lemmas.Bool.{cases_lt}
 use Rattle.t414_assembly.specs.Reach.{Reaches}
@@ -49,12 +49,12 @@ joined_word : (o n : ℕ) → o % 16 ≡ 0 → n < 16 → o < 2 ^ 32 → o + n <
 joined_word o n low lt word = omega arith
 
 -- an operand with a nibble put in, moved by a prefix
-shifted_more : (k j : ℕ) (f : Function) → j < 2 ^ 32 → Near (16 ^ (k + 1)) j → goes_on f ≡ true → Prefixed (k + 1) (shifted f j)
+shifted_more : (k j : ℕ) (f : Function) → j < 2 ^ 32 → Near (16 ^ (k + 1)) j → continues f ≡ true → Prefixed (k + 1) (shifted f j)
 shifted_more k j Prefix word near on = record { low = omega arith; word = omega arith; none = λ h. absurd (omega (arith, h)); near = subst (λ c. Near c (j * 2 ^ 4 % 2 ^ 32)) (power k) (near_shifted j (16 ^ (k + 1)) word near) }
 shifted_more k j NegativePrefix word near on = record { low = omega arith; word = omega arith; none = λ h. absurd (omega (arith, h)); near = subst (λ c. Near c ((2 ^ 32 - 1 - j) * 2 ^ 4 % 2 ^ 32)) (power k) (near_shifted (2 ^ 32 - 1 - j) (16 ^ (k + 1)) (omega arith) (near_complement j (16 ^ (k + 1)) word near)) }
 shifted_more k j _ word near on = cc
 
-pub prefixed_more : (k o byte : ℕ) → Prefixed k o → goes_on (function_of (byte / 16)) ≡ true → Prefixed (k + 1) (accumulated o byte)
+pub prefixed_more : (k o byte : ℕ) → Prefixed k o → continues (function_of (byte / 16)) ≡ true → Prefixed (k + 1) (accumulated o byte)
 prefixed_more k o byte p on =
     let n : ℕ = byte % 16 in
     let lt : byte % 16 < 16 = omega arith in
@@ -81,7 +81,7 @@ pub reaches : (others : List ℕ) (k o n operand : ℕ) (f : Function) → Prefi
 unfolding read_from
 reaches [] k o n operand f p h e = cc
 reaches (b ∷ bs) k o n operand f p h e =
-    (elim (goes_on (function_of (b / 16))) as (λ g. goes_on (function_of (b / 16)) ≡ g → Reaches n operand) [
+    (elim (continues (function_of (b / 16))) as (λ g. continues (function_of (b / 16)) ≡ g → Reaches n operand) [
       | true ↦ λ on. reaches bs (k + 1) (accumulated o b) n operand f (prefixed_more k o b p on) (sym (passes o b bs on) ∙ h) (omega (arith, e))
       | false ↦ λ off.
           let is : Some (record { function = function_of (b / 16); operand = accumulated o b; rest = bs }) ≡ Some (record { function = f; operand = operand; rest = [] }) = sym (ends o b bs off) ∙ h in

@@ -3,7 +3,7 @@ use Rattle.std.specs.Prelude.{ℕ, ◌≡◌, ◌+◌, ◌-◌, ◌<◌, ◌≤�
 use Rattle.t414_assembly.specs.declared.statement.Operand.TheVariants.{Number}
 use Rattle.t414_assembly.specs.declared.statement.Statement.{Statement}
 use Rattle.t414_assembly.specs.declared.statement.Statement.TheVariants.{Instruction, Byte, Word, Align, Space}
-use Rattle.t414_assembly.specs.Meaning.{goes_on, meaning}
+use Rattle.t414_assembly.specs.Meaning.{continues, meaning}
 use Rattle.t414_assembly.specs.Program.{address_of, IsPiece}
 
 -- how far the next multiple of a size is
@@ -21,9 +21,9 @@ size_of address room (Space count) = count
 -- an instruction's room isn't larger than a number needs, and that of a prefix by itself is one byte
 abbrev pub IsTight : ℕ → Statement → Type 0
 IsTight room (Instruction function (Number n)) =
-    (goes_on function ≡ true → room ≡ 1)
-    × ((others : List ℕ) → goes_on function ≡ false → meaning others ≡ Some (record { function = function; operand = n; rest = [] }) → room ≤ length others)
-IsTight room (Instruction function operand) = goes_on function ≡ true → room ≡ 1
+    (continues function ≡ true → room ≡ 1)
+    × ((others : List ℕ) → continues function ≡ false → meaning others ≡ Some (record { function = function; operand = n; rest = [] }) → room ≤ length others)
+IsTight room (Instruction function operand) = continues function ≡ true → room ≡ 1
 IsTight room statement = Unit {0}
 
 -- each statement has a room, which is tight, from 1 to 8

@@ -6,10 +6,10 @@ use Rattle.t414_decode.specs.declared.instruction.Function.{Function}
 use Rattle.t414_decode.specs.declared.instruction.Function.TheVariants.{Prefix, NegativePrefix}
 
 -- behind pfix and nfix the instruction goes on
-abbrev pub goes_on : Function → Bool
-goes_on Prefix = true
-goes_on NegativePrefix = true
-goes_on _ = false
+abbrev pub continues : Function → Bool
+continues Prefix = true
+continues NegativePrefix = true
+continues _ = false
 
 -- an instruction, and the bytes behind it
 pub record Meant : Type 0 where
@@ -21,7 +21,7 @@ pub record Meant : Type 0 where
 unfoldable pub read_from : ℕ → List ℕ → Option Meant
 read_from operand [] = None
 read_from operand (byte ∷ bytes) =
-    if goes_on (function_of (byte / 16)) then read_from (accumulated operand byte) bytes
+    if continues (function_of (byte / 16)) then read_from (accumulated operand byte) bytes
     else Some (record { function = function_of (byte / 16); operand = accumulated operand byte; rest = bytes })
 
 -- the first instruction of bytes: each instruction begins with the operand 0

@@ -7,7 +7,7 @@ use Rattle.t414_assembly.specs.declared.statement.Operand.{Operand}
 use Rattle.t414_assembly.specs.declared.statement.Operand.TheVariants.{Number, Label, Difference}
 use Rattle.t414_assembly.specs.declared.statement.Statement.{Statement}
 use Rattle.t414_assembly.specs.declared.statement.Statement.TheVariants.{Instruction, Byte, Word, Align, Space}
-use Rattle.t414_assembly.specs.Meaning.{goes_on}
+use Rattle.t414_assembly.specs.Meaning.{continues}
 use Rattle.t414_assembly.specs.Usual.{usual}
 use Rattle.t414_assembly.specs.Spelled.{Means, IsShortest, IsByteOf}
 
@@ -47,10 +47,10 @@ pub record IsPadded (function : Function) (operand : ℕ) (pads : ℕ) (bytes : 
 -- the bytes of an instruction with an operand: a prefix by itself is one byte; a number is never padded,
 -- and is spelled in the usual way
 pub record IsInstruction (address : ℕ → ℕ) (next : ℕ) (function : Function) (operand : Operand) (bytes : List ℕ) : Type 0 where
-  pub prefix : goes_on function ≡ true → IsByteOf function (operand_of address next function operand % 16) bytes
-  pub other : goes_on function ≡ false → (pads : ℕ) × IsPadded function (operand_of address next function operand) pads bytes
+  pub prefix : continues function ≡ true → IsByteOf function (operand_of address next function operand % 16) bytes
+  pub other : continues function ≡ false → (pads : ℕ) × IsPadded function (operand_of address next function operand) pads bytes
   pub number : (n : ℕ) → operand ≡ Number n → bytes ≡ usual function n
-  pub shortest : (n : ℕ) → operand ≡ Number n → goes_on function ≡ false → IsShortest bytes function n
+  pub shortest : (n : ℕ) → operand ≡ Number n → continues function ≡ false → IsShortest bytes function n
 
 -- the bytes of a statement that stands before a place; to be a multiple of 0 asks nothing, as to be one of 1
 abbrev pub IsPiece : (ℕ → ℕ) → ℕ → Statement → List ℕ → Type 0

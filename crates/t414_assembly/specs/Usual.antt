@@ -3,7 +3,7 @@
 use Rattle.std.specs.Prelude.{ℕ, ◌+◌, ◌-◌, ◌*◌, ◌/◌, ◌%◌, ◌^◌, ◌++◌, List, [], ◌∷◌, Bool, true, false, zero, suc, nat_lt, if◌then◌else◌}
 use Rattle.t414_decode.specs.declared.instruction.Function.{Function}
 use Rattle.t414_decode.specs.declared.instruction.Function.TheVariants.{Jump, LoadLocalPointer, Prefix, LoadNonLocal, LoadConstant, LoadNonLocalPointer, NegativePrefix, LoadLocal, AddConstant, Call, ConditionalJump, AdjustWorkspace, EqualsConstant, StoreLocal, StoreNonLocal, Operate}
-use Rattle.t414_assembly.specs.Meaning.{goes_on}
+use Rattle.t414_assembly.specs.Meaning.{continues}
 use Rattle.t414_assembly.specs.Spelled.{prefix_of}
 
 -- the high nibble of a function
@@ -42,4 +42,4 @@ prefixes_of operand =
 
 -- the bytes of an instruction; a prefix by itself is one byte
 abbrev pub usual : Function → ℕ → List ℕ
-usual function operand = (if goes_on function then [] else prefixes_of operand) ++ byte_with function operand ∷ []
+usual function operand = (if continues function then [] else prefixes_of operand) ++ byte_with function operand ∷ []

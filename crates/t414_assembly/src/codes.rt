@@ -1,7 +1,7 @@
 //! The byte of a function and a nibble, and which functions are prefixes.
 ghost use Rattle.std.specs.Prelude.{◌≡◌, ◌<◌, ◌/◌, ◌%◌, ◌+◌, ◌*◌};
 ghost use Rattle.t414_decode.specs.Codes.{function_of};
-ghost use Rattle.t414_assembly.specs.Meaning.{goes_on};
+ghost use Rattle.t414_assembly.specs.Meaning.{continues};
 ghost use Rattle.t414_assembly.specs.Usual.{nibble_of};
 
 use t414_decode::Function;
@@ -47,7 +47,7 @@ fn code_of(function: Function) -> u8
 
 /// Whether the instruction goes on behind the function: pfix and nfix.
 pub fn is_prefix(function: Function) -> bool
-    ensures { result ≡ goes_on function }
+    ensures { result ≡ continues function }
 {
     matches!(function, Function::Prefix | Function::NegativePrefix)
 }

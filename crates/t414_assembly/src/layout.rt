@@ -52,7 +52,7 @@ pub fn lay_out(alloc: Global, origin: u32, statements: &[Statement]) -> Result<I
     let mut rooms = first_rooms(alloc, statements)?;
     loop {
         let starts = starts_of(alloc, origin, statements, rooms.as_slice())?;
-        if let Some(bytes) = pass(
+        if let Some(bytes) = lay_out_once(
             alloc,
             origin,
             statements,
@@ -102,7 +102,7 @@ fn starts_of(
 
 // The bytes of the statements, if each instruction has the room that it needs; else rooms grow.
 // Six clauses: origin, places and rooms before, and what comes of a round that fits and of one that doesn't.
-fn pass(
+fn lay_out_once(
     alloc: Global,
     origin: u32,
     statements: &[Statement],
@@ -119,8 +119,8 @@ fn pass(
     let mut bytes = Vec::new(alloc);
     let mut grown = false;
     for (place, statement) in statements.iter().enumerate() {
-        let wanted = put_statement(&mut bytes, origin, starts, place, rooms[place], *statement)?;
-        if let Some(room) = wanted {
+        let wider = put_statement(&mut bytes, origin, starts, place, rooms[place], *statement)?;
+        if let Some(room) = wider {
             rooms[place] = room;
             grown = true;
         }

@@ -1,7 +1,7 @@
 //! The shortest bytes that mean an instruction.
 ghost use Rattle.std.specs.Prelude.{◌≡◌, ◌<◌, ◌≤◌, ◌-◌, ◌%◌, ◌^◌, ◌++◌, ◌∷◌, ◌⊎◌, [], List, ℕ, true, false, length, IsTrue};
 ghost use Rattle.t414_decode.specs.Codes.{shifted};
-ghost use Rattle.t414_assembly.specs.Meaning.{read_from, goes_on};
+ghost use Rattle.t414_assembly.specs.Meaning.{read_from, continues};
 ghost use Rattle.t414_assembly.specs.Reach.{Reaches};
 ghost use Rattle.t414_assembly.specs.Usual.{prefix_bytes, prefixes_of, usual};
 ghost use Rattle.t414_assembly.specs.Spelled.{spelled, Means, IsShortest, IsByteOf, prefix_of};
@@ -15,9 +15,9 @@ use t414_decode::Function;
 /// Source: Transputer instruction set handbook, prefixing functions.
 // Six clauses: what the bytes mean, that no fewer do, a prefix by itself, the usual form, and how many they are.
 pub fn spell(function: Function, operand: u32) -> Spelling
-    ensures means { goes_on function ≡ false → Means (spelled result) function operand }
-    ensures shortest { goes_on function ≡ false → IsShortest (spelled result) function operand }
-    ensures prefix { goes_on function ≡ true → IsByteOf function (operand % 16) (spelled result) }
+    ensures means { continues function ≡ false → Means (spelled result) function operand }
+    ensures shortest { continues function ≡ false → IsShortest (spelled result) function operand }
+    ensures prefix { continues function ≡ true → IsByteOf function (operand % 16) (spelled result) }
     ensures usual { spelled result ≡ usual function operand }
     ensures most { length (spelled result) ≤ 8 }
     ensures least { 0 < length (spelled result) }

@@ -94,8 +94,8 @@ pub fn put_statement(
     requires within { place < length starts.now }
     requires next { slice_index starts.now (place + 1) ≡ slice_index starts.now place + size_of (address_of origin starts.now place) room statement }
     requires tight { IsTight room statement }
-    ensures put { IfOk result (λ wanted. wanted ≡ None → PutsPiece origin starts.now place room statement bytes.old.items bytes.new.items) }
-    ensures wanted { IfOk result (λ wanted. IfSome wanted (λ n. (room < n) × (n ≤ 8) × IsTight n statement)) }
+    ensures put { IfOk result (λ wider. wider ≡ None → PutsPiece origin starts.now place room statement bytes.old.items bytes.new.items) }
+    ensures wider { IfOk result (λ wider. IfSome wider (λ n. (room < n) × (n ≤ 8) × IsTight n statement)) }
 {
     match statement {
         Statement::Instruction(function, operand) => {

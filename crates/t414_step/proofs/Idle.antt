@@ -8,14 +8,14 @@ use Rattle.process_queue.specs.Queue.{after_take, followed, link_of}
 use Rattle.process_queue.specs.declared.queue.Queue.{Queue}
 use Rattle.link_channels.specs.declared.link.FourLinks.{FourLinks}
 use Rattle.link_channels.specs.Links.{any_has_work}
-use Rattle.link_channels.specs.Reply.{Reply, Gave, Halted, acts}
+use Rattle.link_channels.specs.Completion.{Completion, Gave, Halted, does_something}
 use Rattle.link_channels.specs.Service.{serve_all}
 use Rattle.link_channels.specs.Laws.{ServiceActsOnWork, ServiceLeavesTheRest}
 use Rattle.t414_step.specs.declared.cpu.Cpu.{Cpu}
 use Rattle.t414_step.specs.declared.stepping.Stepped.{Stepped}
 use Rattle.t414_step.specs.declared.stepping.Stepped.TheVariants as code
 use Rattle.t414_step.specs.Answers.{step_answer_of, is_idle, tells_idle}
-use Rattle.t414_step.specs.Outcome.{Effect, upon}
+use Rattle.t414_step.specs.Outcome.{Effect, with_links}
 use Rattle.t414_step.specs.Registers.{has_nothing_to_do}
 use Rattle.t414_step.specs.Step.{StepAnswer, Resumption, Resumed, Nobody, Lost, resumption_by, placed, resumed, resumption, going_on, processed, after_service, byte_answer, byte_done, step}
 
@@ -33,10 +33,10 @@ no-byte : (e : Effect) → tells_idle (byte_answer e) ≡ false
 no-byte (Gave s ls m) = refl
 no-byte (Halted fault ls m) = refl
 
-going-acts : (r : Resumption) (ls : FourLinks) (m : List ℕ) → tells_idle (going_on r true ls m) ≡ false
-going-acts (Resumed s) ls m = no-byte (upon ls (byte_done s m))
-going-acts (Nobody s) ls m = refl
-going-acts (Lost fault) ls m = refl
+going-does_something : (r : Resumption) (ls : FourLinks) (m : List ℕ) → tells_idle (going_on r true ls m) ≡ false
+going-does_something (Resumed s) ls m = no-byte (with_links ls (byte_done s m))
+going-does_something (Nobody s) ls m = refl
+going-does_something (Lost fault) ls m = refl
 
 busy-if : (b : Bool) (x y : StepAnswer) → tells_idle x ≡ false → tells_idle y ≡ false → tells_idle (if b then x else y) ≡ false
 busy-if true x y e f = e
@@ -46,17 +46,17 @@ idle-if : (b : Bool) (x y : StepAnswer) (v : Bool) → tells_idle x ≡ false �
 idle-if true x y v e f = e
 idle-if false x y v e f = f
 
-processed-acts : (s : Cpu) (ls : FourLinks) (m : List ℕ) → tells_idle (processed true s ls m) ≡ false
-processed-acts s ls m =
-    busy-if s.running (byte_answer (upon ls (byte_done s m))) (going_on (resumption s m) true ls m) (no-byte (upon ls (byte_done s m))) (going-acts (resumption s m) ls m)
+processed-does_something : (s : Cpu) (ls : FourLinks) (m : List ℕ) → tells_idle (processed true s ls m) ≡ false
+processed-does_something s ls m =
+    busy-if s.running (byte_answer (with_links ls (byte_done s m))) (going_on (resumption s m) true ls m) (no-byte (with_links ls (byte_done s m))) (going-does_something (resumption s m) ls m)
 
-acted-on : (r : Reply (Bool × Queue) FourLinks) (s : Cpu) → acts r ≡ true → tells_idle (after_service r s) ≡ false
-acted-on (Gave (true, q) ls m) s e = processed-acts (record s { queue = q }) ls m
+acted-on : (r : Completion (Bool × Queue) FourLinks) (s : Cpu) → does_something r ≡ true → tells_idle (after_service r s) ≡ false
+acted-on (Gave (true, q) ls m) s e = processed-does_something (record s { queue = q }) ls m
 acted-on (Gave (false, q) ls m) s e = cc
 acted-on (Halted fault ls m) s e = refl
 
 placed-busy : (r : Result ℕ Fault) (w : ℕ) (s : Cpu) (ls : FourLinks) (m : List ℕ) → tells_idle (going_on (placed r w s) false ls m) ≡ false
-placed-busy (Ok i) w s ls m = no-byte (upon ls (byte_done (resumed w i s) m))
+placed-busy (Ok i) w s ls m = no-byte (with_links ls (byte_done (resumed w i s) m))
 placed-busy (Err fault) w s ls m = refl
 
 followed-busy : (r : Result ℕ Fault) (q : Queue) (s : Cpu) (ls : FourLinks) (m : List ℕ) → tells_idle (going_on (resumption_by (followed r q) s m) false ls m) ≡ false
@@ -77,8 +77,8 @@ looked false s ls m e = taken-busy (s.queue.front == s.queue.back) s ls m e refl
 
 unserved : (s : Cpu) (ls : FourLinks) (m : List ℕ) → tells_idle (processed false s ls m) ≡ (not s.running && (s.queue.front == not_process))
 unserved s ls m =
-    idle-if s.running (byte_answer (upon ls (byte_done s m))) (going_on (resumption s m) false ls m) (s.queue.front == not_process)
-    (no-byte (upon ls (byte_done s m))) (looked (s.queue.front == not_process) s ls m refl)
+    idle-if s.running (byte_answer (with_links ls (byte_done s m))) (going_on (resumption s m) false ls m) (s.queue.front == not_process)
+    (no-byte (with_links ls (byte_done s m))) (looked (s.queue.front == not_process) s ls m refl)
 
 rests-by : ServiceActsOnWork → ServiceLeavesTheRest → (work : Bool) (s : Cpu) (ls : FourLinks) (m : List ℕ) → any_has_work ls ≡ work → tells_idle (step s ls m) ≡ has_nothing_to_do s ls
 unfolding step

@@ -8,12 +8,12 @@ use Rattle.link_channels.specs.declared.process.Transfer.{Transfer}
 use Rattle.link_channels.specs.declared.process.Turn.{Turn}
 use Rattle.link_channels.specs.declared.process.Turn.TheVariants.{GoesOn, Waits}
 use Rattle.link_channels.specs.Messages.{input, output, enable, disable, reset}
-use Rattle.link_channels.specs.Reply.{Reply, Gave, reply_and_then, store_then}
+use Rattle.link_channels.specs.Completion.{Completion, Gave, reply_and_then, store_then}
 use Rattle.t414_decode.specs.declared.instruction.ChannelOperation.{ChannelOperation}
 use Rattle.t414_decode.specs.declared.instruction.ChannelOperation.TheVariants.{InputMessage, OutputMessage, OutputByte, OutputWord, ResetChannel, DisableChannel, EnableChannel}
 use Rattle.t414_step.specs.declared.cpu.Cpu.{Cpu}
 use Rattle.t414_step.specs.Outcome.{Effect}
-use Rattle.t414_step.specs.Registers.{bit, un, leave}
+use Rattle.t414_step.specs.Registers.{bit, unary_result, leave}
 
 -- the process that asks
 abbrev pub process_of : Cpu → Process
@@ -29,7 +29,7 @@ turned GoesOn s = s
 turned Waits s = leave s
 
 -- goes on with the registers after a message, the queue's among them
-abbrev pub after_message : Reply (Turn × Queue) FourLinks → Cpu → Effect
+abbrev pub after_message : Completion (Turn × Queue) FourLinks → Cpu → Effect
 after_message r s = reply_and_then r (λ x ls m. Gave (turned x.0 (record s { queue = x.1 })) ls m)
 
 -- the running process gives a message to a channel
@@ -46,10 +46,10 @@ channel_row InputMessage s ls m = after_message (input (process_of s) (transfer 
 channel_row OutputMessage s ls m = output_by (transfer s.a s.b s.c) s ls m  -- 0B out
 channel_row OutputByte s ls m = send 1 s ls m  -- 0E outbyte
 channel_row OutputWord s ls m = send 4 s ls m  -- 0F outword
-channel_row ResetChannel s ls m = reply_and_then (reset s.a ls m) (λ word ls m. Gave (un word s) ls m)  -- 12 resetch
+channel_row ResetChannel s ls m = reply_and_then (reset s.a ls m) (λ word ls m. Gave (unary_result word s) ls m)  -- 12 resetch
 channel_row DisableChannel s ls m =  -- 2F disc
-    if s.b == 0 then Gave (un 0 s) ls m
-    else reply_and_then (disable (process_of s) s.c s.a ls m) (λ chosen ls m. Gave (un (bit chosen) s) ls m)
+    if s.b == 0 then Gave (unary_result 0 s) ls m
+    else reply_and_then (disable (process_of s) s.c s.a ls m) (λ chosen ls m. Gave (unary_result (bit chosen) s) ls m)
 channel_row EnableChannel s ls m =  -- 48 enbc
     if s.a == 0 then Gave (record s { b = s.c }) ls m
     else reply_and_then (enable (process_of s) s.b ls m) (λ _ ls m. Gave (record s { b = s.c }) ls m)

@@ -4,25 +4,25 @@ use Rattle.node_memory.specs.Bytes.{word_at, with_word, byte_at, with_byte}
 use Rattle.node_memory.specs.declared.fault.Fault.{Fault}
 use Rattle.process_queue.specs.Queue.{Change, Changed, Kept, after_put}
 use Rattle.link_channels.specs.declared.link.FourLinks.{FourLinks}
-use Rattle.link_channels.specs.Reply.{Reply, Gave, Halted}
+use Rattle.link_channels.specs.Completion.{Completion, Gave, Halted}
 use Rattle.t414_step.specs.declared.cpu.Cpu.{Cpu}
 
 -- what an instruction leaves: the registers, the links and memory, or the fault that halts the node, with links and
 -- memory as they were left. The registers are then given up
 abbrev pub Effect : Type 0
-Effect = Reply Cpu FourLinks
+Effect = Completion Cpu FourLinks
 
 -- the same of an instruction that leaves the links; or it asks for them
 pub data Outcome : Type 0 where
   Went : Cpu → List ℕ → Outcome
   Stopped : Fault → List ℕ → Outcome
-  Asked : (FourLinks → Effect) → Outcome
+  NeedsLinks : (FourLinks → Effect) → Outcome
 
 -- what it comes to with these links
-abbrev pub upon : FourLinks → Outcome → Effect
-upon ls (Went s m) = Gave s ls m
-upon ls (Stopped fault m) = Halted fault ls m
-upon ls (Asked next) = next ls
+abbrev pub with_links : FourLinks → Outcome → Effect
+with_links ls (Went s m) = Gave s ls m
+with_links ls (Stopped fault m) = Halted fault ls m
+with_links ls (NeedsLinks next) = next ls
 
 -- an answer of the code, with what it left
 abbrev pub finished : Result (Unit {0}) Fault → Cpu → FourLinks → List ℕ → Effect
@@ -30,9 +30,9 @@ finished (Ok _) s ls m = Gave s ls m
 finished (Err fault) s ls m = Halted fault ls m
 
 -- the same of an instruction that leaves the links
-abbrev pub left : Result (Unit {0}) Fault → Cpu → List ℕ → Outcome
-left (Ok _) s m = Went s m
-left (Err fault) s m = Stopped fault m
+abbrev pub plain_outcome : Result (Unit {0}) Fault → Cpu → List ℕ → Outcome
+plain_outcome (Ok _) s m = Went s m
+plain_outcome (Err fault) s m = Stopped fault m
 
 -- goes on with what was read
 abbrev pub read : Result ℕ Fault → List ℕ → (ℕ → Outcome) → Outcome

@@ -16,12 +16,12 @@ abbrev pub push : ℕ → Cpu → Cpu
 push x s = record s { a = x; b = s.a; c = s.b }
 
 -- un x: A = x
-abbrev pub un : ℕ → Cpu → Cpu
-un x s = record s { a = x }
+abbrev pub unary_result : ℕ → Cpu → Cpu
+unary_result x s = record s { a = x }
 
 -- bin x: A = x, B = C
-abbrev pub bin : ℕ → Cpu → Cpu
-bin x s = record s { a = x; b = s.c }
+abbrev pub binary_result : ℕ → Cpu → Cpu
+binary_result x s = record s { a = x; b = s.c }
 
 -- drop: A = B, B = C
 abbrev pub drop : Cpu → Cpu

@@ -7,10 +7,10 @@ use Rattle.process_queue.specs.Queue.{Taking, Took, Stayed, after_take}
 use Rattle.process_queue.specs.declared.queue.Queue.{Queue}
 use Rattle.t414_decode.specs.Codes.{function_of}
 use Rattle.link_channels.specs.declared.link.FourLinks.{FourLinks}
-use Rattle.link_channels.specs.Reply.{Reply, Gave, Halted}
+use Rattle.link_channels.specs.Completion.{Completion, Gave, Halted}
 use Rattle.link_channels.specs.Service.{serve_all}
 use Rattle.t414_step.specs.declared.cpu.Cpu.{Cpu}
-use Rattle.t414_step.specs.Outcome.{Outcome, Effect, upon, load_byte}
+use Rattle.t414_step.specs.Outcome.{Outcome, Effect, with_links, load_byte}
 use Rattle.t414_step.specs.Rows.{direct}
 
 -- the registers as a function of an instruction byte finds them: the byte is counted, up to 1,024, Iptr is next, O is 0
@@ -67,17 +67,17 @@ byte_answer (Halted fault ls m) = Broke fault ls m
 
 -- the step, by what came of the look at the queue
 abbrev pub going_on : Resumption → Bool → FourLinks → List ℕ → StepAnswer
-going_on (Resumed s) acted ls m = byte_answer (upon ls (byte_done s m))
+going_on (Resumed s) acted ls m = byte_answer (with_links ls (byte_done s m))
 going_on (Nobody s) acted ls m = if acted then Ran s ls m else Idle s ls m
 going_on (Lost fault) acted ls m = Broke fault ls m
 
 -- if there is no current process one is taken, and if there is one then a byte is done
 abbrev pub processed : Bool → Cpu → FourLinks → List ℕ → StepAnswer
 processed acted s ls m =
-    if s.running then byte_answer (upon ls (byte_done s m)) else going_on (resumption s m) acted ls m
+    if s.running then byte_answer (with_links ls (byte_done s m)) else going_on (resumption s m) acted ls m
 
 -- the step, by what came of the service of the links
-abbrev pub after_service : Reply (Bool × Queue) FourLinks → Cpu → StepAnswer
+abbrev pub after_service : Completion (Bool × Queue) FourLinks → Cpu → StepAnswer
 after_service (Gave x ls m) s = processed x.0 (record s { queue = x.1 }) ls m
 after_service (Halted fault ls m) s = Broke fault ls m
 

@@ -8,7 +8,7 @@ use node_memory::{Fault, add_checked, mul_checked, signed, sub_checked};
 #[tactic(auto, unfolding(crate::specs::Rows::row))]
 impl Cpu {
     ghost use Rattle.t414_decode.specs.declared.instruction.PlainOperation.TheVariants as op;
-    ghost use Rattle.t414_step.specs.Outcome.{left, Went};
+    ghost use Rattle.t414_step.specs.Outcome.{plain_outcome, Went};
     ghost use Rattle.t414_step.specs.Rows.{row};
 
     // rev
@@ -40,7 +40,7 @@ impl Cpu {
     // add
     #[inline(always)]
     pub(crate) fn add(&mut self) -> Result<(), Fault>
-        ensures { (m : List ℕ) → left result self.new m ≡ row op.Add self.old m }
+        ensures { (m : List ℕ) → plain_outcome result self.new m ≡ row op.Add self.old m }
     {
         let (sum, overflows) = add_checked(self.b, self.a);
         self.binary(sum);
@@ -74,7 +74,7 @@ impl Cpu {
     // sub
     #[inline(always)]
     pub(crate) fn subtract(&mut self) -> Result<(), Fault>
-        ensures { (m : List ℕ) → left result self.new m ≡ row op.Subtract self.old m }
+        ensures { (m : List ℕ) → plain_outcome result self.new m ≡ row op.Subtract self.old m }
     {
         let (rest, overflows) = sub_checked(self.b, self.a);
         self.binary(rest);
@@ -92,7 +92,7 @@ impl Cpu {
     // mul
     #[inline(always)]
     pub(crate) fn multiply(&mut self) -> Result<(), Fault>
-        ensures { (m : List ℕ) → left result self.new m ≡ row op.Multiply self.old m }
+        ensures { (m : List ℕ) → plain_outcome result self.new m ≡ row op.Multiply self.old m }
     {
         let (product, overflows) = mul_checked(self.b, self.a);
         self.binary(product);
@@ -139,7 +139,7 @@ impl Cpu {
     // rem
     #[inline]
     pub(crate) fn remainder(&mut self) -> Result<(), Fault>
-        ensures { (m : List ℕ) → left result self.new m ≡ row op.Remainder self.old m }
+        ensures { (m : List ℕ) → plain_outcome result self.new m ≡ row op.Remainder self.old m }
     {
         if self.a == 0 {
             self.binary(0);
@@ -153,7 +153,7 @@ impl Cpu {
     // div
     #[inline]
     pub(crate) fn divide(&mut self) -> Result<(), Fault>
-        ensures { (m : List ℕ) → left result self.new m ≡ row op.Divide self.old m }
+        ensures { (m : List ℕ) → plain_outcome result self.new m ≡ row op.Divide self.old m }
     {
         match signed(self.b).checked_div(signed(self.a)) {
             Some(quotient) => {

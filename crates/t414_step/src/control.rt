@@ -8,7 +8,7 @@ use node_memory::{Fault, Memory, signed};
 #[tactic(auto, unfolding(crate::specs::Rows::row))]
 impl Cpu {
     ghost use Rattle.t414_decode.specs.declared.instruction.PlainOperation.TheVariants as op;
-    ghost use Rattle.t414_step.specs.Outcome.{left, Went};
+    ghost use Rattle.t414_step.specs.Outcome.{plain_outcome, Went};
     ghost use Rattle.t414_step.specs.Rows.{row};
 
     // gcall
@@ -24,7 +24,7 @@ impl Cpu {
     // ret
     #[inline(always)]
     pub(crate) fn return_from_call(&mut self, memory: &Memory) -> Result<(), Fault>
-        ensures { left result self.new memory.now ≡ row op.Return self.old memory.now }
+        ensures { plain_outcome result self.new memory.now ≡ row op.Return self.old memory.now }
     {
         self.instruction = memory.word(self.workspace)?;
         self.set_workspace(self.workspace.wrapping_add(16));
@@ -34,7 +34,7 @@ impl Cpu {
     // lend
     #[inline(always)]
     pub(crate) fn loop_end(&mut self, memory: &mut Memory) -> Result<(), Fault>
-        ensures { left result self.new memory.new ≡ row op.LoopEnd self.old memory.old }
+        ensures { plain_outcome result self.new memory.new ≡ row op.LoopEnd self.old memory.old }
     {
         let counter = self.b.wrapping_add(4);
         let count = memory.word(counter)?;
@@ -61,7 +61,7 @@ impl Cpu {
     // altend
     #[inline]
     pub(crate) fn alt_end(&mut self, memory: &Memory) -> Result<(), Fault>
-        ensures { left result self.new memory.now ≡ row op.AltEnd self.old memory.now }
+        ensures { plain_outcome result self.new memory.now ≡ row op.AltEnd self.old memory.now }
     {
         let offset = memory.word(self.workspace)?;
         self.instruction = self.instruction.wrapping_add(offset);

@@ -36,7 +36,7 @@ pub struct Cpu {
 }
 
 impl Cpu {
-    ghost use Rattle.t414_step.specs.Registers.{push, un, bin, drop, drop2, goto, at_workspace, leave};
+    ghost use Rattle.t414_step.specs.Registers.{push, unary_result, binary_result, drop, drop2, goto, at_workspace, leave};
 
     // Puts a value above A.
     #[inline]
@@ -51,7 +51,7 @@ impl Cpu {
     // Puts a value in place of A and B.
     #[inline]
     pub(crate) fn binary(&mut self, value: u32)
-        ensures state { self.new ≡ bin value self.old }
+        ensures state { self.new ≡ binary_result value self.old }
     {
         self.a = value;
         self.b = self.c;

@@ -8,13 +8,13 @@ use node_memory::{Fault, Memory, add_checked};
 #[tactic(auto, unfolding(crate::specs::Rows::direct))]
 impl Cpu {
     ghost use Rattle.t414_decode.specs.declared.instruction.Function.TheVariants as function;
-    ghost use Rattle.t414_step.specs.Outcome.{left, Went};
+    ghost use Rattle.t414_step.specs.Outcome.{plain_outcome, Went};
     ghost use Rattle.t414_step.specs.Rows.{direct, error_if, save, slice};
 
     // The error flag is set where the test holds.
     #[inline(always)]
     pub(crate) fn raise_if(&mut self, raised: bool) -> Result<(), Fault>
-        ensures { (m : List ℕ) → left result self.new m ≡ error_if raised self.old m }
+        ensures { (m : List ℕ) → plain_outcome result self.new m ≡ error_if raised self.old m }
     {
         if raised {
             if self.halt_on_error {
@@ -28,7 +28,7 @@ impl Cpu {
     // Keeps the next instruction below the workspace.
     #[inline(always)]
     pub(crate) fn save(&self, memory: &mut Memory) -> Result<(), Fault>
-        ensures { left result self.now memory.new ≡ save self.now memory.old (Went self.now) }
+        ensures { plain_outcome result self.now memory.new ≡ save self.now memory.old (Went self.now) }
     {
         memory.set_word(self.workspace.wrapping_sub(4), self.instruction)
     }
@@ -36,7 +36,7 @@ impl Cpu {
     // Goes to the end of the queue where the process has had its bytes.
     #[inline(always)]
     pub(crate) fn slice(&mut self, memory: &mut Memory) -> Result<(), Fault>
-        ensures { left result self.new memory.new ≡ slice self.old memory.old }
+        ensures { plain_outcome result self.new memory.new ≡ slice self.old memory.old }
     {
         if self.bytes == 1024 {
             self.save(memory)?;
@@ -50,7 +50,7 @@ impl Cpu {
     // j
     #[inline(always)]
     pub(crate) fn jump(&mut self, memory: &mut Memory, operand: u32) -> Result<(), Fault>
-        ensures { left result self.new memory.new ≡ direct function.Jump operand self.old memory.old }
+        ensures { plain_outcome result self.new memory.new ≡ direct function.Jump operand self.old memory.old }
     {
         self.instruction = self.instruction.wrapping_add(operand);
         self.slice(memory)
@@ -67,7 +67,7 @@ impl Cpu {
     // ldl
     #[inline(always)]
     pub(crate) fn load_local(&mut self, memory: &Memory, operand: u32) -> Result<(), Fault>
-        ensures { left result self.new memory.now ≡ direct function.LoadLocal operand self.old memory.now }
+        ensures { plain_outcome result self.new memory.now ≡ direct function.LoadLocal operand self.old memory.now }
     {
         let word = memory.word(self.local(operand))?;
         self.push(word);
@@ -77,7 +77,7 @@ impl Cpu {
     // stl
     #[inline(always)]
     pub(crate) fn store_local(&mut self, memory: &mut Memory, operand: u32) -> Result<(), Fault>
-        ensures { left result self.new memory.new ≡ direct function.StoreLocal operand self.old memory.old }
+        ensures { plain_outcome result self.new memory.new ≡ direct function.StoreLocal operand self.old memory.old }
     {
         memory.set_word(self.local(operand), self.a)?;
         self.discard();
@@ -87,7 +87,7 @@ impl Cpu {
     // adc
     #[inline(always)]
     pub(crate) fn add_constant(&mut self, operand: u32) -> Result<(), Fault>
-        ensures { (m : List ℕ) → left result self.new m ≡ direct function.AddConstant operand self.old m }
+        ensures { (m : List ℕ) → plain_outcome result self.new m ≡ direct function.AddConstant operand self.old m }
     {
         let (sum, overflows) = add_checked(self.a, operand);
         self.a = sum;
@@ -97,7 +97,7 @@ impl Cpu {
     // call
     #[inline(always)]
     pub(crate) fn call(&mut self, memory: &mut Memory, operand: u32) -> Result<(), Fault>
-        ensures { left result self.new memory.new ≡ direct function.Call operand self.old memory.old }
+        ensures { plain_outcome result self.new memory.new ≡ direct function.Call operand self.old memory.old }
     {
         let workspace = self.workspace;
         memory.set_word(workspace.wrapping_sub(4), self.c)?;
@@ -141,7 +141,7 @@ impl Cpu {
     // ldnl
     #[inline(always)]
     pub(crate) fn load_non_local(&mut self, memory: &Memory, operand: u32) -> Result<(), Fault>
-        ensures { left result self.new memory.now ≡ direct function.LoadNonLocal operand self.old memory.now }
+        ensures { plain_outcome result self.new memory.now ≡ direct function.LoadNonLocal operand self.old memory.now }
     {
         self.a = memory.word(self.beyond(operand))?;
         Ok(())
@@ -182,7 +182,7 @@ impl Cpu {
     // stnl
     #[inline(always)]
     pub(crate) fn store_non_local(&mut self, memory: &mut Memory, operand: u32) -> Result<(), Fault>
-        ensures { left result self.new memory.new ≡ direct function.StoreNonLocal operand self.old memory.old }
+        ensures { plain_outcome result self.new memory.new ≡ direct function.StoreNonLocal operand self.old memory.old }
     {
         memory.set_word(self.beyond(operand), self.b)?;
         self.discard_two();

@@ -18,13 +18,13 @@ macro_rules! done {
 impl Cpu {
     ghost use Rattle.t414_decode.specs.Codes.{operation_of};
     ghost use Rattle.t414_step.specs.ChannelRows.{channel_row};
-    ghost use Rattle.t414_step.specs.Outcome.{left, finished, upon};
+    ghost use Rattle.t414_step.specs.Outcome.{plain_outcome, finished, with_links};
     ghost use Rattle.t414_step.specs.Rows.{row, operate, direct};
     ghost use Rattle.t414_step.specs.Step.{byte_done};
 
     // One operation on registers and memory.
     fn perform_any(&mut self, memory: &mut Memory, operation: PlainOperation) -> Result<(), Fault>
-        ensures answer { left result self.new memory.new ≡ row operation self.old memory.old }
+        ensures answer { plain_outcome result self.new memory.new ≡ row operation self.old memory.old }
     {
         match operation {
             PlainOperation::Reverse => done!(self.reverse()),
@@ -100,12 +100,12 @@ impl Cpu {
     // The same by value, apart from the loops of steps: a loop keeps its registers, and what comes of its operations,
     // where no address is taken.
     #[inline(never)]
-    fn perform_apart(
+    fn perform_by_value(
         mut self,
         memory: &mut Memory,
         operation: PlainOperation,
     ) -> (Cpu, Result<(), Fault>)
-        ensures answer { left result.1 result.0 memory.new ≡ row operation self memory.old }
+        ensures answer { plain_outcome result.1 result.0 memory.new ≡ row operation self memory.old }
     {
         let done = self.perform_any(memory, operation);
         (self, done)
@@ -114,7 +114,7 @@ impl Cpu {
     // One operation on registers and memory. The frequent ones stand in the loop of steps.
     #[inline(always)]
     fn perform(&mut self, memory: &mut Memory, operation: PlainOperation) -> Result<(), Fault>
-        ensures answer { left result self.new memory.new ≡ row operation self.old memory.old }
+        ensures answer { plain_outcome result self.new memory.new ≡ row operation self.old memory.old }
     {
         match operation {
             PlainOperation::Reverse => done!(self.reverse()),
@@ -140,7 +140,7 @@ impl Cpu {
             PlainOperation::Multiply => self.multiply(),
             PlainOperation::CheckSubscriptFromZero => self.check_subscript_from_zero(),
             _ => {
-                let (after, done) = self.perform_apart(memory, operation);
+                let (after, done) = self.perform_by_value(memory, operation);
                 *self = after;
                 done
             }
@@ -149,7 +149,7 @@ impl Cpu {
 
     // One operation on a channel.
     #[inline(always)]
-    fn talk(
+    fn perform_channel(
         &mut self,
         memory: &mut Memory,
         links: &mut Links,
@@ -170,7 +170,7 @@ impl Cpu {
 
     // The same by value, apart from the loops of steps.
     #[inline(never)]
-    fn talk_apart(
+    fn perform_channel_by_value(
         mut self,
         memory: &mut Memory,
         links: &mut Links,
@@ -178,19 +178,19 @@ impl Cpu {
     ) -> (Cpu, Result<(), Fault>)
         ensures answer { finished result.1 result.0 links.new memory.new ≡ channel_row operation self links.old memory.old }
     {
-        let done = self.talk(memory, links, operation);
+        let done = self.perform_channel(memory, links, operation);
         (self, done)
     }
 
     // The operation of a code.
     #[inline(always)]
     fn operate(&mut self, memory: &mut Memory, links: &mut Links, code: u32) -> Result<(), Fault>
-        ensures answer { finished result self.new links.new memory.new ≡ upon links.old (operate (operation_of code) code self.old memory.old) }
+        ensures answer { finished result self.new links.new memory.new ≡ with_links links.old (operate (operation_of code) code self.old memory.old) }
     {
         match operation(code) {
             Some(Operation::Plain(operation)) => self.perform(memory, operation),
             Some(Operation::Channel(operation)) => {
-                let (after, done) = self.talk_apart(memory, links, operation);
+                let (after, done) = self.perform_channel_by_value(memory, links, operation);
                 *self = after;
                 done
             }
@@ -207,7 +207,7 @@ impl Cpu {
         function: Function,
         operand: u32,
     ) -> Result<(), Fault>
-        ensures answer { finished result self.new links.new memory.new ≡ upon links.old (direct function operand self.old memory.old) }
+        ensures answer { finished result self.new links.new memory.new ≡ with_links links.old (direct function operand self.old memory.old) }
     {
         match function {
             Function::Jump => self.jump(memory, operand),
@@ -233,7 +233,7 @@ impl Cpu {
     #[inline(always)]
     #[tactic(auto, unfolding(crate::specs::Step::byte_done))]
     pub(crate) fn do_byte(&mut self, memory: &mut Memory, links: &mut Links) -> Result<(), Fault>
-        ensures answer { finished result self.new links.new memory.new ≡ upon links.old (byte_done self.old memory.old) }
+        ensures answer { finished result self.new links.new memory.new ≡ with_links links.old (byte_done self.old memory.old) }
     {
         let byte = memory.byte(self.instruction)?;
         let (function, nibble) = decode(byte);

@@ -8,13 +8,13 @@ use node_memory::{Fault, signed};
 #[tactic(auto, unfolding(crate::specs::Rows::row))]
 impl Cpu {
     ghost use Rattle.t414_decode.specs.declared.instruction.PlainOperation.TheVariants as op;
-    ghost use Rattle.t414_step.specs.Outcome.{left, Went};
+    ghost use Rattle.t414_step.specs.Outcome.{plain_outcome, Went};
     ghost use Rattle.t414_step.specs.Rows.{row};
 
     // seterr
     #[inline]
     pub(crate) fn set_error(&mut self) -> Result<(), Fault>
-        ensures { (m : List ℕ) → left result self.new m ≡ row op.SetError self.old m }
+        ensures { (m : List ℕ) → plain_outcome result self.new m ≡ row op.SetError self.old m }
     {
         self.raise_if(true)
     }
@@ -63,7 +63,7 @@ impl Cpu {
     // csub0
     #[inline(always)]
     pub(crate) fn check_subscript_from_zero(&mut self) -> Result<(), Fault>
-        ensures { (m : List ℕ) → left result self.new m ≡ row op.CheckSubscriptFromZero self.old m }
+        ensures { (m : List ℕ) → plain_outcome result self.new m ≡ row op.CheckSubscriptFromZero self.old m }
     {
         let raised = self.a <= self.b;
         self.discard();
@@ -73,7 +73,7 @@ impl Cpu {
     // ccnt1
     #[inline]
     pub(crate) fn check_count_from_one(&mut self) -> Result<(), Fault>
-        ensures { (m : List ℕ) → left result self.new m ≡ row op.CheckCountFromOne self.old m }
+        ensures { (m : List ℕ) → plain_outcome result self.new m ≡ row op.CheckCountFromOne self.old m }
     {
         let raised = self.b == 0 || self.a < self.b;
         self.discard();
@@ -83,7 +83,7 @@ impl Cpu {
     // cword
     #[inline]
     pub(crate) fn check_word(&mut self) -> Result<(), Fault>
-        ensures { (m : List ℕ) → left result self.new m ≡ row op.CheckWord self.old m }
+        ensures { (m : List ℕ) → plain_outcome result self.new m ≡ row op.CheckWord self.old m }
     {
         let value = i64::from(signed(self.b));
         let limit = i64::from(signed(self.a));

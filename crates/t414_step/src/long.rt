@@ -19,13 +19,13 @@ fn exact_difference(left: u32, right: u32, borrow: u32) -> i64
 #[tactic(auto, unfolding(crate::specs::Rows::row))]
 impl Cpu {
     ghost use Rattle.t414_decode.specs.declared.instruction.PlainOperation.TheVariants as op;
-    ghost use Rattle.t414_step.specs.Outcome.{left, Went};
+    ghost use Rattle.t414_step.specs.Outcome.{plain_outcome, Went};
     ghost use Rattle.t414_step.specs.Rows.{row};
 
     // ladd
     #[inline]
     pub(crate) fn long_add(&mut self) -> Result<(), Fault>
-        ensures { (m : List ℕ) → left result self.new m ≡ row op.LongAdd self.old m }
+        ensures { (m : List ℕ) → plain_outcome result self.new m ≡ row op.LongAdd self.old m }
     {
         let carry = self.c % 2;
         let exact = i64::from(signed(self.b)) + i64::from(signed(self.a)) + i64::from(carry);
@@ -36,7 +36,7 @@ impl Cpu {
     // lsub
     #[inline]
     pub(crate) fn long_subtract(&mut self) -> Result<(), Fault>
-        ensures { (m : List ℕ) → left result self.new m ≡ row op.LongSubtract self.old m }
+        ensures { (m : List ℕ) → plain_outcome result self.new m ≡ row op.LongSubtract self.old m }
     {
         let carry = self.c % 2;
         let exact = exact_difference(self.b, self.a, carry);
@@ -78,7 +78,7 @@ impl Cpu {
     // ldiv
     #[inline]
     pub(crate) fn long_divide(&mut self) -> Result<(), Fault>
-        ensures { (m : List ℕ) → left result self.new m ≡ row op.LongDivide self.old m }
+        ensures { (m : List ℕ) → plain_outcome result self.new m ≡ row op.LongDivide self.old m }
     {
         if self.a <= self.c {
             self.a = 0;
@@ -137,7 +137,7 @@ impl Cpu {
     // csngl
     #[inline]
     pub(crate) fn check_single(&mut self) -> Result<(), Fault>
-        ensures { (m : List ℕ) → left result self.new m ≡ row op.CheckSingle self.old m }
+        ensures { (m : List ℕ) → plain_outcome result self.new m ≡ row op.CheckSingle self.old m }
     {
         let extension = if self.a < 1 << 31 { 0 } else { u32::MAX };
         let raised = self.b != extension;

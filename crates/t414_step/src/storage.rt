@@ -8,13 +8,13 @@ use node_memory::{Fault, Memory};
 #[tactic(auto, unfolding(crate::specs::Rows::row))]
 impl Cpu {
     ghost use Rattle.t414_decode.specs.declared.instruction.PlainOperation.TheVariants as op;
-    ghost use Rattle.t414_step.specs.Outcome.{left, Went};
+    ghost use Rattle.t414_step.specs.Outcome.{plain_outcome, Went};
     ghost use Rattle.t414_step.specs.Rows.{row};
 
     // lb
     #[inline(always)]
     pub(crate) fn load_byte(&mut self, memory: &Memory) -> Result<(), Fault>
-        ensures { left result self.new memory.now ≡ row op.LoadByte self.old memory.now }
+        ensures { plain_outcome result self.new memory.now ≡ row op.LoadByte self.old memory.now }
     {
         self.a = u32::from(memory.byte(self.a)?);
         Ok(())
@@ -23,7 +23,7 @@ impl Cpu {
     // sb
     #[inline(always)]
     pub(crate) fn store_byte(&mut self, memory: &mut Memory) -> Result<(), Fault>
-        ensures { left result self.new memory.new ≡ row op.StoreByte self.old memory.old }
+        ensures { plain_outcome result self.new memory.new ≡ row op.StoreByte self.old memory.old }
     {
         memory.set_byte(self.a, (self.b % 0x100) as u8)?;
         self.discard_two();
@@ -33,7 +33,7 @@ impl Cpu {
     // move
     #[inline]
     pub(crate) fn move_message(&mut self, memory: &mut Memory) -> Result<(), Fault>
-        ensures { left result self.new memory.new ≡ row op.MoveMessage self.old memory.old }
+        ensures { plain_outcome result self.new memory.new ≡ row op.MoveMessage self.old memory.old }
     {
         memory.copy_up(self.c, self.b, self.a)
     }

@@ -91,7 +91,7 @@ fn checked_out_again<R: Abort>(rt: &R, farm: &mut PlainFarm) -> Result<Ticket, R
     }
 }
 
-/// A ticket of ann's node that does 100 Steps and comes home. If memory is refused then, the ticket is spent, and another
+/// A ticket of ann's node that does 100 Steps and is committed. If memory is refused then, the ticket is spent, and another
 /// does the Steps.
 fn come_home_again<R: Abort>(rt: &R, farm: &mut PlainFarm) -> Result<Committed, Refusal> {
     let mut ticket = checked_out_again(rt, farm)?;

@@ -45,9 +45,9 @@ fn node_opens_and_is_copied_after_a_refusal(rt: HostRuntime) -> Result<(), Fail>
         Ok(copy) => copy,
         Err(_) => node.copy()?,
     };
-    assert!(rt; copy.same(&node));
+    assert!(rt; copy.equals(&node));
     node.reset();
-    assert!(rt; !copy.same(&node));
+    assert!(rt; !copy.equals(&node));
     Ok(())
 }
 
@@ -78,7 +78,7 @@ fn switch_takes_all_bytes_after_a_refusal(rt: HostRuntime) -> Result<(), Fail> {
         Ok(replies) => replies,
         Err(_) => switch.feed_all(rt.alloc(), &bytes)?,
     };
-    let wanted = [
+    let expected_replies = [
         ConfigReply::Nothing,
         ConfigReply::Nothing,
         ConfigReply::Nothing,
@@ -88,7 +88,7 @@ fn switch_takes_all_bytes_after_a_refusal(rt: HostRuntime) -> Result<(), Fail> {
         ConfigReply::Nothing,
         ConfigReply::BadPort,
     ];
-    assert!(rt; replies.as_slice() == wanted.as_slice());
+    assert!(rt; replies.as_slice() == expected_replies.as_slice());
     Ok(())
 }
 

@@ -133,7 +133,7 @@ fn settings_are_fixed(rt: HostRuntime) -> Result<(), Fail> {
 #[test]
 fn texts_may_end_anywhere(rt: HostRuntime) -> Result<(), Fail> {
     let alloc = rt.alloc();
-    for (rest, wanted) in [
+    for (rest, expected_text) in [
         ("", ""),
         ("---", ""),
         ("---\n", ""),
@@ -147,7 +147,10 @@ fn texts_may_end_anywhere(rt: HostRuntime) -> Result<(), Fail> {
             run(&rt, alloc, &["farm"], &mut input, &mut output, &mut errors),
             0
         );
-        assert!(rt; output.taken.as_slice() == wanted.as_bytes(), "{rest:?}");
+        assert!(rt;
+            output.taken.as_slice() == expected_text.as_bytes(),
+            "{rest:?}"
+        );
         assert!(rt; errors.taken.is_empty());
     }
     Ok(())
@@ -250,10 +253,10 @@ fn quantum_is_kept(rt: HostRuntime) -> Result<(), Fail> {
     ] {
         let mut text = format!(in alloc; "{ANN_AT_PORT_24}---\nann config 01000703\n")?;
         text.push_str("ann boot 0 b52120202040d171608fd171a2600824f22441fe21f5\n")?;
-        let mut wanted = String::from_str(alloc, "ann config -\nann boot 0 23\n")?;
+        let mut expected_text = String::from_str(alloc, "ann config -\nann boot 0 23\n")?;
         for place in 0..9 {
             text.push_str("ann collect 0\n")?;
-            wanted.push_str(if place == 0 {
+            expected_text.push_str(if place == 0 {
                 told
             } else {
                 "ann collect 0 -\n"
@@ -267,7 +270,10 @@ fn quantum_is_kept(rt: HostRuntime) -> Result<(), Fail> {
             run(&rt, alloc, &words, &mut input, &mut output, &mut errors),
             0
         );
-        assert!(rt; output.taken.as_slice() == wanted.as_bytes(), "{quantum}");
+        assert!(rt;
+            output.taken.as_slice() == expected_text.as_bytes(),
+            "{quantum}"
+        );
     }
     Ok(())
 }

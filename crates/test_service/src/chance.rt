@@ -1,6 +1,6 @@
 //! Commands by chance.
 
-use crate::acts::{ask, settle};
+use crate::actions::{ask, settle};
 use crate::draws::Draws;
 use domain_core::{Event, Refusal, Reply};
 use farm_service::Session;
@@ -109,7 +109,7 @@ fn ask_line<R: Wait>(rt: &R, session: &mut Session<'_>, line: &Line) -> Result<u
 }
 
 /// Asks for anything so many times, and settles now and then; how many commands were answered, `NoMemory` where one met
-/// want of memory twice.
+/// NoMemory twice.
 pub fn ask_anything<R: Wait>(
     rt: &R,
     session: &mut Session<'_>,

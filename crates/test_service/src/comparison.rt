@@ -102,7 +102,7 @@ fn are_journals(farm: &PlainFarm, closed: &[ClosedDomain]) -> bool {
 // Whether an output of a domain has this word.
 fn is_word(farm: &mut PlainFarm, domain: u8, output: u8, word: Word) -> bool
     ensures word { IsTrue result ↔ (word_in (slice_get farm.old domain) output ≡ Some word) }
-    ensures same { farm.new ≡ farm.old }
+    ensures unchanged { farm.new ≡ farm.old }
 {
     farm.domain_word(domain, output) == Some(word)
 }

@@ -1,7 +1,7 @@
 //! Numbers by chance.
 ghost use Rattle.std.specs.Prelude.{◌<◌, ◌≤◌};
 
-/// A stream of numbers that hangs on its seed: SplitMix64.
+/// A stream of numbers that depends on its seed: SplitMix64.
 #[derive(Clone, Copy)]
 pub struct Draws {
     state: u64,

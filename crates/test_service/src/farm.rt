@@ -14,7 +14,7 @@ use test_plans::{Size, plan_of, sized_plan};
 
 /// A service with its workers' passes and its operator's seat.
 #[derive(Drop)]
-pub struct Farm {
+pub struct OpenedFarm {
     pub service: Service,
     pub passes: Vec<WorkerPass>,
     pub operator: OperatorSeat,
@@ -55,7 +55,7 @@ fn open_once<R: Wait>(
     alloc: Global,
     ground: Ground,
     workers: u8,
-) -> Option<(Farm, Vec<UserPass>, Watch)> {
+) -> Option<(OpenedFarm, Vec<UserPass>, Watch)> {
     let plan = ground.plan(alloc)?;
     let watch = Watch::of(&plan);
     match Service::open(rt, alloc, plan, workers.clamp(1, 8)) {
@@ -67,7 +67,7 @@ fn open_once<R: Wait>(
                 operator,
             },
         ) => {
-            let farm = Farm {
+            let farm = OpenedFarm {
                 service,
                 passes,
                 operator,
@@ -85,7 +85,7 @@ pub fn open<R: Wait>(
     alloc: Global,
     ground: Ground,
     workers: u8,
-) -> Option<(Farm, Vec<UserPass>, Watch)> {
+) -> Option<(OpenedFarm, Vec<UserPass>, Watch)> {
     match open_once(rt, alloc, ground, workers) {
         None => open_once(rt, alloc, ground, workers),
         opened => opened,
@@ -100,10 +100,10 @@ pub fn open<R: Wait>(
 pub fn close<R: Wait>(
     rt: &R,
     alloc: Global,
-    farm: Farm,
+    farm: OpenedFarm,
     users: Vec<UserPass>,
 ) -> Result<Closed, AllocError> {
-    let Farm {
+    let OpenedFarm {
         service,
         passes,
         operator: _,

@@ -1,6 +1,6 @@
 //! Who is told of the workers' turns.
 
-use crate::acts::QUANTUM;
+use crate::actions::QUANTUM;
 use domain_core::{Committed, Refusal};
 use farm_service::{Gate, Service, Token, Turned};
 use std::sync::Wait;
@@ -14,24 +14,24 @@ pub enum Hold {
     Nothing,
     /// Every third, for a while, so that others change its node meanwhile.
     EachThird,
-    /// Node 0's, until node 1 has come home from one.
+    /// Node 0's, until one of node 1 was committed.
     First,
 }
 
 /// What a gate has seen.
 #[derive(Clone, Copy)]
-pub struct Seen {
+pub struct TurnsSeen {
     /// How many bursts began.
     pub begun: u64,
-    /// Whether node 1 came home from its burst.
+    /// Whether a burst of node 1 was committed.
     pub committed: bool,
     /// Whether node 0 waited for it in vain.
     pub failed: bool,
 }
 
-impl Seen {
+impl TurnsSeen {
     /// Nothing.
-    pub const NOTHING: Seen = Seen {
+    pub const NOTHING: TurnsSeen = TurnsSeen {
         begun: 0,
         committed: false,
         failed: false,
@@ -63,8 +63,8 @@ impl<'a> Holding<'a> {
 
 impl Holding<'_> {
     /// What it has seen.
-    pub fn seen(&self) -> Seen {
-        Seen {
+    pub fn seen(&self) -> TurnsSeen {
+        TurnsSeen {
             begun: self.begun.load(Ordering::SeqCst),
             committed: self.committed.load(Ordering::SeqCst),
             failed: self.failed.load(Ordering::SeqCst),
@@ -123,7 +123,7 @@ impl Gate for Holding<'_> {
     }
 
     fn ended<R: Wait>(&self, _rt: &R, token: Token, turned: &Result<Turned, Refusal>) {
-        if token.node == 1 && *turned == Ok(Turned::CameHome) {
+        if token.node == 1 && *turned == Ok(Turned::BurstRecorded) {
             self.committed.store(true, Ordering::SeqCst);
         }
     }

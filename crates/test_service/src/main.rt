@@ -4,7 +4,7 @@
 //! `rows` prints the rows alone. `soak ROUNDS SEED WORKERS [COMMANDS]` soaks alone, and tells what it compared.
 #![tactic(auto)]
 
-mod acts;
+mod actions;
 mod chance;
 mod comparison;
 mod draws;
@@ -23,8 +23,8 @@ mod watch;
 use crate::farm::Ground;
 use crate::rows::ROWS;
 use crate::soak::{short_soak, soak};
-use crate::stages::{Ended, Stage, Trial, run};
-use crate::telling::{Left, tell_left};
+use crate::stages::{Stage, StageEnd, Trial, run};
+use crate::telling::{ToldAtEnd, tell_left};
 use crate::together::{TOGETHER, Together};
 use std::alloc::{AllocError, Global};
 use std::sync::Wait;
@@ -38,7 +38,7 @@ fn told<R: Threads + Wait + Sync>(
     ground: Ground,
     workers: u8,
     stages: &[Stage],
-    left: Left,
+    left: ToldAtEnd,
 ) -> Result<String, AllocError> {
     let trial = Trial {
         ground,
@@ -46,7 +46,7 @@ fn told<R: Threads + Wait + Sync>(
         stages,
         seed: 1,
     };
-    let Ended {
+    let StageEnd {
         mut said,
         watch,
         closed,
@@ -73,12 +73,12 @@ fn show(rt: &impl Print, name: &str, told: Result<String, AllocError>) -> io::Re
 // A line for each row.
 fn tell_rows<R: Threads + Wait + Sync + Print>(rt: &R, alloc: Global) -> io::Result<()> {
     for row in &ROWS {
-        let stages = [Stage::Alone(row.acts)];
+        let stages = [Stage::Alone(row.actions)];
         let ground = Ground::Text(row.plan);
         show(
             rt,
             row.name,
-            told(rt, alloc, ground, 1, &stages, Left::Nothing),
+            told(rt, alloc, ground, 1, &stages, ToldAtEnd::Nothing),
         )?;
     }
     for row in &TOGETHER {

@@ -4,10 +4,10 @@ ghost use Rattle.std.specs.Prelude.{◌≡◌};
 ghost use Rattle.farm_service.specs.Services.{IsItsOperator};
 ghost use Rattle.token_queue.specs.Passes.{AreItsPasses};
 
-use crate::acts::QUANTUM;
+use crate::actions::QUANTUM;
 use crate::farm::Farm;
-use crate::gates::{Hold, Holding, Seen};
-use crate::users::{Doing, User};
+use crate::gates::{Hold, Holding, TurnsSeen};
+use crate::users::{Doing, TestUser};
 use crate::watch::{Watch, survey_all};
 use farm_service::{Service, Worked, WorkerPass, run_users_and_workers, work, work_all};
 use std::sync::Wait;
@@ -37,16 +37,21 @@ impl Meeting {
     }
 }
 
-// The workers' passes, what the gate has seen of their turns, and whether one of them wanted memory.
+// The workers' passes, what the gate has seen of their turns, and whether one of them ran out of memory.
 #[derive(Drop)]
-struct Shift {
+struct AfterWork {
     passes: Vec<WorkerPass>,
-    seen: Seen,
-    wanted: bool,
+    seen: TurnsSeen,
+    out_of_memory: bool,
 }
 
 // Each user acts in a thread of his own.
-fn act_each<R: Threads + Wait + Sync>(rt: &R, service: &Service, users: &mut [User], doing: Doing) {
+fn act_each<R: Threads + Wait + Sync>(
+    rt: &R,
+    service: &Service,
+    users: &mut [TestUser],
+    doing: Doing,
+) {
     thread::for_each_mut(
         rt,
         users,
@@ -55,19 +60,19 @@ fn act_each<R: Threads + Wait + Sync>(rt: &R, service: &Service, users: &mut [Us
     );
 }
 
-// Users and workers at once; whether a worker wanted memory.
+// Users and workers at once; whether a worker ran out of memory.
 fn act_and_work<R: Threads + Wait + Sync>(
     rt: &R,
     service: &Service,
     passes: &mut Vec<WorkerPass>,
     gate: &Holding<'_>,
-    users: &mut [User],
+    users: &mut [TestUser],
     doing: Doing,
 ) -> bool
     requires { AreItsPasses service.now.plan service.now.queue passes.old.items }
     ensures { AreItsPasses service.now.plan service.now.queue passes.new.items }
 {
-    let act = |place: usize, user: &mut User| user.act(rt, service, place, doing);
+    let act = |place: usize, user: &mut TestUser| user.act(rt, service, place, doing);
     run_users_and_workers(rt, service, passes, gate, QUANTUM, &act, users).is_err()
 }
 
@@ -76,15 +81,15 @@ fn act_all<R: Threads + Wait + Sync>(
     rt: &R,
     service: &Service,
     mut passes: Vec<WorkerPass>,
-    mut users: Vec<User>,
+    mut users: Vec<TestUser>,
     meeting: Meeting,
     over: &AtomicBool,
-) -> (Shift, Vec<User>)
+) -> (AfterWork, Vec<TestUser>)
     requires { AreItsPasses service.now.plan service.now.queue passes.items }
     ensures { AreItsPasses service.now.plan service.now.queue result.0.passes.items }
 {
     let gate = Holding::new(service, meeting.hold());
-    let wanted = match meeting {
+    let out_of_memory = match meeting {
         Meeting::Users(doing) => {
             act_each(rt, service, users.as_mut_slice(), doing);
             false
@@ -98,10 +103,10 @@ fn act_all<R: Threads + Wait + Sync>(
     };
     over.store(true, Ordering::SeqCst);
     let seen = gate.seen();
-    let shift = Shift {
+    let shift = AfterWork {
         passes,
         seen,
-        wanted,
+        out_of_memory,
     };
     (shift, users)
 }
@@ -112,10 +117,10 @@ fn watched<R: Threads + Wait + Sync>(
     service: &Service,
     passes: Vec<WorkerPass>,
     operator: OperatorSeat,
-    users: Vec<User>,
+    users: Vec<TestUser>,
     watch: Watch,
     meeting: Meeting,
-) -> ((OperatorSeat, Watch), (Shift, Vec<User>))
+) -> ((OperatorSeat, Watch), (AfterWork, Vec<TestUser>))
     requires passes { AreItsPasses service.now.plan service.now.queue passes.items }
     requires operator { IsItsOperator service.now operator }
     ensures passes { AreItsPasses service.now.plan service.now.queue result.1.0.passes.items }
@@ -138,24 +143,24 @@ fn watched<R: Threads + Wait + Sync>(
 /// All who meet, and what came of the last meeting.
 #[derive(Drop)]
 pub struct Party {
-    pub farm: Farm,
-    pub users: Vec<User>,
+    pub farm: OpenedFarm,
+    pub users: Vec<TestUser>,
     pub watch: Watch,
-    pub seen: Seen,
-    /// Whether memory was wanting.
-    pub wanted: bool,
+    pub seen: TurnsSeen,
+    /// Whether memory ran out.
+    pub out_of_memory: bool,
 }
 
 /// All meet.
-pub fn meet<R: Threads + Wait + Sync>(rt: &R, party: Party, meeting: Meeting) -> Party {
+pub fn run_meeting<R: Threads + Wait + Sync>(rt: &R, party: Party, meeting: Meeting) -> Party {
     let Party {
         farm,
         users,
         watch,
         seen: _,
-        wanted: before,
+        out_of_memory: before,
     } = party;
-    let Farm {
+    let OpenedFarm {
         service,
         passes,
         operator,
@@ -163,13 +168,13 @@ pub fn meet<R: Threads + Wait + Sync>(rt: &R, party: Party, meeting: Meeting) ->
     let ((operator, watch), (shift, users)) = watched(
         rt, &service, passes, operator, users, watch, meeting,
     );
-    let Shift {
+    let AfterWork {
         passes,
         seen,
-        wanted,
+        out_of_memory,
     } = shift;
     Party {
-        farm: Farm {
+        farm: OpenedFarm {
             service,
             passes,
             operator,
@@ -177,7 +182,7 @@ pub fn meet<R: Threads + Wait + Sync>(rt: &R, party: Party, meeting: Meeting) ->
         users,
         watch,
         seen,
-        wanted: wanted || before,
+        out_of_memory: out_of_memory || before,
     }
 }
 
@@ -204,16 +209,16 @@ pub fn work_here<R: Wait>(rt: &R, party: Party, turns: u64) -> (Party, Worked) {
         users,
         watch,
         seen,
-        wanted,
+        out_of_memory,
     } = party;
-    let Farm {
+    let OpenedFarm {
         service,
         mut passes,
         operator,
     } = farm;
     let worked = work_last(rt, &service, &mut passes, turns);
     let party = Party {
-        farm: Farm {
+        farm: OpenedFarm {
             service,
             passes,
             operator,
@@ -221,7 +226,7 @@ pub fn work_here<R: Wait>(rt: &R, party: Party, turns: u64) -> (Party, Worked) {
         users,
         watch,
         seen,
-        wanted,
+        out_of_memory,
     };
     (party, worked)
 }

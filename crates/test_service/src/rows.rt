@@ -1,15 +1,15 @@
 //! Rows of users who act one after another.
 
-use crate::acts::Act::{self, Config, Fill, Look, Read, Reset, Write};
-use crate::acts::SETTLE;
+use crate::actions::Action::{self, Config, Fill, Look, Read, Reset, Write};
+use crate::actions::SETTLE;
 use test_plans::{ALL_PORTS, ANN_AND_BOB, ANN_OF_THREE_EVENTS, TWO_NODES};
 
 /// A row: its name, the plan, and which user, by his place in the plan, does what.
 #[derive(Clone, Copy)]
-pub struct Row {
+pub struct WorkedRow {
     pub name: &'static str,
     pub plan: &'static str,
-    pub acts: &'static [(usize, Act)],
+    pub actions: &'static [(usize, Action)],
 }
 
 /// Ann, or who is first in the plan.
@@ -36,59 +36,59 @@ pub const LOOPS: [u8; 4] = [0x03, 0xb4, 0x60, 0x0e];
 pub const SAYS_41: [u8; 9] = [0x08, 0xb5, 0x24, 0xf2, 0x24, 0x41, 0xfe, 0x21, 0xf5];
 
 /// The rows.
-pub const ROWS: [Row; 15] = [
-    Row {
+pub const ROWS: [WorkedRow; 15] = [
+    WorkedRow {
         name: "two-way connection is enquired",
         plan: ANN_AND_BOB,
-        acts: &[(ANN, Config(&[1, 0, 1, 3, 2, 0, 2, 1]))],
+        actions: &[(ANN, Config(&[1, 0, 1, 3, 2, 0, 2, 1]))],
     },
-    Row {
+    WorkedRow {
         name: "virtual input is answered",
         plan: ANN_AND_BOB,
-        acts: &[(BOB, Config(&DRIVE_OUTPUT_5))],
+        actions: &[(BOB, Config(&DRIVE_OUTPUT_5))],
     },
-    Row {
+    WorkedRow {
         name: "clear leaves the neighbour",
         plan: ANN_AND_BOB,
-        acts: &[
+        actions: &[
             (BOB, Config(&DRIVE_OUTPUT_5)),
             (ANN, Config(&[4])),
             (BOB, Config(&[2, 5])),
             (ANN, Config(&[2, 0])),
         ],
     },
-    Row {
+    WorkedRow {
         name: "port past the count",
         plan: ANN_AND_BOB,
-        acts: &[
+        actions: &[
             (ANN, Config(&[2, 8])),
             (ANN, Config(&[0, 1, 0, 6, 0, 8, 2, 0])),
         ],
     },
-    Row {
+    WorkedRow {
         name: "byte that begins no message",
         plan: ANN_AND_BOB,
-        acts: &[(ANN, Config(&[7, 2, 0]))],
+        actions: &[(ANN, Config(&[7, 2, 0]))],
     },
-    Row {
+    WorkedRow {
         name: "rest of a message is the domain's own",
         plan: ANN_AND_BOB,
-        acts: &[
+        actions: &[
             (BOB, Config(&DRIVE_OUTPUT_5)),
             (ANN, Config(&[2])),
             (BOB, Config(&[2, 5])),
             (ANN, Config(&[0])),
         ],
     },
-    Row {
+    WorkedRow {
         name: "domain of all ports",
         plan: ALL_PORTS,
-        acts: &[(ANN, Config(&[0, 0x1f, 0x1f, 3, 2, 0x1f]))],
+        actions: &[(ANN, Config(&[0, 0x1f, 0x1f, 3, 2, 0x1f]))],
     },
-    Row {
+    WorkedRow {
         name: "poked word is peeked",
         plan: ANN_AND_BOB,
-        acts: &[
+        actions: &[
             (ANN, Config(&JOIN)),
             (ANN, Write(0, &POKE)),
             (ANN, Write(0, &PEEK)),
@@ -96,10 +96,10 @@ pub const ROWS: [Row; 15] = [
             (ANN, Read(0, 5)),
         ],
     },
-    Row {
+    WorkedRow {
         name: "stopped process saved its place",
         plan: ANN_AND_BOB,
-        acts: &[
+        actions: &[
             (BOB, Config(&JOIN)),
             (BOB, Write(0, &[2, 0x21, 0xf5])),
             (BOB, SETTLE),
@@ -109,10 +109,10 @@ pub const ROWS: [Row; 15] = [
             (BOB, Read(0, 5)),
         ],
     },
-    Row {
+    WorkedRow {
         name: "program sends a byte",
         plan: ANN_AND_BOB,
-        acts: &[
+        actions: &[
             (ANN, Config(&JOIN)),
             (ANN, Write(0, &SAYS_41)),
             (ANN, SETTLE),
@@ -122,40 +122,40 @@ pub const ROWS: [Row; 15] = [
             (BOB, Look(1)),
         ],
     },
-    Row {
+    WorkedRow {
         name: "error flag halts",
         plan: ANN_AND_BOB,
-        acts: &[
+        actions: &[
             (ANN, Config(&JOIN)),
             (ANN, Write(0, &[6, 0x25, 0xf8, 0x24, 0xf2, 0x60, 0x8f])),
             (ANN, SETTLE),
             (ANN, Look(0)),
         ],
     },
-    Row {
+    WorkedRow {
         name: "unknown operation halts",
         plan: ANN_AND_BOB,
-        acts: &[
+        actions: &[
             (ANN, Config(&JOIN)),
             (ANN, Write(0, &[2, 0x21, 0xf1])),
             (ANN, SETTLE),
             (ANN, Look(0)),
         ],
     },
-    Row {
+    WorkedRow {
         name: "journal is full",
         plan: ANN_OF_THREE_EVENTS,
-        acts: &[(ANN, Config(&[1, 0, 7, 3])), (BOB, Config(&DRIVE_OUTPUT_5))],
+        actions: &[(ANN, Config(&[1, 0, 7, 3])), (BOB, Config(&DRIVE_OUTPUT_5))],
     },
-    Row {
+    WorkedRow {
         name: "host's queue is full",
         plan: ANN_AND_BOB,
-        acts: &[(ANN, Fill(0, 4097))],
+        actions: &[(ANN, Fill(0, 4097))],
     },
-    Row {
+    WorkedRow {
         name: "byte of one host reaches two nodes",
         plan: TWO_NODES,
-        acts: &[
+        actions: &[
             (ANN, Config(&[0, 3, 0, 0, 3, 1, 3])),
             (ANN, Write(0, &[5])),
             (ANN, SETTLE),

@@ -1,13 +1,13 @@
 //! Users, workers and an operator who do anything at once, and what they left done again on one thread.
 
-use crate::acts::Act::{self, Config, Read, Write};
-use crate::acts::SETTLE;
+use crate::actions::Action::{self, Config, Read, Write};
+use crate::actions::SETTLE;
 use crate::comparison::is_alike;
 use crate::farm::Ground;
 use crate::gates::Hold;
 use crate::losses::LOSSES;
 use crate::rows::SAYS_41;
-use crate::stages::{Ended, Stage, Trial, run as run_trial};
+use crate::stages::{Stage, StageEnd, Trial, run as run_trial};
 use crate::users::Doing;
 use domain_core::Entry;
 use farm_service::Closed;
@@ -19,21 +19,21 @@ use test_plans::Size;
 
 /// What a user does first, if his domain has so many nodes: he boots node 0 with a program that sends 41, and reads it. So
 /// each journal of his begins with Steps and bytes of which none can be lost unnoticed.
-const BESIDE_1: [Act; 4] = [
+const BESIDE_1: [Action; 4] = [
     Config(&[1, 0, 1, 3]),
     Write(0, &SAYS_41),
     SETTLE,
     Read(0, 2),
 ];
 
-const BESIDE_4: [Act; 4] = [
+const BESIDE_4: [Action; 4] = [
     Config(&[1, 0, 4, 3]),
     Write(0, &SAYS_41),
     SETTLE,
     Read(0, 2),
 ];
 
-const BESIDE_7: [Act; 4] = [
+const BESIDE_7: [Action; 4] = [
     Config(&[1, 0, 7, 3]),
     Write(0, &SAYS_41),
     SETTLE,
@@ -42,7 +42,7 @@ const BESIDE_7: [Act; 4] = [
 
 /// 16 domains; 28 nodes; 16 users in 4 domains; 16 users in 4 domains whose journals are soon full. Behind each stands what
 /// the first user of the first domain does first.
-const SIZES: [(Size, &[&[Act]]); 4] = [
+const SIZES: [(Size, &[&[Action]]); 4] = [
     (
         Size {
             domains: 16,
@@ -125,13 +125,13 @@ fn wrong_of(
     alloc: Global,
     size: Size,
     seed: u64,
-    ended: &Ended,
+    ended: &StageEnd,
     plants: bool,
 ) -> Result<u64, AllocError> {
     let Some(plan) = Ground::Sized(size).plan(alloc) else {
         return Err(AllocError);
     };
-    let Ended { watch, closed, .. } = ended;
+    let StageEnd { watch, closed, .. } = ended;
     let mut wrong = watch.wrong;
     if !is_alike(alloc, &plan, closed, watch, seed)? {
         wrong = wrong.saturating_add(1);
@@ -151,10 +151,10 @@ fn soaked<R: Threads + Wait + Sync>(
     rt: &R,
     alloc: Global,
     size: Size,
-    first: &'static [&'static [Act]],
+    first: &'static [&'static [Action]],
     rounds: Rounds,
     seed: u64,
-) -> Result<Ended, AllocError> {
+) -> Result<StageEnd, AllocError> {
     let doing = Doing::Anything(size, rounds.commands);
     let trial = Trial {
         ground: Ground::Sized(size),

@@ -1,10 +1,10 @@
 //! What is done with a service, stage by stage.
 
-use crate::acts::Act;
+use crate::actions::Action;
 use crate::farm::{Ground, close, open};
-use crate::gates::{Hold, Seen, burst};
-use crate::meeting::{Meeting, Party, meet, work_here};
-use crate::users::{Doing, User, passes_of, users_of};
+use crate::gates::{Hold, TurnsSeen, burst};
+use crate::meeting::{Meeting, Party, run_meeting, work_here};
+use crate::users::{Doing, TestUser, passes_of, users_of};
 use crate::watch::Watch;
 use domain_core::Committed;
 use farm_service::{Closed, Worked};
@@ -16,12 +16,12 @@ use std::thread::Threads;
 #[derive(Clone, Copy)]
 pub enum Stage {
     /// Users, by their places in the plan, act one after another, and what they are told follows.
-    Alone(&'static [(usize, Act)]),
+    Alone(&'static [(usize, Action)]),
     /// Each user does what is listed in his place of the plan, all at once.
-    AtOnce(&'static [&'static [Act]]),
+    AtOnce(&'static [&'static [Action]]),
     /// All workers work for so many turns.
     Workers(u64),
-    /// The same for ten turns, while node 0's burst is held until node 1 came home from one.
+    /// The same for ten turns, while node 0's burst is held until one of node 1 was committed.
     Held,
     /// Each user does this, and workers work beside them until the last has ended. The service is stopped then.
     Meet(Doing, Hold),
@@ -39,7 +39,7 @@ pub enum Stage {
     Work(u64),
     /// Somebody does a burst of a node of a domain; what became of it follows.
     Burst(u8, u8),
-    /// Whether node 1 came home in the last meeting, while node 0's burst was held, follows.
+    /// Whether a burst of node 1 was committed in the last meeting, while node 0's burst was held, follows.
     Committed,
     /// How many bursts began in the last meeting follows.
     Begun,
@@ -52,13 +52,13 @@ pub struct Trial<'a> {
     /// How many workers there are, 1 to 8.
     pub workers: u8,
     pub stages: &'a [Stage],
-    /// What the users' draws hang on.
+    /// What the users' draws depend on.
     pub seed: u64,
 }
 
 /// What is left of a trial.
 #[derive(Drop)]
-pub struct Ended {
+pub struct StageEnd {
     /// What was told.
     pub said: String,
     /// How many commands by chance were answered.
@@ -77,7 +77,7 @@ fn name_of(worked: Worked) -> &'static str {
 }
 
 // How many users were told this.
-fn count_of(users: &[User], text: &str) -> usize {
+fn count_of(users: &[TestUser], text: &str) -> usize {
     let mut count = 0_usize;
     for user in users {
         if user.said.as_str() == text {
@@ -91,12 +91,12 @@ fn count_of(users: &[User], text: &str) -> usize {
 fn act_alone<R: Wait>(
     rt: &R,
     party: &mut Party,
-    acts: &[(usize, Act)],
+    actions: &[(usize, Action)],
     said: &mut String,
 ) -> Result<(), AllocError> {
     let farm = &party.farm;
     let service = &farm.service;
-    for (place, act) in acts {
+    for (place, act) in actions {
         if let Some(user) = party.users.get_mut(*place) {
             user.act(rt, service, *place, Doing::One(*act));
             said.push_str(user.said.as_str())?;
@@ -108,7 +108,7 @@ fn act_alone<R: Wait>(
 
 // Tells what a user was told.
 fn tell_user(
-    users: &mut [User],
+    users: &mut [TestUser],
     place: usize,
     name: &str,
     said: &mut String,
@@ -136,9 +136,9 @@ fn tell_burst<R: Wait>(
     }
 }
 
-// Tells whether node 1 came home.
-fn tell_seen(seen: Seen, said: &mut String) -> Result<(), AllocError> {
-    let Seen {
+// Tells whether a burst of node 1 was committed.
+fn tell_seen(seen: TurnsSeen, said: &mut String) -> Result<(), AllocError> {
+    let TurnsSeen {
         committed,
         failed,
         ..
@@ -154,7 +154,7 @@ fn tell<R: Wait>(
     said: &mut String,
 ) -> Result<(), AllocError> {
     match stage {
-        Stage::Alone(acts) => act_alone(rt, party, acts, said),
+        Stage::Alone(actions) => act_alone(rt, party, actions, said),
         Stage::Tell(place, name) => tell_user(party.users.as_mut_slice(), place, name, said),
         Stage::Count(text) => {
             let count = count_of(party.users.as_slice(), text);
@@ -197,46 +197,46 @@ fn perform<R: Threads + Wait + Sync>(
     said: &mut String,
 ) -> Party {
     if let Some(meeting) = stage.meeting() {
-        return meet(rt, party, meeting);
+        return run_meeting(rt, party, meeting);
     }
     if let Stage::Work(turns) = stage {
         let (mut party, worked) = work_here(rt, party, turns);
-        party.wanted |= said.push_str(name_of(worked)).is_err();
+        party.out_of_memory |= said.push_str(name_of(worked)).is_err();
         return party;
     }
-    party.wanted |= tell(rt, &mut party, stage, said).is_err();
+    party.out_of_memory |= tell(rt, &mut party, stage, said).is_err();
     party
 }
 
 // How many commands by chance were answered, and whether memory was wanting.
-fn sum_of(users: &[User]) -> (u64, bool) {
+fn sum_of(users: &[TestUser]) -> (u64, bool) {
     let mut answered = 0_u64;
-    let mut wanted = false;
+    let mut out_of_memory = false;
     for user in users {
         answered = answered.saturating_add(user.answered);
-        wanted |= user.wanted;
+        out_of_memory |= user.out_of_memory;
     }
-    (answered, wanted)
+    (answered, out_of_memory)
 }
 
 // Closes the service.
-fn end<R: Wait>(rt: &R, alloc: Global, party: Party, said: String) -> Result<Ended, AllocError> {
+fn end<R: Wait>(rt: &R, alloc: Global, party: Party, said: String) -> Result<StageEnd, AllocError> {
     let Party {
         farm,
         users,
         watch,
         seen: _,
-        wanted,
+        out_of_memory,
     } = party;
     let (answered, wants) = sum_of(users.as_slice());
-    if wanted || wants {
+    if out_of_memory || wants {
         return Err(AllocError);
     }
     let closed = match passes_of(alloc, users) {
         Ok(passes) => close(rt, alloc, farm, passes)?,
         Err(_) => return Err(AllocError),
     };
-    Ok(Ended {
+    Ok(StageEnd {
         said,
         answered,
         watch,
@@ -253,7 +253,7 @@ pub fn run<R: Threads + Wait + Sync>(
     rt: &R,
     alloc: Global,
     trial: Trial<'_>,
-) -> Result<Ended, AllocError> {
+) -> Result<StageEnd, AllocError> {
     let Some((farm, passes, watch)) = open(rt, alloc, trial.ground, trial.workers) else {
         return Err(AllocError);
     };
@@ -262,8 +262,8 @@ pub fn run<R: Threads + Wait + Sync>(
         farm,
         users: users_of(alloc, passes, trial.seed)?,
         watch,
-        seen: Seen::NOTHING,
-        wanted: false,
+        seen: TurnsSeen::NOTHING,
+        out_of_memory: false,
     };
     for stage in trial.stages {
         party = perform(rt, party, *stage, &mut said);

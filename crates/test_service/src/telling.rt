@@ -10,7 +10,7 @@ use std::alloc::{AllocError, Global};
 
 /// What is told of what is left, after all was compared with the farm on one thread.
 #[derive(Clone, Copy, PartialEq, Eq)]
-pub enum Left {
+pub enum ToldAtEnd {
     /// Nothing.
     Nothing,
     /// How many tokens.
@@ -128,25 +128,25 @@ pub fn tell_left(
     plan: &AcceptedPlan,
     closed: &Closed,
     watch: &Watch,
-    left: Left,
+    left: ToldAtEnd,
     said: &mut String,
 ) -> Result<(), AllocError> {
     let alike = is_alike(alloc, plan, closed, watch, 1)?;
     let (count, tokens) = (closed.domains.len(), closed.tokens.len());
     match left {
-        Left::Nothing => {}
-        Left::Tokens => write!(said, " {tokens} tokens")?,
-        Left::Second => tell_second(closed, said)?,
-        Left::Order => tell_order(closed, said)?,
-        Left::Steps => tell_steps(closed, said)?,
-        Left::AllSteps => tell_all_steps(closed, said)?,
-        Left::Again => {
+        ToldAtEnd::Nothing => {}
+        ToldAtEnd::Tokens => write!(said, " {tokens} tokens")?,
+        ToldAtEnd::Second => tell_second(closed, said)?,
+        ToldAtEnd::Order => tell_order(closed, said)?,
+        ToldAtEnd::Steps => tell_steps(closed, said)?,
+        ToldAtEnd::AllSteps => tell_all_steps(closed, said)?,
+        ToldAtEnd::Again => {
             write!(
                 said,
                 " {count} domains, {tokens} tokens, done again alike: {alike}"
             )?
         }
-        Left::Losses => tell_losses(alloc, plan, closed, watch, said)?,
+        ToldAtEnd::Losses => tell_losses(alloc, plan, closed, watch, said)?,
     }
     if !alike {
         said.push_str(" not done again alike")?;

@@ -1,7 +1,7 @@
 //! Rows of users, workers and the operator in threads of their own.
 
-use crate::acts::Act::{self, Config, Fill, Knock, Look, Read, Rounds, Write};
-use crate::acts::{QUANTUM, SETTLE};
+use crate::actions::Action::{self, Config, Fill, Knock, Look, Read, Rounds, Write};
+use crate::actions::{QUANTUM, SETTLE};
 use crate::farm::Ground::{self, Sized, Text};
 use crate::gates::Hold;
 use crate::rows::{DRIVE_OUTPUT_5, JOIN, LOOPS, PEEK, POKE, SAYS_41};
@@ -9,7 +9,7 @@ use crate::stages::Stage::{
     self, Alone, AtOnce, Begun, Burst, Committed, Count, Held, Meet, Say, Stop, Tell, Word, Work,
     Workers,
 };
-use crate::telling::Left;
+use crate::telling::ToldAtEnd;
 use crate::users::Doing;
 use test_plans::{ANN_AND_BOB, ANN_OF_THREE_EVENTS, ANN_WITH_CAS, Size, TWO_NODES};
 
@@ -20,11 +20,11 @@ pub struct Together {
     pub ground: Ground,
     pub workers: u8,
     pub stages: &'static [Stage],
-    pub left: Left,
+    pub left: ToldAtEnd,
 }
 
 /// Joins the node to host 0, pokes a word and peeks it back.
-const POKE_AND_PEEK: [Act; 5] = [
+const POKE_AND_PEEK: [Action; 5] = [
     Config(&JOIN),
     Write(0, &POKE),
     Write(0, &PEEK),
@@ -33,10 +33,10 @@ const POKE_AND_PEEK: [Act; 5] = [
 ];
 
 /// Boots the node with a program that sends 41.
-const BOOT: [Act; 2] = [Config(&JOIN), Write(0, &SAYS_41)];
+const BOOT: [Action; 2] = [Config(&JOIN), Write(0, &SAYS_41)];
 
 /// The same, of a domain of one node, and reads what the program sent.
-const BOOT_AND_READ: [Act; 4] = [
+const BOOT_AND_READ: [Action; 4] = [
     Config(&[1, 0, 1, 3]),
     Write(0, &SAYS_41),
     SETTLE,
@@ -44,13 +44,13 @@ const BOOT_AND_READ: [Act; 4] = [
 ];
 
 /// Boots the node of such a domain with a program that loops for ever. The boot message takes four Steps.
-const LOOP_ALONE: [Act; 3] = [Config(&[1, 0, 1, 3]), Write(0, &LOOPS), Rounds(1, 5)];
+const LOOP_ALONE: [Action; 3] = [Config(&[1, 0, 1, 3]), Write(0, &LOOPS), Rounds(1, 5)];
 
 /// Reads what the program sent, and looks at its node.
-const LOOK: [Act; 2] = [Read(0, 2), Look(0)];
+const LOOK: [Action; 2] = [Read(0, 2), Look(0)];
 
 /// Joins two nodes to a host each, and writes both a program that loops for ever.
-const LOOPS_FOR_BOTH: [(usize, Act); 3] = [
+const LOOPS_FOR_BOTH: [(usize, Action); 3] = [
     (0, Config(&[1, 0, 3, 1, 1, 2, 3])),
     (0, Write(0, &LOOPS)),
     (0, Write(1, &LOOPS)),
@@ -65,7 +65,7 @@ const SIXTEEN: Size = Size {
 };
 
 /// The same for eight users.
-const EIGHT_LOOPS: [&[Act]; 8] = [&LOOP_ALONE; 8];
+const EIGHT_LOOPS: [&[Action]; 8] = [&LOOP_ALONE; 8];
 
 /// Eight domains, each of a node, a host and a user.
 const EIGHT: Size = Size {
@@ -90,7 +90,7 @@ pub const TOGETHER: [Together; 14] = [
         ground: Text(ANN_AND_BOB),
         workers: 1,
         stages: &[AtOnce(&[&[], &[Config(&DRIVE_OUTPUT_5)]]), Tell(1, "bob")],
-        left: Left::Second,
+        left: ToldAtEnd::Second,
     },
     // Bob's output 5 is physical output 13, and output 20 is no domain's.
     Together {
@@ -108,7 +108,7 @@ pub const TOGETHER: [Together; 14] = [
             Word(20),
             Say(";"),
         ],
-        left: Left::Second,
+        left: ToldAtEnd::Second,
     },
     Together {
         name: "two domains at once",
@@ -119,7 +119,7 @@ pub const TOGETHER: [Together; 14] = [
             Tell(0, "first"),
             Tell(1, "second"),
         ],
-        left: Left::Nothing,
+        left: ToldAtEnd::Nothing,
     },
     // Cas, of the same domain, writes to ann's host.
     Together {
@@ -131,7 +131,7 @@ pub const TOGETHER: [Together; 14] = [
             Tell(0, "first"),
             Tell(1, "second"),
         ],
-        left: Left::Nothing,
+        left: ToldAtEnd::Nothing,
     },
     Together {
         name: "worker runs a program",
@@ -144,7 +144,7 @@ pub const TOGETHER: [Together; 14] = [
             Tell(0, "ann"),
             Tell(1, "bob"),
         ],
-        left: Left::Nothing,
+        left: ToldAtEnd::Nothing,
     },
     // Each of the worker's turns in ann's domain finds her journal full.
     Together {
@@ -158,7 +158,7 @@ pub const TOGETHER: [Together; 14] = [
             Tell(0, "ann"),
             Tell(1, "bob"),
         ],
-        left: Left::Nothing,
+        left: ToldAtEnd::Nothing,
     },
     // While a worker holds the ticket of node 0, which loops, another checks node 1 out and commits it: no lock is held
     // from a checkout to its commit.
@@ -173,14 +173,14 @@ pub const TOGETHER: [Together; 14] = [
             Held,
             Committed,
         ],
-        left: Left::Tokens,
+        left: ToldAtEnd::Tokens,
     },
     Together {
         name: "stopped workers",
         ground: Text(TWO_NODES),
         workers: 8,
         stages: &[Work(10), Say(","), Stop, Held, Work(10), Say(","), Begun],
-        left: Left::Tokens,
+        left: ToldAtEnd::Tokens,
     },
     Together {
         name: "sixteen users and eight workers",
@@ -191,7 +191,7 @@ pub const TOGETHER: [Together; 14] = [
             Count(" 41 none"),
             Say(" read 41;"),
         ],
-        left: Left::Again,
+        left: ToldAtEnd::Again,
     },
     // A boot message of four bytes takes a Step each, then three rounds and three turns of each node do 256 Steps.
     Together {
@@ -203,7 +203,7 @@ pub const TOGETHER: [Together; 14] = [
             Alone(&[(0, Rounds(1, 5)), (0, Rounds(QUANTUM, 3))]),
             Work(6),
         ],
-        left: Left::Steps,
+        left: ToldAtEnd::Steps,
     },
     // Eight workers have ten turns each, and in each turn one of the eight nodes does 256 Steps, whichever it is.
     Together {
@@ -211,14 +211,14 @@ pub const TOGETHER: [Together; 14] = [
         ground: Sized(EIGHT),
         workers: 8,
         stages: &[AtOnce(&EIGHT_LOOPS), Workers(10)],
-        left: Left::AllSteps,
+        left: ToldAtEnd::AllSteps,
     },
     Together {
         name: "tokens wait in plan order",
         ground: Sized(NINE_NODES),
         workers: 8,
         stages: &[],
-        left: Left::Order,
+        left: ToldAtEnd::Order,
     },
     // Four Steps boot bob's node, and then the burst does 256. Ann's has no Step to do.
     Together {
@@ -229,7 +229,7 @@ pub const TOGETHER: [Together; 14] = [
             Alone(&[(1, Config(&JOIN)), (1, Write(0, &LOOPS)), (1, Rounds(1, 5))]),
             Burst(1, 0),
         ],
-        left: Left::Steps,
+        left: ToldAtEnd::Steps,
     },
     // Ann's and bob's programs send 41 and stop, so that a lost Step or byte changes what is answered.
     Together {
@@ -241,6 +241,6 @@ pub const TOGETHER: [Together; 14] = [
             Workers(1000),
             AtOnce(&[&LOOK, &LOOK]),
         ],
-        left: Left::Losses,
+        left: ToldAtEnd::Losses,
     },
 ];

@@ -1,6 +1,6 @@
 //! Users: what each does in a session of his own, and what came of it.
 
-use crate::acts::{Act, perform};
+use crate::actions::{Action, perform};
 use crate::chance::ask_anything;
 use crate::draws::Draws;
 use farm_service::{Service, Session, UserPass};
@@ -12,18 +12,18 @@ use test_plans::Size;
 #[derive(Clone, Copy)]
 pub enum Doing {
     /// Each what is listed in his place of the plan.
-    Listed(&'static [&'static [Act]]),
+    Listed(&'static [&'static [Action]]),
     /// All the same.
-    Same(&'static [Act]),
+    Same(&'static [Action]),
     /// One thing.
-    One(Act),
+    One(Action),
     /// Each asks for anything so many times.
     Anything(Size, u64),
 }
 
 /// A user between his sessions.
 #[derive(Drop)]
-pub struct User {
+pub struct TestUser {
     // None while he is in a session.
     pass: Option<UserPass>,
     /// What he was told.
@@ -32,24 +32,24 @@ pub struct User {
     draws: Draws,
     /// How many of the commands that he drew were answered.
     pub answered: u64,
-    /// Whether one of them met want of memory twice, or there was none for what he was told.
-    pub wanted: bool,
+    /// Whether one of them was answered NoMemory twice, or there was none for what he was told.
+    pub out_of_memory: bool,
 }
 
 // Acts one after another.
 fn act_all<R: Wait>(
     rt: &R,
     session: &mut Session<'_>,
-    acts: &[Act],
+    actions: &[Action],
     said: &mut String,
 ) -> Result<(), AllocError> {
-    for act in acts {
+    for act in actions {
         perform(rt, session, *act, said)?;
     }
     Ok(())
 }
 
-impl User {
+impl TestUser {
     // Does what he is to do in a session; whether there was memory.
     fn act_in<R: Wait>(
         &mut self,
@@ -61,10 +61,10 @@ impl User {
         let said = &mut self.said;
         match doing {
             Doing::Listed(lists) => match lists.get(place) {
-                Some(acts) => act_all(rt, session, acts, said).is_ok(),
+                Some(actions) => act_all(rt, session, actions, said).is_ok(),
                 None => true,
             },
-            Doing::Same(acts) => act_all(rt, session, acts, said).is_ok(),
+            Doing::Same(actions) => act_all(rt, session, actions, said).is_ok(),
             Doing::One(act) => perform(rt, session, act, said).is_ok(),
             Doing::Anything(size, count) => {
                 match ask_anything(rt, session, &mut self.draws, size, count) {
@@ -83,34 +83,38 @@ impl User {
         if let Some(pass) = self.pass.take() {
             let mut session = service.session(pass);
             if !self.act_in(rt, &mut session, place, doing) {
-                self.wanted = true;
+                self.out_of_memory = true;
             }
             self.pass = Some(session.end());
         }
     }
 }
 
-/// The users of these passes, with draws that hang on a seed and their places.
-pub fn users_of(alloc: Global, passes: Vec<UserPass>, seed: u64) -> Result<Vec<User>, AllocError> {
+/// The users of these passes, with draws that depend on a seed and their places.
+pub fn users_of(
+    alloc: Global,
+    passes: Vec<UserPass>,
+    seed: u64,
+) -> Result<Vec<TestUser>, AllocError> {
     let mut users = Vec::with_capacity(alloc, passes.len())?;
     for pass in passes {
         let own = seed.wrapping_mul(64).wrapping_add(users.len() as u64);
-        users.push(User {
+        users.push(TestUser {
             pass: Some(pass),
             said: String::new(alloc),
             draws: Draws::new(own),
             answered: 0,
-            wanted: false,
+            out_of_memory: false,
         })?;
     }
     Ok(users)
 }
 
 /// The passes of these users.
-pub fn passes_of(alloc: Global, users: Vec<User>) -> Result<Vec<UserPass>, AllocError> {
+pub fn passes_of(alloc: Global, users: Vec<TestUser>) -> Result<Vec<UserPass>, AllocError> {
     let mut passes = Vec::with_capacity(alloc, users.len())?;
     for user in users {
-        let User { pass, .. } = user;
+        let TestUser { pass, .. } = user;
         if let Some(pass) = pass {
             passes.push(pass)?;
         }

@@ -71,7 +71,7 @@ impl Watch {
     }
 
     // Notes a word of an output: the same as before or one with more changes, and confined.
-    fn note(&mut self, output: u8, word: Word)
+    fn remember(&mut self, output: u8, word: Word)
         requires { output < 32 }
     {
         let before = self.words[usize::from(output)];
@@ -100,7 +100,7 @@ pub fn survey_all(
         let is_last = over.load(Ordering::SeqCst);
         for output in 0..32 {
             let word = service.survey(&mut operator, output);
-            seen.note(output, word);
+            seen.remember(output, word);
         }
         if is_last {
             break;

@@ -7,7 +7,7 @@ ghost use Rattle.token_queue.specs.Passes.{AreOf, AreItsPasses, HoldNone, absorb
 ghost use Rattle.token_queue.specs.Rules.{known_tokens, known_of, parted, weight};
 ghost use Rattle.token_queue.specs.Tokens.{token, tokens_of, tokens_of_nodes, every_token, weigh, without, HasToken, AreTheOthers, HasEachOnce};
 
-use crate::rule::{GivesBack, Line, LinePass, OnePart, PutsAside, Takes};
+use crate::rule::{GivesBack, RuledPass, RuledTokens, SetsAside, SplitsOne, Takes};
 use crate::token::Token;
 use plan_rules::AcceptedPlan;
 use std::alloc::{AllocError, Global};
@@ -21,7 +21,7 @@ pub const PLACES: usize = 128;
 /// is.
 #[derive(Drop)]
 pub struct TokenQueue {
-    line: Line,
+    ruled_queue: RuledTokens,
 }
 
 impl Model for TokenQueue {
@@ -31,9 +31,9 @@ impl Model for TokenQueue {
 
     ghost Value = { TableId };
 
-    ghost view = { λ q. q.line.table.shared.table_id };
+    ghost view = { λ q. q.ruled_queue.table.shared.table_id };
 
-    ghost invariant = { λ q. ruled_capacity q.line ≡ 128 };
+    ghost invariant = { λ q. ruled_capacity q.ruled_queue ≡ 128 };
 }
 
 /// What a worker carries from turn to turn. Contracts see which queue it is of, its parts of the right
@@ -41,7 +41,7 @@ impl Model for TokenQueue {
 /// keeps for ever.
 #[derive(Drop)]
 pub struct WorkerPass {
-    pass: LinePass,
+    pass: RuledPass,
 }
 
 impl Model for WorkerPass {
@@ -57,14 +57,17 @@ impl Model for WorkerPass {
 }
 
 // Puts a token that the pass holds into the queue, which has a place for every token.
-fn put<R: Wait>(rt: &R, line: &Line, pass: &mut LinePass, token: Token)
-    requires queue { IsPassOf line.now pass.old × (ruled_capacity line.now ≡ 128) }
+fn put<R: Wait>(rt: &R, ruled_queue: &RuledTokens, pass: &mut RuledPass, token: Token)
+    requires queue { IsPassOf ruled_queue.now pass.old × (ruled_capacity ruled_queue.now ≡ 128) }
     requires parts { 0 < (known_of pass.old).parts }
     requires held { HasToken (known_of pass.old).held token }
     ensures queue { IsSamePass pass.old pass.new }
     ensures held { known_of pass.new ≡ known_tokens (known_of pass.old).parts (without token (known_of pass.old).held) (known_of pass.old).outside }
 {
-    if line.push_as::<GivesBack, R>(rt, pass, token).is_err() {
+    if ruled_queue
+        .push_as::<GivesBack, R>(rt, pass, token)
+        .is_err()
+    {
         unreachable!()
     }
 }
@@ -72,8 +75,14 @@ fn put<R: Wait>(rt: &R, line: &Line, pass: &mut LinePass, token: Token)
 // Puts the tokens of a domain's nodes, which the pass holds.
 #[tactic(auto, using(crate::proofs::Counts::still_held, crate::proofs::Counts::one_node_more))]
 // Seven clauses: whose pass it is and what it holds, and each part of what it knows after.
-fn put_nodes<R: Wait>(rt: &R, line: &Line, pass: &mut LinePass, domain: u8, nodes: u8)
-    requires queue { IsPassOf line.now pass.old × (ruled_capacity line.now ≡ 128) }
+fn put_nodes<R: Wait>(
+    rt: &R,
+    ruled_queue: &RuledTokens,
+    pass: &mut RuledPass,
+    domain: u8,
+    nodes: u8,
+)
+    requires queue { IsPassOf ruled_queue.now pass.old × (ruled_capacity ruled_queue.now ≡ 128) }
     requires parts { 0 < (known_of pass.old).parts }
     requires held { (node : ℕ) → node < nodes → HasToken (known_of pass.old).held (token domain node) }
     ensures queue { IsSamePass pass.old pass.new }
@@ -82,7 +91,7 @@ fn put_nodes<R: Wait>(rt: &R, line: &Line, pass: &mut LinePass, domain: u8, node
     ensures held { (h : Token → ℕ) → weigh h (known_of pass.new).held + weigh h (tokens_of_nodes domain nodes) ≡ weigh h (known_of pass.old).held }
 {
     for node in 0..nodes {
-        put(rt, line, pass, Token { domain, node });
+        put(rt, ruled_queue, pass, Token { domain, node });
     }
 }
 
@@ -97,8 +106,8 @@ fn nodes_of(plan: &AcceptedPlan, domain: u8) -> u8
 
 // Puts the tokens of a plan, in plan order.
 // Six clauses: what the pass is before, and each part of what it knows after.
-fn put_plan<R: Wait>(rt: &R, line: &Line, pass: &mut LinePass, plan: &AcceptedPlan)
-    requires queue { IsPassOf line.now pass.old × (ruled_capacity line.now ≡ 128) }
+fn put_plan<R: Wait>(rt: &R, ruled_queue: &RuledTokens, pass: &mut RuledPass, plan: &AcceptedPlan)
+    requires queue { IsPassOf ruled_queue.now pass.old × (ruled_capacity ruled_queue.now ≡ 128) }
     requires all { known_of pass.old ≡ known_tokens 9 every_token [] }
     ensures queue { IsSamePass pass.old pass.new }
     ensures parts { (known_of pass.new).parts ≡ 9 }
@@ -106,21 +115,21 @@ fn put_plan<R: Wait>(rt: &R, line: &Line, pass: &mut LinePass, plan: &AcceptedPl
     ensures held { AreTheOthers (known_of pass.new).held (tokens_of plan.now) }
 {
     // The domains of an accepted plan share no port.
-    plan.separate();
+    plan.separate_law();
     for domain in 0..plan.domains() {
-        put_nodes(rt, line, pass, domain, nodes_of(plan, domain));
+        put_nodes(rt, ruled_queue, pass, domain, nodes_of(plan, domain));
     }
 }
 
 // Puts aside what a pass holds.
-fn put_aside(line: &Line, mut whole: LinePass) -> LinePass
-    requires queue { IsPassOf line.now whole }
+fn set_aside(ruled_queue: &RuledTokens, mut whole: RuledPass) -> RuledPass
+    requires queue { IsPassOf ruled_queue.now whole }
     requires parts { 1 < (known_of whole).parts }
-    ensures queue { IsPassOf line.now result }
+    ensures queue { IsPassOf ruled_queue.now result }
     ensures known { known_of result ≡ known_tokens (known_of whole).parts [] ((known_of whole).held ++ (known_of whole).outside) }
 {
-    let mut pass = line.another::<PutsAside>(&mut whole);
-    line.absorb::<OnePart>(&mut pass, whole);
+    let mut pass = ruled_queue.another::<SetsAside>(&mut whole);
+    ruled_queue.absorb::<SplitsOne>(&mut pass, whole);
     pass
 }
 
@@ -128,11 +137,11 @@ fn put_aside(line: &Line, mut whole: LinePass) -> LinePass
 // Nine clauses: what the keeper gives away, and each part of what the new passes know.
 fn cut(
     alloc: Global,
-    line: &Line,
-    keeper: &mut LinePass,
+    ruled_queue: &RuledTokens,
+    keeper: &mut RuledPass,
     count: u8,
 ) -> Result<Vec<WorkerPass>, AllocError>
-    requires queue { IsPassOf line.now keeper.old }
+    requires queue { IsPassOf ruled_queue.now keeper.old }
     requires parts { count < (known_of keeper.old).parts }
     ensures queue { IsSamePass keeper.old keeper.new }
     ensures keeper { IfOk result (λ passes. known_of keeper.new ≡ parted count (known_of keeper.old)) }
@@ -144,22 +153,22 @@ fn cut(
 {
     let mut passes = Vec::new(alloc);
     for _worker in 0..count {
-        let pass = line.another::<OnePart>(keeper);
+        let pass = ruled_queue.another::<SplitsOne>(keeper);
         passes.push(WorkerPass { pass })?;
     }
     Ok(passes)
 }
 
 // Takes a pass back.
-fn absorb(line: &Line, keeper: &mut LinePass, pass: WorkerPass)
-    requires queue { IsPassOf line.now keeper.old }
+fn absorb(ruled_queue: &RuledTokens, keeper: &mut RuledPass, pass: WorkerPass)
+    requires queue { IsPassOf ruled_queue.now keeper.old }
     requires parts { 0 < (known_of keeper.old).parts }
     requires of { pass.queue ≡ keeper.old.table_id }
     ensures queue { IsSamePass keeper.old keeper.new }
     ensures keeper { known_of keeper.new ≡ absorbed pass (known_of keeper.old) }
 {
     let WorkerPass { pass } = pass;
-    line.absorb::<OnePart>(keeper, pass);
+    ruled_queue.absorb::<SplitsOne>(keeper, pass);
 }
 
 fn take_last(passes: &mut Vec<WorkerPass>) -> WorkerPass
@@ -177,8 +186,8 @@ fn take_last(passes: &mut Vec<WorkerPass>) -> WorkerPass
 
 // Takes the passes back into one.
 // Eight clauses: what keeper and passes know before, and each part of what the keeper knows after.
-fn absorb_all(line: &Line, keeper: &mut LinePass, mut passes: Vec<WorkerPass>)
-    requires queue { IsPassOf line.now keeper.old }
+fn absorb_all(ruled_queue: &RuledTokens, keeper: &mut RuledPass, mut passes: Vec<WorkerPass>)
+    requires queue { IsPassOf ruled_queue.now keeper.old }
     requires parts { 0 < (known_of keeper.old).parts }
     requires of { AreOf keeper.old.table_id passes.items }
     requires none { ((known_of keeper.old).held ≡ []) × HoldNone passes.items }
@@ -189,14 +198,19 @@ fn absorb_all(line: &Line, keeper: &mut LinePass, mut passes: Vec<WorkerPass>)
 {
     for _taken in 0..passes.len() {
         let pass = take_last(&mut passes);
-        absorb(line, keeper, pass);
+        absorb(ruled_queue, keeper, pass);
     }
 }
 
 // Takes all that is left.
 // Six clauses: five of who may know that the queue is empty, and what is taken.
-fn drain<R: Wait>(rt: &R, line: &Line, keeper: &mut LinePass, tokens: &mut Vec<Token>)
-    requires queue { IsPassOf line.now keeper.old }
+fn drain<R: Wait>(
+    rt: &R,
+    ruled_queue: &RuledTokens,
+    keeper: &mut RuledPass,
+    tokens: &mut Vec<Token>,
+)
+    requires queue { IsPassOf ruled_queue.now keeper.old }
     requires parts { (known_of keeper.old).parts ≡ 9 }
     requires held { (known_of keeper.old).held ≡ [] }
     requires room { 128 ≤ vec_capacity tokens.old }
@@ -204,7 +218,7 @@ fn drain<R: Wait>(rt: &R, line: &Line, keeper: &mut LinePass, tokens: &mut Vec<T
     ensures { AreTheOthers (known_of keeper.old).outside tokens.new.items }
 {
     for _ in rt.forever() {
-        match line.pop_as::<Takes, R>(rt, keeper) {
+        match ruled_queue.pop_as::<Takes, R>(rt, keeper) {
             Some(token) => tokens.push_reserved(token),
             None => break,
         }
@@ -219,7 +233,7 @@ impl TokenQueue {
         ensures token { MatchOption result (pass.new ≡ pass.old) (λ token. pass.new ≡ record pass.old { held = token ∷ pass.old.held }) }
         ensures alone { result ≡ None → pass.old.parts ≡ 9 → AreTheOthers pass.old.held pass.old.outside }
     {
-        self.line.pop_as::<Takes, R>(rt, &mut pass.pass)
+        self.ruled_queue.pop_as::<Takes, R>(rt, &mut pass.pass)
     }
 
     /// Puts a token that the pass holds back at the end of the queue, which always has room for it.
@@ -228,7 +242,7 @@ impl TokenQueue {
         requires held { HasToken pass.old.held token }
         ensures { pass.new ≡ record pass.old { held = without token pass.old.held } }
     {
-        put(rt, &self.line, &mut pass.pass, token)
+        put(rt, &self.ruled_queue, &mut pass.pass, token)
     }
 
     /// A queue of a plan's tokens, in plan order, and a pass for each of 1 to 8 workers. No pass holds
@@ -247,12 +261,12 @@ impl TokenQueue {
         ensures workers { IfOk result (λ o. length o.1.items ≡ workers) }
         ensures passes { IfOk result (λ o. AreItsPasses plan.now o.0 o.1.items) }
     {
-        let (line, mut whole) = Line::ruled(alloc, PLACES)?;
-        put_plan(rt, &line, &mut whole, plan);
-        let mut pass = put_aside(&line, whole);
-        let mut passes = cut(alloc, &line, &mut pass, workers - 1)?;
+        let (ruled_queue, mut whole) = RuledTokens::ruled(alloc, PLACES)?;
+        put_plan(rt, &ruled_queue, &mut whole, plan);
+        let mut pass = set_aside(&ruled_queue, whole);
+        let mut passes = cut(alloc, &ruled_queue, &mut pass, workers - 1)?;
         passes.push(WorkerPass { pass })?;
-        Ok((TokenQueue { line }, passes))
+        Ok((TokenQueue { ruled_queue }, passes))
     }
 
     /// Ends the queue: with all its passes back, each node of the plan is told just once in `tokens`,
@@ -269,9 +283,9 @@ impl TokenQueue {
         requires empty { tokens.old.items ≡ [] }
         ensures { HasEachOnce plan.now tokens.new.items }
     {
-        let TokenQueue { line } = self;
+        let TokenQueue { ruled_queue } = self;
         let WorkerPass { mut pass } = take_last(&mut passes);
-        absorb_all(&line, &mut pass, passes);
-        drain(rt, &line, &mut pass, tokens);
+        absorb_all(&ruled_queue, &mut pass, passes);
+        drain(rt, &ruled_queue, &mut pass, tokens);
     }
 }

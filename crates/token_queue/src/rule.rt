@@ -64,9 +64,9 @@ impl Lesson<Token, KnownTokens> for GivesBack {
 }
 
 /// A worker's pass, cut off and taken back.
-pub struct OnePart;
+pub struct SplitsOne;
 
-impl Split<KnownTokens> for OnePart {
+impl Split<KnownTokens> for SplitsOne {
     ghost use Rattle.std.specs.Prelude.{[], ◌-◌};
     ghost use Rattle.token_queue.specs.Rules.{known_tokens};
 
@@ -75,7 +75,7 @@ impl Split<KnownTokens> for OnePart {
     ghost right = { λ v. known_tokens 1 [] [] };
 }
 
-impl Join<KnownTokens> for OnePart {
+impl Join<KnownTokens> for SplitsOne {
     ghost use Rattle.std.specs.Prelude.{[], ◌+◌, ◌++◌};
     ghost use Rattle.token_queue.specs.Rules.{known_tokens};
 
@@ -85,9 +85,9 @@ impl Join<KnownTokens> for OnePart {
 }
 
 /// What the first pass still holds, once the plan's tokens are in the queue, is put aside.
-pub struct PutsAside;
+pub struct SetsAside;
 
-impl Split<KnownTokens> for PutsAside {
+impl Split<KnownTokens> for SetsAside {
     ghost use Rattle.std.specs.Prelude.{[], ◌-◌, ◌++◌};
     ghost use Rattle.token_queue.specs.Rules.{known_tokens};
 
@@ -96,6 +96,6 @@ impl Split<KnownTokens> for PutsAside {
     ghost right = { λ v. known_tokens 1 [] [] };
 }
 
-pub type Line = RuledArrayQueue<Token, KnownTokens, OnceInAll>;
+pub type RuledTokens = RuledArrayQueue<Token, KnownTokens, OnceInAll>;
 
-pub type LinePass = Pass<Token, KnownTokens>;
+pub type RuledPass = Pass<Token, KnownTokens>;

@@ -3,7 +3,7 @@ use Rattle.std.specs.Prelude.{◌≡◌, ℕ, List, [], ◌∷◌, length, map}
 use Rattle.std.specs.List.{AllZip}
 use Rattle.crossbar.specs.Word.{CountsChange}
 use Rattle.virtual_switch.specs.SwitchValue.{SwitchValue, private_of}
-use Rattle.virtual_switch.specs.PrivateSwitch.{configured, all_told, Answers}
+use Rattle.virtual_switch.specs.PrivateSwitch.{configured, all_told, AnswersStream}
 use Rattle.virtual_switch.specs.declared.reply.ConfigReply.{ConfigReply}
 
 -- the ports stay, and each word that changes counts its change once
@@ -18,7 +18,7 @@ ConfiguresTo old byte reply new =
 
 -- bytes are answered so, one reply each, and leave this
 abbrev pub AnswersBytes : SwitchValue → List ℕ → List ConfigReply → SwitchValue → Type 0
-AnswersBytes old bytes replies new = Answers (length old.ports) (private_of old) old.rest bytes replies (private_of new) new.rest
+AnswersBytes old bytes replies new = AnswersStream (length old.ports) (private_of old) old.rest bytes replies (private_of new) new.rest
 
 -- the same byte after byte
 abbrev pub TellsAll : SwitchValue → List ℕ → List ConfigReply → SwitchValue → Type 0

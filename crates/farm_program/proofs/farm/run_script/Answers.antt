@@ -3,7 +3,7 @@ use Rattle.std.specs.Prelude.{IfOk}
 use Rattle.plan_rules.specs.Data.{DomainData}
 use Rattle.farm_core.specs.Places.{places_of}
 use Rattle.farm_service.specs.Closed.{EachMergeRuns}
-use Rattle.farm_program.specs.declared.farm.Ended.{Ended}
+use Rattle.farm_program.specs.declared.farm.ScriptEnd.{ScriptEnd}
 use Rattle.farm_program.specs.declared.users.User.{User}
 use Rattle.farm_program.specs.Closing.{ArePassesOf}
 use Rattle.farm_program.specs.Users.{unasked}
@@ -20,7 +20,7 @@ returns-clause-users g c =
     let opened = ap (map (λ (u : User). u.session)) lent_is ∙ c.in_ok-users.ensures.sessions in
     let passes = c.in_ok-left.ensures.passes ∙ ap (map (λ (u : User). u.session.pass)) back in
     let theirs = ap (map unasked) passes ∙ same_users c.in-Ok.opened.service.plan lent new opened c.run_all.ensures.count c.run_all.ensures.users in
-    all_listed (λ (ended : Ended). ended.closed.domains.items) c.args.plan c.in_ok-left.left.passes.items c.close.result
+    all_listed (λ (ended : ScriptEnd). ended.closed.domains.items) c.args.plan c.in_ok-left.left.passes.items c.close.result
     (subst (λ (plan : List DomainData). ArePassesOf plan c.in_ok-left.left.passes.items) c.in-Ok.ensures.plan theirs) c.close.ensures.users
 
 pub returns-clause-screens : goal.returns-clause-screens

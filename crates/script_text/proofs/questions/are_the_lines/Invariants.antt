@@ -3,7 +3,7 @@ use Rattle.script_text.specs.Rows.{expected_lines}
 use Rattle.script_text.proofs.questions.are_the_lines.Given as goal
 
 abbrev pub invariant-loop-next : goal.invariant-loop-next
-invariant-loop-next l = (l.answer ≡ expected_lines l.expected) ↔ (l.rest ≡ expected_lines l.wanted)
+invariant-loop-next l = (l.answer ≡ expected_lines l.expected) ↔ (l.rest ≡ expected_lines l.unmatched)
 
 abbrev pub decreases-loop-next : goal.decreases-loop-next
-decreases-loop-next l = length l.wanted
+decreases-loop-next l = length l.unmatched

@@ -1,7 +1,7 @@
 use Rattle.std.proofs.Common.{◌≡◌, ◌-◌, ap, sym, subst, arith}
 use Rattle.bootstrap.specs.Steps.{IsBurst, running, left_by}
 use Rattle.bootstrap.specs.declared.node.Node.{Node}
-use Rattle.bootstrap.specs.declared.state.State.{State}
+use Rattle.bootstrap.specs.declared.state.NodeState.{NodeState}
 use Rattle.bootstrap.proofs.Counting.{no-steps, last_answer-zero}
 use Rattle.bootstrap.proofs.Running.{steps-more, found-running, burst-after-none, burst-after-some}
 use Rattle.bootstrap.proofs.node.Node.burst.Goals as goal
@@ -18,7 +18,7 @@ pub returns-then-ran-eq0 : goal.returns-then-ran-eq0
 returns-then-ran-eq0 c =
     let z : Node = record { memory = c.run-ran.new.memory; links = c.run-ran.new.links; state = c.state_after-state.result } in
     let left : left_by c.run-ran.result.last c.run-ran.new.cpu c.run-ran.new.links c.run-ran.new.memory ≡ z =
-    ap (λ (st : State). let n : Node = record { memory = c.run-ran.new.memory; links = c.run-ran.new.links; state = st } in n) (sym c.state_after-state.ensures.answer) in
+    ap (λ (st : NodeState). let n : Node = record { memory = c.run-ran.new.memory; links = c.run-ran.new.links; state = st } in n) (sym c.state_after-state.ensures.answer) in
     let more : IsBurst (c.args.n - c.loop-steps.steps) (running c.in-Runs.cpu c.loop-steps.self.links c.loop-steps.self.memory) c.run-ran.result z =
     subst (λ (n : Node). IsBurst (c.args.n - c.loop-steps.steps) (running c.in-Runs.cpu c.loop-steps.self.links c.loop-steps.self.memory) c.run-ran.result n) left c.run-ran.ensures.burst in
     record {
@@ -30,7 +30,7 @@ pub returns-else-ran-eq0 : goal.returns-else-ran-eq0
 returns-else-ran-eq0 c =
     let z : Node = record { memory = c.run-ran.new.memory; links = c.run-ran.new.links; state = c.state_after-state.result } in
     let left : left_by c.run-ran.result.last c.run-ran.new.cpu c.run-ran.new.links c.run-ran.new.memory ≡ z =
-    ap (λ (st : State). let n : Node = record { memory = c.run-ran.new.memory; links = c.run-ran.new.links; state = st } in n) (sym c.state_after-state.ensures.answer) in
+    ap (λ (st : NodeState). let n : Node = record { memory = c.run-ran.new.memory; links = c.run-ran.new.links; state = st } in n) (sym c.state_after-state.ensures.answer) in
     let more : IsBurst (c.args.n - c.loop-steps.steps) (running c.in-Runs.cpu c.loop-steps.self.links c.loop-steps.self.memory) c.run-ran.result z =
     subst (λ (n : Node). IsBurst (c.args.n - c.loop-steps.steps) (running c.in-Runs.cpu c.loop-steps.self.links c.loop-steps.self.memory) c.run-ran.result n) left c.run-ran.ensures.burst in
     record {

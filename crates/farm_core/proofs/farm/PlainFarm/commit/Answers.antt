@@ -6,7 +6,7 @@ use Rattle.farm_core.proofs.Plain.{Replaces, read_at, still_separate, committed_
 use Rattle.farm_core.proofs.farm.PlainFarm.commit.Goals as goal
 
 committed : (c : goal.After-self-2-1) → IsCommitted c.args.ticket c.commit.result c.in-Some.home.now c.commit.new.self
-committed c = record { stale = c.commit.ensures.stale; full = c.commit.ensures.full; no_such = c.commit.ensures.no_such; done = c.commit.ensures.done; same = c.commit.ensures.same }
+committed c = record { stale = c.commit.ensures.stale; full = c.commit.ensures.full; no_such = c.commit.ensures.no_such; done = c.commit.ensures.done; same = c.commit.ensures.unchanged }
 
 -- the home is changed
 replaces : (c : goal.After-self-2-1) → Replaces c.args.self.now (slice_set c.self.inside.domains.items c.from.result c.commit.new.self) c.args.domain c.in-Some.home.now c.commit.new.self
@@ -30,5 +30,5 @@ returns-clause-others c = others_stay _ _ _ _ _ (replaces c)
 pub returns-clause-places : goal.returns-clause-places
 returns-clause-places c = places_stay _ _ _ _ _ (replaces c)
 
-pub returns-clause-same : goal.returns-clause-same
-returns-clause-same c = λ other. all_stay _ _ _ _ _ (replaces c) (c.commit.ensures.same other)
+pub returns-clause-unchanged : goal.returns-clause-unchanged
+returns-clause-unchanged c = λ other. all_stay _ _ _ _ _ (replaces c) (c.commit.ensures.unchanged other)

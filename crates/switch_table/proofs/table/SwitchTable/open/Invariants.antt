@@ -8,10 +8,10 @@ use Rattle.switch_table.proofs.table.SwitchTable.open.Given as goal
 abbrev pub invariant-loop-domain : goal.invariant-loop-domain
 invariant-loop-domain l =
     let domains : List (List ℕ) = domains_of l.fn.plan in record {
-      here : l.dealer.table_id ≡ (arc_value l.board).shared.table_id;
-      wide : l.dealer.table_id.words ≡ 32;
-      table : All (λ s. s.table ≡ (arc_value l.board).shared.table_id) l.seats.items;
-      knows : l.dealer.me ≡ (opening_view domains (drop l.domain domains), []);
+      here : l.opener.table_id ≡ (arc_value l.shared_words).shared.table_id;
+      wide : l.opener.table_id.words ≡ 32;
+      table : All (λ s. s.table ≡ (arc_value l.shared_words).shared.table_id) l.seats.items;
+      knows : l.opener.me ≡ (opening_view domains (drop l.domain domains), []);
       ports : map (λ s. s.ports) l.seats.items ≡ take l.domain domains;
       clear : All (λ s. seat_words s ≡ clear_words s.ports) l.seats.items;
     }

@@ -1,0 +1,20 @@
+//! What is asked for: how many rounds, and of which name.
+
+/// How many rounds are asked for, and of which name.
+#[derive(Clone, Copy)]
+pub struct Selection<'a> {
+    /// How many rounds.
+    pub count: u64,
+    /// The name of what is measured; none asks for everything.
+    pub name: Option<&'a str>,
+}
+
+impl Selection<'_> {
+    /// Whether what has this name is asked for.
+    pub fn runs(&self, name: &str) -> bool {
+        match self.name {
+            Some(word) => word == name,
+            None => true,
+        }
+    }
+}

@@ -1,6 +1,0 @@
-use Rattle.std.proofs.Common.{take, AllPairs, flat_map}
-use Rattle.plan_rules.proofs.apart.differ.Given as goal
-
--- the items of the domains so far differ
-abbrev pub invariant-loop-i : goal.invariant-loop-i
-invariant-loop-i g l = AllPairs g.T.Apart.apart (flat_map g.T.PartOfDomain.list (take l.i l.domains))

@@ -1,0 +1,160 @@
+//! What users do in a session, and what they tell of its answers. Who is answered NoMemory asks once more.
+
+use bootstrap::{Activity, Seen};
+use domain_core::{Event, Refusal, Reply};
+use farm_service::{Session, Settled};
+use std::alloc::AllocError;
+use std::sync::Wait;
+use virtual_switch::ConfigReply;
+
+/// How many Steps of a node a round or a turn has at most.
+pub const QUANTUM: u64 = 256;
+
+/// What a user does.
+#[derive(Clone, Copy)]
+pub enum Action {
+    /// Sends configuration bytes.
+    Config(&'static [u8]),
+    /// Writes bytes to a host.
+    Write(u8, &'static [u8]),
+    /// Writes a byte to a host so many times.
+    Fill(u8, usize),
+    /// The same, but that only what is refused is counted.
+    Knock(u8, usize),
+    /// Reads a host so many times.
+    Read(u8, usize),
+    /// Resets a node.
+    Reset(u8),
+    /// Looks at a node.
+    Look(u8),
+    /// Settles by so many Steps, for so many rounds at most.
+    Rounds(u64, u64),
+}
+
+/// Settles.
+pub const SETTLE: Action = Action::Rounds(QUANTUM, 10_000);
+
+impl Action {
+    // What is asked in this place, none behind the last.
+    fn event(self, place: usize) -> Option<Event> {
+        match self {
+            Action::Config(bytes) => Some(Event::Config(*bytes.get(place)?)),
+            Action::Write(host, bytes) => Some(Event::Write(host, *bytes.get(place)?)),
+            Action::Fill(host, count) | Action::Knock(host, count) if place < count => {
+                Some(Event::Write(host, 0))
+            }
+            Action::Read(host, count) if place < count => Some(Event::Read(host)),
+            Action::Reset(node) if place == 0 => Some(Event::Reset(node)),
+            Action::Look(node) if place == 0 => Some(Event::Look(node)),
+            _ => None,
+        }
+    }
+}
+
+// Tells what a configuration byte was answered.
+fn tell_config(said: &mut String, reply: ConfigReply) -> Result<(), AllocError> {
+    match reply {
+        ConfigReply::Nothing => Ok(()),
+        ConfigReply::Answer(answer) => write!(said, " {answer:02x}"),
+        ConfigReply::BadCommand => said.push_str(" badcommand"),
+        ConfigReply::BadPort => said.push_str(" badport"),
+    }
+}
+
+// Tells what is seen of a node: its state, and the overruns of each link.
+fn tell_seen(said: &mut String, seen: Seen) -> Result<(), AllocError> {
+    match seen.state {
+        Activity::Booting => said.push_str(" booting")?,
+        Activity::Running => said.push_str(" running")?,
+        Activity::Idle => said.push_str(" idle")?,
+        Activity::Halted(fault) => write!(said, " halted {}", fault.number())?,
+    }
+    for overruns in seen.overruns {
+        write!(said, " {overruns}")?;
+    }
+    Ok(())
+}
+
+// Tells what a command was answered, where that says more than that it was done.
+fn tell(said: &mut String, told: Result<Reply, Refusal>) -> Result<(), AllocError> {
+    match told {
+        Ok(Reply::Config(reply)) => tell_config(said, reply),
+        Ok(Reply::Read(Some(byte))) => write!(said, " {byte:02x}"),
+        Ok(Reply::Read(None)) => said.push_str(" none"),
+        Ok(Reply::Full) => said.push_str(" full"),
+        Ok(Reply::Look(seen)) => tell_seen(said, seen),
+        Ok(Reply::Written | Reply::Reset | Reply::Stepped(_) | Reply::Moved(_)) => Ok(()),
+        Err(refusal) => write!(said, " {refusal}"),
+    }
+}
+
+// Asks once.
+fn ask_once<R: Wait>(rt: &R, session: &mut Session<'_>, event: Event) -> Result<Reply, Refusal> {
+    match event {
+        Event::Config(byte) => session.configure(rt, byte),
+        Event::Write(host, byte) => session.write(rt, host, byte),
+        Event::Read(host) => session.read(rt, host),
+        Event::Reset(node) => session.reset(rt, node),
+        Event::Look(node) => session.look(rt, node),
+        Event::Step(_) | Event::Move(_) => Err(Refusal::NoSuch),
+    }
+}
+
+/// Asks, and asks again where memory was wanting: what was refused has changed nothing.
+pub fn ask<R: Wait>(rt: &R, session: &mut Session<'_>, event: Event) -> Result<Reply, Refusal> {
+    match ask_once(rt, session, event) {
+        Err(Refusal::NoMemory) => ask_once(rt, session, event),
+        told => told,
+    }
+}
+
+/// Settles, and settles again where memory was wanting, by 1 to 4,096 Steps.
+pub fn settle<R: Wait>(
+    rt: &R,
+    session: &Session<'_>,
+    quantum: u64,
+    rounds: u64,
+) -> Result<Settled, Refusal> {
+    let quantum = quantum.clamp(1, 4096);
+    match session.settle(rt, quantum, rounds) {
+        Err(Refusal::NoMemory) => session.settle(rt, quantum, rounds),
+        told => told,
+    }
+}
+
+// Tells how a settling ended, where it wasn't quiet.
+fn tell_settled(said: &mut String, told: Result<Settled, Refusal>) -> Result<(), AllocError> {
+    match told {
+        Ok(Settled::Quiet) => Ok(()),
+        Ok(Settled::Busy) => said.push_str(" busy"),
+        Err(refusal) => write!(said, " {refusal}"),
+    }
+}
+
+/// Does it, and tells what was answered.
+pub fn perform<R: Wait>(
+    rt: &R,
+    session: &mut Session<'_>,
+    act: Action,
+    said: &mut String,
+) -> Result<(), AllocError> {
+    if let Action::Rounds(quantum, rounds) = act {
+        return tell_settled(said, settle(rt, session, quantum, rounds));
+    }
+    let mut refused = 0_u16;
+    for place in 0..usize::MAX {
+        let Some(event) = act.event(place) else {
+            break;
+        };
+        let told = ask(rt, session, event);
+        if !matches!(act, Action::Knock(..)) {
+            tell(said, told)?;
+        } else if told == Err(Refusal::NoSuch) {
+            refused = refused.saturating_add(1);
+        }
+    }
+    if refused > 0 {
+        write!(said, " {refused} refused")?;
+    }
+    Ok(())
+}
