@@ -1,23 +1,13 @@
 //! A processor that is about to run, and its code in memory.
 
 use node_memory::{Fault, Memory};
-use process_queue::Queue;
 use t414_step::Cpu;
 
 /// The registers of a running processor that has done nothing: where its code and its workspace lie, and what C has.
 pub fn begun(instruction: u32, workspace: u32, c: u32) -> Cpu {
     Cpu {
-        instruction,
-        workspace,
-        a: 0,
-        b: 0,
         c,
-        operand: 0,
-        queue: Queue::empty(),
-        bytes: 0,
-        error: false,
-        halt_on_error: false,
-        running: true,
+        ..Cpu::started(instruction, workspace)
     }
 }
 

@@ -1,5 +1,5 @@
 -- What booting does to memory and to the registers. Transputer Reference Manual, bootstrapping.
-use Rattle.std.specs.Prelude.{ℕ, zero, suc, ◌+◌, ◌*◌, ◌/◌, ◌^◌, false, true, List, Result, Ok, Err}
+use Rattle.std.specs.Prelude.{ℕ, zero, suc, ◌+◌, ◌*◌, ◌/◌, ◌^◌, List, Result, Ok, Err}
 use Rattle.node_memory.specs.Bytes.{first_address, with_word}
 use Rattle.node_memory.specs.Marks.{not_process}
 use Rattle.node_memory.specs.Words.{◌⊕◌, aligned}
@@ -7,6 +7,7 @@ use Rattle.node_memory.specs.declared.fault.Fault.{Fault}
 use Rattle.link_channels.specs.Links.{input_channel}
 use Rattle.link_channels.specs.declared.number.LinkNumber.{LinkNumber}
 use Rattle.t414_step.specs.declared.cpu.Cpu.{Cpu}
+use Rattle.t414_step.specs.Registers.{started}
 
 -- MemStart, where code is loaded. T414 data sheet, memory map
 abbrev pub code_start : ℕ
@@ -30,16 +31,4 @@ shifted_in byte word = word / 2 ^ 8 + byte * 2 ^ 24
 -- the registers of a node that begins to run code which ends before an address: Iptr is MemStart, W the first word
 -- boundary at or above the end, C the boot link's input channel; the others are our choice
 abbrev pub begun : LinkNumber → ℕ → Cpu
-begun link end = record {
-  instruction = code_start;
-  workspace = aligned (end ⊕ 3);
-  a = 0;
-  b = 0;
-  c = input_channel link;
-  operand = 0;
-  queue = record { front = not_process; back = not_process };
-  bytes = 0;
-  error = false;
-  halt_on_error = false;
-  running = true;
-}
+begun link end = record (started code_start (aligned (end ⊕ 3))) { c = input_channel link }

@@ -8,7 +8,7 @@ use crate::node::Node;
 use crate::state::{NodeState, Task};
 use link_channels::LinkNumber;
 use node_memory::{MEMORY_START, Memory};
-use process_queue::{NOT_PROCESS, Queue};
+use process_queue::NOT_PROCESS;
 use t414_step::{Cpu, Stepped};
 
 /// MemStart, where code is loaded: the first word that isn't the processor's own. T414 data sheet, memory map.
@@ -52,17 +52,8 @@ fn begun(link: LinkNumber, end: u32) -> Cpu
 {
     let above = end.wrapping_add(3);
     Cpu {
-        instruction: CODE_START,
-        workspace: above - above % 4,
-        a: 0,
-        b: 0,
         c: link.input_channel(),
-        operand: 0,
-        queue: Queue::empty(),
-        bytes: 0,
-        error: false,
-        halt_on_error: false,
-        running: true,
+        ..Cpu::started(CODE_START, above - above % 4)
     }
 }
 

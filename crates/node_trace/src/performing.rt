@@ -10,7 +10,6 @@ use crate::snapshot::Snapshot;
 use crate::trial::write_trial;
 use answer_text::{write_seen, write_stepped};
 use bootstrap::{BootFault, CODE_START, Cpu, Links, Memory, NoMemory, Node, Stepped, boot_message};
-use process_queue::Queue;
 use script_text::TextWriter;
 use std::alloc::Global;
 use t414_assembly::{Instruction, write_instruction};
@@ -22,19 +21,7 @@ const WORKSPACE: u32 = 0x8000_0200;
 /// A fresh node that runs: its memory is zero, its links have done nothing, A, B and C are 0, W is 80000200, Iptr 80000048
 /// where code begins, and the queue is empty.
 pub fn open_running(alloc: Global, size: usize) -> Result<Node, NoMemory> {
-    let registers = Cpu {
-        instruction: CODE_START,
-        workspace: WORKSPACE,
-        a: 0,
-        b: 0,
-        c: 0,
-        operand: 0,
-        queue: Queue::empty(),
-        bytes: 0,
-        error: false,
-        halt_on_error: false,
-        running: true,
-    };
+    let registers = Cpu::started(CODE_START, WORKSPACE);
     let memory = Memory::new(alloc, memory_size(size))?;
     Ok(Node::running(memory, Links::new(), registers))
 }

@@ -1,6 +1,6 @@
 -- Changes of the registers alone, in the words of the instruction table. A register that a word doesn't name keeps
 -- its value.
-use Rattle.std.specs.Prelude.{ℕ, ◌+◌, ◌*◌, ◌/◌, ◌%◌, ◌^◌, ◌==◌, ◌&&◌, not, Bool, false, nat_lt, if◌then◌else◌}
+use Rattle.std.specs.Prelude.{ℕ, ◌+◌, ◌*◌, ◌/◌, ◌%◌, ◌^◌, ◌==◌, ◌&&◌, not, Bool, true, false, nat_lt, if◌then◌else◌}
 use Rattle.node_memory.specs.Marks.{not_process}
 use Rattle.node_memory.specs.Words.{aligned}
 use Rattle.link_channels.specs.Links.{any_has_work}
@@ -10,6 +10,23 @@ use Rattle.t414_step.specs.declared.cpu.Cpu.{Cpu}
 -- 1 if a test holds, else 0
 abbrev pub bit : Bool → ℕ
 bit b = if b then 1 else 0
+
+-- the registers of a processor that has done nothing, where its code and its workspace lie: A, B and C are 0, the queue is empty and
+-- both flags are clear
+abbrev pub started : ℕ → ℕ → Cpu
+started i w = record {
+  instruction = i;
+  workspace = w;
+  a = 0;
+  b = 0;
+  c = 0;
+  operand = 0;
+  queue = record { front = not_process; back = not_process };
+  bytes = 0;
+  error = false;
+  halt_on_error = false;
+  running = true;
+}
 
 -- push x: C = B, B = A, A = x
 abbrev pub push : ℕ → Cpu → Cpu

@@ -36,7 +36,27 @@ pub struct Cpu {
 }
 
 impl Cpu {
-    ghost use Rattle.t414_step.specs.Registers.{push, unary_result, binary_result, drop, drop2, goto, at_workspace, leave};
+    ghost use Rattle.t414_step.specs.Registers.{started, push, unary_result, binary_result, drop, drop2, goto, at_workspace, leave};
+
+    /// The registers of a running processor that has done nothing: its code is at an address, its workspace at another,
+    /// A, B and C are 0, the queue is empty and both flags are clear.
+    pub fn started(instruction: u32, workspace: u32) -> Cpu
+        ensures { result ≡ started instruction workspace }
+    {
+        Cpu {
+            instruction,
+            workspace,
+            a: 0,
+            b: 0,
+            c: 0,
+            operand: 0,
+            queue: Queue::empty(),
+            bytes: 0,
+            error: false,
+            halt_on_error: false,
+            running: true,
+        }
+    }
 
     // Puts a value above A.
     #[inline]
