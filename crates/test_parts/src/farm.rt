@@ -133,11 +133,10 @@ fn loaded_again<R: Abort>(rt: &R, alloc: Global) -> Result<PlainFarm, Fail> {
 }
 
 /// The journal grows at the first, fifth, ninth and seventeenth entry; the last of these comes with the commit.
-#[test]
-fn refused_calls_change_nothing(rt: HostRuntime) -> Result<(), Fail> {
-    let mut farm = loaded_again(&rt, rt.alloc())?;
+fn refuse_calls<R: Abort>(rt: &R, alloc: Global) -> Result<(), Fail> {
+    let mut farm = loaded_again(rt, alloc)?;
     assert_eq!(rt; shown(&mut farm).entries, 16);
-    assert!(rt; come_home_again(&rt, &mut farm) == Ok(Committed::Done));
+    assert!(rt; come_home_again(rt, &mut farm) == Ok(Committed::Done));
     let seen = shown(&mut farm);
     assert!(rt; seen.entries == 17 && seen.recorded == Some(116));
     let run = Entry::Run {
@@ -149,8 +148,8 @@ fn refused_calls_change_nothing(rt: HostRuntime) -> Result<(), Fail> {
     assert!(rt; seen.last == Some(run));
     assert_eq!(rt; farm.word(13).bits, 0x2ca);
     // Only one of two farms meets the refusal.
-    let mut other = loaded_again(&rt, rt.alloc())?;
-    assert!(rt; come_home_again(&rt, &mut other) == Ok(Committed::Done));
+    let mut other = loaded_again(rt, alloc)?;
+    assert!(rt; come_home_again(rt, &mut other) == Ok(Committed::Done));
     assert!(rt; shown(&mut other) == seen);
     for domain in [ANN, BOB] {
         for index in 0..18usize {
@@ -175,22 +174,27 @@ fn calls(alloc: Global) -> Result<Vec<(u8, By, Event)>, AllocError> {
     Ok(calls)
 }
 
-#[test]
-fn run_answers_after_a_refused_one(rt: HostRuntime) -> Result<(), Fail> {
-    let plan = plan_again(rt.alloc(), ANN_AND_BOB)?;
-    let calls = match calls(rt.alloc()) {
+fn run_again<R: Abort>(rt: &R, alloc: Global) -> Result<(), Fail> {
+    let plan = plan_again(alloc, ANN_AND_BOB)?;
+    let calls = match calls(alloc) {
         Ok(calls) => calls,
-        Err(_) => calls(rt.alloc())?,
+        Err(_) => calls(alloc)?,
     };
-    let told = match run(rt.alloc(), &plan, calls.as_slice()) {
+    let told = match run(alloc, &plan, calls.as_slice()) {
         Ok(told) => told,
         Err(refusal) => {
             assert_eq!(rt; refusal, Refusal::NoMemory);
-            run(rt.alloc(), &plan, calls.as_slice())?
+            run(alloc, &plan, calls.as_slice())?
         }
     };
     let enquired = Some(Ok(Reply::Config(ConfigReply::Answer(0x81))));
     assert_eq!(rt; told.as_slice().last().copied(), enquired);
     assert_eq!(rt; told.len(), 6);
     Ok(())
+}
+
+#[test]
+fn farm_after_a_refusal(rt: HostRuntime) -> Result<(), Fail> {
+    refuse_calls(&rt, rt.alloc())?;
+    run_again(&rt, rt.alloc())
 }

@@ -5,6 +5,7 @@ use crossbar::{Connection, PlainOutputs, Word};
 use domain_core::Host;
 use plan_checker::{AcceptedPlan, PlanFault};
 use std::alloc::Global;
+use std::process::Abort;
 use std::test::Fail;
 use test_plans::{ANN_WITH_CAS, plan_of};
 use virtual_switch::{ConfigReply, VirtualSwitch};
@@ -17,11 +18,10 @@ pub fn plan_again(alloc: Global, text: &str) -> Result<AcceptedPlan, PlanFault> 
     }
 }
 
-#[test]
-fn memory_opens_and_is_copied_after_a_refusal(rt: HostRuntime) -> Result<(), Fail> {
-    let mut memory = match Memory::new(rt.alloc(), 2048) {
+fn open_and_copy_memory<R: Abort>(rt: &R, alloc: Global) -> Result<(), Fail> {
+    let mut memory = match Memory::new(alloc, 2048) {
         Ok(memory) => memory,
-        Err(_) => Memory::new(rt.alloc(), 2048)?,
+        Err(_) => Memory::new(alloc, 2048)?,
     };
     memory.set_byte(0x8000_0000, 9)?;
     let copy = match memory.copy() {
@@ -34,11 +34,10 @@ fn memory_opens_and_is_copied_after_a_refusal(rt: HostRuntime) -> Result<(), Fai
     Ok(())
 }
 
-#[test]
-fn node_opens_and_is_copied_after_a_refusal(rt: HostRuntime) -> Result<(), Fail> {
-    let mut node = match Node::open(rt.alloc(), 2048) {
+fn open_and_copy_node<R: Abort>(rt: &R, alloc: Global) -> Result<(), Fail> {
+    let mut node = match Node::open(alloc, 2048) {
         Ok(node) => node,
-        Err(_) => Node::open(rt.alloc(), 2048)?,
+        Err(_) => Node::open(alloc, 2048)?,
     };
     node.deliver(LinkNumber::Three, Packet::Byte(9));
     let copy = match node.copy() {
@@ -51,32 +50,30 @@ fn node_opens_and_is_copied_after_a_refusal(rt: HostRuntime) -> Result<(), Fail>
     Ok(())
 }
 
-#[test]
-fn boot_message_and_host_are_made_after_a_refusal(rt: HostRuntime) -> Result<(), Fail> {
+fn make_boot_message_and_host<R: Abort>(rt: &R, alloc: Global) -> Result<(), Fail> {
     let code = [0x21, 0xf5];
-    let message = match boot_message(rt.alloc(), &code) {
-        Err(BootFault::NoMemory) => boot_message(rt.alloc(), &code),
+    let message = match boot_message(alloc, &code) {
+        Err(BootFault::NoMemory) => boot_message(alloc, &code),
         answer => answer,
     };
     assert!(rt; message.is_ok_and(|message| message.as_slice() == [0x02, 0x21, 0xf5].as_slice()));
-    let mut host = match Host::open(rt.alloc()) {
+    let mut host = match Host::open(alloc) {
         Ok(host) => host,
-        Err(_) => Host::open(rt.alloc())?,
+        Err(_) => Host::open(alloc)?,
     };
     assert!(rt; host.write(1));
     Ok(())
 }
 
 /// After a refusal the switch is what it was, and the same bytes are answered as if they had come once.
-#[test]
-fn switch_takes_all_bytes_after_a_refusal(rt: HostRuntime) -> Result<(), Fail> {
-    let plan = plan_again(rt.alloc(), ANN_WITH_CAS)?;
+fn feed_switch<R: Abort>(rt: &R, alloc: Global) -> Result<(), Fail> {
+    let plan = plan_again(alloc, ANN_WITH_CAS)?;
     assert_eq!(rt; plan.domains(), 1);
     let mut switch = VirtualSwitch::new(PlainOutputs::unused(plan.ranges(0)));
     let bytes = [1, 0, 1, 2, 0, 7, 2, 8];
-    let replies = match switch.feed_all(rt.alloc(), &bytes) {
+    let replies = match switch.feed_all(alloc, &bytes) {
         Ok(replies) => replies,
-        Err(_) => switch.feed_all(rt.alloc(), &bytes)?,
+        Err(_) => switch.feed_all(alloc, &bytes)?,
     };
     let expected_replies = [
         ConfigReply::Nothing,
@@ -93,8 +90,7 @@ fn switch_takes_all_bytes_after_a_refusal(rt: HostRuntime) -> Result<(), Fail> {
 }
 
 /// No text changes an output so often.
-#[test]
-fn greatest_change_count_stays(rt: HostRuntime) {
+fn change_the_greatest_count<R: Abort>(rt: &R) {
     let full = Word {
         bits: 0xffff_ffff_ffff_ff00,
     };
@@ -104,4 +100,14 @@ fn greatest_change_count_stays(rt: HostRuntime) {
     }));
     assert_eq!(rt; connected.bits, 0xffff_ffff_ffff_ff83);
     assert_eq!(rt; connected.changes(), 0x00ff_ffff_ffff_ffff);
+}
+
+#[test]
+fn parts_after_a_refusal(rt: HostRuntime) -> Result<(), Fail> {
+    open_and_copy_memory(&rt, rt.alloc())?;
+    open_and_copy_node(&rt, rt.alloc())?;
+    make_boot_message_and_host(&rt, rt.alloc())?;
+    feed_switch(&rt, rt.alloc())?;
+    change_the_greatest_count(&rt);
+    Ok(())
 }
