@@ -145,7 +145,7 @@ impl Cpu {
             self.binary(0);
             return self.raise_if(true);
         }
-        let rest = signed(self.b).checked_rem(signed(self.a)).unwrap_or(0);
+        let rest = signed(self.b).wrapping_rem(signed(self.a));
         self.binary(rest.cast_unsigned());
         Ok(())
     }
@@ -155,15 +155,12 @@ impl Cpu {
     pub(crate) fn divide(&mut self) -> Result<(), Fault>
         ensures { (m : List ℕ) → plain_outcome result self.new m ≡ row op.Divide self.old m }
     {
-        match signed(self.b).checked_div(signed(self.a)) {
-            Some(quotient) => {
-                self.binary(quotient.cast_unsigned());
-                Ok(())
-            }
-            None => {
-                self.binary(0);
-                self.raise_if(true)
-            }
+        if self.a == 0 || (self.b == 0x8000_0000 && self.a == 0xffff_ffff) {
+            self.binary(0);
+            return self.raise_if(true);
         }
+        let quotient = signed(self.b) / signed(self.a);
+        self.binary(quotient.cast_unsigned());
+        Ok(())
     }
 }
