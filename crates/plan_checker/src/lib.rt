@@ -1,4 +1,4 @@
-//! ReadsPlan a plan of the farm from TOML text, and accepts it where its domains are separate.
+//! Reads a plan of the farm from TOML text, and accepts it where its domains are separate.
 //!
 //! The rules of a plan and their check stand in `plan_rules`, on which the farm's machines stand. Who reads plans finds here
 //! the reading and the check, with the types that they answer.

@@ -179,7 +179,7 @@ fn plan_of(alloc: Global, document: &Table) -> Result<Plan, PlanFault>
     }
 }
 
-/// ReadsPlan the text of a plan, in any of the three versions.
+/// Reads the text of a plan, in any of the three versions.
 ///
 /// # Errors
 ///

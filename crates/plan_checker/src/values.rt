@@ -19,7 +19,7 @@ pub trait FromValue: Sized + Drop {
     /// What holds of each value that was read.
     ghost is_whole: { PlanVersion → Self → Type 0 };
 
-    /// ReadsPlan the value that the data spells.
+    /// Reads the value that the data spells.
     fn from_value(alloc: Global, version: PlanVersion, value: &Value) -> Result<Self, PlanFault>
         ensures { ReadsValue (is_whole version) (spelling version) (λ x. x) (view value.now) result };
 }

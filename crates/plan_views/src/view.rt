@@ -43,7 +43,7 @@ impl<T: Drop> From<AllocFailed<T>> for PlanRefusal {
     }
 }
 
-/// ReadsPlan and checks the text of a plan.
+/// Reads and checks the text of a plan.
 ///
 /// # Errors
 ///
