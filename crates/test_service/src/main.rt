@@ -5,6 +5,7 @@
 #![tactic(auto)]
 
 mod actions;
+mod calls;
 mod chance;
 mod comparison;
 mod draws;

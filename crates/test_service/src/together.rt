@@ -6,8 +6,8 @@ use crate::farm::Ground::{self, Sized, Text};
 use crate::gates::Hold;
 use crate::rows::{DRIVE_OUTPUT_5, JOIN, LOOPS, PEEK, POKE, SAYS_41};
 use crate::stages::Stage::{
-    self, Alone, AtOnce, Begun, Burst, Committed, Count, Held, Meet, Say, Stop, Tell, Word, Work,
-    Workers,
+    self, Alone, AtOnce, Begun, Burst, Committed, Copies, Count, Held, Meet, Restart, Say, Status,
+    Stop, Tell, Word, Work, Workers,
 };
 use crate::telling::ToldAtEnd;
 use crate::users::Doing;
@@ -84,7 +84,7 @@ const NINE_NODES: Size = Size {
 };
 
 /// The rows.
-pub const TOGETHER: [Together; 14] = [
+pub const TOGETHER: [Together; 16] = [
     Together {
         name: "bob's journal at close",
         ground: Text(ANN_AND_BOB),
@@ -228,6 +228,35 @@ pub const TOGETHER: [Together; 14] = [
         stages: &[
             Alone(&[(1, Config(&JOIN)), (1, Write(0, &LOOPS)), (1, Rounds(1, 5))]),
             Burst(1, 0),
+        ],
+        left: ToldAtEnd::Steps,
+    },
+    // The bytes that ann and cas wrote before are listed no more, and cas's second is.
+    Together {
+        name: "restart by all users",
+        ground: Text(ANN_WITH_CAS),
+        workers: 1,
+        stages: &[
+            Alone(&[(0, Write(0, &[5])), (1, Write(1, &[6]))]),
+            Restart(&[0]),
+            Restart(&[1, 0]),
+            Status(0),
+            Restart(&[0, 1]),
+            Status(0),
+            Alone(&[(1, Write(1, &[6]))]),
+            Status(0),
+            Status(1),
+        ],
+        left: ToldAtEnd::Nothing,
+    },
+    // Four Steps boot bob's node, and then each burst does 256.
+    Together {
+        name: "copies of a run that grows",
+        ground: Text(ANN_AND_BOB),
+        workers: 1,
+        stages: &[
+            Alone(&[(1, Config(&JOIN)), (1, Write(0, &LOOPS)), (1, Rounds(1, 5))]),
+            Copies(1, 0),
         ],
         left: ToldAtEnd::Steps,
     },

@@ -78,14 +78,24 @@ impl TestUser {
         }
     }
 
+    /// Begins a session of his own, unless he is in one.
+    pub fn begin<'a>(&mut self, service: &'a Service) -> Option<Session<'a>> {
+        let pass = self.pass.take()?;
+        Some(service.session(pass))
+    }
+
+    /// Ends his session.
+    pub fn end(&mut self, session: Session<'_>) {
+        self.pass = Some(session.end());
+    }
+
     /// Does what he is to do, in a session of his own.
     pub fn act<R: Wait>(&mut self, rt: &R, service: &Service, place: usize, doing: Doing) {
-        if let Some(pass) = self.pass.take() {
-            let mut session = service.session(pass);
+        if let Some(mut session) = self.begin(service) {
             if !self.act_in(rt, &mut session, place, doing) {
                 self.out_of_memory = true;
             }
-            self.pass = Some(session.end());
+            self.end(session);
         }
     }
 }
