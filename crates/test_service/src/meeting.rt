@@ -5,7 +5,7 @@ ghost use Rattle.farm_service.specs.Services.{IsItsOperator};
 ghost use Rattle.token_queue.specs.Passes.{AreItsPasses};
 
 use crate::actions::QUANTUM;
-use crate::farm::Farm;
+use crate::farm::OpenedFarm;
 use crate::gates::{Hold, Holding, TurnsSeen};
 use crate::users::{Doing, TestUser};
 use crate::watch::{Watch, survey_all};

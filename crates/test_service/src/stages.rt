@@ -178,14 +178,11 @@ fn tell<R: Wait>(
             Ok(())
         }
         Stage::Burst(domain, node) => tell_burst(rt, party, domain, node, said),
-        Stage::Restart(places) => tell_restart(
-            rt,
-            alloc,
-            &party.farm.service,
-            party.users.as_mut_slice(),
-            places,
-            said,
-        ),
+        Stage::Restart(places) => {
+            let farm = &party.farm;
+            let users = party.users.as_mut_slice();
+            tell_restart(rt, alloc, &farm.service, users, places, said)
+        }
         Stage::Status(domain) => tell_status(rt, &party.farm.service, domain, said),
         Stage::Copies(domain, node) => {
             tell_copies(rt, alloc, &party.farm.service, domain, node, said)

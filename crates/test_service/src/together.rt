@@ -231,7 +231,8 @@ pub const TOGETHER: [Together; 16] = [
         ],
         left: ToldAtEnd::Steps,
     },
-    // The bytes that ann and cas wrote before are listed no more, and cas's second is.
+    // Each byte waits at its host's port for a Move, so that the domain is busy. After the restart none waits, and none is
+    // listed but cas's second.
     Together {
         name: "restart by all users",
         ground: Text(ANN_WITH_CAS),
@@ -249,7 +250,8 @@ pub const TOGETHER: [Together; 16] = [
         ],
         left: ToldAtEnd::Nothing,
     },
-    // Four Steps boot bob's node, and then each burst does 256.
+    // The journal has four Configs, four Writes, and for each byte written a Move, a Step and the Move of its acknowledge:
+    // 20 entries. Then each burst does 256 Steps, which are one run.
     Together {
         name: "copies of a run that grows",
         ground: Text(ANN_AND_BOB),
