@@ -13,6 +13,7 @@ mod farm;
 mod gates;
 mod losses;
 mod meeting;
+mod reopening;
 mod rows;
 mod soak;
 mod stages;

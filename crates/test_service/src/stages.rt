@@ -5,6 +5,7 @@ use crate::calls::{tell_copies, tell_restart, tell_status};
 use crate::farm::{Ground, close, open};
 use crate::gates::{Hold, TurnsSeen, burst};
 use crate::meeting::{Meeting, Party, run_meeting, work_here};
+use crate::reopening::reopen;
 use crate::users::{Doing, TestUser, passes_of, users_of};
 use crate::watch::Watch;
 use domain_core::Committed;
@@ -46,6 +47,8 @@ pub enum Stage {
     Status(u8),
     /// What a domain's journal has, and what it gains by two bursts of a node, is copied; how much it was follows.
     Copies(u8, u8),
+    /// The service is closed, and opened again on what it left; whether the users' lists are what they were follows.
+    Reopen,
     /// Whether a burst of node 1 was committed in the last meeting, while node 0's burst was held, follows.
     Committed,
     /// How many bursts began in the last meeting follows.
@@ -226,6 +229,21 @@ fn perform<R: Threads + Wait + Sync>(
     party
 }
 
+// A stage, or the service closed and opened again.
+fn go_through<R: Threads + Wait + Sync>(
+    rt: &R,
+    alloc: Global,
+    trial: &Trial<'_>,
+    party: Party,
+    stage: Stage,
+    said: &mut String,
+) -> Result<Party, AllocError> {
+    if let Stage::Reopen = stage {
+        return reopen(rt, alloc, trial.ground, trial.workers, party, said);
+    }
+    Ok(perform(rt, alloc, party, stage, said))
+}
+
 // How many commands by chance were answered, and whether memory was wanting.
 fn sum_of(users: &[TestUser]) -> (u64, bool) {
     let mut answered = 0_u64;
@@ -284,7 +302,7 @@ pub fn run<R: Threads + Wait + Sync>(
         out_of_memory: false,
     };
     for stage in trial.stages {
-        party = perform(rt, alloc, party, *stage, &mut said);
+        party = go_through(rt, alloc, &trial, party, *stage, &mut said)?;
     }
     // The operator surveys once more.
     party = perform(rt, alloc, party, Stage::AtOnce(&[]), &mut said);

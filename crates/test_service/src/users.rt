@@ -3,7 +3,7 @@
 use crate::actions::{Action, perform};
 use crate::chance::ask_anything;
 use crate::draws::Draws;
-use farm_service::{Service, Session, UserPass};
+use farm_service::{Service, Session, Told, UserPass};
 use std::alloc::{AllocError, Global};
 use std::sync::Wait;
 use test_plans::Size;
@@ -76,6 +76,24 @@ impl TestUser {
                 }
             }
         }
+    }
+
+    /// What he asked and was answered, none while he is in a session.
+    pub fn told(&self) -> &[Told] {
+        match &self.pass {
+            Some(pass) => pass.told(),
+            None => &[],
+        }
+    }
+
+    /// Gives his pass up.
+    pub fn give_up_pass(&mut self) -> Option<UserPass> {
+        self.pass.take()
+    }
+
+    /// Takes a pass in place of the one that he gave up.
+    pub fn take_pass(&mut self, pass: UserPass) {
+        self.pass = Some(pass);
     }
 
     /// Begins a session of his own, unless he is in one.
