@@ -1,5 +1,6 @@
 pub mod Asked
 pub mod Closings
+pub mod DoneAgain
 pub mod LentCommits
 pub mod Listings
 pub mod Openings

@@ -5,6 +5,7 @@ pub mod Services
 pub mod Commands
 pub mod Closed
 pub mod Restarts
+pub mod Histories
 pub mod Domains
 -- what only helps contracts
 pub mod Endings

@@ -1,9 +1,9 @@
 //! A lock for each domain of a plan, over one switch table.
 
-ghost use Rattle.std.specs.Prelude.{◌≡◌, ◌≢◌, ◌<◌, ◌≤◌, ◌↔◌, None, length, replicate, slice_index, slice_set, Ok, Err, IfOk, IfErr, IfSome, MatchOption, slice_get};
+ghost use Rattle.std.specs.Prelude.{◌≡◌, ◌≢◌, ◌<◌, ◌≤◌, ◌↔◌, None, length, vec_len, replicate, slice_index, slice_set, Ok, Err, IfOk, IfErr, IfSome, MatchOption, slice_get};
 ghost use Rattle.crossbar.specs.Word.{IsAtLeastAsNew};
 ghost use Rattle.domain_core.specs.declared.domain.Committed.TheVariants.{Stale};
-ghost use Rattle.domain_core.specs.declared.event.Refusal.TheVariants.{NoSuch, JournalFull, NoMemory};
+ghost use Rattle.domain_core.specs.declared.event.Refusal.TheVariants.{NoSuch, JournalFull};
 ghost use Rattle.domain_core.specs.Domain.{Fits, UnlessNoMemory};
 ghost use Rattle.domain_core.specs.Ticket.{fresh_ticket};
 ghost use Rattle.farm_core.specs.Places.{places_of};
@@ -17,14 +17,15 @@ ghost use Rattle.farm_service.specs.Answers.{IsAnswerIn};
 ghost use Rattle.std.specs.Sync.Mutex.{mutex_guard_value};
 ghost use Rattle.farm_service.specs.Domains.{IsFound};
 ghost use Rattle.farm_service.specs.Closed.{AreDomainsOf, EachMergeRuns, AreListed};
-ghost use Rattle.farm_service.specs.Passes.{fresh_passes};
 ghost use Rattle.farm_service.specs.Services.{IsItsOperator};
 
+use crate::NoMemory;
 use crate::closed::{Closed, NotClosed};
 use crate::closing::{ClosingMemory, close_domains};
+use crate::histories::Histories;
 use crate::lists::are_listed;
 use crate::locking::take;
-use crate::opening::{Opened, open_domains, open_users};
+use crate::opening::{Opened, lock_each};
 use crate::pass::UserPass;
 use crate::schedule::Schedule;
 use crate::waiting::block_forever;
@@ -39,8 +40,8 @@ use std::sync::{Mutex, MutexGuard, Wait};
 use switch_table::{DomainSeat, OperatorSeat, SwitchTable};
 use token_queue::{TokenQueue, WorkerPass};
 
-// A domain over its seat at the switch table.
-pub(crate) type SeatedDomain = Domain<DomainSeat>;
+/// A domain over its seat at the switch table.
+pub type SeatedDomain = Domain<DomainSeat>;
 
 /// The domains of a plan, each under a lock of its own, and the tokens of their nodes. Contracts see
 /// the plan, which queue of tokens this is, and which switch table.
@@ -90,31 +91,30 @@ fn ask(
 }
 
 impl Service {
-    /// Opens a service on a plan for 1 to 8 workers: all outputs disconnected, nodes and hosts fresh,
-    /// all journals and lists empty, and the tokens in the queue in plan order.
-    ///
-    /// # Errors
-    ///
-    /// `NoMemory` where domains, passes, the table or the queue can't be allocated.
-    // Eight clauses: how many workers, and one for each thing that is opened.
-    pub fn open<R: Wait>(
+    /// A service on the domains of a plan, which are put under locks, with the passes of its users.
+    // Seven clauses: two of what is handed in, and one for each thing that is opened.
+    pub(crate) fn of<R: Wait>(
         rt: &R,
         alloc: Global,
-        plan: AcceptedPlan,
+        histories: Histories,
         workers: u8,
-    ) -> Result<Opened, Refusal>
+        users: Vec<UserPass>,
+    ) -> Result<Opened, NoMemory>
         requires workers { (1 ≤ workers) × (workers ≤ 8) }
-        ensures plan { IfOk result (λ o. o.service.plan ≡ plan) }
-        ensures users { IfOk result (λ o. o.users.items ≡ fresh_passes plan) }
+        requires count { vec_len histories.domains ≡ length histories.plan }
+        ensures plan { IfOk result (λ o. o.service.plan ≡ histories.plan) }
+        ensures users { IfOk result (λ o. o.users ≡ users) }
         ensures workers { IfOk result (λ o. length o.passes.items ≡ workers) }
-        ensures passes { IfOk result (λ o. AreItsPasses plan o.service.queue o.passes.items) }
-        ensures operator { IfOk result (λ o. IsItsOperator o.service o.operator) }
-        ensures seen { IfOk result (λ o. seen_words o.operator ≡ replicate 32 0) }
-        ensures err { IfErr result (λ refusal. refusal ≡ NoMemory) }
+        ensures passes { IfOk result (λ o. AreItsPasses histories.plan o.service.queue o.passes.items) }
+        ensures operator { IfOk result (λ o. IsItsOperator o.service o.operator × (seen_words o.operator ≡ replicate 32 0)) }
     {
-        let (table, seats, operator) = SwitchTable::open(alloc, &plan)?;
-        let domains = open_domains(alloc, &plan, seats)?;
-        let users = open_users(alloc, &plan)?;
+        let Histories {
+            plan,
+            domains,
+            table,
+            operator,
+        } = histories;
+        let domains = lock_each(alloc, domains)?;
         let schedule = Schedule::empty(alloc)?;
         let (tokens, passes) = TokenQueue::open(rt, alloc, &plan, workers)?;
         Ok(Opened {

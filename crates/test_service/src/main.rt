@@ -5,6 +5,7 @@
 #![tactic(auto)]
 
 mod actions;
+mod calls;
 mod chance;
 mod comparison;
 mod draws;
@@ -12,6 +13,7 @@ mod farm;
 mod gates;
 mod losses;
 mod meeting;
+mod reopening;
 mod rows;
 mod soak;
 mod stages;

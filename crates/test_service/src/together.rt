@@ -6,8 +6,8 @@ use crate::farm::Ground::{self, Sized, Text};
 use crate::gates::Hold;
 use crate::rows::{DRIVE_OUTPUT_5, JOIN, LOOPS, PEEK, POKE, SAYS_41};
 use crate::stages::Stage::{
-    self, Alone, AtOnce, Begun, Burst, Committed, Count, Held, Meet, Say, Stop, Tell, Word, Work,
-    Workers,
+    self, Alone, AtOnce, Begun, Burst, Committed, Copies, Count, Held, Meet, Reopen, Restart, Say,
+    Status, Stop, Tell, Word, Work, Workers,
 };
 use crate::telling::ToldAtEnd;
 use crate::users::Doing;
@@ -56,6 +56,46 @@ const LOOPS_FOR_BOTH: [(usize, Action); 3] = [
     (0, Write(1, &LOOPS)),
 ];
 
+/// Node 0 with two links, on ports 0 and 1, node 1 with one on port 2, and a host for each on ports 3 and 4.
+const ECHO: &str = r#"
+version = 1
+[[domain]]
+name = "ann"
+first = 0
+last = 4
+limit = 1000000
+host = [3, 4]
+[[domain.node]]
+memory = 2048
+links = [0, 1, -1, -1]
+[[domain.node]]
+memory = 2048
+links = [2, -1, -1, -1]
+"#;
+
+/// Again and again takes a byte from link 0, sends it by link 1, takes one from there, and sends it by link 0: ajw 5; ldlp 1,
+/// mint, adc 16, ldc 1, in; mint, adc 4, ldlp 1, lb, outbyte; ldlp 1, mint, adc 20, ldc 1, in; mint, ldlp 1, lb, outbyte; j -27.
+const PASSES_ON: [u8; 29] = [
+    28, 0xb5, 0x11, 0x24, 0xf2, 0x21, 0x80, 0x41, 0xf7, 0x24, 0xf2, 0x84, 0x11, 0xf1, 0xfe, 0x11,
+    0x24, 0xf2, 0x21, 0x84, 0x41, 0xf7, 0x24, 0xf2, 0x11, 0xf1, 0xfe, 0x61, 0x05,
+];
+
+/// Again and again takes a byte from link 0, and sends one more than that: ajw 5; ldlp 1, mint, adc 16, ldc 1, in; mint,
+/// ldlp 1, lb, adc 1, outbyte; j -15.
+const ADDS_ONE: [u8; 17] = [
+    16, 0xb5, 0x11, 0x24, 0xf2, 0x21, 0x80, 0x41, 0xf7, 0x24, 0xf2, 0x11, 0xf1, 0x81, 0xfe, 0x60,
+    0x01,
+];
+
+/// Boots both nodes, each from its host, and then joins node 1 to link 1 of node 0 in place of its host.
+const BOOT_ECHO: [(usize, Action); 5] = [
+    (0, Config(&[1, 0, 3, 1, 2, 4, 3])),
+    (0, Write(0, &PASSES_ON)),
+    (0, Write(1, &ADDS_ONE)),
+    (0, SETTLE),
+    (0, Config(&[6, 2, 4, 1, 1, 2, 3])),
+];
+
 /// Sixteen domains, each of a node, a host and a user.
 const SIXTEEN: Size = Size {
     domains: 16,
@@ -84,7 +124,7 @@ const NINE_NODES: Size = Size {
 };
 
 /// The rows.
-pub const TOGETHER: [Together; 14] = [
+pub const TOGETHER: [Together; 17] = [
     Together {
         name: "bob's journal at close",
         ground: Text(ANN_AND_BOB),
@@ -230,6 +270,65 @@ pub const TOGETHER: [Together; 14] = [
             Burst(1, 0),
         ],
         left: ToldAtEnd::Steps,
+    },
+    // Each byte waits at its host's port for a Move, so that the domain is busy. After the restart none waits, and none is
+    // listed but cas's second.
+    Together {
+        name: "restart by all users",
+        ground: Text(ANN_WITH_CAS),
+        workers: 1,
+        stages: &[
+            Alone(&[(0, Write(0, &[5])), (1, Write(1, &[6]))]),
+            Restart(&[0]),
+            Restart(&[1, 0]),
+            Status(0),
+            Restart(&[0, 1]),
+            Status(0),
+            Alone(&[(1, Write(1, &[6]))]),
+            Status(0),
+            Status(1),
+        ],
+        left: ToldAtEnd::Nothing,
+    },
+    // The journal has four Configs, four Writes, and for each byte written a Move, a Step and the Move of its acknowledge:
+    // 20 entries. Then each burst does 256 Steps, which are one run.
+    Together {
+        name: "copies of a run that grows",
+        ground: Text(ANN_AND_BOB),
+        workers: 1,
+        stages: &[
+            Alone(&[(1, Config(&JOIN)), (1, Write(0, &LOOPS)), (1, Rounds(1, 5))]),
+            Copies(1, 0),
+        ],
+        left: ToldAtEnd::Steps,
+    },
+    // A byte goes from ann through node 0 to node 1, which adds 1, and back; the next one waits when the service is closed. Her
+    // 64 commands, three events for each of the 46 bytes of the boot messages, 58 Steps and 8 Moves are recorded. Output 2 is
+    // connected to input 1 and ready, after its fifth change.
+    Together {
+        name: "closed and opened again",
+        ground: Text(ECHO),
+        workers: 1,
+        stages: &[
+            Alone(&BOOT_ECHO),
+            Alone(&[
+                (0, Write(0, &[0x41])),
+                (0, SETTLE),
+                (0, Read(0, 2)),
+                (0, Write(0, &[0x51])),
+            ]),
+            Status(0),
+            AtOnce(&[]),
+            Word(2),
+            Reopen,
+            Status(0),
+            AtOnce(&[]),
+            Word(2),
+            Workers(1000),
+            Alone(&[(0, Read(0, 2))]),
+            Status(1),
+        ],
+        left: ToldAtEnd::Nothing,
     },
     // Ann's and bob's programs send 41 and stop, so that a lost Step or byte changes what is answered.
     Together {
