@@ -280,9 +280,12 @@ fn quantum_is_kept(rt: HostRuntime) -> Result<(), Fail> {
     Ok(())
 }
 
-/// How often a node that was seen to run did Steps after one another whose number isn't a multiple of the quantum, and how
+/// How many Steps a node does at a time in the test that follows.
+const STEPS: u16 = 7;
+
+/// How often a node that was seen to run did Steps after one another whose number isn't a multiple of `STEPS`, and how
 /// often it did any.
-fn broken_bursts(journal: &Journal, quantum: u64) -> (u64, u64) {
+fn broken_bursts(journal: &Journal) -> (u64, u64) {
     let mut runs = [false; 2];
     let mut broken = 0_u64;
     let mut all = 0_u64;
@@ -297,7 +300,7 @@ fn broken_bursts(journal: &Journal, quantum: u64) -> (u64, u64) {
             ) => runs[usize::from(node % 2)] = seen.state == Activity::Running,
             Some(Entry::Run { node, count, .. }) if runs[usize::from(node % 2)] => {
                 all = all.saturating_add(1);
-                broken = broken.saturating_add(u64::from(count % quantum != 0));
+                broken = broken.saturating_add(u64::from(count % u64::from(STEPS) != 0));
             }
             _ => {}
         }
@@ -322,10 +325,13 @@ ann look 0
     let asked = lines_of(alloc, &plan, script)?;
     let given = Settings {
         workers: 2,
-        quantum: 7,
+        quantum: STEPS,
     };
     let ended = run_script(&rt, alloc, plan, asked.as_slice(), given)?;
-    let (broken, all) = broken_bursts(&ended.closed.domains[0].journal, 7);
+    let (broken, all) = match ended.closed.domains.first() {
+        Some(domain) => broken_bursts(&domain.journal),
+        None => (0, 0),
+    };
     assert_eq!(rt; broken, 0);
     assert!(rt; all > 1_000, "{all}");
     Ok(())
