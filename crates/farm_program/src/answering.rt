@@ -92,7 +92,7 @@ fn screens_read<R: Threads + Wait + Sync, I: Read>(
     screens_of(rt, alloc, settings, text.as_slice())
 }
 
-/// ReadsPlan a plan and a script to the end of the input, runs the script on a farm of the plan, and writes a line for each of its
+/// Reads a plan and a script to the end of the input, runs the script on a farm of the plan, and writes a line for each of its
 /// lines.
 ///
 /// The status is 0 if all is written, 3 if the plan is refused, 4 if a line of the script is, 5 for want of memory, and 6 if a
