@@ -33,8 +33,8 @@ fn accepted(alloc: Global, text: &[u8]) -> Result<AcceptedPlan, FarmFailure>
     Ok(check(alloc, plan)?)
 }
 
-// What the lines of a script ask, for which users of the plan.
-fn lines_of(
+/// What the lines of a script ask, for which users of the plan. The failure is the first line that is wrong, or want of memory.
+pub fn lines_of(
     alloc: Global,
     plan: &AcceptedPlan,
     script: &[u8],

@@ -10,8 +10,9 @@ mod farm;
 mod program;
 mod users;
 
-pub use answering::answer;
+pub use answering::{answer, lines_of};
 pub use command_line::settings;
 pub use configuration::Settings;
-pub use failure::Ending;
+pub use failure::{Ending, FarmFailure};
+pub use farm::{ScriptEnd, run_script};
 pub use program::{refuse_arguments, run};

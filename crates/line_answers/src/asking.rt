@@ -151,7 +151,7 @@ fn boot<R: Wait>(
     }
 }
 
-/// AsksJust what a line asks, in its user's session. A peek settles before it reads.
+/// Asks what a line asks, in its user's session. A peek settles before it reads.
 ///
 /// # Errors
 ///

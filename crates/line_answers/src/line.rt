@@ -11,7 +11,7 @@ use script_lines::Command;
 use std::alloc::Global;
 use std::sync::Wait;
 
-/// AsksJust what a line asks in its user's session, and appends its output line to his screen. A peek settles before it reads,
+/// Asks what a line asks in its user's session, and appends its output line to his screen. A peek settles before it reads,
 /// and nothing else does.
 ///
 /// # Errors

@@ -1,10 +1,12 @@
 //! What the program refuses, and streams that fail.
-use farm_program::{Settings, refuse_arguments, run, settings};
+use bootstrap::Activity;
+use domain_core::{Entry, Event, Journal, Reply};
+use farm_program::{Settings, lines_of, refuse_arguments, run, run_script, settings};
 use std::alloc::Global;
 use std::io;
 use std::io::{Read, Write};
 use std::test::Fail;
-use test_plans::{ANN_AND_BOB, ANN_AT_PORT_24};
+use test_plans::{ANN_AND_BOB, ANN_AT_PORT_24, TWO_NODES, plan_of};
 
 /// Gives a text in pieces of at most `piece` bytes, and fails at one read.
 #[derive(Drop)]
@@ -275,5 +277,62 @@ fn quantum_is_kept(rt: HostRuntime) -> Result<(), Fail> {
             "{quantum}"
         );
     }
+    Ok(())
+}
+
+/// How many Steps a node does at a time in the test that follows.
+const STEPS: u16 = 7;
+
+/// How often a node that was seen to run did Steps after one another whose number isn't a multiple of `STEPS`, and how
+/// often it did any.
+fn broken_bursts(journal: &Journal) -> (u64, u64) {
+    let mut runs = [false; 2];
+    let mut broken = 0_u64;
+    let mut all = 0_u64;
+    for place in 0..journal.len() {
+        match journal.get(place) {
+            Some(
+                Entry::One {
+                    event: Event::Look(node),
+                    reply: Reply::Look(seen),
+                    ..
+                },
+            ) => runs[usize::from(node % 2)] = seen.state == Activity::Running,
+            Some(Entry::Run { node, count, .. }) if runs[usize::from(node % 2)] => {
+                all = all.saturating_add(1);
+                broken = broken.saturating_add(u64::from(count % u64::from(STEPS) != 0));
+            }
+            _ => {}
+        }
+    }
+    (broken, all)
+}
+
+/// Two nodes loop without end, so that each burst has as many Steps as it may. Users and workers do these by turns, and each
+/// look ends a run of Steps in the journal: workers of another quantum leave runs that aren't whole bursts of 7.
+#[test]
+fn workers_keep_the_quantum(rt: HostRuntime) -> Result<(), Fail> {
+    let alloc = rt.alloc();
+    let plan = plan_of(alloc, TWO_NODES)?;
+    let script = b"\
+ann config 01000301010203
+ann boot 0 600e00000000
+ann boot 1 600e00000000
+ann look 0
+ann look 1
+ann look 0
+";
+    let asked = lines_of(alloc, &plan, script)?;
+    let given = Settings {
+        workers: 2,
+        quantum: STEPS,
+    };
+    let ended = run_script(&rt, alloc, plan, asked.as_slice(), given)?;
+    let (broken, all) = match ended.closed.domains.first() {
+        Some(domain) => broken_bursts(&domain.journal),
+        None => (0, 0),
+    };
+    assert_eq!(rt; broken, 0);
+    assert!(rt; all > 1_000, "{all}");
     Ok(())
 }

@@ -1,0 +1,224 @@
+-- What the program's own options give after a parse.
+use Rattle.std.proofs.Common.{zero, suc, ◌≡◌, ◌∙◌, ◌<◌, ◌≤◌, ◌&&◌, ◌^◌, ap, ℕ, Bool, true, false, List, [], ◌∷◌, length, map, Option, Some, None, refl, sym, subst, inl, inr, arith, codes, not, is_some, slice_index}
+use Rattle.std.specs.Prelude.{pos, unwrap_or, Result, Ok}
+use Rattle.std.specs.List.{All, slice_index_or}
+use Rattle.std.specs.Str.{bytes_eq}
+use Rattle.std.specs.Str.Parse.{ParsesUnsigned}
+use Rattle.std.proofs.lemmas.List.{nil_from_length, length-map}
+use Rattle.std.proofs.lemmas.Bool.{eqb-true}
+use Rattle.clap.specs.Words.{App, HasMatchesOf, Rule, Text, app_of, matches_of, one_of, rule_of, rows_of}
+use Rattle.clap.specs.Lexer.{without_minus}
+use Rattle.clap.specs.Texts.{items_of}
+use Rattle.clap.specs.Simple.{has_plain_fields, is_simple}
+use Rattle.clap.specs.Faults.{is_simple_and_free}
+use Rattle.clap.specs.Facts.{args_of, groups_of}
+use Rattle.clap.specs.Built.{IsParsedFrom, NamesNoGroup}
+use Rattle.clap.specs.Matches.{ReadsOne, found_of, one_text}
+use Rattle.clap.specs.Walk.{is_empty, is_simple_arg, texts}
+use Rattle.clap.specs.declared.builder.arg.Arg.{Arg}
+use Rattle.clap.specs.declared.builder.command.Command.{Command}
+use Rattle.clap.specs.declared.builder.command.Command.TheOpen.{Command-F}
+use Rattle.clap.specs.declared.builder.command.Command.TheViews.{out-Command}
+use Rattle.clap.specs.declared.builder.value_parser.ValueParser.{ValueParser}
+use Rattle.clap.specs.declared.builder.value_parser.ValueParser.TheVariants.{Signed}
+use Rattle.clap.specs.declared.parser.matches.ArgMatches.{ArgMatches}
+use Rattle.clap.proofs.CallerReads.{signed_reads}
+use Rattle.clap.proofs.OnLiterals.{clap_on_literals}
+use Rattle.clap.proofs.WalkLemmas.{one_text-rows}
+use Rattle.farm_program.specs.Settings.{IsSaid, farm_command, number_option}
+use Rattle.farm_program.proofs.Options.{IsOption, option_reads}
+
+pub farm_is_simple : is_simple farm_command ≡ true
+unfolding clap_on_literals
+farm_is_simple = refl
+
+pub farm_is_free : is_simple_and_free farm_command ≡ true
+unfolding clap_on_literals
+farm_is_free = refl
+
+abbrev workers_rule : Rule
+workers_rule = number_option (codes "workers") (codes "2") (Signed (pos 1) (pos 8))
+
+abbrev quantum_rule : Rule
+quantum_rule = number_option (codes "quantum") (codes "256") (Signed (pos 1) (pos 4096))
+
+-- ---- the arguments of a command that is the program's
+
+-- the second, third and fourth of some tests that all hold
+first_four : (a b c d rest : Bool) → (a && (b && (c && (d && rest)))) ≡ true → (a ≡ true) × (b ≡ true) × (c ≡ true) × (d ≡ true)
+first_four true true true true rest h = (refl, refl, refl, refl)
+first_four false b c d rest h = cc
+first_four true false c d rest h = cc
+first_four true true false d rest h = cc
+first_four true true true false rest h = cc
+
+empty_is : {X : Type 0} (xs : List X) → is_empty xs ≡ true → xs ≡ []
+empty_is xs h = nil_from_length xs (eqb-true (length xs) 0 h)
+
+none_is : {X : Type 0} (o : Option X) → not (is_some o) ≡ true → o ≡ None
+none_is None h = refl
+none_is (Some x) h = cc
+
+-- a list of two, of which these are made
+record AreTwo {X Y : Type 0} (f : X → Y) (first second : Y) (xs : List X) : Type 0 where
+  one : X
+  other : X
+  list : xs ≡ one ∷ other ∷ []
+  one_is : f one ≡ first
+  other_is : f other ≡ second
+
+two_of : {X Y : Type 0} (f : X → Y) (first second : Y) (xs : List X) → map f xs ≡ first ∷ second ∷ [] → AreTwo f first second xs
+two_of f first second [] h = cc
+two_of f first second (x ∷ []) h = cc
+two_of f first second (x ∷ y ∷ z ∷ xs) h = cc
+two_of f first second (x ∷ y ∷ []) h = record {
+  one = x;
+  other = y;
+  list = refl;
+  one_is = ap (λ ys. slice_index_or ys 0 first) h;
+  other_is = ap (λ ys. slice_index_or ys 1 first) h;
+}
+
+not_is : (b : Bool) → not b ≡ true → b ≡ false
+not_is false h = refl
+not_is true h = cc
+
+-- what an argument that uses no special setting lacks
+simple_parts : (a : Arg) → is_simple_arg a ≡ true
+    → (is_empty a.overrides.items ≡ true) × (is_empty a.default_vals_ifs.items ≡ true) × (is_empty a.groups.items ≡ true) × (not (is_some a.val_delim) ≡ true)
+simple_parts a simple = first_four (is_empty a.overrides.items) (is_empty a.default_vals_ifs.items) (is_empty a.groups.items) (not (is_some a.val_delim))
+    (not (is_some a.terminator) && (not a.allow_hyphen_values && (not a.allow_negative_numbers && (not a.require_equals && (not a.last && not a.global))))) simple
+
+-- an argument of such a rule names no group
+without_groups : (a : Arg) (name default : Text) (numbers : ValueParser) → rule_of a ≡ number_option name default numbers → a.groups.items ≡ []
+without_groups a name default numbers is = empty_is a.groups.items (simple_parts a (ap (λ (r : Rule). r.is_simple) is)).2
+
+-- an argument of such a rule is an option
+is_option : (a : Arg) (name default : Text) (numbers : ValueParser) → rule_of a ≡ number_option name default numbers → IsOption a numbers
+is_option a name default numbers is =
+    let parts = simple_parts a (ap (λ (r : Rule). r.is_simple) is) in
+    let range : a.num_vals ≡ None = ap (λ (r : Rule). r.range) is in
+    let defaults : length (texts (items_of a.default_vals)) ≡ 1 = ap (λ (r : Rule). length r.defaults) is in
+    let many : length (items_of a.default_vals) ≡ 1 = sym (length-map (items_of a.default_vals) (λ s. s.now)) ∙ defaults in
+    record {
+      set = ap (λ (r : Rule). r.action) is;
+      least = rw range (omega arith);
+      parser = ap (λ (r : Rule). r.parser) is;
+      delimiter = none_is a.val_delim parts.3;
+      wants = (empty_is a.default_vals_ifs.items parts.1, omega arith);
+    }
+
+-- ---- what an option of the program's gives
+
+-- an id that is this text is no empty one, and no id of a flag that building adds
+abbrev IsOwnId : Text → Type 0
+IsOwnId id = (id ≡ [] → ⊥) × (id ≡ codes "help" → ⊥) × (id ≡ codes "version" → ⊥)
+
+workers_own : IsOwnId (codes "workers")
+workers_own = (λ e. let bad = ap length e in absurd (omega arith), λ e. let bad = ap length e in absurd (omega arith), λ e. let bad = ap (λ t. slice_index t 1) e in absurd (omega arith))
+
+quantum_own : IsOwnId (codes "quantum")
+quantum_own = (λ e. let bad = ap length e in absurd (omega arith), λ e. let bad = ap length e in absurd (omega arith), λ e. let bad = ap (λ t. slice_index t 1) e in absurd (omega arith))
+
+-- the two ids differ, so that each stands at one place
+one_place : (a b : Arg) (k : ℕ) (d : Arg) → rule_of a ≡ workers_rule → rule_of b ≡ quantum_rule → k < 2
+    → (j : ℕ) (e : Arg) → j < 2 → bytes_eq (slice_index_or (a ∷ b ∷ []) j e).id.now (slice_index_or (a ∷ b ∷ []) k d).id.now ≡ true → j ≡ k
+one_place a b zero d workers quantum lt zero e low same = refl
+one_place a b (suc zero) d workers quantum lt (suc zero) e low same = refl
+one_place a b zero d workers quantum lt (suc zero) e low same =
+    let ids : bytes_eq (codes "quantum") (codes "workers") ≡ true = rw (ap (λ (r : Rule). r.id) workers, ap (λ (r : Rule). r.id) quantum) at same in
+    cc
+one_place a b (suc zero) d workers quantum lt zero e low same =
+    let ids : bytes_eq (codes "workers") (codes "quantum") ≡ true = rw (ap (λ (r : Rule). r.id) workers, ap (λ (r : Rule). r.id) quantum) at same in
+    cc
+one_place a b k d workers quantum lt (suc (suc j)) e low same = absurd (omega arith)
+one_place a b (suc (suc k)) d workers quantum lt j e low same = absurd (omega arith)
+
+-- what a plain command lacks
+plain_parts : (c : Command-F Command) → has_plain_fields c ≡ true → (is_empty c.groups.items ≡ true) × (not c.has_globals ≡ true)
+plain_parts c plain =
+    let parts = first_four (is_empty c.groups.items) (not c.allow_external_subcommands) (not c.has_globals) (not c.infer_long_args)
+    (not c.allow_missing_positional && (not c.infer_subcommands && (not c.args_conflicts_with_subcommands && (not c.subcommand_precedence_over_arg
+    && (not (is_some c.long_flag) && (not (is_some c.short_flag) && (is_empty c.long_flag_aliases.items && is_empty c.short_flag_aliases.items))))))) plain in
+    (parts.0, parts.2)
+
+both_without_groups : (a b : Arg) → a.groups.items ≡ [] → b.groups.items ≡ [] → All (λ (x : Arg). x.groups.items ≡ []) (a ∷ b ∷ [])
+both_without_groups a b first second zero d lt = first
+both_without_groups a b first second (suc zero) d lt = second
+both_without_groups a b first second (suc (suc k)) d lt = absurd (omega arith)
+
+-- a number that was read of an option's text
+module _ (command : Command) (m : ArgMatches) (words : List Text) (is : app_of command ≡ farm_command) (p : IsParsedFrom command m)
+    (matches : HasMatchesOf (app_of command) words m) where
+  options : AreTwo rule_of workers_rule quantum_rule (args_of command)
+  options = two_of rule_of workers_rule quantum_rule (args_of command) (ap (λ (a : App). a.top.rules) is)
+
+  plain : has_plain_fields (out-Command command) ≡ true
+  plain = ap (λ (a : App). a.top.is_plain) is
+
+  rows : rows_of (found_of m) ≡ matches_of farm_command words
+  rows = (matches (ap is_simple is ∙ farm_is_simple)).0 ∙ ap (λ (a : App). matches_of a words) is
+
+  globals : (out-Command command).has_globals ≡ false
+  globals = not_is (out-Command command).has_globals (plain_parts (out-Command command) plain).1
+
+  names_no_group : NamesNoGroup command
+  names_no_group =
+      let workers = without_groups options.one (codes "workers") (codes "2") (Signed (pos 1) (pos 8)) options.one_is in
+      let quantum = without_groups options.other (codes "quantum") (codes "256") (Signed (pos 1) (pos 4096)) options.other_is in
+      subst (All (λ (a : Arg). a.groups.items ≡ [])) (sym options.list) (both_without_groups options.one options.other workers quantum)
+
+  no_groups : groups_of p.built ≡ []
+  no_groups = (p.from.same_groups names_no_group).1 ∙ empty_is (groups_of command) (plain_parts (out-Command command) plain).0
+
+  said_at : (k : ℕ) (d : Arg) (name default : Text) (most bits : ℕ) (E : Type 0) (G : List ℕ → Result ℕ E → Type 0) (r : Option ℕ) (fallback : ℕ)
+      → k < length (args_of command)
+      → rule_of (slice_index_or (args_of command) k d) ≡ number_option name default (Signed (pos 1) (pos most))
+      → IsOwnId name
+      → ((j : ℕ) (e : Arg) → j < length (args_of command)
+      → bytes_eq (slice_index_or (args_of command) j e).id.now (slice_index_or (args_of command) k d).id.now ≡ true → j ≡ k)
+      → most < 2 ^ bits
+      → ((text : List ℕ) → one_text (found_of m) name ≡ Some text → ReadsOne G text r)
+      → ((u : List ℕ) (x : Result ℕ E) → G u x → ParsesUnsigned bits 10 u x)
+      → (n : ℕ) → n ≡ unwrap_or r fallback → (1 ≤ n) × (n ≤ most) × IsSaid words name n
+  said_at k d name default most bits E G r fallback lt rule own unique fits value only n is_n =
+      let id : (slice_index_or (args_of command) k d).id.now ≡ name = ap (λ (x : Rule). x.id) rule in
+      let option = is_option (slice_index_or (args_of command) k d) name default (Signed (pos 1) (pos most)) rule in
+      let got = option_reads command m p k d lt (Signed (pos 1) (pos most)) option unique (λ e. own.0 (sym id ∙ e))
+      (λ auto. elim auto [ inl h ↦ own.1 (sym id ∙ h) | inr h ↦ own.2 (sym id ∙ h) ]) no_groups globals in
+      let text = without_minus got.0 in
+      let there : one_text (found_of m) name ≡ Some text = subst (λ (w : List ℕ). one_text (found_of m) w ≡ Some text) id got.1 in
+      let read : ReadsOne G text r = value text there in
+      let number = signed_reads E G bits 1 most got.0 r read only fits got.2 in
+      let parsed = only text (Ok number.0) (subst (λ (o : Option ℕ). ReadsOne G text o) number.1 read) in
+      let row : one_of name (matches_of farm_command words) ≡ Some text = ap (one_of name) (sym rows) ∙ (sym (one_text-rows (found_of m) name) ∙ there) in
+      let is : number.0 ≡ n = sym (is_n ∙ ap (λ (o : Option ℕ). unwrap_or o fallback) number.1) in
+      subst (λ (x : ℕ). (1 ≤ x) × (x ≤ most) × IsSaid words name x) is (number.2, number.3, (text, row, parsed.1))
+
+  -- so many workers
+  pub workers_said : (E : Type 0) (G : List ℕ → Result ℕ E → Type 0) (r : Option ℕ) (fallback : ℕ)
+      → ((text : List ℕ) → one_text (found_of m) (codes "workers") ≡ Some text → ReadsOne G text r)
+      → ((u : List ℕ) (x : Result ℕ E) → G u x → ParsesUnsigned 8 10 u x)
+      → (n : ℕ) → n ≡ unwrap_or r fallback → (1 ≤ n) × (n ≤ 8) × IsSaid words (codes "workers") n
+  workers_said E G r fallback value only n is_n =
+      let xs = options in
+      let d = xs.one in
+      let elem : slice_index_or (args_of command) 0 d ≡ xs.one = ap (λ (l : List Arg). slice_index_or l 0 d) xs.list in
+      let lt : 0 < length (args_of command) = subst (λ (l : List Arg). 0 < length l) (sym xs.list) (omega arith) in
+      let unique = subst (λ (l : List Arg). (j : ℕ) (e : Arg) → j < length l → bytes_eq (slice_index_or l j e).id.now (slice_index_or l 0 d).id.now ≡ true → j ≡ 0)
+      (sym xs.list) (one_place xs.one xs.other 0 d xs.one_is xs.other_is (omega arith)) in
+      said_at 0 d (codes "workers") (codes "2") 8 8 E G r fallback lt (ap rule_of elem ∙ xs.one_is) workers_own unique (omega arith) value only n is_n
+
+  -- so many Steps
+  pub quantum_said : (E : Type 0) (G : List ℕ → Result ℕ E → Type 0) (r : Option ℕ) (fallback : ℕ)
+      → ((text : List ℕ) → one_text (found_of m) (codes "quantum") ≡ Some text → ReadsOne G text r)
+      → ((u : List ℕ) (x : Result ℕ E) → G u x → ParsesUnsigned 16 10 u x)
+      → (n : ℕ) → n ≡ unwrap_or r fallback → (1 ≤ n) × (n ≤ 4096) × IsSaid words (codes "quantum") n
+  quantum_said E G r fallback value only n is_n =
+      let xs = options in
+      let d = xs.other in
+      let elem : slice_index_or (args_of command) 1 d ≡ xs.other = ap (λ (l : List Arg). slice_index_or l 1 d) xs.list in
+      let lt : 1 < length (args_of command) = subst (λ (l : List Arg). 1 < length l) (sym xs.list) (omega arith) in
+      let unique = subst (λ (l : List Arg). (j : ℕ) (e : Arg) → j < length l → bytes_eq (slice_index_or l j e).id.now (slice_index_or l 1 d).id.now ≡ true → j ≡ 1)
+      (sym xs.list) (one_place xs.one xs.other 1 d xs.one_is xs.other_is (omega arith)) in
+      said_at 1 d (codes "quantum") (codes "256") 4096 16 E G r fallback lt (ap rule_of elem ∙ xs.other_is) quantum_own unique (omega arith) value only n is_n

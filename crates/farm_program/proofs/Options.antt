@@ -1,0 +1,142 @@
+-- What an option with a default gives after a parse: a text that passed its parser.
+use Rattle.std.proofs.Common.{zero, suc, ◌≡◌, ◌∙◌, ◌<◌, ◌≤◌, ap, ℕ, Bool, true, false, List, [], ◌∷◌, length, Option, Some, None, refl, sym, subst, inl, inr, arith}
+use Rattle.std.specs.List.{All, slice_index_or}
+use Rattle.std.specs.Prelude.{option_map, slice_get, find}
+use Rattle.std.specs.Str.{bytes_eq}
+use Rattle.std.specs.Borrow.{Bor}
+use Rattle.std.proofs.lemmas.List.Elements.{All-get_or}
+use Rattle.std.proofs.lemmas.Slice.Eq.{bytes_eq-Decides}
+use Rattle.clap.specs.Facts.{args_of, groups_of, Entry, EntryPasses, HasIn, HasReading, PassesArg, WantsDefault, least_values, parser_of, parser_of_value}
+use Rattle.clap.specs.Built.{IsAuto, IsParsedFrom}
+use Rattle.clap.specs.Matches.{found_of, matched_of, one_text}
+use Rattle.clap.specs.Values.{Accepts, read_as, reading_of}
+use Rattle.clap.specs.declared.builder.action.ArgAction.TheVariants.{Count, Set}
+use Rattle.clap.specs.declared.builder.arg.Arg.{Arg}
+use Rattle.clap.specs.declared.builder.command.Command.{Command}
+use Rattle.clap.specs.declared.builder.command.Command.TheViews.{out-Command}
+use Rattle.clap.specs.declared.builder.value_parser.Reading.{Reading}
+use Rattle.clap.specs.declared.builder.value_parser.ValueParser.{ValueParser}
+use Rattle.clap.specs.declared.parser.matches.ArgMatches.{ArgMatches}
+use Rattle.clap.specs.declared.parser.matches.Found.{Found}
+use Rattle.clap.specs.declared.parser.matches.MatchedArg.{MatchedArg}
+use Rattle.clap.proofs.CallerLemmas.{default_present, entry_by_id, same_rules_by_id}
+
+-- an option that takes one text, which these numbers' parser checks, and has a default
+pub record IsOption (a : Arg) (numbers : ValueParser) : Type 0 where
+  pub set : a.action ≡ Some Set
+  pub least : 1 ≤ least_values a
+  pub parser : a.value_parser ≡ Some numbers
+  pub delimiter : a.val_delim ≡ None
+  pub wants : WantsDefault a
+
+-- the id of another than the first entry stands in the rest
+in_rest : (x : Entry) (xs : List Entry) (id : List ℕ) → HasIn (x ∷ xs) id → bytes_eq x.0.now id ≡ false → HasIn xs id
+in_rest x xs id (zero, lt, same) other =
+    let bad : true ≡ false = sym (same x) ∙ other in
+    cc
+in_rest x xs id (suc i, lt, same) other = (i, omega arith, same)
+
+-- an id that stands in a list of entries is found there
+found_in : (xs : List Entry) (id : List ℕ) → HasIn xs id → (a : MatchedArg) × (option_map (λ e. e.1) (find (λ e. bytes_eq e.0.now id) xs) ≡ Some a)
+found_in [] id h =
+    let bad = h.1 in
+    absurd (omega arith)
+found_in (x ∷ xs) id h = go (λ other. found_in xs id (in_rest x xs id h other)) (bytes_eq x.0.now id) refl
+  where
+    go : (bytes_eq x.0.now id ≡ false → (a : MatchedArg) × (option_map (λ e. e.1) (find (λ e. bytes_eq e.0.now id) xs) ≡ Some a))
+        → (b : Bool) → bytes_eq x.0.now id ≡ b
+        → (a : MatchedArg) × (option_map (λ e. e.1) (find (λ e. bytes_eq e.0.now id) (x ∷ xs)) ≡ Some a)
+    go deeper true is = (x.1, rw is refl)
+    go deeper false is =
+        let rest = deeper is in
+        (rest.0, rw is rest.1)
+
+-- the first of some values
+first_in : (P : Bor (List ℕ) → Type 0) (vs : List (Bor (List ℕ))) → 0 < length vs → All P vs → (v : Bor (List ℕ)) × (slice_get vs 0 ≡ Some v) × P v
+first_in P [] lt h = absurd (omega arith)
+first_in P (v ∷ vs) lt h = (v, refl, All-get_or P (v ∷ vs) 0 v (omega arith) h)
+
+-- the text that a getter reads of an entry
+text_at : (f : Found) (id : List ℕ) (x : MatchedArg) (v : Bor (List ℕ)) (how : Reading) → matched_of f id ≡ Some x → slice_get x.vals.items 0 ≡ Some v
+    → x.reading ≡ how → one_text f id ≡ Some (read_as how v.now)
+text_at f id x v how found first is = rw (found, first, is) refl
+
+-- the entry of an option has a first value, which passed its parser and is read as this says
+module _ (old : Command) (m : ArgMatches) (p : IsParsedFrom old m) (k : ℕ) (d : Arg) (lt : k < length (args_of old)) (numbers : ValueParser)
+    (option : IsOption (slice_index_or (args_of old) k d) numbers)
+    (unique : (j : ℕ) (e : Arg) → j < length (args_of old) → bytes_eq (slice_index_or (args_of old) j e).id.now (slice_index_or (args_of old) k d).id.now ≡ true → j ≡ k)
+    (named : (slice_index_or (args_of old) k d).id.now ≡ [] → ⊥)
+    (own : IsAuto (slice_index_or (args_of old) k d) → ⊥)
+    (no_groups : groups_of p.built ≡ []) where
+  is_filled : (e : Entry) → e.0.now ≡ (slice_index_or (args_of old) k d).id.now → EntryPasses p.built e → 0 < length e.1.vals.items
+  is_filled e key_id pass = elim pass.1 [
+    | inl h ↦ elim h.1 [
+      | inl empty ↦ absurd (named (sym key_id ∙ empty))
+      | inr has ↦
+          let bad : 0 < 0 = rw no_groups at has in
+          absurd (omega arith)
+    ]
+    | inr (inl v) ↦ v
+    | inr (inr (inl h)) ↦
+        let any = h.1 in
+        let s = same_rules_by_id old m p k d lt unique own any.0 any.1 any.2 any.3 (rw key_id at any.4.0) in
+        let is_set : any.1.action ≡ Some Set = s.action Set option.set in
+        let bad : Set ≡ Count = rw is_set at any.4.1 in
+        cc
+    | inr (inr (inr h)) ↦
+        let s = same_rules_by_id old m p k d lt unique own h.0 h.1 h.2 h.3 (rw key_id at h.4.0) in
+        elim h.4.1 [
+          | inl none ↦
+              let one = s.least option.set option.least in
+              absurd (omega arith)
+          | inr has ↦
+              let bad : false ≡ true = rw (s.val_delim, option.delimiter) at has in
+              cc
+        ]
+  ]
+
+  is_no_group : (e : Entry) → e.0.now ≡ (slice_index_or (args_of old) k d).id.now → EntryPasses p.built e → e.1.is_group ≡ true → ⊥
+  is_no_group e key_id pass g = elim (pass.3 g) [
+    | inl empty ↦ named (sym key_id ∙ empty)
+    | inr has ↦
+        let bad : 0 < 0 = rw no_groups at has in
+        absurd (omega arith)
+  ]
+
+  accepts : (w text : List ℕ) → w ≡ (slice_index_or (args_of old) k d).id.now → PassesArg p.built w text
+      → Accepts (slice_index_or (args_of old) k d).ignore_case numbers text
+  accepts w text key_id any =
+      let s = same_rules_by_id old m p k d lt unique own any.0 any.1 any.2 any.3 (rw key_id at any.4.0) in
+      let is : parser_of any.1 ≡ numbers = ap parser_of_value (s.parser numbers option.parser) in
+      let passed = subst (λ (q : ValueParser). Accepts any.1.ignore_case q text) is any.4.1 in
+      subst (λ (b : Bool). Accepts b numbers text) s.ignore_case passed
+
+  reads_by : (w : List ℕ) (how : Reading) → w ≡ (slice_index_or (args_of old) k d).id.now → HasReading p.built w how → how ≡ reading_of numbers
+  reads_by w how key_id any =
+      let s = same_rules_by_id old m p k d lt unique own any.0 any.1 any.2 any.3 (rw key_id at any.4.0) in
+      sym any.4.1 ∙ ap (λ (q : Option ValueParser). reading_of (parser_of_value q)) (s.parser numbers option.parser)
+
+  of_entry : (e : Entry) → e.0.now ≡ (slice_index_or (args_of old) k d).id.now → EntryPasses p.built e
+      → (v : Bor (List ℕ)) × (slice_get e.1.vals.items 0 ≡ Some v) × (e.1.reading ≡ reading_of numbers)
+      × Accepts (slice_index_or (args_of old) k d).ignore_case numbers v.now
+  of_entry e key_id pass =
+      let no_group = is_no_group e key_id pass in
+      let all : All (λ v. PassesArg p.built e.0.now v.now) e.1.vals.items = elim pass.0 [ inl g ↦ absurd (no_group g) | inr h ↦ h ] in
+      let how : e.1.reading ≡ reading_of numbers = elim pass.4 [ inl g ↦ absurd (no_group g) | inr h ↦ reads_by e.0.now e.1.reading key_id h ] in
+      let first = first_in (λ v. PassesArg p.built e.0.now v.now) e.1.vals.items (is_filled e key_id pass) all in
+      (first.0, first.1, how, accepts e.0.now first.0.now key_id first.2)
+
+  pub option_reads : (out-Command old).has_globals ≡ false
+      → (text : List ℕ) × (one_text (found_of m) (slice_index_or (args_of old) k d).id.now ≡ Some (read_as (reading_of numbers) text))
+      × Accepts (slice_index_or (args_of old) k d).ignore_case numbers text
+  option_reads globals =
+      let id = (slice_index_or (args_of old) k d).id.now in
+      let parsed = p.parsed (p.from.globals ∙ globals) in
+      let found = found_in (found_of m).entries.items id (default_present old m p globals k d lt option.wants) in
+      let entry = entry_by_id (EntryPasses p.built) (found_of m).entries.items id found.0 parsed.values found.1 in
+      let key_id : entry.0.0.now ≡ id = (bytes_eq-Decides entry.0.0.now id).0 entry.2 in
+      let first = of_entry entry.0 key_id entry.3 in (
+        first.0.now,
+        text_at (found_of m) id entry.0.1 first.0 (reading_of numbers) (found.1 ∙ ap Some (sym entry.1)) first.1 first.2,
+        first.3,
+      )
