@@ -1,6 +1,6 @@
 -- What is written line by line is whole lines.
 use Rattle.std.proofs.Common.{◌≡◌, ℕ, List, [], ◌∷◌, ◌++◌, refl, true, false, rules, Bool, ap, ◌∙◌, sym, subst, append-nil}
-use Rattle.std.specs.Prelude.{None, Some, Option, ◌||◌, ◌==◌, codes, if◌then◌else◌}
+use Rattle.std.specs.Prelude.{None, Some, Option, ◌||◌, ◌==◌, codes}
 use Rattle.std.specs.Fmt.{decimal}
 use Rattle.std.specs.Option.{option_map_or}
 use Rattle.std.specs.Io.KnownBytes.{Appends, Keeps}

@@ -39,7 +39,7 @@ fn settings_in(alloc: Global, matches: &ArgMatches) -> Result<LiveSettings, Allo
     })
 }
 
-/// ReadsPlan the words of the command line, of which the first is the program's name: the plan's path, `--workers N`, 1 to 8,
+/// Reads the words of the command line, of which the first is the program's name: the plan's path, `--workers N`, 1 to 8,
 /// default 2, and `--quantum N`, 1 to 4,096, default 256. The error is `clap`'s: `--help` is one, and want of memory another.
 pub fn live_settings<S: AsStr>(alloc: Global, words: &[S]) -> Result<LiveSettings, clap::Error>
     ensures { IfOk result IsInRange }
@@ -64,7 +64,7 @@ pub fn live_settings<S: AsStr>(alloc: Global, words: &[S]) -> Result<LiveSetting
         .action(ArgAction::Set)
         .value_parser(value_parser!(u16).range(1..=4096));
     let command = Command::new(alloc, "live")
-        .about("Answers lines on a farm of T414 processors as they come")
+        .about("SharedOutlet lines on a farm of T414 processors as they come")
         .after_help(AFTER_HELP)
         .arg(path)?
         .arg(workers)?

@@ -7,11 +7,11 @@ use crate::fault::LiveFault;
 use crate::letter::Matter;
 use crate::mailbox::Sent;
 use crate::operator::Operator;
-use crate::outlet::Answers;
+use crate::outlet::SharedOutlet;
 use crate::parsing::{is_operators, parse_live_line};
 use crate::reading::{InputLine, next_line};
 use crate::texts::{Why, error_answer, stranger_answer};
-use script_lines::{Words, user_named};
+use script_lines::{LineWords, user_named};
 use script_text::{is_passed_over, split_line, write_whole};
 use std::alloc::Global;
 use std::io::{BufRead, Write};
@@ -35,7 +35,7 @@ enum Goes {
 
 impl Desk<'_, '_> {
     // Tells at once that a line isn't done.
-    fn tell<R: Wait, O: Answers>(
+    fn tell<R: Wait, O: SharedOutlet>(
         &self,
         rt: &R,
         outlet: &O,
@@ -49,7 +49,7 @@ impl Desk<'_, '_> {
     }
 
     // Sends a matter to a user's domain. If too many lines wait there he is told at once.
-    fn send<R: Wait, O: Answers>(
+    fn send<R: Wait, O: SharedOutlet>(
         &self,
         rt: &R,
         outlet: &O,
@@ -68,7 +68,7 @@ impl Desk<'_, '_> {
     }
 
     // Does what the operator asks.
-    fn serve_operator<R: Wait, O: Answers>(
+    fn serve_operator<R: Wait, O: SharedOutlet>(
         &self,
         rt: &R,
         outlet: &O,
@@ -90,7 +90,7 @@ impl Desk<'_, '_> {
     }
 
     // A line for each user.
-    fn tell_users<R: Wait, O: Answers>(
+    fn tell_users<R: Wait, O: SharedOutlet>(
         &self,
         rt: &R,
         outlet: &O,
@@ -105,7 +105,7 @@ impl Desk<'_, '_> {
     }
 
     // Hands out a line that asks something.
-    fn hand_out<R: Wait, O: Answers, E: Write>(
+    fn hand_out<R: Wait, O: SharedOutlet, E: Write>(
         &self,
         rt: &R,
         outlet: &O,
@@ -138,7 +138,7 @@ impl Desk<'_, '_> {
     }
 
     // Tells whose line is too long, by its beginning.
-    fn refuse_long<R: Wait, O: Answers, E: Write>(
+    fn refuse_long<R: Wait, O: SharedOutlet, E: Write>(
         &self,
         rt: &R,
         outlet: &O,
@@ -149,7 +149,7 @@ impl Desk<'_, '_> {
         if is_operators(line) {
             return self.tell(rt, outlet, "!", number, Why::Long);
         }
-        let user = match Words::of(line).take() {
+        let user = match LineWords::of(line).take() {
             Some(name) => user_named(self.crew.names.as_slice(), name),
             None => None,
         };
@@ -160,7 +160,7 @@ impl Desk<'_, '_> {
     }
 
     // Why no more lines are read, if that is so: a write failed, or the thread of a domain met want of memory.
-    fn look<R: Wait, O: Answers>(&self, rt: &R, outlet: &O) -> Result<(), Trouble> {
+    fn look<R: Wait, O: SharedOutlet>(&self, rt: &R, outlet: &O) -> Result<(), Trouble> {
         if outlet.has_failed(rt) {
             return Err(Trouble::Io);
         }
@@ -170,8 +170,8 @@ impl Desk<'_, '_> {
         Ok(())
     }
 
-    // ReadsPlan a line and hands it out. Lines that ask nothing are passed over.
-    fn take_line<R: Wait, O: Answers, I: BufRead, E: Write>(
+    // Reads a line and hands it out. Lines that ask nothing are passed over.
+    fn take_line<R: Wait, O: SharedOutlet, I: BufRead, E: Write>(
         &self,
         rt: &R,
         outlet: &O,
@@ -200,8 +200,8 @@ impl Desk<'_, '_> {
         }
     }
 
-    /// ReadsPlan lines until the input ends or the operator stops the farm. They count from 1.
-    pub fn read_lines<R: Wait, O: Answers, I: BufRead, E: Write>(
+    /// Reads lines until the input ends or the operator stops the farm. They count from 1.
+    pub fn read_lines<R: Wait, O: SharedOutlet, I: BufRead, E: Write>(
         &self,
         rt: &R,
         outlet: &O,

@@ -55,15 +55,15 @@ impl<W: Write, const TRACKED: u64> Outlet<W, TRACKED> {
 }
 
 /// Where answers go from any thread.
-pub trait Answers {
-    /// Writes an answer. Whether that failed is seen by [`Answers::has_failed`].
+pub trait SharedOutlet {
+    /// Writes an answer. Whether that failed is seen by [`SharedOutlet::has_failed`].
     fn put_answer<R: Wait>(&self, rt: &R, answer: &LiveAnswer);
 
     /// Whether a write has failed.
     fn has_failed<R: Wait>(&self, rt: &R) -> bool;
 }
 
-impl<W: Write, const TRACKED: u64> Answers for Mutex<Outlet<W, TRACKED>> {
+impl<W: Write, const TRACKED: u64> SharedOutlet for Mutex<Outlet<W, TRACKED>> {
     fn put_answer<R: Wait>(&self, rt: &R, answer: &LiveAnswer) {
         let _ = self.lock(rt).put(answer);
     }

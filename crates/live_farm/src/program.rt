@@ -3,14 +3,15 @@ ghost use Rattle.std.specs.Prelude.{◌≡◌, ◌≤◌, IfOk, OnOk, length};
 ghost use Rattle.token_queue.specs.Passes.{AreItsPasses};
 ghost use Rattle.farm_core.specs.Places.{places_of};
 ghost use Rattle.farm_service.specs.Closed.{AreDomainsOf, EachMergeRuns};
+ghost use Rattle.farm_service.specs.Services.{IsItsOperator};
 ghost use Rattle.live_farm.specs.LiveRanges.{IsInRange};
 
 use crate::command_line::LiveSettings;
 use crate::crew::Crew;
 use crate::failure::{LiveFailure, Trouble};
 use crate::operator::Operator;
-use crate::outlet::Answers;
-use crate::threads::Live;
+use crate::outlet::SharedOutlet;
+use crate::threads::run_crew;
 use farm_service::{
     Closed, NoGate, NoMemory, Opened, Service, UserPass, WorkerPass, run_users_and_workers,
 };
@@ -21,41 +22,37 @@ use std::io::{BufRead, Write};
 use std::slice;
 use std::sync::Wait;
 use std::thread::Threads;
+use switch_table::OperatorSeat;
 
 // Who reads the lines, and how that ended.
 #[derive(Drop)]
-struct Reader<'a, I: BufRead, E: Write> {
+struct LiveReader<'a, 'b, 'c, I: BufRead, E: Write> {
     operator: Operator<'a>,
-    input: &'a mut I,
-    errors: &'a mut E,
+    input: &'b mut I,
+    errors: &'c mut E,
     ended: Result<(), Trouble>,
 }
 
-// ReadsPlan lines to their end, with a thread for each domain and the workers beside them.
-fn run_all<
-    R: Threads + Wait + Sync,
-    C: Live + Sync,
-    I: BufRead + Send,
-    O: Answers + Sync,
-    E: Write + Send,
->(
+// Reads lines to their end, with a thread for each domain and the workers beside them.
+fn run_all<R: Threads + Wait + Sync, I: BufRead + Send, O: SharedOutlet + Sync, E: Write + Send>(
     rt: &R,
     alloc: Global,
     service: &Service,
     passes: &mut Vec<WorkerPass>,
     steps: u64,
-    crew: &C,
+    crew: &Crew<'_>,
     outlet: &O,
-    reader: &mut Reader<'_, I, E>,
+    reader: &mut LiveReader<'_, '_, '_, I, E>,
 ) -> Result<(), NoMemory>
     requires steps { (1 ≤ steps) × (steps ≤ 4096) }
     requires passes { AreItsPasses service.now.plan service.now.queue passes.old.items }
     ensures passes { AreItsPasses service.now.plan service.now.queue passes.new.items }
 {
-    let act = |_place: usize, reader: &mut Reader<'_, I, E>| {
-        reader.ended = crew.run(
+    let act = |_place: usize, reader: &mut LiveReader<'_, '_, '_, I, E>| {
+        reader.ended = run_crew(
             rt,
             alloc,
+            crew,
             outlet,
             &mut reader.operator,
             reader.input,
@@ -74,15 +71,15 @@ fn run_all<
 }
 
 // Answers all lines, and gives the users' passes back.
-fn serve_all<'a, R: Threads + Wait + Sync, I: BufRead + Send, O: Answers + Sync, E: Write + Send>(
+fn serve_all<R: Threads + Wait + Sync, I: BufRead + Send, O: SharedOutlet + Sync, E: Write + Send>(
     rt: &R,
     alloc: Global,
-    service: &'a Service,
+    service: &Service,
     passes: &mut Vec<WorkerPass>,
     users: Vec<UserPass>,
     quantum: u16,
     outlet: &O,
-    reader: &mut Reader<'a, I, E>,
+    reader: &mut LiveReader<'_, '_, '_, I, E>,
 ) -> Result<Vec<UserPass>, LiveFailure>
     requires quantum { (1 ≤ quantum) × (quantum ≤ 4096) }
     requires passes { AreItsPasses service.now.plan service.now.queue passes.old.items }
@@ -101,6 +98,48 @@ fn serve_all<'a, R: Threads + Wait + Sync, I: BufRead + Send, O: Answers + Sync,
     )?;
     reader.ended?;
     Ok(crew.end(alloc)?)
+}
+
+// The same, with the operator at his seat.
+fn serve_seated<
+    R: Threads + Wait + Sync,
+    I: BufRead + Send,
+    O: SharedOutlet + Sync,
+    E: Write + Send,
+>(
+    rt: &R,
+    alloc: Global,
+    service: &Service,
+    seat: OperatorSeat,
+    passes: &mut Vec<WorkerPass>,
+    users: Vec<UserPass>,
+    quantum: u16,
+    outlet: &O,
+    input: &mut I,
+    errors: &mut E,
+) -> Result<Vec<UserPass>, LiveFailure>
+    requires seat { IsItsOperator service.now seat }
+    requires quantum { (1 ≤ quantum) × (quantum ≤ 4096) }
+    requires passes { AreItsPasses service.now.plan service.now.queue passes.old.items }
+    ensures passes { OnOk result (AreItsPasses service.now.plan service.now.queue passes.new.items) }
+{
+    let operator = Operator::new(service, seat);
+    let mut reader = LiveReader {
+        operator,
+        input,
+        errors,
+        ended: Ok(()),
+    };
+    serve_all(
+        rt,
+        alloc,
+        service,
+        passes,
+        users,
+        quantum,
+        outlet,
+        &mut reader,
+    )
 }
 
 // Closes the service with the passes of its workers and of its users.
@@ -123,7 +162,12 @@ fn close<R: Wait>(
 
 /// Opens a farm on the plan, answers the lines of an input as they come, and closes the farm when the input ends or the
 /// operator stops it.
-pub fn run_live<R: Threads + Wait + Sync, I: BufRead + Send, O: Answers + Sync, E: Write + Send>(
+pub fn run_live<
+    R: Threads + Wait + Sync,
+    I: BufRead + Send,
+    O: SharedOutlet + Sync,
+    E: Write + Send,
+>(
     rt: &R,
     alloc: Global,
     plan: AcceptedPlan,
@@ -145,23 +189,17 @@ pub fn run_live<R: Threads + Wait + Sync, I: BufRead + Send, O: Answers + Sync, 
         users,
         operator,
     } = opened;
-    let operator = Operator::new(&service, operator);
-    let mut reader = Reader {
-        operator,
-        input,
-        errors,
-        ended: Ok(()),
-    };
-    let served = serve_all(
+    let users = serve_seated(
         rt,
         alloc,
         &service,
+        operator,
         &mut passes,
         users,
         settings.quantum,
         outlet,
-        &mut reader,
-    );
-    drop(reader);
-    close(rt, alloc, service, passes, served?)
+        input,
+        errors,
+    )?;
+    close(rt, alloc, service, passes, users)
 }

@@ -17,7 +17,7 @@ pub enum InputLine {
     End,
 }
 
-/// ReadsPlan the next line. What stands behind the last line feed is a line too, if it isn't empty.
+/// Reads the next line. What stands behind the last line feed is a line too, if it isn't empty.
 pub fn next_line<R: BufRead>(alloc: Global, input: &mut R) -> io::Result<InputLine> {
     let mut bytes = Vec::new(alloc);
     let mut head = Read::take(&mut *input, MOST_BYTES as u64 + 1);

@@ -6,7 +6,7 @@ use crate::asked::LiveRequest;
 use crate::group::DomainUsers;
 use crate::letter::{Letter, Matter};
 use crate::mailbox::Mailbox;
-use crate::outlet::Answers;
+use crate::outlet::SharedOutlet;
 use domain_core::NoMemory;
 use std::alloc::Global;
 use std::sync::atomic::{AtomicBool, AtomicU64, Ordering};
@@ -68,7 +68,7 @@ impl<'a> Station<'a> {
 }
 
 // Answers a letter and writes the answer at once. Behind a line of a script the domain settles.
-fn serve_letter<R: Wait, O: Answers>(
+fn serve_letter<R: Wait, O: SharedOutlet>(
     rt: &R,
     alloc: Global,
     group: &mut DomainUsers<'_>,
@@ -88,7 +88,7 @@ fn serve_letter<R: Wait, O: Answers>(
 
 /// Answers letters, in their order, until the mailbox is closed and empty. Once a write has failed nothing more is asked. If
 /// there is no memory the thread says so and ends.
-pub fn serve<R: Wait, O: Answers>(rt: &R, alloc: Global, station: &Station<'_>, outlet: &O) {
+pub fn serve<R: Wait, O: SharedOutlet>(rt: &R, alloc: Global, station: &Station<'_>, outlet: &O) {
     let mut guard = station.group.lock(rt);
     let group = &mut *guard;
     for _ in rt.forever() {
