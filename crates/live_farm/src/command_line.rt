@@ -64,7 +64,7 @@ pub fn live_settings<S: AsStr>(alloc: Global, words: &[S]) -> Result<LiveSetting
         .action(ArgAction::Set)
         .value_parser(value_parser!(u16).range(1..=4096));
     let command = Command::new(alloc, "live")
-        .about("SharedOutlet lines on a farm of T414 processors as they come")
+        .about("Answers lines on a farm of T414 processors as they come")
         .after_help(AFTER_HELP)
         .arg(path)?
         .arg(workers)?

@@ -48,7 +48,7 @@ impl Desk<'_, '_> {
         Ok(())
     }
 
-    // Sends a matter to a user's domain. If too many lines wait there he is told at once.
+    // Sends a matter to a user's domain. If too many lines wait there, who asked is told at once.
     fn send<R: Wait, O: SharedOutlet>(
         &self,
         rt: &R,
@@ -57,13 +57,15 @@ impl Desk<'_, '_> {
         number: u64,
         matter: Matter,
     ) -> Result<(), Trouble> {
-        match (
-            self.crew.send(rt, user, number, matter),
-            self.crew.names.get(user),
-        ) {
-            (Sent::Full, Some(name)) => self.tell(rt, outlet, name, number, Why::Busy),
-            (Sent::NoMemory, _) => Err(Trouble::Memory),
-            _ => Ok(()),
+        let name = match (&matter, self.crew.names.get(user)) {
+            (Matter::OperatorRestart, _) => "!",
+            (_, Some(name)) => name,
+            (_, None) => return Ok(()),
+        };
+        match self.crew.send(rt, user, number, matter) {
+            Sent::Waits => Ok(()),
+            Sent::Full => self.tell(rt, outlet, name, number, Why::Busy),
+            Sent::NoMemory => Err(Trouble::Memory),
         }
     }
 
@@ -159,8 +161,8 @@ impl Desk<'_, '_> {
         }
     }
 
-    // Why no more lines are read, if that is so: a write failed, or the thread of a domain met want of memory.
-    fn look<R: Wait, O: SharedOutlet>(&self, rt: &R, outlet: &O) -> Result<(), Trouble> {
+    /// Why no more lines are read, if that is so: a write failed, or the thread of a domain met want of memory.
+    pub fn look<R: Wait, O: SharedOutlet>(&self, rt: &R, outlet: &O) -> Result<(), Trouble> {
         if outlet.has_failed(rt) {
             return Err(Trouble::Io);
         }
@@ -216,7 +218,7 @@ impl Desk<'_, '_> {
                 break;
             }
         }
-        self.look(rt, outlet)
+        Ok(())
     }
 }
 

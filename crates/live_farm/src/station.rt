@@ -67,10 +67,11 @@ impl<'a> Station<'a> {
     }
 }
 
-// Answers a letter and writes the answer at once. Behind a line of a script the domain settles.
+// Answers a letter, counts it, and writes the answer at once. Behind a line of a script the domain settles.
 fn serve_letter<R: Wait, O: SharedOutlet>(
     rt: &R,
     alloc: Global,
+    station: &Station<'_>,
     group: &mut DomainUsers<'_>,
     letter: &Letter,
     outlet: &O,
@@ -78,6 +79,7 @@ fn serve_letter<R: Wait, O: SharedOutlet>(
     requires { letter.now.user < length group.old.sessions.items }
 {
     let answer = answer_letter(rt, alloc, group, letter)?;
+    station.count(letter);
     outlet.put_answer(rt, &answer);
     let user = usize::from(letter.user);
     if matches!(letter.matter, Matter::Asked(LiveRequest::Script(_))) && user < group.users() {
@@ -98,10 +100,9 @@ pub fn serve<R: Wait, O: SharedOutlet>(rt: &R, alloc: Global, station: &Station<
         if usize::from(letter.user) >= group.users() || outlet.has_failed(rt) {
             continue;
         }
-        if serve_letter(rt, alloc, group, &letter, outlet).is_err() {
+        if serve_letter(rt, alloc, station, group, &letter, outlet).is_err() {
             station.out_of_memory.store(true, Ordering::SeqCst);
             break;
         }
-        station.count(&letter);
     }
 }

@@ -66,5 +66,6 @@ pub fn run_crew<R: Threads + Wait + Sync, I: BufRead, O: SharedOutlet + Sync, E:
         operator,
         input,
         errors,
-    )
+    )?;
+    desk.look(rt, outlet)
 }
