@@ -1,0 +1,116 @@
+//! The farm that stays up: see the library `live_farm`, to which it hands the words, the plan's file and the streams.
+#![tactic(auto)]
+
+ghost use Rattle.live_farm.specs.LiveRanges.{IsInRange};
+
+use clap::error::ErrorKind;
+use live_farm::{LiveFailure, LiveSettings, Outlet, SharedOutlet, live_settings, run_live};
+use plan_checker::{AcceptedPlan, check, read_plan};
+use script_text::{ReadFault, read_whole, write_whole};
+use std::alloc::Global;
+use std::io::{self, BufRead, BufReader, Write};
+use std::process::ExitCode;
+use std::sync::{Mutex, Wait};
+use std::thread::Threads;
+use std::{env, fs};
+
+/// What is asked for by the words.
+#[derive(Drop)]
+struct Start {
+    settings: LiveSettings,
+    plan: AcceptedPlan,
+    ghost in_range: { IsInRange settings },
+}
+
+fn main(rt: HostRuntime) -> ExitCode {
+    let alloc = rt.alloc();
+    let mut errors = rt.stderr();
+    let outlet: Mutex<Outlet<_, 0>> = Mutex::new(Outlet::new(rt.stdout()));
+    let ended = match (start_of(&rt), BufReader::new(alloc, rt.reader())) {
+        (Ok(Some(start)), Ok(mut input)) => {
+            serve(&rt, alloc, start, &outlet, &mut input, &mut errors)
+        }
+        (Ok(Some(_)), Err(_)) => Err(LiveFailure::Memory),
+        (Ok(None), _) => Ok(()),
+        (Err(failure), _) => Err(failure),
+    };
+    ExitCode::from(match ended {
+        Ok(()) => 0,
+        Err(failure) => failure.report(alloc, &mut errors),
+    })
+}
+
+// Answers the lines of an input on a farm of the plan.
+fn serve<R: Threads + Wait + Sync, I: BufRead + Send, O: SharedOutlet + Sync, E: Write + Send>(
+    rt: &R,
+    alloc: Global,
+    start: Start,
+    outlet: &O,
+    input: &mut I,
+    errors: &mut E,
+) -> Result<(), LiveFailure> {
+    let Start { settings, plan } = start;
+    run_live(rt, alloc, plan, &settings, outlet, input, errors)?;
+    Ok(())
+}
+
+// The words of the command line.
+fn words_of(rt: &HostRuntime) -> Result<Vec<String>, LiveFailure> {
+    match env::args(rt) {
+        Ok(words) => Ok(words.collect(rt.alloc())?),
+        Err(error) => Err(LiveFailure::of_arguments(&error)),
+    }
+}
+
+// The settings and the plan that the words ask for. If they ask for the help alone, it is written.
+fn start_of(rt: &HostRuntime) -> Result<Option<Start>, LiveFailure> {
+    let words = words_of(rt)?;
+    match live_settings(rt.alloc(), words.as_slice()) {
+        Ok(settings) => {
+            let plan = plan_in(rt, settings.path.as_str())?;
+            Ok(Some(Start { settings, plan }))
+        }
+        Err(error) => {
+            help(rt, error)?;
+            Ok(None)
+        }
+    }
+}
+
+// Writes the text of `--help`, if that is why the words give no settings.
+fn help(rt: &HostRuntime, error: clap::Error) -> Result<(), LiveFailure> {
+    match error.kind() {
+        ErrorKind::OutOfMemory => Err(LiveFailure::Memory),
+        ErrorKind::DisplayHelp => {
+            let text = format!(in rt.alloc(); "{error}")?;
+            match write_whole(&mut rt.stdout(), text.as_bytes()) {
+                Ok(()) => Ok(()),
+                Err(_) => Err(LiveFailure::Io),
+            }
+        }
+        _ => Err(LiveFailure::Words(error)),
+    }
+}
+
+// The bytes of a file.
+fn bytes_in(rt: &HostRuntime, path: &str) -> Result<Vec<u8>, LiveFailure> {
+    let mut file = match fs::open(rt, path) {
+        Ok(file) => file,
+        Err(error) => return Err(LiveFailure::of_file(rt.alloc(), path, error)),
+    };
+    match read_whole(rt.alloc(), &mut file) {
+        Ok(bytes) => Ok(bytes),
+        Err(ReadFault::NoMemory) => Err(LiveFailure::Memory),
+        Err(ReadFault::Failed) => {
+            let error = io::Error::other("a read failed");
+            Err(LiveFailure::of_file(rt.alloc(), path, error))
+        }
+    }
+}
+
+// The plan in a file.
+fn plan_in(rt: &HostRuntime, path: &str) -> Result<AcceptedPlan, LiveFailure> {
+    let text = bytes_in(rt, path)?;
+    let plan = read_plan(rt.alloc(), text.as_slice()).map_err(LiveFailure::of_plan)?;
+    check(rt.alloc(), plan).map_err(LiveFailure::of_plan)
+}

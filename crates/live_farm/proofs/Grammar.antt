@@ -1,0 +1,39 @@
+-- What the reading of a line rests on.
+use Rattle.std.proofs.Common.{◌≡◌, ℕ, List, [], ◌∷◌, Ok, Err, false, inl, sym, ap, subst, ◌∙◌}
+use Rattle.std.specs.Prelude.{IfErr, Result}
+use Rattle.script_lines.specs.declared.fault.LineFault.{LineFault}
+use Rattle.script_lines.specs.declared.fault.LineFault.TheVariants as fault
+use Rattle.script_lines.specs.Words.{words_in}
+use Rattle.script_lines.specs.Lines.{IsRestFault}
+use Rattle.live_farm.specs.declared.asked.LiveLine.{LiveLine}
+use Rattle.live_farm.specs.declared.fault.LiveFault.{LiveFault}
+use Rattle.live_farm.specs.declared.fault.LiveFault.TheVariants as live_fault
+use Rattle.live_farm.specs.declared.verbs.DomainVerb.{DomainVerb}
+use Rattle.live_farm.specs.LiveVerbs.{domain_verb_name}
+use Rattle.live_farm.specs.LiveLines.{is_operators, IsOfDomain, IsLiveRestFault, IsUserFault, IsLiveFault}
+
+-- a first word that asks nothing of the domain as a whole
+pub not_of_domain : (rest behind : List (List ℕ)) (word : List ℕ) → rest ≡ word ∷ behind → ((v : DomainVerb) → ¬ (word ≡ domain_verb_name v))
+    → (verb : DomainVerb) (arguments : List (List ℕ)) → ¬ IsOfDomain rest verb arguments
+not_of_domain rest behind word is none verb arguments of = none verb (ap (first word) (sym is ∙ of))
+  where
+    first : List ℕ → List (List ℕ) → List ℕ
+    first d [] = d
+    first d (x ∷ xs) = x
+
+-- what a script refuses is refused
+pub live_refused : (rest : List (List ℕ)) (f : LineFault) → ((verb : DomainVerb) (arguments : List (List ℕ)) → ¬ IsOfDomain rest verb arguments) → IsRestFault rest f
+    → IsLiveRestFault rest f
+live_refused rest fault.User none wrong = wrong
+live_refused rest fault.Verb none wrong = (wrong, none)
+live_refused rest fault.Args none wrong = inl wrong
+live_refused rest fault.Hex none wrong = wrong
+
+-- a user's line that is wrong is wrong
+pub user_line_refused : (names : List (List ℕ)) (line : List ℕ) (words : List (List ℕ)) (r : Result LiveLine LiveFault) → is_operators line ≡ false → words ≡ words_in line
+    → IfErr r (IsUserFault names words) → IfErr r (IsLiveFault names line)
+user_line_refused names line words (Ok l) theirs is wrong = tt
+user_line_refused names line words (Err live_fault.UnknownUser) theirs is wrong = (theirs, subst (λ ws. IsUserFault names ws live_fault.UnknownUser) is wrong)
+user_line_refused names line words (Err (live_fault.User user f)) theirs is wrong = (theirs, subst (λ ws. IsUserFault names ws (live_fault.User user f)) is wrong)
+user_line_refused names line words (Err (live_fault.Operator f)) theirs is wrong = absurd wrong
+user_line_refused names line words (Err live_fault.NoMemory) theirs is wrong = tt

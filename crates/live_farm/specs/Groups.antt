@@ -1,0 +1,77 @@
+-- What the lines of a domain's users do to their sessions, and how they are answered.
+use Rattle.std.specs.Prelude.{◌≡◌, ℕ, Bool, true, false, List, [], Some, length, map, slice_get, slice_set, codes, if◌then◌else◌}
+use Rattle.std.specs.Borrow.{Bor}
+use Rattle.farm_service.specs.Passes.{SessionValue}
+use Rattle.script_lines.specs.declared.command.Command.{Command}
+use Rattle.line_answers.specs.Sessions.{IsAnswered}
+use Rattle.script_lines.specs.declared.fault.LineFault.TheVariants as fault
+use Rattle.farm_service.specs.Restarts.{begun_anew}
+use Rattle.live_farm.specs.declared.asked.LiveRequest.TheVariants as request
+use Rattle.live_farm.specs.declared.group.DomainUsers.{DomainUsers}
+use Rattle.live_farm.specs.declared.letter.Letter.{Letter}
+use Rattle.live_farm.specs.declared.letter.Matter.{Matter}
+use Rattle.live_farm.specs.declared.letter.Matter.TheVariants as matter
+use Rattle.live_farm.specs.declared.texts.Why.{Why}
+use Rattle.live_farm.specs.declared.texts.Why.TheVariants as why
+use Rattle.live_farm.specs.declared.verbs.DomainVerb.TheVariants as verb
+use Rattle.live_farm.specs.LiveTexts.{error_text, rest_text, restart_text, operator_restart_text}
+
+-- a line of this user is answered by this text: his session gains what the line asked, and no other session changes
+pub record AnswersLine (before after : DomainUsers) (user : ℕ) (command : Command) (text : List ℕ) : Type 0 where
+  pub name : Bor (List ℕ)
+  pub entry : SessionValue
+  pub exit : SessionValue
+  pub named : slice_get before.names.items user ≡ Some name
+  pub session : slice_get before.sessions.items user ≡ Some entry
+  pub answered : IsAnswered name.now command entry exit [] text
+  pub sessions : after.sessions.items ≡ slice_set before.sessions.items user exit
+  pub names : after.names ≡ before.names
+
+-- the user of this number is called so
+abbrev pub IsNamedSo : DomainUsers → ℕ → Bor (List ℕ) → Type 0
+IsNamedSo group user name = slice_get group.names.items user ≡ Some name
+
+-- nobody's session changes
+abbrev pub AllStay : DomainUsers → DomainUsers → Type 0
+AllStay before after = after.sessions.items ≡ before.sessions.items
+
+-- the session of each is that of a user who hasn't asked anything
+abbrev pub AllBegin : DomainUsers → DomainUsers → Type 0
+AllBegin before after = after.sessions.items ≡ map begun_anew before.sessions.items
+
+-- if that is done, else nobody's
+abbrev pub BeginsIf : Bool → DomainUsers → DomainUsers → Type 0
+BeginsIf true before after = AllBegin before after
+BeginsIf false before after = AllStay before after
+
+-- a user is told whether his domain is at rest
+abbrev pub AnswersRest : DomainUsers → ℕ → List ℕ → Type 0
+AnswersRest group user text = (name : Bor (List ℕ)) × (quiet : Bool) × IsNamedSo group user name × (text ≡ rest_text name.now quiet)
+
+-- a user who is alone in his domain begins it anew; or he is told that only the operator may
+abbrev pub AnswersRestart : DomainUsers → DomainUsers → ℕ → List ℕ → Type 0
+AnswersRestart before after user text =
+    (name : Bor (List ℕ)) × (done : Bool) × IsNamedSo before user name × (text ≡ restart_text name.now done) × BeginsIf done before after
+    × (done ≡ true → length before.sessions.items ≡ 1)
+
+-- the domain of a user begins anew, as the operator asked in the line of this number; or nothing changes, and he is told so
+abbrev pub AnswersOperator : DomainUsers → DomainUsers → ℕ → ℕ → List ℕ → Type 0
+AnswersOperator before after user number text =
+    (name : Bor (List ℕ)) × (done : Bool) × IsNamedSo before user name × BeginsIf done before after
+    × (text ≡ (if done then operator_restart_text name.now else error_text (codes "!") number (why.Fault fault.User)))
+
+-- a wrong line is told to its user, and asks nothing
+abbrev pub AnswersWrong : DomainUsers → DomainUsers → ℕ → ℕ → Why → List ℕ → Type 0
+AnswersWrong before after user number w text =
+    (name : Bor (List ℕ)) × IsNamedSo before user name × (text ≡ error_text name.now number w) × AllStay before after
+
+-- what a line is answered
+abbrev pub AnswersMatter : DomainUsers → DomainUsers → ℕ → ℕ → Matter → List ℕ → Type 0
+AnswersMatter before after user number (matter.Asked (request.Script command)) text = AnswersLine before after user command text
+AnswersMatter before after user number (matter.Asked (request.Domain verb.Rest)) text = AnswersRest before user text × AllStay before after
+AnswersMatter before after user number (matter.Asked (request.Domain verb.Restart)) text = AnswersRestart before after user text
+AnswersMatter before after user number (matter.Wrong w) text = AnswersWrong before after user number w text
+AnswersMatter before after user number matter.OperatorRestart text = AnswersOperator before after user number text
+
+abbrev pub AnswersLetter : DomainUsers → DomainUsers → Letter → List ℕ → Type 0
+AnswersLetter before after letter text = AnswersMatter before after letter.user letter.number letter.matter text

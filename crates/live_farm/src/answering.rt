@@ -1,0 +1,167 @@
+//! What is answered to the users of a domain.
+ghost use Rattle.std.specs.Prelude.{◌≡◌, ◌<◌, true, false, length, map, IfOk, string_bytes};
+ghost use Rattle.farm_service.specs.Restarts.{begun_anew};
+ghost use Rattle.live_farm.specs.Groups.{AnswersLine, AnswersRest, AnswersRestart, AnswersOperator, AnswersLetter};
+
+use crate::asked::LiveRequest;
+use crate::group::DomainUsers;
+use crate::letter::{Letter, Matter};
+use crate::texts::{
+    LiveAnswer, Why, error_answer, operator_restart_answer, rest_answer, restart_answer,
+};
+use crate::verbs::DomainVerb;
+use domain_core::{NoMemory, Refusal};
+use line_answers::{answer_line, settle};
+use script_lines::{Command, LineFault};
+use std::alloc::Global;
+use std::sync::Wait;
+
+impl DomainUsers<'_> {
+    // The output line of a user's line.
+    fn line_of<R: Wait>(
+        &mut self,
+        rt: &R,
+        alloc: Global,
+        user: usize,
+        command: &Command,
+    ) -> Result<String, NoMemory>
+        requires { user < length self.old.sessions.items }
+        ensures { IfOk result (λ text. AnswersLine self.old self.new user command.now (string_bytes text)) }
+    {
+        let mut text = String::new(alloc);
+        answer_line(
+            rt,
+            alloc,
+            &mut self.sessions[user],
+            self.quantum,
+            self.names[user],
+            command,
+            &mut text,
+        )?;
+        Ok(text)
+    }
+
+    /// Answers a line of a script: it asks what it says in its user's session, and his output line is given.
+    ///
+    /// # Errors
+    ///
+    /// `NoMemory` if a command or the text met want of memory. What was taken before it stands.
+    pub fn answer<R: Wait>(
+        &mut self,
+        rt: &R,
+        alloc: Global,
+        user: usize,
+        command: &Command,
+    ) -> Result<LiveAnswer, NoMemory>
+        requires { user < length self.old.sessions.items }
+        ensures { IfOk result (λ a. AnswersLine self.old self.new user command.now (string_bytes a.text)) }
+    {
+        Ok(LiveAnswer::of(self.line_of(rt, alloc, user, command)?))
+    }
+
+    /// Settles the domain as after a line of a script. A refusal is nobody's fault.
+    ///
+    /// # Errors
+    ///
+    /// `NoMemory` if that met want of memory.
+    pub fn settle<R: Wait>(&self, rt: &R, user: usize) -> Result<(), NoMemory>
+        requires { user < length self.now.sessions.items }
+    {
+        match settle(rt, &self.sessions[user], self.quantum) {
+            Err(Refusal::NoMemory) => Err(NoMemory),
+            _ => Ok(()),
+        }
+    }
+
+    // Begins the domain of all these users anew; whether that was done.
+    fn begin_anew<R: Wait>(&mut self, rt: &R) -> bool
+        ensures done { result ≡ true → self.new.sessions.items ≡ map begun_anew self.old.sessions.items }
+        ensures refused { result ≡ false → self.new.sessions.items ≡ self.old.sessions.items }
+        ensures names { self.new.names ≡ self.old.names }
+    {
+        self.service
+            .restart(rt, self.sessions.as_mut_slice())
+            .is_ok()
+    }
+
+    // Whether no Step and no Move of the domain would be recorded.
+    fn is_quiet<R: Wait>(&self, rt: &R) -> bool {
+        match self.service.status(rt, self.domain) {
+            Ok(status) => status.is_quiet,
+            Err(_) => false,
+        }
+    }
+
+    /// Tells whether the domain is at rest, after it has settled.
+    pub fn answer_rest<R: Wait>(
+        &self,
+        rt: &R,
+        alloc: Global,
+        user: usize,
+    ) -> Result<LiveAnswer, NoMemory>
+        requires { user < length self.now.sessions.items }
+        ensures { IfOk result (λ a. AnswersRest self.now user (string_bytes a.text)) }
+    {
+        self.settle(rt, user)?;
+        rest_answer(alloc, self.name(user), self.is_quiet(rt))
+    }
+
+    /// Begins the domain anew for a user who is alone in it.
+    pub fn answer_restart<R: Wait>(
+        &mut self,
+        rt: &R,
+        alloc: Global,
+        user: usize,
+    ) -> Result<LiveAnswer, NoMemory>
+        requires { user < length self.old.sessions.items }
+        ensures { IfOk result (λ a. AnswersRestart self.old self.new user (string_bytes a.text)) }
+    {
+        let name = self.name(user);
+        if self.users() != 1 {
+            return restart_answer(alloc, name, false);
+        }
+        let is_done = self.begin_anew(rt);
+        restart_answer(alloc, name, is_done)
+    }
+
+    /// Begins the domain anew for the operator, who names one of its users in the line of this number.
+    pub fn answer_operator<R: Wait>(
+        &mut self,
+        rt: &R,
+        alloc: Global,
+        user: usize,
+        number: u64,
+    ) -> Result<LiveAnswer, NoMemory>
+        requires { user < length self.old.sessions.items }
+        ensures { IfOk result (λ a. AnswersOperator self.old self.new user number (string_bytes a.text)) }
+    {
+        let name = self.name(user);
+        if self.begin_anew(rt) {
+            operator_restart_answer(alloc, name)
+        } else {
+            error_answer(alloc, "!", number, Why::Fault(LineFault::User))
+        }
+    }
+}
+
+/// Answers a letter to one of these users.
+pub fn answer_letter<R: Wait>(
+    rt: &R,
+    alloc: Global,
+    group: &mut DomainUsers<'_>,
+    letter: &Letter,
+) -> Result<LiveAnswer, NoMemory>
+    requires { letter.now.user < length group.old.sessions.items }
+    ensures { IfOk result (λ a. AnswersLetter group.old group.new letter.now (string_bytes a.text)) }
+{
+    let user = usize::from(letter.user);
+    match &letter.matter {
+        Matter::Asked(LiveRequest::Script(command)) => group.answer(rt, alloc, user, command),
+        Matter::Asked(LiveRequest::Domain(DomainVerb::Rest)) => group.answer_rest(rt, alloc, user),
+        Matter::Asked(LiveRequest::Domain(DomainVerb::Restart)) => {
+            group.answer_restart(rt, alloc, user)
+        }
+        Matter::Wrong(why) => error_answer(alloc, group.name(user), letter.number, *why),
+        Matter::OperatorRestart => group.answer_operator(rt, alloc, user, letter.number),
+    }
+}

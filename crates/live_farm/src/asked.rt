@@ -1,0 +1,35 @@
+//! What a line asks.
+
+use crate::verbs::DomainVerb;
+use script_lines::Command;
+
+/// What a user's line asks.
+#[derive(Debug, Drop)]
+pub enum LiveRequest {
+    /// What the same line of a script asks.
+    Script(Command),
+    /// Something of his domain as a whole.
+    Domain(DomainVerb),
+}
+
+/// What an operator's line asks.
+#[derive(Clone, Copy, Debug, PartialEq, Eq)]
+pub enum OperatorRequest {
+    /// The words of all outputs.
+    Words,
+    /// What each user has done.
+    Users,
+    /// That the domain of a user begins anew, by the place of his name among all.
+    Restart { user: usize },
+    /// The end.
+    Stop,
+}
+
+/// What a line asks, and who.
+#[derive(Debug, Drop)]
+pub enum LiveLine {
+    /// A user, by the place of his name among all.
+    User { user: usize, request: LiveRequest },
+    /// The operator.
+    Operator(OperatorRequest),
+}

@@ -1,0 +1,95 @@
+//! The settings that the words of the command line give.
+ghost use Rattle.std.specs.Prelude.{◌≤◌, IfOk};
+ghost use Rattle.live_farm.specs.LiveRanges.{IsInRange};
+
+use clap::{Arg, ArgAction, ArgMatches, Command, value_parser};
+use std::alloc::{AllocError, Global};
+use std::convert::AsStr;
+
+const DEFAULT_WORKERS: u8 = 2;
+
+const DEFAULT_QUANTUM: u16 = 256;
+
+/// What stands below the help.
+const AFTER_HELP: &str = "\
+Example:
+  live plan.toml
+
+docs/LIVE.md says what lines there are.";
+
+/// The plan's file, how many workers step the nodes, and how many Steps each does at a time.
+#[derive(Debug, Drop)]
+pub struct LiveSettings {
+    /// The path of the plan.
+    pub path: String,
+    /// 1 to 8.
+    pub workers: u8,
+    /// 1 to 4,096 Steps.
+    pub quantum: u16,
+}
+
+// What was matched.
+fn settings_in(alloc: Global, matches: &ArgMatches) -> Result<LiveSettings, AllocError>
+    ensures { IfOk result IsInRange }
+{
+    Ok(LiveSettings {
+        path: String::from_str(alloc, matches.get_str("plan").unwrap_or(""))?,
+        workers: workers_of(matches.get_one::<u8>("workers")),
+        quantum: quantum_of(matches.get_one::<u16>("quantum")),
+    })
+}
+
+/// Reads the words of the command line, of which the first is the program's name: the plan's path, `--workers N`, 1 to 8,
+/// default 2, and `--quantum N`, 1 to 4,096, default 256. The error is `clap`'s: `--help` is one, and want of memory another.
+pub fn live_settings<S: AsStr>(alloc: Global, words: &[S]) -> Result<LiveSettings, clap::Error>
+    ensures { IfOk result IsInRange }
+{
+    let path = Arg::new(alloc, "plan")
+        .value_name("PLAN")
+        .help("The file of the plan")
+        .required(true)
+        .action(ArgAction::Set);
+    let workers = Arg::new(alloc, "workers")
+        .long("workers")
+        .value_name("N")
+        .help("How many workers step the nodes, 1 to 8")
+        .default_value("2")
+        .action(ArgAction::Set)
+        .value_parser(value_parser!(u8).range(1..=8));
+    let quantum = Arg::new(alloc, "quantum")
+        .long("quantum")
+        .value_name("N")
+        .help("How many Steps a worker does at a time, 1 to 4096")
+        .default_value("256")
+        .action(ArgAction::Set)
+        .value_parser(value_parser!(u16).range(1..=4096));
+    let command = Command::new(alloc, "live")
+        .about("Answers lines on a farm of T414 processors as they come")
+        .after_help(AFTER_HELP)
+        .arg(path)?
+        .arg(workers)?
+        .arg(quantum)?;
+    let matches = command.try_get_matches_from(words)?;
+    Ok(settings_in(alloc, &matches)?)
+}
+
+// The parser gives a number in its range, or the default.
+fn workers_of(given: Option<u8>) -> u8
+    ensures least { 1 ≤ result }
+    ensures most { result ≤ 8 }
+{
+    match given {
+        Some(n) if (1..=8).contains(&n) => n,
+        _ => DEFAULT_WORKERS,
+    }
+}
+
+fn quantum_of(given: Option<u16>) -> u16
+    ensures least { 1 ≤ result }
+    ensures most { result ≤ 4096 }
+{
+    match given {
+        Some(n) if (1..=4096).contains(&n) => n,
+        _ => DEFAULT_QUANTUM,
+    }
+}

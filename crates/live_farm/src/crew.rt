@@ -1,0 +1,131 @@
+//! All users of a farm, by the domains that they share.
+
+use crate::group::DomainUsers;
+use crate::letter::{Letter, Matter};
+use crate::mailbox::Sent;
+use crate::station::Station;
+use domain_core::NoMemory;
+use farm_service::{Service, UserPass};
+use line_answers::Quantum;
+use plan_checker::AcceptedPlan;
+use std::alloc::Global;
+use std::sync::Wait;
+
+/// A user, by his domain's number in the plan and his number there.
+#[derive(Clone, Copy, Debug, PartialEq, Eq)]
+pub struct UserNumber {
+    pub domain: u8,
+    pub user: u8,
+}
+
+/// All users, in the order of the plan, and a station for each domain.
+#[derive(Drop)]
+pub struct Crew<'a> {
+    /// Their names.
+    pub names: Vec<&'a str>,
+    /// Their numbers.
+    pub numbers: Vec<UserNumber>,
+    /// The domains.
+    pub stations: Vec<Station<'a>>,
+}
+
+// The name of a user of a plan.
+fn name_of<'a>(plan: &'a AcceptedPlan, number: UserNumber) -> Option<&'a str> {
+    if number.domain < plan.domains() && number.user < plan.users(number.domain) {
+        Some(plan.name(number.domain, number.user))
+    } else {
+        None
+    }
+}
+
+// A group for each domain, with nobody in it yet.
+fn groups_of<'a>(
+    alloc: Global,
+    service: &'a Service,
+    quantum: Quantum,
+) -> Result<Vec<DomainUsers<'a>>, NoMemory> {
+    let mut groups = Vec::new(alloc);
+    for domain in 0..service.plan().domains() {
+        groups.push(DomainUsers::new(alloc, service, domain, quantum))?;
+    }
+    Ok(groups)
+}
+
+// Lets a user join the group of his domain.
+fn join<'a>(
+    service: &'a Service,
+    groups: &mut Vec<DomainUsers<'a>>,
+    crew: &mut Crew<'a>,
+    pass: UserPass,
+) -> Result<(), NoMemory> {
+    let number = UserNumber {
+        domain: pass.domain(),
+        user: pass.user(),
+    };
+    let Some(name) = name_of(service.plan(), number) else {
+        return Ok(());
+    };
+    let Some(group) = groups.get_mut(usize::from(number.domain)) else {
+        return Ok(());
+    };
+    crew.names.push(name)?;
+    crew.numbers.push(number)?;
+    group.add(name, service.session(pass))
+}
+
+impl<'a> Crew<'a> {
+    /// The users of a service, by the passes of its opening.
+    pub fn new(
+        alloc: Global,
+        service: &'a Service,
+        users: Vec<UserPass>,
+        quantum: Quantum,
+    ) -> Result<Crew<'a>, NoMemory> {
+        let mut crew = Crew {
+            names: Vec::new(alloc),
+            numbers: Vec::new(alloc),
+            stations: Vec::new(alloc),
+        };
+        let mut groups = groups_of(alloc, service, quantum)?;
+        for pass in users {
+            join(service, &mut groups, &mut crew, pass)?;
+        }
+        for group in groups {
+            crew.stations.push(Station::new(alloc, group)?)?;
+        }
+        Ok(crew)
+    }
+
+    /// Puts a matter of the line of this number into the mailbox of a user's domain, by the place of his name.
+    pub fn send<R: Wait>(&self, rt: &R, user: usize, number: u64, matter: Matter) -> Sent {
+        let Some(whose) = self.numbers.get(user) else {
+            return Sent::Waits;
+        };
+        let Some(station) = self.stations.get(usize::from(whose.domain)) else {
+            return Sent::Waits;
+        };
+        let letter = Letter {
+            user: whose.user,
+            number,
+            matter,
+        };
+        station.mailbox.put(rt, letter)
+    }
+
+    /// Whether the thread of a domain met want of memory.
+    pub fn is_out_of_memory(&self) -> bool {
+        self.stations
+            .iter()
+            .any(|station| station.is_out_of_memory())
+    }
+
+    /// Ends all sessions, and gives their passes back.
+    pub fn end(self, alloc: Global) -> Result<Vec<UserPass>, NoMemory> {
+        let Crew { stations, .. } = self;
+        let mut passes = Vec::new(alloc);
+        for station in stations {
+            station.into_group().end(&mut passes)?;
+        }
+        Ok(passes)
+    }
+}

@@ -1,0 +1,230 @@
+//! Who reads the lines: users' lines go to the threads of their domains, and the operator's are answered here.
+
+use crate::asked::{LiveLine, OperatorRequest};
+use crate::crew::Crew;
+use crate::failure::Trouble;
+use crate::fault::LiveFault;
+use crate::letter::Matter;
+use crate::mailbox::Sent;
+use crate::operator::Operator;
+use crate::outlet::SharedOutlet;
+use crate::parsing::{is_operators, parse_live_line};
+use crate::reading::{InputLine, next_line};
+use crate::texts::{Why, error_answer, stranger_answer};
+use script_lines::{LineWords, user_named};
+use script_text::{is_passed_over, split_line, write_whole};
+use std::alloc::Global;
+use std::io::{BufRead, Write};
+use std::sync::Wait;
+
+/// Who hands out lines to the users' domains.
+#[derive(Drop)]
+pub struct Desk<'a, 'b> {
+    /// All users.
+    pub crew: &'b Crew<'a>,
+    /// For what is allocated.
+    pub alloc: Global,
+}
+
+/// Whether lines are still read.
+#[derive(Clone, Copy, Debug, PartialEq, Eq)]
+enum Goes {
+    On,
+    Stopped,
+}
+
+impl Desk<'_, '_> {
+    // Tells at once that a line isn't done.
+    fn tell<R: Wait, O: SharedOutlet>(
+        &self,
+        rt: &R,
+        outlet: &O,
+        name: &str,
+        number: u64,
+        why: Why,
+    ) -> Result<(), Trouble> {
+        let answer = error_answer(self.alloc, name, number, why)?;
+        outlet.put_answer(rt, &answer);
+        Ok(())
+    }
+
+    // Sends a matter to a user's domain. If too many lines wait there, who asked is told at once.
+    fn send<R: Wait, O: SharedOutlet>(
+        &self,
+        rt: &R,
+        outlet: &O,
+        user: usize,
+        number: u64,
+        matter: Matter,
+    ) -> Result<(), Trouble> {
+        let name = match (&matter, self.crew.names.get(user)) {
+            (Matter::OperatorRestart, _) => "!",
+            (_, Some(name)) => name,
+            (_, None) => return Ok(()),
+        };
+        match self.crew.send(rt, user, number, matter) {
+            Sent::Waits => Ok(()),
+            Sent::Full => self.tell(rt, outlet, name, number, Why::Busy),
+            Sent::NoMemory => Err(Trouble::Memory),
+        }
+    }
+
+    // Does what the operator asks.
+    fn serve_operator<R: Wait, O: SharedOutlet>(
+        &self,
+        rt: &R,
+        outlet: &O,
+        operator: &mut Operator<'_>,
+        number: u64,
+        request: OperatorRequest,
+    ) -> Result<Goes, Trouble> {
+        match request {
+            OperatorRequest::Words => {
+                outlet.put_answer(rt, &operator.words(self.alloc)?);
+            }
+            OperatorRequest::Users => self.tell_users(rt, outlet, operator)?,
+            OperatorRequest::Restart { user } => {
+                self.send(rt, outlet, user, number, Matter::OperatorRestart)?;
+            }
+            OperatorRequest::Stop => return Ok(Goes::Stopped),
+        }
+        Ok(Goes::On)
+    }
+
+    // A line for each user.
+    fn tell_users<R: Wait, O: SharedOutlet>(
+        &self,
+        rt: &R,
+        outlet: &O,
+        operator: &Operator<'_>,
+    ) -> Result<(), Trouble> {
+        for place in 0..self.crew.names.len() {
+            if let Some(answer) = operator.user(rt, self.alloc, self.crew, place)? {
+                outlet.put_answer(rt, &answer);
+            }
+        }
+        Ok(())
+    }
+
+    // Hands out a line that asks something.
+    fn hand_out<R: Wait, O: SharedOutlet, E: Write>(
+        &self,
+        rt: &R,
+        outlet: &O,
+        operator: &mut Operator<'_>,
+        errors: &mut E,
+        number: u64,
+        line: &[u8],
+    ) -> Result<Goes, Trouble> {
+        match parse_live_line(self.alloc, self.crew.names.as_slice(), line) {
+            Ok(LiveLine::User { user, request }) => {
+                self.send(rt, outlet, user, number, Matter::Asked(request))?;
+            }
+            Ok(LiveLine::Operator(request)) => {
+                return self.serve_operator(rt, outlet, operator, number, request);
+            }
+            Err(LiveFault::User { user, fault }) => {
+                self.send(rt, outlet, user, number, Matter::Wrong(Why::Fault(fault)))?;
+            }
+            Err(LiveFault::Operator(fault)) => self.tell(
+                rt,
+                outlet,
+                "!",
+                number,
+                Why::Fault(fault),
+            )?,
+            Err(LiveFault::UnknownUser) => tell_stranger(self.alloc, errors, number)?,
+            Err(LiveFault::NoMemory) => return Err(Trouble::Memory),
+        }
+        Ok(Goes::On)
+    }
+
+    // Tells whose line is too long, by its beginning.
+    fn refuse_long<R: Wait, O: SharedOutlet, E: Write>(
+        &self,
+        rt: &R,
+        outlet: &O,
+        errors: &mut E,
+        number: u64,
+        line: &[u8],
+    ) -> Result<(), Trouble> {
+        if is_operators(line) {
+            return self.tell(rt, outlet, "!", number, Why::Long);
+        }
+        let user = match LineWords::of(line).take() {
+            Some(name) => user_named(self.crew.names.as_slice(), name),
+            None => None,
+        };
+        match user {
+            Some(user) => self.send(rt, outlet, user, number, Matter::Wrong(Why::Long)),
+            None => tell_stranger(self.alloc, errors, number),
+        }
+    }
+
+    /// Why no more lines are read, if that is so: a write failed, or the thread of a domain met want of memory.
+    pub fn look<R: Wait, O: SharedOutlet>(&self, rt: &R, outlet: &O) -> Result<(), Trouble> {
+        if outlet.has_failed(rt) {
+            return Err(Trouble::Io);
+        }
+        if self.crew.is_out_of_memory() {
+            return Err(Trouble::Memory);
+        }
+        Ok(())
+    }
+
+    // Reads a line and hands it out. Lines that ask nothing are passed over.
+    fn take_line<R: Wait, O: SharedOutlet, I: BufRead, E: Write>(
+        &self,
+        rt: &R,
+        outlet: &O,
+        operator: &mut Operator<'_>,
+        input: &mut I,
+        errors: &mut E,
+        number: u64,
+    ) -> Result<Goes, Trouble> {
+        let read = next_line(self.alloc, input).map_err(|error| Trouble::of_input(&error))?;
+        self.look(rt, outlet)?;
+        match read {
+            InputLine::End => Ok(Goes::Stopped),
+            InputLine::Whole(bytes) => {
+                let (line, _) = split_line(bytes.as_slice());
+                if is_passed_over(line) {
+                    return Ok(Goes::On);
+                }
+                self.hand_out(rt, outlet, operator, errors, number, line)
+            }
+            InputLine::Long(bytes) => {
+                if !is_passed_over(bytes.as_slice()) {
+                    self.refuse_long(rt, outlet, errors, number, bytes.as_slice())?;
+                }
+                Ok(Goes::On)
+            }
+        }
+    }
+
+    /// Reads lines until the input ends or the operator stops the farm. They count from 1.
+    pub fn read_lines<R: Wait, O: SharedOutlet, I: BufRead, E: Write>(
+        &self,
+        rt: &R,
+        outlet: &O,
+        operator: &mut Operator<'_>,
+        input: &mut I,
+        errors: &mut E,
+    ) -> Result<(), Trouble> {
+        let mut number: u64 = 0;
+        for _ in rt.forever() {
+            number = number.saturating_add(1);
+            if self.take_line(rt, outlet, operator, input, errors, number)? == Goes::Stopped {
+                break;
+            }
+        }
+        Ok(())
+    }
+}
+
+// Tells that a line is no user's. If standard error takes nothing the run goes on.
+fn tell_stranger<E: Write>(alloc: Global, errors: &mut E, number: u64) -> Result<(), Trouble> {
+    let answer = stranger_answer(alloc, number)?;
+    let _ = write_whole(errors, answer.as_str().as_bytes());
+    Ok(())
+}

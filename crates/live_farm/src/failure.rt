@@ -1,0 +1,140 @@
+//! Why a run ends early.
+ghost use Rattle.std.specs.Prelude.{◌≡◌, ◌⊎◌};
+ghost use Rattle.live_farm.specs.declared.failure.LiveFailure.TheVariants.{Memory};
+ghost use Rattle.live_farm.specs.LiveStatuses.{live_status};
+
+use plan_checker::PlanFault;
+use script_text::write_whole;
+use std::alloc::{AllocError, AllocFailed, Global};
+use std::io::{self, Write};
+use thiserror::Error;
+
+/// Why no more lines are answered.
+#[derive(Clone, Copy, Debug, PartialEq, Eq)]
+pub enum Trouble {
+    /// There is no memory.
+    Memory,
+    /// A read or a write failed.
+    Io,
+    /// A thread couldn't be started.
+    Threads,
+}
+
+impl Trouble {
+    /// A read failed.
+    pub fn of_input(error: &io::Error) -> Trouble {
+        match error.kind() {
+            io::ErrorKind::OutOfMemory => Trouble::Memory,
+            _ => Trouble::Io,
+        }
+    }
+}
+
+impl From<AllocError> for Trouble {
+    fn from(_error: AllocError) -> Trouble {
+        Trouble::Memory
+    }
+}
+
+impl From<Trouble> for LiveFailure {
+    fn from(trouble: Trouble) -> LiveFailure {
+        match trouble {
+            Trouble::Memory => LiveFailure::Memory,
+            Trouble::Io => LiveFailure::Io,
+            Trouble::Threads => LiveFailure::Threads,
+        }
+    }
+}
+
+/// Why a run ends early, with the text for standard error.
+#[derive(Debug, Drop, Error)]
+pub enum LiveFailure {
+    #[error("{0}")]
+    Words(clap::Error),
+    #[error("error: an argument isn't UTF-8\n")]
+    Arguments,
+    #[error("plan: {number}\n")]
+    Plan { number: u8 },
+    #[error("memory\n")]
+    Memory,
+    #[error("io\n")]
+    Io,
+    #[error("{path}: {error}\n")]
+    File { path: String, error: io::Error },
+    #[error("threads\n")]
+    Threads,
+}
+
+impl LiveFailure {
+    /// The arguments of the process couldn't be read.
+    pub fn of_arguments(error: &io::Error) -> LiveFailure {
+        match error.kind() {
+            io::ErrorKind::OutOfMemory => LiveFailure::Memory,
+            _ => LiveFailure::Arguments,
+        }
+    }
+
+    /// The plan's file couldn't be read.
+    pub fn of_file(alloc: Global, path: &str, error: io::Error) -> LiveFailure {
+        match String::from_str(alloc, path) {
+            Ok(path) => LiveFailure::File { path, error },
+            Err(_) => LiveFailure::Memory,
+        }
+    }
+
+    /// The plan was refused.
+    pub fn of_plan(fault: PlanFault) -> LiveFailure {
+        match fault {
+            PlanFault::NoMemory => LiveFailure::Memory,
+            _ => LiveFailure::Plan {
+                number: fault.number(),
+            },
+        }
+    }
+
+    /// The status of the process.
+    pub fn status(&self) -> u8
+        ensures { result ≡ live_status self.now }
+    {
+        match self {
+            LiveFailure::Words(_) | LiveFailure::Arguments => 2,
+            LiveFailure::Plan { .. } => 3,
+            LiveFailure::Memory => 5,
+            LiveFailure::Io | LiveFailure::File { .. } => 6,
+            LiveFailure::Threads => 7,
+        }
+    }
+
+    /// Writes the text, and gives the status: 5 if there is no memory for the text. Where the text can't be written the
+    /// status stays.
+    pub fn report<E: Write>(&self, alloc: Global, errors: &mut E) -> u8
+        ensures { (result ≡ live_status self.now) ⊎ (result ≡ 5) }
+    {
+        match format!(in alloc; "{self}") {
+            Ok(text) => {
+                let _ = write_whole(errors, text.as_bytes());
+                self.status()
+            }
+            Err(_) => {
+                let _ = write_whole(errors, b"memory\n");
+                5
+            }
+        }
+    }
+}
+
+impl From<AllocError> for LiveFailure {
+    ghost from_gives = { λ _ failure. failure ≡ Memory };
+
+    fn from(_error: AllocError) -> LiveFailure {
+        LiveFailure::Memory
+    }
+}
+
+impl<T: Drop> From<AllocFailed<T>> for LiveFailure {
+    ghost from_gives = { λ _ failure. failure ≡ Memory };
+
+    fn from(_error: AllocFailed<T>) -> LiveFailure {
+        LiveFailure::Memory
+    }
+}

@@ -1,0 +1,16 @@
+//! What is wrong with a line.
+
+use script_lines::LineFault;
+
+/// Why a line asks nothing.
+#[derive(Clone, Copy, Debug, PartialEq, Eq)]
+pub enum LiveFault {
+    /// The first word is no user's name.
+    UnknownUser,
+    /// The line of a user, by the place of his name among all, is wrong.
+    User { user: usize, fault: LineFault },
+    /// The line of the operator is wrong: his verb, or the number of words after it, or the user's name there.
+    Operator(LineFault),
+    /// There is no memory for it.
+    NoMemory,
+}

@@ -1,0 +1,68 @@
+//! The users of one domain.
+ghost use Rattle.std.specs.Prelude.{◌≡◌, ◌<◌, ◌++◌, ◌∷◌, [], length, map, Some, slice_get, OnOk, vec_len};
+
+use domain_core::NoMemory;
+use farm_service::{Service, Session, UserPass};
+use line_answers::Quantum;
+use std::alloc::Global;
+
+/// The users of a domain, by their numbers there, each in a session of his own.
+#[derive(Drop)]
+pub struct DomainUsers<'a> {
+    pub(crate) service: &'a Service,
+    pub(crate) domain: u8,
+    pub(crate) quantum: Quantum,
+    pub(crate) names: Vec<&'a str>,
+    pub(crate) sessions: Vec<Session<'a>>,
+    ghost as_many: { vec_len names ≡ vec_len sessions },
+}
+
+impl<'a> DomainUsers<'a> {
+    /// The group of a domain, with nobody in it yet.
+    pub fn new(alloc: Global, service: &'a Service, domain: u8, quantum: Quantum) -> DomainUsers<'a>
+        ensures { result.sessions.items ≡ [] }
+    {
+        DomainUsers {
+            service,
+            domain,
+            quantum,
+            names: Vec::new(alloc),
+            sessions: Vec::new(alloc),
+        }
+    }
+
+    /// Adds the next user, with his session.
+    pub fn add(&mut self, name: &'a str, session: Session<'a>) -> Result<(), NoMemory>
+        ensures { OnOk result (self.new.sessions.items ≡ self.old.sessions.items ++ session.entry ∷ []) }
+    {
+        self.names.reserve(1)?;
+        self.sessions.reserve(1)?;
+        self.names.push_reserved(name);
+        self.sessions.push_reserved(session);
+        Ok(())
+    }
+
+    /// How many users there are.
+    pub fn users(&self) -> usize
+        ensures { result ≡ length self.now.sessions.items }
+    {
+        self.sessions.len()
+    }
+
+    /// The name of a user.
+    pub fn name(&self, user: usize) -> &'a str
+        requires { user < length self.now.sessions.items }
+        ensures { slice_get self.now.names.items user ≡ Some result }
+    {
+        self.names[user]
+    }
+
+    /// Ends all sessions, and adds their passes.
+    pub fn end(self, passes: &mut Vec<UserPass>) -> Result<(), NoMemory> {
+        let DomainUsers { sessions, .. } = self;
+        for session in sessions {
+            passes.push(session.end())?;
+        }
+        Ok(())
+    }
+}

@@ -1,0 +1,26 @@
+//! What comes to a domain's thread.
+
+use crate::asked::LiveRequest;
+use crate::texts::Why;
+
+/// What is to be answered.
+#[derive(Debug, Drop)]
+pub enum Matter {
+    /// A line that asks something.
+    Asked(LiveRequest),
+    /// A line that is wrong, and why.
+    Wrong(Why),
+    /// The operator asks that the domain begins anew.
+    OperatorRestart,
+}
+
+/// A line for a domain's thread.
+#[derive(Debug, Drop)]
+pub struct Letter {
+    /// Whose it is, by his number in the domain.
+    pub user: u8,
+    /// The number of the line.
+    pub number: u64,
+    /// What is to be answered.
+    pub matter: Matter,
+}

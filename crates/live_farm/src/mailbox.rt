@@ -1,0 +1,80 @@
+//! A queue of lines for one thread, which waits and can be closed.
+ghost use Rattle.std.specs.Prelude.{◌≤◌};
+ghost use Rattle.std.specs.VecDeque.{deque_len};
+
+use crate::letter::Letter;
+use std::alloc::Global;
+use std::collections::VecDeque;
+use std::sync::{Condvar, Mutex, Wait};
+
+/// The most lines that wait for a thread.
+pub const MOST_WAITING: usize = 1024;
+
+// What waits for a thread: never more than so many lines.
+#[derive(Drop)]
+struct Letters {
+    waiting: VecDeque<Letter>,
+    closed: bool,
+    ghost bounded: { deque_len waiting ≤ 1024 },
+}
+
+/// What became of a letter.
+#[derive(Clone, Copy, Debug, PartialEq, Eq)]
+pub enum Sent {
+    /// It waits for its thread.
+    Waits,
+    /// As many wait already as may.
+    Full,
+    /// There is no memory for it.
+    NoMemory,
+}
+
+/// The lines that wait for a thread, at most `MOST_WAITING`.
+#[derive(Drop)]
+pub struct Mailbox {
+    letters: Mutex<Letters>,
+    changed: Condvar,
+}
+
+impl Mailbox {
+    /// An empty mailbox.
+    pub fn new(alloc: Global) -> Mailbox {
+        Mailbox {
+            letters: Mutex::new(Letters {
+                waiting: VecDeque::new(alloc),
+                closed: false,
+            }),
+            changed: Condvar::new(),
+        }
+    }
+
+    /// Puts a letter at the end, if fewer wait than may.
+    pub fn put<R: Wait>(&self, rt: &R, letter: Letter) -> Sent {
+        let mut letters = self.letters.lock(rt);
+        if letters.waiting.len() >= MOST_WAITING {
+            return Sent::Full;
+        }
+        if letters.waiting.push_back(letter).is_err() {
+            return Sent::NoMemory;
+        }
+        self.changed.notify_one();
+        Sent::Waits
+    }
+
+    /// Says that no more letters come.
+    pub fn close<R: Wait>(&self, rt: &R) {
+        let mut letters = self.letters.lock(rt);
+        letters.closed = true;
+        self.changed.notify_all();
+    }
+
+    /// Waits for a letter, and takes it; `None` once the mailbox is closed and empty.
+    pub fn take<R: Wait>(&self, rt: &R) -> Option<Letter> {
+        let mut letters = self
+            .changed
+            .wait_while(rt, self.letters.lock(rt), |letters| {
+                letters.waiting.is_empty() && !letters.closed
+            });
+        letters.waiting.pop_front()
+    }
+}

@@ -1,0 +1,138 @@
+//! Reading a line.
+ghost use Rattle.std.specs.Prelude.{◌≡◌, ◌∷◌, [], ℕ, List, map, IfOk, IfErr};
+ghost use Rattle.script_lines.specs.declared.fault.LineFault.{LineFault as SpecLineFault};
+ghost use Rattle.script_lines.specs.declared.fault.Unread.TheVariants.{Faulty};
+ghost use Rattle.live_farm.specs.LiveLines.{is_operators, AsksLive, IsLiveRestFault, IsUserLine, IsUserFault};
+ghost use Rattle.live_farm.specs.LiveLines.{OperatorAsks, IsOperatorArgumentFault, IsOperatorLine, IsOperatorFault, IsLiveLine, IsLiveFault};
+
+use crate::asked::{LiveLine, LiveRequest, OperatorRequest};
+use crate::fault::LiveFault;
+use crate::verbs::{DomainVerb, OperatorVerb};
+use script_lines::{LineFault, LineWords, Unread, parse_request, user_named};
+use std::alloc::Global;
+
+/// Whether a line is the operator's: it begins with `!`.
+pub fn is_operators(line: &[u8]) -> bool
+    ensures { result ≡ is_operators line.now }
+{
+    match line {
+        [] => false,
+        [first, ..] => *first == b'!',
+    }
+}
+
+// What the words behind a user's name ask.
+fn parse_rest(alloc: Global, words: LineWords<'_>) -> Result<LiveRequest, Unread>
+    ensures asked { IfOk result (AsksLive words.entry) }
+    ensures fault { IfErr result (λ u. (f : SpecLineFault) → u ≡ Faulty f → IsLiveRestFault words.entry f) }
+{
+    let mut behind = words.copy();
+    let Some(word) = behind.take() else {
+        return Err(Unread::Faulty(LineFault::Verb));
+    };
+    let Some(verb) = DomainVerb::of(word) else {
+        return Ok(LiveRequest::Script(parse_request(alloc, words)?));
+    };
+    match behind.take() {
+        None => Ok(LiveRequest::Domain(verb)),
+        Some(_) => Err(Unread::Faulty(LineFault::Args)),
+    }
+}
+
+// What a user's line asks.
+fn parse_user_line(
+    alloc: Global,
+    names: &[&str],
+    mut words: LineWords<'_>,
+) -> Result<LiveLine, LiveFault>
+    ensures asked { IfOk result (IsUserLine (map (λ n. n.now) names.now) words.entry) }
+    ensures fault { IfErr result (IsUserFault (map (λ n. n.now) names.now) words.entry) }
+{
+    let Some(name) = words.take() else {
+        return Err(LiveFault::UnknownUser);
+    };
+    let Some(user) = user_named(names, name) else {
+        return Err(LiveFault::UnknownUser);
+    };
+    match parse_rest(alloc, words) {
+        Ok(request) => Ok(LiveLine::User { user, request }),
+        Err(Unread::Faulty(fault)) => Err(LiveFault::User { user, fault }),
+        Err(Unread::NoMemory) => Err(LiveFault::NoMemory),
+    }
+}
+
+// What an operator's verb asks with no word after it.
+fn with_none(verb: OperatorVerb) -> Result<OperatorRequest, LineFault>
+    ensures asked { IfOk result (λ r. (names : List (List ℕ)) → OperatorAsks names verb [] r) }
+    ensures fault { IfErr result (λ f. (names : List (List ℕ)) → IsOperatorArgumentFault names verb [] f) }
+{
+    match verb {
+        OperatorVerb::Words => Ok(OperatorRequest::Words),
+        OperatorVerb::Users => Ok(OperatorRequest::Users),
+        OperatorVerb::Stop => Ok(OperatorRequest::Stop),
+        OperatorVerb::Restart => Err(LineFault::Args),
+    }
+}
+
+// What an operator's verb asks with a name after it.
+fn with_name(names: &[&str], verb: OperatorVerb, name: &[u8]) -> Result<OperatorRequest, LineFault>
+    ensures asked { IfOk result (OperatorAsks (map (λ n. n.now) names.now) verb (name.now ∷ [])) }
+    ensures fault { IfErr result (IsOperatorArgumentFault (map (λ n. n.now) names.now) verb (name.now ∷ [])) }
+{
+    if verb != OperatorVerb::Restart {
+        return Err(LineFault::Args);
+    }
+    match user_named(names, name) {
+        Some(user) => Ok(OperatorRequest::Restart { user }),
+        None => Err(LineFault::User),
+    }
+}
+
+// What an operator's verb asks with the words after it.
+fn parse_arguments(
+    names: &[&str],
+    verb: OperatorVerb,
+    mut words: LineWords<'_>,
+) -> Result<OperatorRequest, LineFault>
+    ensures asked { IfOk result (OperatorAsks (map (λ n. n.now) names.now) verb words.entry) }
+    ensures fault { IfErr result (IsOperatorArgumentFault (map (λ n. n.now) names.now) verb words.entry) }
+{
+    let first = words.take();
+    match (first, words.take()) {
+        (None, _) => with_none(verb),
+        (Some(name), None) => with_name(names, verb, name),
+        (Some(_), Some(_)) => Err(LineFault::Args),
+    }
+}
+
+// What an operator's line asks.
+fn parse_operator_line(
+    names: &[&str],
+    mut words: LineWords<'_>,
+) -> Result<OperatorRequest, LineFault>
+    ensures asked { IfOk result (IsOperatorLine (map (λ n. n.now) names.now) words.entry) }
+    ensures fault { IfErr result (IsOperatorFault (map (λ n. n.now) names.now) words.entry) }
+{
+    let Some(word) = words.take() else {
+        return Err(LineFault::Verb);
+    };
+    let Some(verb) = OperatorVerb::of(word) else {
+        return Err(LineFault::Verb);
+    };
+    parse_arguments(names, verb, words)
+}
+
+/// What a line asks, and who. The tests of a user's line come in the order user, verb, args, hex, those of an operator's in
+/// the order verb, args, user.
+pub fn parse_live_line(alloc: Global, names: &[&str], line: &[u8]) -> Result<LiveLine, LiveFault>
+    ensures asked { IfOk result (IsLiveLine (map (λ n. n.now) names.now) line.now) }
+    ensures fault { IfErr result (IsLiveFault (map (λ n. n.now) names.now) line.now) }
+{
+    if !is_operators(line) {
+        return parse_user_line(alloc, names, LineWords::of(line));
+    }
+    match parse_operator_line(names, LineWords::of(line)) {
+        Ok(request) => Ok(LiveLine::Operator(request)),
+        Err(fault) => Err(LiveFault::Operator(fault)),
+    }
+}

@@ -1,0 +1,205 @@
+//! A farm that stays up, from its opening to its end.
+ghost use Rattle.std.specs.Prelude.{◌≡◌, ◌≤◌, IfOk, OnOk, length};
+ghost use Rattle.token_queue.specs.Passes.{AreItsPasses};
+ghost use Rattle.farm_core.specs.Places.{places_of};
+ghost use Rattle.farm_service.specs.Closed.{AreDomainsOf, EachMergeRuns};
+ghost use Rattle.farm_service.specs.Services.{IsItsOperator};
+ghost use Rattle.live_farm.specs.LiveRanges.{IsInRange};
+
+use crate::command_line::LiveSettings;
+use crate::crew::Crew;
+use crate::failure::{LiveFailure, Trouble};
+use crate::operator::Operator;
+use crate::outlet::SharedOutlet;
+use crate::threads::run_crew;
+use farm_service::{
+    Closed, NoGate, NoMemory, Opened, Service, UserPass, WorkerPass, run_users_and_workers,
+};
+use line_answers::Quantum;
+use plan_checker::AcceptedPlan;
+use std::alloc::Global;
+use std::io::{BufRead, Write};
+use std::slice;
+use std::sync::Wait;
+use std::thread::Threads;
+use switch_table::OperatorSeat;
+
+// Who reads the lines, and how that ended.
+#[derive(Drop)]
+struct LiveReader<'a, 'b, 'c, I: BufRead, E: Write> {
+    operator: Operator<'a>,
+    input: &'b mut I,
+    errors: &'c mut E,
+    ended: Result<(), Trouble>,
+}
+
+// Reads lines to their end, with a thread for each domain and the workers beside them.
+fn run_all<R: Threads + Wait + Sync, I: BufRead + Send, O: SharedOutlet + Sync, E: Write + Send>(
+    rt: &R,
+    alloc: Global,
+    service: &Service,
+    passes: &mut Vec<WorkerPass>,
+    steps: u64,
+    crew: &Crew<'_>,
+    outlet: &O,
+    reader: &mut LiveReader<'_, '_, '_, I, E>,
+) -> Result<(), NoMemory>
+    requires steps { (1 ≤ steps) × (steps ≤ 4096) }
+    requires passes { AreItsPasses service.now.plan service.now.queue passes.old.items }
+    ensures passes { AreItsPasses service.now.plan service.now.queue passes.new.items }
+{
+    let act = |_place: usize, reader: &mut LiveReader<'_, '_, '_, I, E>| {
+        reader.ended = run_crew(
+            rt,
+            alloc,
+            crew,
+            outlet,
+            &mut reader.operator,
+            reader.input,
+            reader.errors,
+        );
+    };
+    run_users_and_workers(
+        rt,
+        service,
+        passes,
+        &NoGate,
+        steps,
+        &act,
+        slice::from_mut(reader),
+    )
+}
+
+// Answers all lines, and gives the users' passes back.
+fn serve_all<R: Threads + Wait + Sync, I: BufRead + Send, O: SharedOutlet + Sync, E: Write + Send>(
+    rt: &R,
+    alloc: Global,
+    service: &Service,
+    passes: &mut Vec<WorkerPass>,
+    users: Vec<UserPass>,
+    quantum: u16,
+    outlet: &O,
+    reader: &mut LiveReader<'_, '_, '_, I, E>,
+) -> Result<Vec<UserPass>, LiveFailure>
+    requires quantum { (1 ≤ quantum) × (quantum ≤ 4096) }
+    requires passes { AreItsPasses service.now.plan service.now.queue passes.old.items }
+    ensures passes { OnOk result (AreItsPasses service.now.plan service.now.queue passes.new.items) }
+{
+    let crew = Crew::new(alloc, service, users, Quantum::of(quantum))?;
+    run_all(
+        rt,
+        alloc,
+        service,
+        passes,
+        u64::from(quantum),
+        &crew,
+        outlet,
+        reader,
+    )?;
+    reader.ended?;
+    Ok(crew.end(alloc)?)
+}
+
+// The same, with the operator at his seat.
+fn serve_seated<
+    R: Threads + Wait + Sync,
+    I: BufRead + Send,
+    O: SharedOutlet + Sync,
+    E: Write + Send,
+>(
+    rt: &R,
+    alloc: Global,
+    service: &Service,
+    seat: OperatorSeat,
+    passes: &mut Vec<WorkerPass>,
+    users: Vec<UserPass>,
+    quantum: u16,
+    outlet: &O,
+    input: &mut I,
+    errors: &mut E,
+) -> Result<Vec<UserPass>, LiveFailure>
+    requires seat { IsItsOperator service.now seat }
+    requires quantum { (1 ≤ quantum) × (quantum ≤ 4096) }
+    requires passes { AreItsPasses service.now.plan service.now.queue passes.old.items }
+    ensures passes { OnOk result (AreItsPasses service.now.plan service.now.queue passes.new.items) }
+{
+    let operator = Operator::new(service, seat);
+    let mut reader = LiveReader {
+        operator,
+        input,
+        errors,
+        ended: Ok(()),
+    };
+    serve_all(
+        rt,
+        alloc,
+        service,
+        passes,
+        users,
+        quantum,
+        outlet,
+        &mut reader,
+    )
+}
+
+// Closes the service with the passes of its workers and of its users.
+fn close<R: Wait>(
+    rt: &R,
+    alloc: Global,
+    service: Service,
+    passes: Vec<WorkerPass>,
+    users: Vec<UserPass>,
+) -> Result<Closed, LiveFailure>
+    requires { AreItsPasses service.plan service.queue passes.items }
+    ensures domains { IfOk result (λ closed. AreDomainsOf service.plan closed.domains.items) }
+    ensures runs { IfOk result (λ closed. EachMergeRuns (places_of service.plan) closed.domains.items) }
+{
+    match service.close(rt, alloc, passes, users) {
+        Ok(closed) => Ok(closed),
+        Err(_) => Err(LiveFailure::Memory),
+    }
+}
+
+/// Opens a farm on the plan, answers the lines of an input as they come, and closes the farm when the input ends or the
+/// operator stops it.
+pub fn run_live<
+    R: Threads + Wait + Sync,
+    I: BufRead + Send,
+    O: SharedOutlet + Sync,
+    E: Write + Send,
+>(
+    rt: &R,
+    alloc: Global,
+    plan: AcceptedPlan,
+    settings: &LiveSettings,
+    outlet: &O,
+    input: &mut I,
+    errors: &mut E,
+) -> Result<Closed, LiveFailure>
+    requires { IsInRange settings.now }
+    ensures domains { IfOk result (λ closed. AreDomainsOf plan closed.domains.items) }
+    ensures runs { IfOk result (λ closed. EachMergeRuns (places_of plan) closed.domains.items) }
+{
+    let Ok(opened) = Service::open(rt, alloc, plan, settings.workers) else {
+        return Err(LiveFailure::Memory);
+    };
+    let Opened {
+        service,
+        mut passes,
+        users,
+        operator,
+    } = opened;
+    let users = serve_seated(
+        rt,
+        alloc,
+        &service,
+        operator,
+        &mut passes,
+        users,
+        settings.quantum,
+        outlet,
+        input,
+        errors,
+    )?;
+    close(rt, alloc, service, passes, users)
+}

@@ -1,0 +1,121 @@
+//! The answers that a script hasn't.
+ghost use Rattle.std.specs.Prelude.{◌≡◌, ◌++◌, IfOk, true, codes, string_bytes, if◌then◌else◌};
+ghost use Rattle.live_farm.specs.WholeLines.{are_lines};
+ghost use Rattle.live_farm.specs.LiveTexts.{reason_word, error_text, unknown_user_text, rest_text, restart_text, operator_restart_text};
+
+use domain_core::NoMemory;
+use script_lines::LineFault;
+use std::alloc::Global;
+
+/// Why a line isn't done.
+#[derive(Clone, Copy, Debug, PartialEq, Eq)]
+pub enum Why {
+    /// It is wrong as a line of a script is.
+    Fault(LineFault),
+    /// It is too long.
+    Long,
+    /// Too many lines wait for the domain.
+    Busy,
+}
+
+impl Why {
+    /// As it is told.
+    pub fn word(self) -> &'static str
+        ensures { result.now ≡ reason_word self }
+    {
+        match self {
+            Why::Fault(LineFault::User) => "user",
+            Why::Fault(LineFault::Verb) => "verb",
+            Why::Fault(LineFault::Args) => "args",
+            Why::Fault(LineFault::Hex) => "hex",
+            Why::Long => "long",
+            Why::Busy => "busy",
+        }
+    }
+}
+
+/// What is written at once: whole lines.
+#[derive(Debug, Drop)]
+pub struct LiveAnswer {
+    pub(crate) text: String,
+    ghost whole: { are_lines (string_bytes text) ≡ true },
+}
+
+impl LiveAnswer {
+    /// Whole lines.
+    pub fn of(text: String) -> LiveAnswer
+        requires { are_lines (string_bytes text) ≡ true }
+        ensures { result.text ≡ text }
+    {
+        LiveAnswer { text }
+    }
+
+    /// A text as a line, which ends behind it.
+    pub fn line(mut text: String) -> Result<LiveAnswer, NoMemory>
+        ensures { IfOk result (λ a. string_bytes a.text ≡ string_bytes text ++ codes "\n") }
+    {
+        text.push_str("\n")?;
+        Ok(LiveAnswer::of(text))
+    }
+
+    /// The lines.
+    pub fn as_str(&self) -> &str
+        ensures text { result.now ≡ string_bytes self.now.text }
+        ensures whole { are_lines result.now ≡ true }
+    {
+        self.text.as_str()
+    }
+}
+
+/// That a line of this number isn't done: of a user, or of the operator, who is called `!`.
+pub fn error_answer(
+    alloc: Global,
+    name: &str,
+    number: u64,
+    why: Why,
+) -> Result<LiveAnswer, NoMemory>
+    ensures { IfOk result (λ a. string_bytes a.text ≡ error_text name.now number why) }
+{
+    let word = why.word();
+    let answer = LiveAnswer::line(format!(in alloc; "{name} error {number} {word}")?)?;
+    Ok(answer)
+}
+
+/// That the line of this number is no user's.
+pub fn stranger_answer(alloc: Global, number: u64) -> Result<LiveAnswer, NoMemory>
+    ensures { IfOk result (λ a. string_bytes a.text ≡ unknown_user_text number) }
+{
+    LiveAnswer::line(format!(in alloc; "error {number} user")?)
+}
+
+// One word or the other.
+fn chosen(is_first: bool, first: &'static str, second: &'static str) -> &'static str
+    ensures { result.now ≡ (if is_first then first.now else second.now) }
+{
+    if is_first { first } else { second }
+}
+
+/// Whether a user's domain is at rest.
+pub fn rest_answer(alloc: Global, name: &str, is_quiet: bool) -> Result<LiveAnswer, NoMemory>
+    ensures { IfOk result (λ a. string_bytes a.text ≡ rest_text name.now is_quiet) }
+{
+    let word = chosen(is_quiet, "quiet", "busy");
+    let answer = LiveAnswer::line(format!(in alloc; "{name} rest {word}")?)?;
+    Ok(answer)
+}
+
+/// Whether a user's domain begins anew.
+pub fn restart_answer(alloc: Global, name: &str, is_done: bool) -> Result<LiveAnswer, NoMemory>
+    ensures { IfOk result (λ a. string_bytes a.text ≡ restart_text name.now is_done) }
+{
+    let word = chosen(is_done, "ok", "operator");
+    let answer = LiveAnswer::line(format!(in alloc; "{name} restart {word}")?)?;
+    Ok(answer)
+}
+
+/// That the domain of a user begins anew, for the operator.
+pub fn operator_restart_answer(alloc: Global, name: &str) -> Result<LiveAnswer, NoMemory>
+    ensures { IfOk result (λ a. string_bytes a.text ≡ operator_restart_text name.now) }
+{
+    LiveAnswer::line(format!(in alloc; "!restart {name} ok")?)
+}

@@ -1,0 +1,71 @@
+//! The threads of a farm that stays up.
+
+use crate::crew::Crew;
+use crate::desk::Desk;
+use crate::failure::Trouble;
+use crate::operator::Operator;
+use crate::outlet::SharedOutlet;
+use crate::station::{Station, serve};
+use std::alloc::Global;
+use std::io::{BufRead, Write};
+use std::sync::Wait;
+use std::thread;
+use std::thread::Threads;
+
+// Starts a thread for each station of a list.
+fn run_stations<R: Threads + Wait + Sync, I: BufRead, O: SharedOutlet + Sync, E: Write>(
+    rt: &R,
+    stations: &[Station<'_>],
+    desk: &Desk<'_, '_>,
+    outlet: &O,
+    operator: &mut Operator<'_>,
+    input: &mut I,
+    errors: &mut E,
+) -> Result<(), Trouble> {
+    let alloc = desk.alloc;
+    thread::scope(thread::scope_env(), rt, |scope| {
+        let mut started = true;
+        for station in stations {
+            if scope
+                .spawn(move || serve(rt, alloc, station, outlet))
+                .is_err()
+            {
+                started = false;
+                break;
+            }
+        }
+        let ended = if started {
+            desk.read_lines(rt, outlet, operator, input, errors)
+        } else {
+            Err(Trouble::Threads)
+        };
+        for station in stations {
+            station.mailbox.close(rt);
+        }
+        ended
+    })
+}
+
+/// Answers all lines up to the end of the input, or until the operator stops. If a thread can't be started no line is read.
+/// All threads have ended when the call returns.
+pub fn run_crew<R: Threads + Wait + Sync, I: BufRead, O: SharedOutlet + Sync, E: Write>(
+    rt: &R,
+    alloc: Global,
+    crew: &Crew<'_>,
+    outlet: &O,
+    operator: &mut Operator<'_>,
+    input: &mut I,
+    errors: &mut E,
+) -> Result<(), Trouble> {
+    let desk = Desk { crew, alloc };
+    run_stations(
+        rt,
+        crew.stations.as_slice(),
+        &desk,
+        outlet,
+        operator,
+        input,
+        errors,
+    )?;
+    desk.look(rt, outlet)
+}

@@ -1,0 +1,55 @@
+//! The verbs that a script hasn't.
+ghost use Rattle.std.specs.Prelude.{◌≡◌, ◌≢◌, MatchOption};
+ghost use Rattle.live_farm.specs.declared.verbs.DomainVerb.{DomainVerb as SpecDomainVerb};
+ghost use Rattle.live_farm.specs.declared.verbs.OperatorVerb.{OperatorVerb as SpecOperatorVerb};
+ghost use Rattle.live_farm.specs.LiveVerbs.{domain_verb_name, operator_verb_name};
+
+/// What a user asks of his domain as a whole.
+#[derive(Clone, Copy, Debug, PartialEq, Eq)]
+pub enum DomainVerb {
+    /// Whether it is at rest.
+    Rest,
+    /// That it begins anew.
+    Restart,
+}
+
+impl DomainVerb {
+    /// The verb whose name a word is.
+    pub fn of(word: &[u8]) -> Option<DomainVerb>
+        ensures { MatchOption result ((v : SpecDomainVerb) → word.now ≢ domain_verb_name v) (λ v. word.now ≡ domain_verb_name v) }
+    {
+        match word {
+            b"rest" => Some(DomainVerb::Rest),
+            b"restart" => Some(DomainVerb::Restart),
+            _ => None,
+        }
+    }
+}
+
+/// What the operator asks.
+#[derive(Clone, Copy, Debug, PartialEq, Eq)]
+pub enum OperatorVerb {
+    /// The words of all outputs.
+    Words,
+    /// What each user has done.
+    Users,
+    /// That the domain of a user begins anew.
+    Restart,
+    /// The end.
+    Stop,
+}
+
+impl OperatorVerb {
+    /// The verb whose name a word is.
+    pub fn of(word: &[u8]) -> Option<OperatorVerb>
+        ensures { MatchOption result ((v : SpecOperatorVerb) → word.now ≢ operator_verb_name v) (λ v. word.now ≡ operator_verb_name v) }
+    {
+        match word {
+            b"!words" => Some(OperatorVerb::Words),
+            b"!users" => Some(OperatorVerb::Users),
+            b"!restart" => Some(OperatorVerb::Restart),
+            b"!stop" => Some(OperatorVerb::Stop),
+            _ => None,
+        }
+    }
+}
