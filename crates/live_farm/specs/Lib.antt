@@ -1,8 +1,9 @@
--- what only helps contracts
+-- what must be believed
+pub mod LiveRanges
 pub mod LiveVerbs
 pub mod LiveLines
 pub mod LiveTexts
 pub mod WholeLines
 pub mod Groups
-pub mod LiveRanges
+-- what only helps contracts
 pub mod LiveStatuses

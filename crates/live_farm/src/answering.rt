@@ -41,12 +41,9 @@ impl DomainUsers<'_> {
         Ok(text)
     }
 
-    /// Answers a line of a script: it asks what it says in its user's session, and his output line is given.
-    ///
-    /// # Errors
-    ///
-    /// `NoMemory` if a command or the text met want of memory. What was taken before it stands.
-    pub fn answer<R: Wait>(
+    // Answers a line of a script: it asks what it says in its user's session, and his output line is given. If a command or
+    // the text met want of memory, what was taken before it stands.
+    fn answer<R: Wait>(
         &mut self,
         rt: &R,
         alloc: Global,
@@ -64,7 +61,7 @@ impl DomainUsers<'_> {
     /// # Errors
     ///
     /// `NoMemory` if that met want of memory.
-    pub fn settle<R: Wait>(&self, rt: &R, user: usize) -> Result<(), NoMemory>
+    pub(crate) fn settle<R: Wait>(&self, rt: &R, user: usize) -> Result<(), NoMemory>
         requires { user < length self.now.sessions.items }
     {
         match settle(rt, &self.sessions[user], self.quantum) {
@@ -92,8 +89,8 @@ impl DomainUsers<'_> {
         }
     }
 
-    /// Tells whether the domain is at rest, after it has settled.
-    pub fn answer_rest<R: Wait>(
+    // Tells whether the domain is at rest, after it has settled.
+    fn answer_rest<R: Wait>(
         &self,
         rt: &R,
         alloc: Global,
@@ -106,8 +103,8 @@ impl DomainUsers<'_> {
         rest_answer(alloc, self.name(user), self.is_quiet(rt))
     }
 
-    /// Begins the domain anew for a user who is alone in it.
-    pub fn answer_restart<R: Wait>(
+    // Begins the domain anew for a user who is alone in it.
+    fn answer_restart<R: Wait>(
         &mut self,
         rt: &R,
         alloc: Global,
@@ -124,8 +121,8 @@ impl DomainUsers<'_> {
         restart_answer(alloc, name, is_done)
     }
 
-    /// Begins the domain anew for the operator, who names one of its users in the line of this number.
-    pub fn answer_operator<R: Wait>(
+    // Begins the domain anew for the operator, who names one of its users in the line of this number.
+    fn answer_operator<R: Wait>(
         &mut self,
         rt: &R,
         alloc: Global,
@@ -145,6 +142,10 @@ impl DomainUsers<'_> {
 }
 
 /// Answers a letter to one of these users.
+///
+/// # Errors
+///
+/// `NoMemory` if a command or the text met want of memory. What was taken before it stands.
 pub fn answer_letter<R: Wait>(
     rt: &R,
     alloc: Global,
