@@ -44,7 +44,7 @@ quantum_rule = number_option (codes "quantum") (codes "256") (Signed (pos 1) (po
 
 -- ---- the arguments of a command that is the program's
 
--- the second, third and fourth of some tests that all hold
+-- the first four of some tests that all hold
 first_four : (a b c d rest : Bool) → (a && (b && (c && (d && rest)))) ≡ true → (a ≡ true) × (b ≡ true) × (c ≡ true) × (d ≡ true)
 first_four true true true true rest h = (refl, refl, refl, refl)
 first_four false b c d rest h = cc
