@@ -10,7 +10,7 @@ use crate::operator::Operator;
 use crate::outlet::SharedOutlet;
 use crate::parsing::{is_operators, parse_live_line};
 use crate::reading::{InputLine, next_line};
-use crate::texts::{Why, error_answer, stranger_answer};
+use crate::texts::{Why, error_answer, unknown_user_answer};
 use script_lines::{LineWords, user_named};
 use script_text::{is_passed_over, split_line, write_whole};
 use std::alloc::Global;
@@ -133,7 +133,7 @@ impl Desk<'_, '_> {
                 number,
                 Why::Fault(fault),
             )?,
-            Err(LiveFault::UnknownUser) => tell_stranger(self.alloc, errors, number)?,
+            Err(LiveFault::UnknownUser) => tell_unknown_user(self.alloc, errors, number)?,
             Err(LiveFault::NoMemory) => return Err(Trouble::Memory),
         }
         Ok(Goes::On)
@@ -157,7 +157,7 @@ impl Desk<'_, '_> {
         };
         match user {
             Some(user) => self.send(rt, outlet, user, number, Matter::Wrong(Why::Long)),
-            None => tell_stranger(self.alloc, errors, number),
+            None => tell_unknown_user(self.alloc, errors, number),
         }
     }
 
@@ -223,8 +223,8 @@ impl Desk<'_, '_> {
 }
 
 // Tells that a line is no user's. If standard error takes nothing the run goes on.
-fn tell_stranger<E: Write>(alloc: Global, errors: &mut E, number: u64) -> Result<(), Trouble> {
-    let answer = stranger_answer(alloc, number)?;
+fn tell_unknown_user<E: Write>(alloc: Global, errors: &mut E, number: u64) -> Result<(), Trouble> {
+    let answer = unknown_user_answer(alloc, number)?;
     let _ = write_whole(errors, answer.as_str().as_bytes());
     Ok(())
 }

@@ -82,7 +82,7 @@ pub fn error_answer(
 }
 
 /// That the line of this number is no user's.
-pub fn stranger_answer(alloc: Global, number: u64) -> Result<LiveAnswer, NoMemory>
+pub fn unknown_user_answer(alloc: Global, number: u64) -> Result<LiveAnswer, NoMemory>
     ensures { IfOk result (λ a. string_bytes a.text ≡ unknown_user_text number) }
 {
     LiveAnswer::line(format!(in alloc; "error {number} user")?)
