@@ -9,5 +9,6 @@ mod replaying;
 mod request;
 
 pub use fault::ReplayFault;
+pub use reading::read_request;
 pub use replaying::{AnsweredRequests, Replayed, ReplayedFarm, answer_requests, replay};
 pub use request::{DomainRequest, RepeatedRequest, Request};
