@@ -4,7 +4,11 @@
 ghost use Rattle.live_farm.specs.LiveRanges.{IsInRange};
 
 use clap::error::ErrorKind;
-use live_farm::{LiveFailure, LiveSettings, Outlet, SharedOutlet, live_settings, run_live};
+use farm_service::Histories;
+use live_farm::{
+    FileRecords, LiveFailure, LiveSettings, Outlet, RecordFolder, SharedOutlet, live_settings,
+    no_records, run_live,
+};
 use plan_checker::{AcceptedPlan, check, read_plan};
 use script_text::{ReadFault, read_whole, write_whole};
 use std::alloc::Global;
@@ -12,6 +16,7 @@ use std::io::{self, BufRead, BufReader, Write};
 use std::process::ExitCode;
 use std::sync::{Mutex, Wait};
 use std::thread::Threads;
+use std::fs::{File, Files};
 use std::{env, fs};
 
 /// What is asked for by the words.
@@ -28,7 +33,7 @@ fn main(rt: HostRuntime) -> ExitCode {
     let outlet: Mutex<Outlet<_, 0>> = Mutex::new(Outlet::new(rt.stdout()));
     let ended = match (start_of(&rt), BufReader::new(alloc, rt.reader())) {
         (Ok(Some(start)), Ok(mut input)) => {
-            serve(&rt, alloc, start, &outlet, &mut input, &mut errors)
+            serve(&rt, &rt, alloc, start, &outlet, &mut input, &mut errors)
         }
         (Ok(Some(_)), Err(_)) => Err(LiveFailure::Memory),
         (Ok(None), _) => Ok(()),
@@ -40,17 +45,62 @@ fn main(rt: HostRuntime) -> ExitCode {
     })
 }
 
-// Answers the lines of an input on a farm of the plan.
-fn serve<R: Threads + Wait + Sync, I: BufRead + Send, O: SharedOutlet + Sync, E: Write + Send>(
+// Answers the lines of an input on a farm of the plan, and records it if that is asked for.
+fn serve<
+    R: Threads + Wait + Sync,
+    F: Files<File = File> + Sync,
+    I: BufRead + Send,
+    O: SharedOutlet + Sync,
+    E: Write + Send,
+>(
     rt: &R,
+    files: &F,
     alloc: Global,
     start: Start,
     outlet: &O,
     input: &mut I,
     errors: &mut E,
 ) -> Result<(), LiveFailure> {
+    let folder = match &start.settings.records {
+        Some(records) => Some(RecordFolder::open(files, alloc, records)?),
+        None => None,
+    };
+    serve_in(rt, alloc, start, folder.as_ref(), outlet, input, errors)
+}
+
+// The same with the folder of the records, if there is one.
+fn serve_in<
+    R: Threads + Wait + Sync,
+    F: Files<File = File> + Sync,
+    I: BufRead + Send,
+    O: SharedOutlet + Sync,
+    E: Write + Send,
+>(
+    rt: &R,
+    alloc: Global,
+    start: Start,
+    folder: Option<&RecordFolder<'_, F>>,
+    outlet: &O,
+    input: &mut I,
+    errors: &mut E,
+) -> Result<(), LiveFailure> {
     let Start { settings, plan } = start;
-    run_live(rt, alloc, plan, &settings, outlet, input, errors)?;
+    let mut histories = Histories::open(alloc, plan)?;
+    let resumes = settings.records.as_ref().is_some_and(|it| it.resumes);
+    let records: FileRecords<'_, F> = match folder {
+        Some(folder) => folder.open_records(&mut histories, resumes, errors)?,
+        None => no_records(alloc, histories.plan())?,
+    };
+    run_live(
+        rt,
+        alloc,
+        histories,
+        &settings,
+        records.as_slice(),
+        outlet,
+        input,
+        errors,
+    )?;
     Ok(())
 }
 

@@ -1,5 +1,5 @@
 -- What the lines of a domain's users do to their sessions, and how they are answered.
-use Rattle.std.specs.Prelude.{◌≡◌, ℕ, Bool, true, false, List, [], Some, length, map, slice_get, slice_set, codes, if◌then◌else◌}
+use Rattle.std.specs.Prelude.{string_bytes, ◌≡◌, ℕ, Bool, true, false, List, [], Some, length, map, slice_get, slice_set, codes, if◌then◌else◌}
 use Rattle.std.specs.Borrow.{Bor}
 use Rattle.farm_service.specs.Passes.{SessionValue}
 use Rattle.script_lines.specs.declared.command.Command.{Command}
@@ -11,6 +11,7 @@ use Rattle.live_farm.specs.declared.group.DomainUsers.{DomainUsers}
 use Rattle.live_farm.specs.declared.letter.Letter.{Letter}
 use Rattle.live_farm.specs.declared.letter.Matter.{Matter}
 use Rattle.live_farm.specs.declared.letter.Matter.TheVariants as matter
+use Rattle.live_farm.specs.declared.texts.LiveAnswer.{LiveAnswer}
 use Rattle.live_farm.specs.declared.texts.Why.{Why}
 use Rattle.live_farm.specs.declared.texts.Why.TheVariants as why
 use Rattle.live_farm.specs.declared.verbs.DomainVerb.TheVariants as verb
@@ -49,15 +50,15 @@ abbrev pub AnswersRest : DomainUsers → ℕ → List ℕ → Type 0
 AnswersRest group user text = (name : Bor (List ℕ)) × (quiet : Bool) × IsNamedSo group user name × (text ≡ rest_text name.now quiet)
 
 -- a user who is alone in his domain begins it anew; or he is told that only the operator may
-abbrev pub AnswersRestart : DomainUsers → DomainUsers → ℕ → List ℕ → Type 0
-AnswersRestart before after user text =
-    (name : Bor (List ℕ)) × (done : Bool) × IsNamedSo before user name × (text ≡ restart_text name.now done) × BeginsIf done before after
+abbrev pub AnswersRestart : DomainUsers → DomainUsers → ℕ → Bool → List ℕ → Type 0
+AnswersRestart before after user done text =
+    (name : Bor (List ℕ)) × IsNamedSo before user name × (text ≡ restart_text name.now done) × BeginsIf done before after
     × (done ≡ true → length before.sessions.items ≡ 1)
 
 -- the domain of a user begins anew, as the operator asked in the line of this number; or nothing changes, and he is told so
-abbrev pub AnswersOperator : DomainUsers → DomainUsers → ℕ → ℕ → List ℕ → Type 0
-AnswersOperator before after user number text =
-    (name : Bor (List ℕ)) × (done : Bool) × IsNamedSo before user name × BeginsIf done before after
+abbrev pub AnswersOperator : DomainUsers → DomainUsers → ℕ → ℕ → Bool → List ℕ → Type 0
+AnswersOperator before after user number done text =
+    (name : Bor (List ℕ)) × IsNamedSo before user name × BeginsIf done before after
     × (text ≡ (if done then operator_restart_text name.now else error_text (codes "!") number (why.Fault fault.User)))
 
 -- a wrong line is told to its user, and asks nothing
@@ -65,13 +66,27 @@ abbrev pub AnswersWrong : DomainUsers → DomainUsers → ℕ → ℕ → Why �
 AnswersWrong before after user number w text =
     (name : Bor (List ℕ)) × IsNamedSo before user name × (text ≡ error_text name.now number w) × AllStay before after
 
--- what a line is answered
-abbrev pub AnswersMatter : DomainUsers → DomainUsers → ℕ → ℕ → Matter → List ℕ → Type 0
-AnswersMatter before after user number (matter.Asked (request.Script command)) text = AnswersLine before after user command text
-AnswersMatter before after user number (matter.Asked (request.Domain verb.Rest)) text = AnswersRest before user text × AllStay before after
-AnswersMatter before after user number (matter.Asked (request.Domain verb.Restart)) text = AnswersRestart before after user text
-AnswersMatter before after user number (matter.Wrong w) text = AnswersWrong before after user number w text
-AnswersMatter before after user number matter.OperatorRestart text = AnswersOperator before after user number text
+-- what a line is answered, and whether the domain begins anew thereby
+abbrev pub AnswersMatter : DomainUsers → DomainUsers → ℕ → ℕ → Matter → Bool → List ℕ → Type 0
+AnswersMatter before after user number (matter.Asked (request.Script command)) anew text = AnswersLine before after user command text × (anew ≡ false)
+AnswersMatter before after user number (matter.Asked (request.Domain verb.Rest)) anew text =
+    AnswersRest before user text × AllStay before after × (anew ≡ false)
+AnswersMatter before after user number (matter.Asked (request.Domain verb.Restart)) anew text = AnswersRestart before after user anew text
+AnswersMatter before after user number (matter.Wrong w) anew text = AnswersWrong before after user number w text × (anew ≡ false)
+AnswersMatter before after user number matter.OperatorRestart anew text = AnswersOperator before after user number anew text
 
-abbrev pub AnswersLetter : DomainUsers → DomainUsers → Letter → List ℕ → Type 0
-AnswersLetter before after letter text = AnswersMatter before after letter.user letter.number letter.matter text
+-- what a letter is answered
+abbrev pub AnswersLetter : DomainUsers → DomainUsers → Letter → LiveAnswer → Type 0
+AnswersLetter before after letter answer =
+    AnswersMatter before after letter.user letter.number letter.matter answer.begins_anew (string_bytes answer.text)
+
+-- as whom a matter is answered: the operator is called `!`
+abbrev pub asker_name : List ℕ → Matter → List ℕ
+asker_name name (matter.Asked request) = name
+asker_name name (matter.Wrong w) = name
+asker_name name matter.OperatorRestart = codes "!"
+
+-- what cannot be recorded is told to who asked, and his line may have been done or not
+abbrev pub TellsUnrecorded : DomainUsers → Letter → List ℕ → Type 0
+TellsUnrecorded group letter text =
+    (name : Bor (List ℕ)) × IsNamedSo group letter.user name × (text ≡ error_text (asker_name name.now letter.matter) letter.number why.Record)

@@ -13,6 +13,7 @@ reason_word (why.Fault fault.Args) = codes "args"
 reason_word (why.Fault fault.Hex) = codes "hex"
 reason_word why.Long = codes "long"
 reason_word why.Busy = codes "busy"
+reason_word why.Record = codes "record"
 
 -- a line of this number isn't done; the operator is called `!`
 abbrev pub error_text : List ℕ → ℕ → Why → List ℕ

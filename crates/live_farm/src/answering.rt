@@ -51,7 +51,8 @@ impl DomainUsers<'_> {
         command: &Command,
     ) -> Result<LiveAnswer, NoMemory>
         requires { user < length self.old.sessions.items }
-        ensures { IfOk result (λ a. AnswersLine self.old self.new user command.now (string_bytes a.text)) }
+        ensures line { IfOk result (λ a. AnswersLine self.old self.new user command.now (string_bytes a.text)) }
+        ensures anew { IfOk result (λ a. a.begins_anew ≡ false) }
     {
         Ok(LiveAnswer::of(self.line_of(rt, alloc, user, command)?))
     }
@@ -97,7 +98,8 @@ impl DomainUsers<'_> {
         user: usize,
     ) -> Result<LiveAnswer, NoMemory>
         requires { user < length self.now.sessions.items }
-        ensures { IfOk result (λ a. AnswersRest self.now user (string_bytes a.text)) }
+        ensures rest { IfOk result (λ a. AnswersRest self.now user (string_bytes a.text)) }
+        ensures anew { IfOk result (λ a. a.begins_anew ≡ false) }
     {
         self.settle(rt, user)?;
         rest_answer(alloc, self.name(user), self.is_quiet(rt))
@@ -111,7 +113,7 @@ impl DomainUsers<'_> {
         user: usize,
     ) -> Result<LiveAnswer, NoMemory>
         requires { user < length self.old.sessions.items }
-        ensures { IfOk result (λ a. AnswersRestart self.old self.new user (string_bytes a.text)) }
+        ensures { IfOk result (λ a. AnswersRestart self.old self.new user a.begins_anew (string_bytes a.text)) }
     {
         let name = self.name(user);
         if self.users() != 1 {
@@ -130,7 +132,7 @@ impl DomainUsers<'_> {
         number: u64,
     ) -> Result<LiveAnswer, NoMemory>
         requires { user < length self.old.sessions.items }
-        ensures { IfOk result (λ a. AnswersOperator self.old self.new user number (string_bytes a.text)) }
+        ensures { IfOk result (λ a. AnswersOperator self.old self.new user number a.begins_anew (string_bytes a.text)) }
     {
         let name = self.name(user);
         if self.begin_anew(rt) {
@@ -153,7 +155,7 @@ pub fn answer_letter<R: Wait>(
     letter: &Letter,
 ) -> Result<LiveAnswer, NoMemory>
     requires { letter.now.user < length group.old.sessions.items }
-    ensures { IfOk result (λ a. AnswersLetter group.old group.new letter.now (string_bytes a.text)) }
+    ensures { IfOk result (AnswersLetter group.old group.new letter.now) }
 {
     let user = usize::from(letter.user);
     match &letter.matter {

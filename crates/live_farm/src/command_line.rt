@@ -17,6 +17,17 @@ Example:
 
 docs/LIVE.md says what lines there are.";
 
+/// Where the farm is recorded.
+#[derive(Debug, Drop)]
+pub struct RecordSettings {
+    /// The path of the folder.
+    pub path: String,
+    /// Whether the farm goes on with the records that are there.
+    pub resumes: bool,
+    /// Whether each answer waits for the disk.
+    pub syncs: bool,
+}
+
 /// The plan's file, how many workers step the nodes, and how many Steps each does at a time.
 #[derive(Debug, Drop)]
 pub struct LiveSettings {
@@ -26,6 +37,20 @@ pub struct LiveSettings {
     pub workers: u8,
     /// 1 to 4,096 Steps.
     pub quantum: u16,
+    /// Where the farm is recorded, if it is.
+    pub records: Option<RecordSettings>,
+}
+
+// Where the farm is recorded.
+fn records_in(alloc: Global, matches: &ArgMatches) -> Result<Option<RecordSettings>, AllocError> {
+    match matches.get_str("record") {
+        Some(path) => Ok(Some(RecordSettings {
+            path: String::from_str(alloc, path)?,
+            resumes: matches.get_flag("resume"),
+            syncs: matches.get_flag("sync"),
+        })),
+        None => Ok(None),
+    }
 }
 
 // What was matched.
@@ -36,11 +61,12 @@ fn settings_in(alloc: Global, matches: &ArgMatches) -> Result<LiveSettings, Allo
         path: String::from_str(alloc, matches.get_str("plan").unwrap_or(""))?,
         workers: workers_of(matches.get_one::<u8>("workers")),
         quantum: quantum_of(matches.get_one::<u16>("quantum")),
+        records: records_in(alloc, matches)?,
     })
 }
 
-/// Reads the words of the command line, of which the first is the program's name: the plan's path, `--workers N`, 1 to 8,
-/// default 2, and `--quantum N`, 1 to 4,096, default 256. The error is `clap`'s: `--help` is one, and want of memory another.
+/// Reads the words of the command line, of which the first is the program's name: the plan's path; `--workers N`, 1 to 8,
+/// default 2; `--quantum N`, 1 to 4,096, default 256; `--record DIR`, and with it `--resume` and `--sync`. The error is `clap`'s: `--help` is one, and want of memory another.
 pub fn live_settings<S: AsStr>(alloc: Global, words: &[S]) -> Result<LiveSettings, clap::Error>
     ensures { IfOk result IsInRange }
 {
@@ -69,8 +95,28 @@ pub fn live_settings<S: AsStr>(alloc: Global, words: &[S]) -> Result<LiveSetting
         .arg(path)?
         .arg(workers)?
         .arg(quantum)?;
-    let matches = command.try_get_matches_from(words)?;
+    let matches = with_records(alloc, command)?.try_get_matches_from(words)?;
     Ok(settings_in(alloc, &matches)?)
+}
+
+// The same command with the options of records.
+fn with_records<'a>(alloc: Global, command: Command<'a>) -> Result<Command<'a>, clap::Error> {
+    let record = Arg::new(alloc, "record")
+        .long("record")
+        .value_name("DIR")
+        .help("Records what each domain answers in files of this folder")
+        .action(ArgAction::Set);
+    let resume = Arg::new(alloc, "resume")
+        .long("resume")
+        .help("Goes on with the records that are there")
+        .action(ArgAction::SetTrue)
+        .requires_arg("record")?;
+    let sync = Arg::new(alloc, "sync")
+        .long("sync")
+        .help("Each answer waits until its record is on the disk")
+        .action(ArgAction::SetTrue)
+        .requires_arg("record")?;
+    Ok(command.arg(record)?.arg(resume)?.arg(sync)?)
 }
 
 // The parser gives a number in its range, or the default.

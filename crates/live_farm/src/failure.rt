@@ -61,6 +61,12 @@ pub enum LiveFailure {
     Io,
     #[error("{path}: {error}\n")]
     File { path: String, error: io::Error },
+    #[error("{path}: {why}\n")]
+    Record { path: String, why: String },
+    #[error("a record isn't whole\n")]
+    NotRecorded,
+    #[error("the histories aren't those of the plan\n")]
+    Histories,
     #[error("threads\n")]
     Threads,
 }
@@ -74,11 +80,19 @@ impl LiveFailure {
         }
     }
 
-    /// The plan's file couldn't be read.
+    /// A call of the system on a file failed.
     pub fn of_file(alloc: Global, path: &str, error: io::Error) -> LiveFailure {
-        match String::from_str(alloc, path) {
-            Ok(path) => LiveFailure::File { path, error },
-            Err(_) => LiveFailure::Memory,
+        match (error.kind(), String::from_str(alloc, path)) {
+            (io::ErrorKind::OutOfMemory, _) | (_, Err(_)) => LiveFailure::Memory,
+            (_, Ok(path)) => LiveFailure::File { path, error },
+        }
+    }
+
+    /// A record, or the folder of records, can't be used.
+    pub fn of_record(alloc: Global, path: &str, why: &str) -> LiveFailure {
+        match (String::from_str(alloc, path), String::from_str(alloc, why)) {
+            (Ok(path), Ok(why)) => LiveFailure::Record { path, why },
+            _ => LiveFailure::Memory,
         }
     }
 
@@ -100,7 +114,11 @@ impl LiveFailure {
             LiveFailure::Words(_) | LiveFailure::Arguments => 2,
             LiveFailure::Plan { .. } => 3,
             LiveFailure::Memory => 5,
-            LiveFailure::Io | LiveFailure::File { .. } => 6,
+            LiveFailure::Io
+            | LiveFailure::File { .. }
+            | LiveFailure::Record { .. }
+            | LiveFailure::NotRecorded
+            | LiveFailure::Histories => 6,
             LiveFailure::Threads => 7,
         }
     }

@@ -11,12 +11,13 @@ use crate::crew::Crew;
 use crate::failure::{LiveFailure, Trouble};
 use crate::operator::Operator;
 use crate::outlet::SharedOutlet;
+use crate::record::{NotKept, SharedRecord};
 use crate::threads::run_crew;
+use domain_core::Refusal;
 use farm_service::{
-    Closed, NoGate, NoMemory, Opened, Service, UserPass, WorkerPass, run_users_and_workers,
+    Closed, Histories, NoGate, NoMemory, Opened, Service, UserPass, WorkerPass, run_users_and_workers,
 };
 use line_answers::Quantum;
-use plan_checker::AcceptedPlan;
 use std::alloc::Global;
 use std::io::{BufRead, Write};
 use std::slice;
@@ -34,13 +35,20 @@ struct LiveReader<'a, 'b, 'c, I: BufRead, E: Write> {
 }
 
 // Reads lines to their end, with a thread for each domain and the workers beside them.
-fn run_all<R: Threads + Wait + Sync, I: BufRead + Send, O: SharedOutlet + Sync, E: Write + Send>(
+fn run_all<
+    R: Threads + Wait + Sync,
+    K: SharedRecord + Sync,
+    I: BufRead + Send,
+    O: SharedOutlet + Sync,
+    E: Write + Send,
+>(
     rt: &R,
     alloc: Global,
     service: &Service,
     passes: &mut Vec<WorkerPass>,
     steps: u64,
     crew: &Crew<'_>,
+    records: &[K],
     outlet: &O,
     reader: &mut LiveReader<'_, '_, '_, I, E>,
 ) -> Result<(), NoMemory>
@@ -53,6 +61,7 @@ fn run_all<R: Threads + Wait + Sync, I: BufRead + Send, O: SharedOutlet + Sync, 
             rt,
             alloc,
             crew,
+            records,
             outlet,
             &mut reader.operator,
             reader.input,
@@ -71,13 +80,20 @@ fn run_all<R: Threads + Wait + Sync, I: BufRead + Send, O: SharedOutlet + Sync, 
 }
 
 // Answers all lines, and gives the users' passes back.
-fn serve_all<R: Threads + Wait + Sync, I: BufRead + Send, O: SharedOutlet + Sync, E: Write + Send>(
+fn serve_all<
+    R: Threads + Wait + Sync,
+    K: SharedRecord + Sync,
+    I: BufRead + Send,
+    O: SharedOutlet + Sync,
+    E: Write + Send,
+>(
     rt: &R,
     alloc: Global,
     service: &Service,
     passes: &mut Vec<WorkerPass>,
     users: Vec<UserPass>,
     quantum: u16,
+    records: &[K],
     outlet: &O,
     reader: &mut LiveReader<'_, '_, '_, I, E>,
 ) -> Result<Vec<UserPass>, LiveFailure>
@@ -93,16 +109,37 @@ fn serve_all<R: Threads + Wait + Sync, I: BufRead + Send, O: SharedOutlet + Sync
         passes,
         u64::from(quantum),
         &crew,
+        records,
         outlet,
         reader,
     )?;
+    let kept = keep_rest(rt, service, records);
     reader.ended?;
+    kept?;
     Ok(crew.end(alloc)?)
+}
+
+// Records what the domains answered since their last lines. All threads have ended.
+fn keep_rest<R: Wait, K: SharedRecord>(
+    rt: &R,
+    service: &Service,
+    records: &[K],
+) -> Result<(), LiveFailure> {
+    let mut kept = Ok(());
+    for (domain, record) in (0..service.plan().domains()).zip(records) {
+        match record.keep(rt, service, domain, false) {
+            Ok(()) => {}
+            Err(NotKept::Failed) => kept = Err(LiveFailure::NotRecorded),
+            Err(NotKept::Memory) => return Err(LiveFailure::Memory),
+        }
+    }
+    kept
 }
 
 // The same, with the operator at his seat.
 fn serve_seated<
     R: Threads + Wait + Sync,
+    K: SharedRecord + Sync,
     I: BufRead + Send,
     O: SharedOutlet + Sync,
     E: Write + Send,
@@ -114,6 +151,7 @@ fn serve_seated<
     passes: &mut Vec<WorkerPass>,
     users: Vec<UserPass>,
     quantum: u16,
+    records: &[K],
     outlet: &O,
     input: &mut I,
     errors: &mut E,
@@ -137,6 +175,7 @@ fn serve_seated<
         passes,
         users,
         quantum,
+        records,
         outlet,
         &mut reader,
     )
@@ -160,28 +199,32 @@ fn close<R: Wait>(
     }
 }
 
-/// Opens a farm on the plan, answers the lines of an input as they come, and closes the farm when the input ends or the
-/// operator stops it.
+/// Opens a farm on histories, answers the lines of an input as they come, and closes the farm when the input ends or the
+/// operator stops it. What each domain answers is recorded, in the record of its place, before it is told.
 pub fn run_live<
     R: Threads + Wait + Sync,
+    K: SharedRecord + Sync,
     I: BufRead + Send,
     O: SharedOutlet + Sync,
     E: Write + Send,
 >(
     rt: &R,
     alloc: Global,
-    plan: AcceptedPlan,
+    histories: Histories,
     settings: &LiveSettings,
+    records: &[K],
     outlet: &O,
     input: &mut I,
     errors: &mut E,
 ) -> Result<Closed, LiveFailure>
     requires { IsInRange settings.now }
-    ensures domains { IfOk result (λ closed. AreDomainsOf plan closed.domains.items) }
-    ensures runs { IfOk result (λ closed. EachMergeRuns (places_of plan) closed.domains.items) }
+    ensures domains { IfOk result (λ closed. AreDomainsOf histories.plan closed.domains.items) }
+    ensures runs { IfOk result (λ closed. EachMergeRuns (places_of histories.plan) closed.domains.items) }
 {
-    let Ok(opened) = Service::open(rt, alloc, plan, settings.workers) else {
-        return Err(LiveFailure::Memory);
+    let opened = match Service::open_again(rt, alloc, histories, settings.workers) {
+        Ok(opened) => opened,
+        Err(Refusal::NoMemory) => return Err(LiveFailure::Memory),
+        Err(Refusal::NoSuch | Refusal::JournalFull) => return Err(LiveFailure::Histories),
     };
     let Opened {
         service,
@@ -197,6 +240,7 @@ pub fn run_live<
         &mut passes,
         users,
         settings.quantum,
+        records,
         outlet,
         input,
         errors,

@@ -1,5 +1,6 @@
 //! A domain's thread: it answers the lines that come to its mailbox.
-ghost use Rattle.std.specs.Prelude.{◌<◌, length};
+ghost use Rattle.std.specs.Prelude.{◌<◌, ◌⊎◌, length, IfOk, string_bytes};
+ghost use Rattle.live_farm.specs.Groups.{AnswersLetter, TellsUnrecorded};
 
 use crate::answering::answer_letter;
 use crate::asked::LiveRequest;
@@ -7,6 +8,8 @@ use crate::group::DomainUsers;
 use crate::letter::{Letter, Matter};
 use crate::mailbox::Mailbox;
 use crate::outlet::SharedOutlet;
+use crate::record::{NotKept, SharedRecord};
+use crate::texts::{LiveAnswer, Why, error_answer};
 use domain_core::NoMemory;
 use std::alloc::Global;
 use std::sync::atomic::{AtomicBool, AtomicU64, Ordering};
@@ -67,18 +70,58 @@ impl<'a> Station<'a> {
     }
 }
 
+// That a letter can't be recorded.
+fn record_answer(
+    alloc: Global,
+    group: &DomainUsers<'_>,
+    letter: &Letter,
+) -> Result<LiveAnswer, NoMemory>
+    requires { letter.now.user < length group.now.sessions.items }
+    ensures { IfOk result (λ a. TellsUnrecorded group.now letter.now (string_bytes a.text)) }
+{
+    let name = match letter.matter {
+        Matter::OperatorRestart => "!",
+        _ => group.name(usize::from(letter.user)),
+    };
+    error_answer(alloc, name, letter.number, Why::Record)
+}
+
+// Answers a letter, and records what the domain answered by then before the answer is given to anybody. Once something wasn't
+// recorded nothing more is done.
+fn answer_and_keep<R: Wait, K: SharedRecord>(
+    rt: &R,
+    alloc: Global,
+    group: &mut DomainUsers<'_>,
+    letter: &Letter,
+    record: &K,
+) -> Result<LiveAnswer, NoMemory>
+    requires { letter.now.user < length group.old.sessions.items }
+    ensures { IfOk result (λ a. AnswersLetter group.old group.new letter.now a ⊎ TellsUnrecorded group.new letter.now (string_bytes a.text)) }
+{
+    if record.has_failed(rt) {
+        return record_answer(alloc, group, letter);
+    }
+    let answer = answer_letter(rt, alloc, group, letter)?;
+    match record.keep(rt, group.service, group.domain, answer.begins_anew) {
+        Ok(()) => Ok(answer),
+        Err(NotKept::Failed) => record_answer(alloc, group, letter),
+        Err(NotKept::Memory) => Err(NoMemory),
+    }
+}
+
 // Answers a letter, counts it, and writes the answer at once. Behind a line of a script the domain settles.
-fn serve_letter<R: Wait, O: SharedOutlet>(
+fn serve_letter<R: Wait, K: SharedRecord, O: SharedOutlet>(
     rt: &R,
     alloc: Global,
     station: &Station<'_>,
     group: &mut DomainUsers<'_>,
     letter: &Letter,
+    record: &K,
     outlet: &O,
 ) -> Result<(), NoMemory>
     requires { letter.now.user < length group.old.sessions.items }
 {
-    let answer = answer_letter(rt, alloc, group, letter)?;
+    let answer = answer_and_keep(rt, alloc, group, letter, record)?;
     station.count(letter);
     outlet.put_answer(rt, &answer);
     let user = usize::from(letter.user);
@@ -90,7 +133,13 @@ fn serve_letter<R: Wait, O: SharedOutlet>(
 
 /// Answers letters, in their order, until the mailbox is closed and empty. Once a write has failed nothing more is asked. If
 /// there is no memory the thread says so and ends.
-pub fn serve<R: Wait, O: SharedOutlet>(rt: &R, alloc: Global, station: &Station<'_>, outlet: &O) {
+pub fn serve<R: Wait, K: SharedRecord, O: SharedOutlet>(
+    rt: &R,
+    alloc: Global,
+    station: &Station<'_>,
+    record: &K,
+    outlet: &O,
+) {
     let mut guard = station.group.lock(rt);
     let group = &mut *guard;
     for _ in rt.forever() {
@@ -100,7 +149,7 @@ pub fn serve<R: Wait, O: SharedOutlet>(rt: &R, alloc: Global, station: &Station<
         if usize::from(letter.user) >= group.users() || outlet.has_failed(rt) {
             continue;
         }
-        if serve_letter(rt, alloc, station, group, &letter, outlet).is_err() {
+        if serve_letter(rt, alloc, station, group, &letter, record, outlet).is_err() {
             station.out_of_memory.store(true, Ordering::SeqCst);
             break;
         }

@@ -1,5 +1,5 @@
 //! The answers that a script hasn't.
-ghost use Rattle.std.specs.Prelude.{◌≡◌, ◌++◌, IfOk, true, codes, string_bytes, if◌then◌else◌};
+ghost use Rattle.std.specs.Prelude.{◌≡◌, ◌++◌, IfOk, true, false, codes, string_bytes, if◌then◌else◌};
 ghost use Rattle.live_farm.specs.WholeLines.{are_lines};
 ghost use Rattle.live_farm.specs.LiveTexts.{reason_word, error_text, unknown_user_text, rest_text, restart_text, operator_restart_text};
 
@@ -16,6 +16,8 @@ pub enum Why {
     Long,
     /// Too many lines wait for the domain.
     Busy,
+    /// It, or what was answered before it, can't be recorded.
+    Record,
 }
 
 impl Why {
@@ -30,14 +32,16 @@ impl Why {
             Why::Fault(LineFault::Hex) => "hex",
             Why::Long => "long",
             Why::Busy => "busy",
+            Why::Record => "record",
         }
     }
 }
 
-/// What is written at once: whole lines.
+/// What is written at once: whole lines; and whether the domain began anew thereby.
 #[derive(Debug, Drop)]
 pub struct LiveAnswer {
     pub(crate) text: String,
+    pub(crate) begins_anew: bool,
     ghost whole: { are_lines (string_bytes text) ≡ true },
 }
 
@@ -45,14 +49,19 @@ impl LiveAnswer {
     /// Whole lines.
     pub fn of(text: String) -> LiveAnswer
         requires { are_lines (string_bytes text) ≡ true }
-        ensures { result.text ≡ text }
+        ensures text { result.text ≡ text }
+        ensures anew { result.begins_anew ≡ false }
     {
-        LiveAnswer { text }
+        LiveAnswer {
+            text,
+            begins_anew: false,
+        }
     }
 
     /// A text as a line, which ends behind it.
     pub fn line(mut text: String) -> Result<LiveAnswer, NoMemory>
-        ensures { IfOk result (λ a. string_bytes a.text ≡ string_bytes text ++ codes "\n") }
+        ensures text { IfOk result (λ a. string_bytes a.text ≡ string_bytes text ++ codes "\n") }
+        ensures anew { IfOk result (λ a. a.begins_anew ≡ false) }
     {
         text.push_str("\n")?;
         Ok(LiveAnswer::of(text))
@@ -74,7 +83,8 @@ pub fn error_answer(
     number: u64,
     why: Why,
 ) -> Result<LiveAnswer, NoMemory>
-    ensures { IfOk result (λ a. string_bytes a.text ≡ error_text name.now number why) }
+    ensures text { IfOk result (λ a. string_bytes a.text ≡ error_text name.now number why) }
+    ensures anew { IfOk result (λ a. a.begins_anew ≡ false) }
 {
     let word = why.word();
     let answer = LiveAnswer::line(format!(in alloc; "{name} error {number} {word}")?)?;
@@ -97,7 +107,8 @@ fn chosen(is_first: bool, first: &'static str, second: &'static str) -> &'static
 
 /// Whether a user's domain is at rest.
 pub fn rest_answer(alloc: Global, name: &str, is_quiet: bool) -> Result<LiveAnswer, NoMemory>
-    ensures { IfOk result (λ a. string_bytes a.text ≡ rest_text name.now is_quiet) }
+    ensures text { IfOk result (λ a. string_bytes a.text ≡ rest_text name.now is_quiet) }
+    ensures anew { IfOk result (λ a. a.begins_anew ≡ false) }
 {
     let word = chosen(is_quiet, "quiet", "busy");
     let answer = LiveAnswer::line(format!(in alloc; "{name} rest {word}")?)?;
@@ -106,16 +117,21 @@ pub fn rest_answer(alloc: Global, name: &str, is_quiet: bool) -> Result<LiveAnsw
 
 /// Whether a user's domain begins anew.
 pub fn restart_answer(alloc: Global, name: &str, is_done: bool) -> Result<LiveAnswer, NoMemory>
-    ensures { IfOk result (λ a. string_bytes a.text ≡ restart_text name.now is_done) }
+    ensures text { IfOk result (λ a. string_bytes a.text ≡ restart_text name.now is_done) }
+    ensures anew { IfOk result (λ a. a.begins_anew ≡ is_done) }
 {
     let word = chosen(is_done, "ok", "operator");
-    let answer = LiveAnswer::line(format!(in alloc; "{name} restart {word}")?)?;
+    let mut answer = LiveAnswer::line(format!(in alloc; "{name} restart {word}")?)?;
+    answer.begins_anew = is_done;
     Ok(answer)
 }
 
 /// That the domain of a user begins anew, for the operator.
 pub fn operator_restart_answer(alloc: Global, name: &str) -> Result<LiveAnswer, NoMemory>
-    ensures { IfOk result (λ a. string_bytes a.text ≡ operator_restart_text name.now) }
+    ensures text { IfOk result (λ a. string_bytes a.text ≡ operator_restart_text name.now) }
+    ensures anew { IfOk result (λ a. a.begins_anew ≡ true) }
 {
-    LiveAnswer::line(format!(in alloc; "!restart {name} ok")?)
+    let mut answer = LiveAnswer::line(format!(in alloc; "!restart {name} ok")?)?;
+    answer.begins_anew = true;
+    Ok(answer)
 }

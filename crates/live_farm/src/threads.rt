@@ -5,6 +5,7 @@ use crate::desk::Desk;
 use crate::failure::Trouble;
 use crate::operator::Operator;
 use crate::outlet::SharedOutlet;
+use crate::record::SharedRecord;
 use crate::station::{Station, serve};
 use std::alloc::Global;
 use std::io::{BufRead, Write};
@@ -13,9 +14,16 @@ use std::thread;
 use std::thread::Threads;
 
 // Starts a thread for each station of a list.
-fn run_stations<R: Threads + Wait + Sync, I: BufRead, O: SharedOutlet + Sync, E: Write>(
+fn run_stations<
+    R: Threads + Wait + Sync,
+    K: SharedRecord + Sync,
+    I: BufRead,
+    O: SharedOutlet + Sync,
+    E: Write,
+>(
     rt: &R,
     stations: &[Station<'_>],
+    records: &[K],
     desk: &Desk<'_, '_>,
     outlet: &O,
     operator: &mut Operator<'_>,
@@ -25,9 +33,9 @@ fn run_stations<R: Threads + Wait + Sync, I: BufRead, O: SharedOutlet + Sync, E:
     let alloc = desk.alloc;
     thread::scope(thread::scope_env(), rt, |scope| {
         let mut started = true;
-        for station in stations {
+        for (station, record) in stations.iter().zip(records) {
             if scope
-                .spawn(move || serve(rt, alloc, station, outlet))
+                .spawn(move || serve(rt, alloc, station, record, outlet))
                 .is_err()
             {
                 started = false;
@@ -46,12 +54,19 @@ fn run_stations<R: Threads + Wait + Sync, I: BufRead, O: SharedOutlet + Sync, E:
     })
 }
 
-/// Answers all lines up to the end of the input, or until the operator stops. If a thread can't be started no line is read.
+/// Answers all lines, each domain's with the record of its place, up to the end of the input, or until the operator stops. If a thread can't be started no line is read.
 /// All threads have ended when the call returns.
-pub fn run_crew<R: Threads + Wait + Sync, I: BufRead, O: SharedOutlet + Sync, E: Write>(
+pub fn run_crew<
+    R: Threads + Wait + Sync,
+    K: SharedRecord + Sync,
+    I: BufRead,
+    O: SharedOutlet + Sync,
+    E: Write,
+>(
     rt: &R,
     alloc: Global,
     crew: &Crew<'_>,
+    records: &[K],
     outlet: &O,
     operator: &mut Operator<'_>,
     input: &mut I,
@@ -61,6 +76,7 @@ pub fn run_crew<R: Threads + Wait + Sync, I: BufRead, O: SharedOutlet + Sync, E:
     run_stations(
         rt,
         crew.stations.as_slice(),
+        records,
         &desk,
         outlet,
         operator,

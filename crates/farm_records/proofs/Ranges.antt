@@ -1,0 +1,32 @@
+-- Equality of ranges.
+use Rattle.std.proofs.Common.{◌≡◌, ℕ, Bool, ◌&&◌, Option, Some, None, refl, ap}
+use Rattle.std.specs.Bool.{Decides}
+use Rattle.std.specs.Option.{option_eq}
+use lib.Dec.{eqb}
+use Rattle.std.proofs.lemmas.Bool.{false≢true}
+use Rattle.std.proofs.lemmas.Bool.Decides.{Decides-eqb, Decides-and}
+use Rattle.crossbar.specs.declared.range.PortRange.{PortRange}
+
+-- a range from its ends
+abbrev range : ℕ → ℕ → PortRange
+range first last = record { first = first; last = last }
+
+ranges_equal : (p q u v : ℕ) → p ≡ q → u ≡ v → range p u ≡ range q v
+ranges_equal p q u v e f = cc
+
+-- how ranges are compared
+abbrev pub range_eq : PortRange → PortRange → Bool
+range_eq a b = eqb a.first b.first && eqb a.last b.last
+
+same_range : (a b : PortRange) → Decides (range_eq a b) (a ≡ b)
+same_range a b =
+    let fields = Decides-and _ _ (Decides-eqb a.first b.first) (Decides-eqb a.last b.last) in (
+      λ e. ranges_equal a.first b.first a.last b.last (fields.0 e).0 (fields.0 e).1,
+      λ e. fields.1 (ap (λ (r : PortRange). r.first) e, ap (λ (r : PortRange). r.last) e),
+    )
+
+pub same_range_or_none : (a b : Option PortRange) → Decides (option_eq range_eq a b) (a ≡ b)
+same_range_or_none None None = (λ e. refl, λ e. refl)
+same_range_or_none None (Some y) = (λ e. absurd (false≢true e), λ e. cc)
+same_range_or_none (Some x) None = (λ e. absurd (false≢true e), λ e. cc)
+same_range_or_none (Some x) (Some y) = (λ e. ap Some ((same_range x y).0 e), λ e. let same : x ≡ y = cc in (same_range x y).1 same)

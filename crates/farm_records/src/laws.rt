@@ -1,0 +1,14 @@
+//! Laws of every record.
+
+ghost use Rattle.farm_records.specs.Laws.{RecordsAreHistories, BeginningsAreRecords};
+
+/// The lines of entries of a journal stand for just what the entries stand for.
+pub fn records_are_histories()
+    ensures law { RecordsAreHistories }
+{}
+
+/// A record that is cut behind any of its lines is a record: its text is a beginning of the text, and the history for which it
+/// stands is the beginning of that history.
+pub fn beginnings_are_records()
+    ensures law { BeginningsAreRecords }
+{}

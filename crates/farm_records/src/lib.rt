@@ -1,0 +1,16 @@
+//! The records of a farm that stays up: what a domain answered, as a text that `lab rows` judges, and how a domain does it again.
+#![tactic(auto)]
+
+mod fault;
+mod head;
+pub mod laws;
+mod line;
+mod reading;
+mod redoing;
+mod writing;
+
+pub use fault::{HeadFault, RecordFault, RedoFault};
+pub use head::head_of;
+pub use reading::{Redone, redo_record};
+pub use redoing::{Redoing, redo_line};
+pub use writing::write_records_of;

@@ -1,0 +1,128 @@
+//! A domain does again what a line of a record says.
+ghost use Rattle.std.specs.Prelude.{◌≡◌, ◌∷◌, [], replicate, IfOk, OnOk};
+ghost use Rattle.t414_step.specs.declared.stepping.Stepped.TheVariants.{Ran};
+ghost use Rattle.domain_core.specs.declared.event.By.TheVariants.{Farm};
+ghost use Rattle.domain_core.specs.Journal.{answered_step};
+ghost use Rattle.farm_records.specs.RecordText.{line_history};
+ghost use Rattle.farm_records.specs.Records.{GainsHistory, RedoesLine};
+
+use crate::fault::RedoFault;
+use crate::line::{RecordedCall, read_call};
+use crate::writing::write_line;
+use crossbar::Outputs;
+use domain_core::{By, Committed, Domain, Event, Refusal, Reply, Ticket};
+use std::alloc::Global;
+use t414_step::Stepped;
+
+/// What serves one line after another: a ticket for Steps, and a text to compare with.
+#[derive(Drop)]
+pub struct Redoing {
+    alloc: Global,
+    ticket: Option<Ticket>,
+    text: String,
+}
+
+impl Redoing {
+    /// It takes no memory yet.
+    pub fn new(alloc: Global) -> Redoing {
+        Redoing {
+            alloc,
+            ticket: None,
+            text: String::new(alloc),
+        }
+    }
+}
+
+impl From<Refusal> for RedoFault {
+    fn from(refusal: Refusal) -> RedoFault {
+        match refusal {
+            Refusal::NoMemory => RedoFault::Memory(domain_core::NoMemory),
+            Refusal::NoSuch | Refusal::JournalFull => RedoFault::Differs,
+        }
+    }
+}
+
+// Does an event that is recorded.
+fn redo_event<O: Outputs + Drop>(
+    domain: &mut Domain<O>,
+    by: By,
+    event: Event,
+) -> Result<Reply, RedoFault>
+    ensures { IfOk result (λ reply.
+        GainsHistory (record { call = record { by = by; event = event }; reply = reply } ∷ []) domain.old domain.new) }
+{
+    let before = domain.recorded();
+    let reply = domain.apply(by, event)?;
+    if domain.recorded() == before {
+        return Err(RedoFault::Differs);
+    }
+    Ok(reply)
+}
+
+// Does Steps of a node in one burst. All of them ran.
+fn redo_steps<O: Outputs + Drop>(
+    domain: &mut Domain<O>,
+    slot: &mut Option<Ticket>,
+    node: u8,
+    times: u64,
+) -> Result<(), RedoFault>
+    ensures { OnOk result (GainsHistory (replicate times (answered_step Farm node Ran)) domain.old domain.new) }
+{
+    domain.checkout_to(slot, 0, node)?;
+    let Some(ticket) = slot else {
+        return Err(RedoFault::Differs);
+    };
+    ticket.burst(times);
+    if ticket.steps() != times || ticket.last() != Some(Stepped::Ran) {
+        return Err(RedoFault::Differs);
+    }
+    match domain.commit_lent(ticket)? {
+        Committed::Done => Ok(()),
+        Committed::Stale => Err(RedoFault::Differs),
+    }
+}
+
+// Does a call as often as it was made. Only Steps stand together.
+fn redo_call<O: Outputs + Drop>(
+    domain: &mut Domain<O>,
+    slot: &mut Option<Ticket>,
+    call: RecordedCall,
+) -> Result<Reply, RedoFault>
+    ensures { IfOk result (λ reply. GainsHistory (line_history (record {
+        times = call.times; answered = record { call = record { by = call.by; event = call.event }; reply = reply } })) domain.old domain.new) }
+{
+    let RecordedCall { times, by, event } = call;
+    match (times, by, event) {
+        (1, _, _) => redo_event(domain, by, event),
+        (_, By::Farm, Event::Step(node)) => {
+            redo_steps(domain, slot, node, times)?;
+            Ok(Reply::Stepped(Stepped::Ran))
+        }
+        _ => Err(RedoFault::NoLine),
+    }
+}
+
+/// Does again what a line says, with its line feed, and compares what the domain answers. Steps that stand together are one burst.
+///
+/// # Errors
+///
+/// `NoLine` if it isn't a line of a record, or not in its only form, and `Differs` if the domain answers otherwise or doesn't
+/// record it; `Memory`. The domain may then have done what the line says.
+pub fn redo_line<O: Outputs + Drop>(
+    redoing: &mut Redoing,
+    domain: &mut Domain<O>,
+    line: &[u8],
+) -> Result<(), RedoFault>
+    ensures { OnOk result (RedoesLine line.now domain.old domain.new) }
+{
+    let call = read_call(redoing.alloc, line)?;
+    let reply = redo_call(domain, &mut redoing.ticket, call)?;
+    let text = &mut redoing.text;
+    text.clear();
+    write_line(text, call.times, call.by, call.event, reply)?;
+    if text.as_bytes() == line {
+        Ok(())
+    } else {
+        Err(RedoFault::Differs)
+    }
+}

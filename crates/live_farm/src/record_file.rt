@@ -1,0 +1,367 @@
+//! Records in files of a folder.
+
+use crate::command_line::RecordSettings;
+use crate::failure::LiveFailure;
+use crate::record::{DomainRecord, RecordStore};
+use domain_core::NoMemory;
+use farm_records::{HeadFault, RecordFault, Redone, head_of, redo_record};
+use farm_service::{Histories, SeatedDomain};
+use plan_checker::AcceptedPlan;
+use script_text::write_whole;
+use std::alloc::Global;
+use std::fs::{self, File, Files, OpenFile, OpenOptions, TryLockError};
+use std::io::{self, BufReader, Write};
+use std::sync::Mutex;
+
+/// The records of all domains, in the order of the plan.
+pub type FileRecords<'a, F> = Vec<Mutex<DomainRecord<RecordFile<'a, F>>>>;
+
+/// A folder of records, which no other farm has as long as it is open.
+#[derive(Drop)]
+pub struct RecordFolder<'a, F: Files<File = File>> {
+    files: &'a F,
+    alloc: Global,
+    path: String,
+    syncs: bool,
+    // Held as long as this is.
+    lock: File,
+}
+
+/// The newest record of a domain.
+#[derive(Drop)]
+pub struct RecordFile<'a, F: Files<File = File>> {
+    files: &'a F,
+    alloc: Global,
+    // The path without what tells it from the domain's other records.
+    stem: String,
+    number: u64,
+    syncs: bool,
+    file: File,
+}
+
+// A record that was there, with how much of it is whole.
+#[derive(Drop)]
+struct FoundRecord {
+    path: String,
+    number: u64,
+    file: File,
+    length: u64,
+    whole: u64,
+}
+
+impl<'a, F: Files<File = File>> RecordFolder<'a, F> {
+    /// Opens the folder, which is made if it isn't there, and locks it.
+    pub fn open(
+        files: &'a F,
+        alloc: Global,
+        settings: &RecordSettings,
+    ) -> Result<RecordFolder<'a, F>, LiveFailure> {
+        let path = settings.path.as_str();
+        if let Err(error) = fs::create_dir_all(files, path) {
+            return Err(LiveFailure::of_file(alloc, path, error));
+        }
+        let lock = format!(in alloc; "{path}/lock")?;
+        let file = open_lock(files, alloc, lock.as_str())?;
+        Ok(RecordFolder {
+            files,
+            alloc,
+            path: String::from_str(alloc, path)?,
+            syncs: settings.syncs,
+            lock: file,
+        })
+    }
+
+    // The path of a record of a domain without its end.
+    fn stem(&self, name: &str) -> Result<String, NoMemory> {
+        let path = self.path.as_str();
+        format!(in self.alloc; "{path}/{name}")
+    }
+}
+
+// Opens a file and locks it.
+fn open_lock<F: Files<File = File>>(
+    files: &F,
+    alloc: Global,
+    path: &str,
+) -> Result<File, LiveFailure> {
+    let opened = OpenOptions::new()
+        .append(true)
+        .create(true)
+        .open(files, path);
+    let file = match opened {
+        Ok(file) => file,
+        Err(error) => return Err(LiveFailure::of_file(alloc, path, error)),
+    };
+    match file.try_lock() {
+        Ok(()) => Ok(file),
+        Err(TryLockError::WouldBlock) => Err(LiveFailure::of_record(
+            alloc,
+            path,
+            "another farm records there",
+        )),
+        Err(TryLockError::Error(error)) => Err(LiveFailure::of_file(alloc, path, error)),
+    }
+}
+
+// The path of a domain's record of this number, from 1.
+fn record_path(alloc: Global, stem: &str, number: u64) -> Result<String, NoMemory> {
+    if number == 1 {
+        format!(in alloc; "{stem}.replay")
+    } else {
+        format!(in alloc; "{stem}.{number}.replay")
+    }
+}
+
+// The number of the newest record of a domain, 0 if there is none.
+fn newest<F: Files<File = File>>(files: &F, alloc: Global, stem: &str) -> Result<u64, LiveFailure> {
+    for number in 1..u64::MAX {
+        let path = record_path(alloc, stem, number)?;
+        match fs::exists(files, path.as_str()) {
+            Ok(true) => {}
+            Ok(false) => return Ok(number - 1),
+            Err(error) => return Err(LiveFailure::of_file(alloc, path.as_str(), error)),
+        }
+    }
+    Ok(0)
+}
+
+// A new file for a record.
+fn create_record<F: Files<File = File>>(files: &F, path: &str) -> io::Result<File> {
+    OpenOptions::new()
+        .append(true)
+        .create_new(true)
+        .open(files, path)
+}
+
+impl<'a, F: Files<File = File>> RecordFile<'a, F> {
+    fn write(&mut self, lines: &str) -> io::Result<()> {
+        self.file.write_all(lines.as_bytes())?;
+        if self.syncs {
+            self.file.sync_data()?;
+        }
+        Ok(())
+    }
+}
+
+impl<'a, F: Files<File = File>> RecordStore for RecordFile<'a, F> {
+    fn append(&mut self, lines: &str) -> io::Result<()> {
+        self.write(lines)
+    }
+
+    fn begin_next(&mut self) -> io::Result<()> {
+        let number = self.number.saturating_add(1);
+        let path = record_path(self.alloc, self.stem.as_str(), number)?;
+        self.file = create_record(self.files, path.as_str())?;
+        self.number = number;
+        Ok(())
+    }
+}
+
+// What is wrong with a record.
+fn refused(alloc: Global, path: &str, fault: RecordFault) -> LiveFailure {
+    match fault {
+        RecordFault::Memory(_) => LiveFailure::Memory,
+        RecordFault::Io(error) => LiveFailure::of_file(alloc, path, error),
+        RecordFault::Head | RecordFault::Line { .. } => match format!(in alloc; "{fault}") {
+            Ok(why) => LiveFailure::of_record(alloc, path, why.as_str()),
+            Err(_) => LiveFailure::Memory,
+        },
+    }
+}
+
+// Does a record again on the domain. Nothing of the file changes.
+fn redo_file<F: Files<File = File>>(
+    files: &F,
+    alloc: Global,
+    path: String,
+    number: u64,
+    head: &str,
+    domain: &mut SeatedDomain,
+) -> Result<FoundRecord, LiveFailure> {
+    let opened = OpenOptions::new()
+        .read(true)
+        .append(true)
+        .open(files, path.as_str());
+    let file = match opened {
+        Ok(file) => file,
+        Err(error) => return Err(LiveFailure::of_file(alloc, path.as_str(), error)),
+    };
+    let redone = {
+        let Ok(mut reader) = BufReader::new(alloc, &file) else {
+            return Err(LiveFailure::Memory);
+        };
+        redo_record(alloc, &mut reader, head, domain)
+    };
+    let length = match file.metadata() {
+        Ok(metadata) => metadata.len(),
+        Err(error) => return Err(LiveFailure::of_file(alloc, path.as_str(), error)),
+    };
+    let whole = match redone {
+        Ok(Redone::Beginning) => 0,
+        Ok(Redone::Lines { torn }) => length.saturating_sub(torn as u64),
+        Err(fault) => return Err(refused(alloc, path.as_str(), fault)),
+    };
+    Ok(FoundRecord {
+        path,
+        number,
+        file,
+        length,
+        whole,
+    })
+}
+
+// A domain's record before any file changes: what was found, or nothing.
+#[derive(Drop)]
+struct PlannedRecord {
+    stem: String,
+    head: String,
+    found: Option<FoundRecord>,
+}
+
+impl<'a, F: Files<File = File>> RecordFolder<'a, F> {
+    // Looks for the record of a domain, and does it again if the farm goes on with it.
+    fn plan_record(
+        &self,
+        head: String,
+        name: &str,
+        resumes: bool,
+        domain: &mut SeatedDomain,
+    ) -> Result<PlannedRecord, LiveFailure> {
+        let stem = self.stem(name)?;
+        let number = newest(self.files, self.alloc, stem.as_str())?;
+        if number == 0 {
+            return Ok(PlannedRecord {
+                stem,
+                head,
+                found: None,
+            });
+        }
+        let path = record_path(self.alloc, stem.as_str(), number)?;
+        if !resumes {
+            let why = "it is there already: --resume goes on with it";
+            return Err(LiveFailure::of_record(self.alloc, path.as_str(), why));
+        }
+        let found = redo_file(self.files, self.alloc, path, number, head.as_str(), domain)?;
+        Ok(PlannedRecord {
+            stem,
+            head,
+            found: Some(found),
+        })
+    }
+
+    // Opens the first record of a domain that has none.
+    fn first_file(&self, stem: String) -> Result<RecordFile<'a, F>, LiveFailure> {
+        let path = record_path(self.alloc, stem.as_str(), 1)?;
+        match create_record(self.files, path.as_str()) {
+            Ok(file) => Ok(self.file_of(stem, 1, file)),
+            Err(error) => Err(LiveFailure::of_file(self.alloc, path.as_str(), error)),
+        }
+    }
+
+    fn file_of(&self, stem: String, number: u64, file: File) -> RecordFile<'a, F> {
+        RecordFile {
+            files: self.files,
+            alloc: self.alloc,
+            stem,
+            number,
+            syncs: self.syncs,
+            file,
+        }
+    }
+
+    // Cuts off what isn't whole, and says so.
+    fn mend<E: Write>(&self, found: &FoundRecord, errors: &mut E) -> Result<(), LiveFailure> {
+        if found.whole == found.length {
+            return Ok(());
+        }
+        let path = found.path.as_str();
+        if let Err(error) = found.file.set_len(found.whole) {
+            return Err(LiveFailure::of_file(self.alloc, path, error));
+        }
+        let cut = found.length.saturating_sub(found.whole);
+        let text = format!(in self.alloc; "{path}: {cut} bytes behind the last whole line are cut off\n")?;
+        let _ = write_whole(errors, text.as_bytes());
+        Ok(())
+    }
+
+    // Opens a domain's record for what comes.
+    fn open_record<E: Write>(
+        &self,
+        planned: PlannedRecord,
+        domain: &SeatedDomain,
+        errors: &mut E,
+    ) -> Result<DomainRecord<RecordFile<'a, F>>, LiveFailure> {
+        let PlannedRecord { stem, head, found } = planned;
+        let (mut file, is_empty) = match found {
+            Some(found) => {
+                self.mend(&found, errors)?;
+                (
+                    self.file_of(stem, found.number, found.file),
+                    found.whole == 0,
+                )
+            }
+            None => (self.first_file(stem)?, true),
+        };
+        if is_empty && let Err(error) = file.write(head.as_str()) {
+            let path = record_path(self.alloc, file.stem.as_str(), file.number)?;
+            return Err(LiveFailure::of_file(self.alloc, path.as_str(), error));
+        }
+        Ok(DomainRecord::of(self.alloc, file, head, domain.journal())?)
+    }
+
+    // Looks for the records of all domains.
+    fn plan_records(
+        &self,
+        histories: &mut Histories,
+        resumes: bool,
+    ) -> Result<Vec<PlannedRecord>, LiveFailure> {
+        let mut planned = Vec::new(self.alloc);
+        for number in 0..histories.plan().domains() {
+            let head = match head_of(self.alloc, histories.plan(), number) {
+                Ok(head) => head,
+                Err(HeadFault::Memory(_)) => return Err(LiveFailure::Memory),
+                Err(HeadFault::Unlike) => return Err(LiveFailure::Io),
+            };
+            let name = String::from_str(self.alloc, histories.plan().name(number, 0))?;
+            let Some(domain) = histories.domains.get_mut(usize::from(number)) else {
+                break;
+            };
+            planned.push(self.plan_record(head, name.as_str(), resumes, domain)?)?;
+        }
+        Ok(planned)
+    }
+
+    /// Opens the records of all domains. If the farm resumes, the newest record of each domain is done again on it first. No file
+    /// changes before all of that has gone well; then what isn't whole of a record is cut off, and that is told.
+    ///
+    /// # Errors
+    ///
+    /// A record that isn't one of its domain, one that is there though the farm doesn't resume, or a call of the system that
+    /// failed, each with its file; want of memory.
+    pub fn open_records<E: Write>(
+        &self,
+        histories: &mut Histories,
+        resumes: bool,
+        errors: &mut E,
+    ) -> Result<FileRecords<'a, F>, LiveFailure> {
+        let planned = self.plan_records(histories, resumes)?;
+        let mut records = Vec::with_capacity(self.alloc, planned.len())?;
+        for (domain, planned) in histories.domains.iter().zip(planned) {
+            let record = self.open_record(planned, domain, errors)?;
+            records.push(Mutex::new(record))?;
+        }
+        Ok(records)
+    }
+}
+
+/// As many records as the plan has domains, in which nothing is kept.
+pub fn no_records<'a, F: Files<File = File>>(
+    alloc: Global,
+    plan: &AcceptedPlan,
+) -> Result<FileRecords<'a, F>, NoMemory> {
+    let mut records = Vec::new(alloc);
+    for _ in 0..plan.domains() {
+        records.push(Mutex::new(DomainRecord::none(alloc)))?;
+    }
+    Ok(records)
+}

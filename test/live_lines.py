@@ -1,0 +1,118 @@
+"""A running farm `live` with its lines, and the plans and programs with which the scripts of this folder try it."""
+import os
+import queue
+import subprocess
+import tempfile
+import threading
+
+SECONDS = 20
+PLAN = """version = 3
+
+[[domain]]
+user = [{ name = "ann", host = [7] }]
+range = [[0, 7]]
+limit = 1000000
+
+[[domain.node]]
+memory = 4096
+links = [0, -1, -1, -1]
+
+[[domain]]
+user = [{ name = "bob", host = [7] }, { name = "cas", host = [6] }]
+range = [[8, 15]]
+limit = 1099511627776
+
+[[domain.node]]
+memory = 4096
+links = [0, -1, -1, -1]
+"""
+# bob's node, whose boot comes from his host: ajw 4, and j -2, two bytes that go round for ever.
+LOOP = ["config 01000703", "boot 0 b4600e"]
+# The same, but it ends after 2^24 rounds: ldc 16777216, stl 0, and then ldl 0, adc -1, stl 0, ldl 0, cj 2, j -8; stopp.
+LONG = ["config 01000703", "boot 0 b4" "2120202020204" "0d0" "70608fd070a26008" "21f5"]
+# His two nodes, each of which gives the other its byte back for ever: the one that is booted last begins.
+BACK = "1124f25441f7" "1124f241fb" "6003"
+PINGS = ["config 01000201040301050103", f"boot 0 b4{BACK}", f"boot 1 b424f240fe{BACK}"]
+PINGS_PLAN = """version = 3
+
+[[domain]]
+user = [{ name = "ann", host = [7] }]
+range = [[0, 7]]
+limit = 1000000
+
+[[domain.node]]
+memory = 4096
+links = [0, -1, -1, -1]
+
+[[domain]]
+user = [{ name = "bob", host = [4, 5] }]
+range = [[8, 13]]
+limit = 1099511627776
+
+[[domain.node]]
+memory = 4096
+links = [0, 1, -1, -1]
+
+[[domain.node]]
+memory = 4096
+links = [2, 3, -1, -1]
+"""
+
+
+class Live:
+    """A running farm, and the lines that it prints as they come."""
+
+    def __init__(self, program, plan, workers="2", more=(), env=None):
+        self.folder = tempfile.TemporaryDirectory()
+        self.plan = os.path.join(self.folder.name, "plan.toml")
+        with open(self.plan, "w", encoding="utf-8") as it:
+            it.write(plan)
+        self.process = subprocess.Popen([program, "--workers", workers, *more, self.plan], stdin=subprocess.PIPE,
+                                        stdout=subprocess.PIPE, stderr=subprocess.PIPE, env={**os.environ, **(env or {})})
+        self.told, self.errors = queue.Queue(), queue.Queue()
+        for stream, lines in ((self.process.stdout, self.told), (self.process.stderr, self.errors)):
+            threading.Thread(target=self.listen, args=(stream, lines), daemon=True).start()
+
+    @staticmethod
+    def listen(stream, lines):
+        for line in stream:
+            lines.put(line.decode())
+        lines.put(None)
+
+    def __enter__(self):
+        return self
+
+    def __exit__(self, *_):
+        if self.process.poll() is None:
+            self.process.kill()
+        self.process.wait()
+        self.folder.cleanup()
+
+    def say(self, text):
+        self.process.stdin.write(text if isinstance(text, bytes) else text.encode())
+        self.process.stdin.flush()
+
+    def hear(self):
+        """The next line; none at the end."""
+        return self.told.get(timeout=SECONDS)
+
+    def ask(self, line):
+        self.say(line + "\n")
+        return self.hear()
+
+    def end(self):
+        """Ends the input: the status, and what else was printed."""
+        self.process.stdin.close()
+        status = self.process.wait(timeout=SECONDS)
+        rest = []
+        while (line := self.hear()) is not None:
+            rest.append(line)
+        errors = []
+        while (line := self.errors.get(timeout=SECONDS)) is not None:
+            errors.append(line)
+        return status, rest, errors
+
+
+def wanted(seen, expected):
+    if seen != expected:
+        raise AssertionError(f"{seen!r} in place of {expected!r}")
