@@ -12,21 +12,16 @@ fn main(rt: HostRuntime) -> ExitCode {
     let mut errors = rt.stderr();
     let words = match env::args(&rt) {
         Ok(words) => words,
-        Err(error) => return ExitCode::from(refuse_arguments(&error, &mut errors)),
+        Err(error) => return ExitCode::from(refuse_arguments(&error, &mut errors).status),
     };
     let words: Vec<String> = match words.collect(alloc) {
         Ok(words) => words,
         Err(_) => {
             let error = io::Error::from(io::ErrorKind::OutOfMemory);
-            return ExitCode::from(refuse_arguments(&error, &mut errors));
+            return ExitCode::from(refuse_arguments(&error, &mut errors).status);
         }
     };
-    ExitCode::from(run(
-        &rt,
-        alloc,
-        words.as_slice(),
-        &mut input,
-        &mut output,
-        &mut errors,
-    ))
+    let words = words.as_slice();
+    let ending = run(&rt, alloc, words, &mut input, &mut output, &mut errors);
+    ExitCode::from(ending.status)
 }

@@ -145,10 +145,8 @@ fn texts_may_end_anywhere(rt: HostRuntime) -> Result<(), Fail> {
         let mut input = source_of(text.as_bytes(), 1, NEVER);
         let mut output = sink_of(alloc, 1, NEVER, NEVER);
         let mut errors = sink_of(alloc, 1, NEVER, NEVER);
-        assert_eq!(rt;
-            run(&rt, alloc, &["farm"], &mut input, &mut output, &mut errors),
-            0
-        );
+        let ending = run(&rt, alloc, &["farm"], &mut input, &mut output, &mut errors);
+        assert_eq!(rt; ending.status, 0);
         assert!(rt;
             output.taken.as_slice() == expected_text.as_bytes(),
             "{rest:?}"
@@ -164,7 +162,7 @@ fn words_are_refused_or_helped(rt: HostRuntime) {
         let mut input = source_of(b"", 7, 0);
         let mut output = sink_of(rt.alloc(), 9, NEVER, NEVER);
         let mut errors = sink_of(rt.alloc(), 9, NEVER, NEVER);
-        let got = run(
+        let ending = run(
             &rt,
             rt.alloc(),
             &["farm", word],
@@ -172,7 +170,7 @@ fn words_are_refused_or_helped(rt: HostRuntime) {
             &mut output,
             &mut errors,
         );
-        assert_eq!(rt; got, status);
+        assert_eq!(rt; ending.status, status);
         assert_eq!(rt; output.taken.is_empty(), status != 0);
         assert_eq!(rt; errors.taken.is_empty(), status == 0);
     }
@@ -182,7 +180,7 @@ fn words_are_refused_or_helped(rt: HostRuntime) {
     ] {
         let mut errors = sink_of(rt.alloc(), 9, NEVER, NEVER);
         let error = io::Error::from(kind);
-        assert_eq!(rt; refuse_arguments(&error, &mut errors), status);
+        assert_eq!(rt; refuse_arguments(&error, &mut errors).status, status);
         assert!(rt; !errors.taken.is_empty());
     }
 }
@@ -195,10 +193,9 @@ fn failing_reads_are_told(rt: HostRuntime) -> Result<(), Fail> {
         let mut input = source_of(text.as_bytes(), 1, at);
         let mut output = sink_of(rt.alloc(), 9, NEVER, NEVER);
         let mut errors = sink_of(rt.alloc(), 9, NEVER, NEVER);
-        assert_eq!(rt;
-            run(&rt, alloc, &["farm"], &mut input, &mut output, &mut errors),
-            6
-        );
+        let ending = run(&rt, alloc, &["farm"], &mut input, &mut output, &mut errors);
+        assert_eq!(rt; ending.status, 6);
+        assert!(rt; ending.is_told);
         assert!(rt; output.taken.is_empty());
         assert!(rt; errors.taken.as_slice() == b"io\n".as_slice());
     }
@@ -216,10 +213,9 @@ fn failing_writes_leave_a_beginning(rt: HostRuntime) -> Result<(), Fail> {
             let mut input = source_of(text.as_bytes(), 100, NEVER);
             let mut output = sink_of(rt.alloc(), 1, fails_at, takes_none_at);
             let mut errors = sink_of(rt.alloc(), 9, 0, NEVER);
-            assert_eq!(rt;
-                run(&rt, alloc, &["farm"], &mut input, &mut output, &mut errors),
-                6
-            );
+            let ending = run(&rt, alloc, &["farm"], &mut input, &mut output, &mut errors);
+            assert_eq!(rt; ending.status, 6);
+            assert!(rt; !ending.is_told);
             assert_eq!(rt; output.taken.len() as u64, at);
             assert!(rt; whole.starts_with(output.taken.as_slice()));
         }
@@ -231,7 +227,7 @@ fn failing_writes_leave_a_beginning(rt: HostRuntime) -> Result<(), Fail> {
 fn endless_input_is_given_up(rt: HostRuntime) {
     let mut output = sink_of(rt.alloc(), 9, NEVER, NEVER);
     let mut errors = sink_of(rt.alloc(), 9, NEVER, NEVER);
-    let status = run(
+    let ending = run(
         &rt,
         rt.alloc(),
         &["farm"],
@@ -239,7 +235,7 @@ fn endless_input_is_given_up(rt: HostRuntime) {
         &mut output,
         &mut errors,
     );
-    assert_eq!(rt; status, 6);
+    assert_eq!(rt; ending.status, 6);
     assert!(rt; output.taken.is_empty());
 }
 
@@ -268,10 +264,8 @@ fn quantum_is_kept(rt: HostRuntime) -> Result<(), Fail> {
         let mut input = source_of(text.as_bytes(), 100, NEVER);
         let mut output = sink_of(alloc, 100, NEVER, NEVER);
         let mut errors = sink_of(alloc, 100, NEVER, NEVER);
-        assert_eq!(rt;
-            run(&rt, alloc, &words, &mut input, &mut output, &mut errors),
-            0
-        );
+        let ending = run(&rt, alloc, &words, &mut input, &mut output, &mut errors);
+        assert_eq!(rt; ending.status, 0);
         assert!(rt;
             output.taken.as_slice() == expected_text.as_bytes(),
             "{quantum}"
