@@ -1,3 +1,4 @@
 mod Groups
 mod Running
+mod Grown
 mod Lines

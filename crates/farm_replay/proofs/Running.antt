@@ -1,10 +1,16 @@
 -- Runs of calls, one after another, and the answers that a list gains by them.
-use Rattle.std.proofs.Common.{rules, ◌≡◌, ◌+◌, ◌<◌, ℕ, zero, suc, List, [], ◌∷◌, ◌++◌, Some, add-one, Ok, Err, Result, IfOk, refl, sym, ap, ◌∙◌, subst, append_assoc, take, get_or, length}
+use Rattle.std.proofs.Common.{rules, arith, ◌≡◌, ◌+◌, ◌<◌, ℕ, zero, suc, List, [], ◌∷◌, ◌++◌, map, replicate, true, eqb, Option, Some, None, add-one, Ok, Err, Result, IfOk, OnOk, refl, sym, ap, ◌∙◌, subst, append_assoc, take, get_or, length}
+use Rattle.std.proofs.lemmas.Bool.{eqb-true}
 use Rattle.std.proofs.lemmas.List.{map-append, take_more}
 use Rattle.domain_core.specs.declared.event.By.{By}
 use Rattle.domain_core.specs.declared.event.Event.{Event}
 use Rattle.std.specs.List.{repeat}
+use Rattle.std.specs.Option.{option_eq}
+use Rattle.t414_step.specs.declared.stepping.Stepped.{Stepped}
+use Rattle.t414_step.specs.declared.stepping.Stepped.TheVariants.{Ran}
+use Rattle.answer_text.specs.Replies.{stepped_text}
 use Rattle.domain_core.specs.declared.event.Refusal.TheVariants.{NoSuch, JournalFull, NoMemory}
+use Rattle.domain_core.specs.declared.event.Reply.TheVariants as reply
 use Rattle.domain_core.specs.PrivateFarm.{Call, Answer}
 use Rattle.domain_core.specs.Domain.{UnlessNoMemory, DomainValue}
 use Rattle.farm_core.specs.Whole.{Farm, whole_after, whole_next}
@@ -15,7 +21,7 @@ use Rattle.farm_core.specs.PlainFarm.{places_in, states_in, IsCallOfEachWhole}
 use Rattle.farm_replay.specs.Kept.{KeptList, HoldsTexts}
 use Rattle.farm_replay.specs.Listing.{IsListing}
 use Rattle.farm_replay.specs.Plain.{Asked, Calls, Looks, Opens, Else, asked_times, answer_words, event_calls}
-use Rattle.farm_replay.specs.Answering.{IsRunTo, HaveRun, ShowsCall, HasAnswers, AnswersCalls, ShowsRun, AnswersAsked, ShowsAsked}
+use Rattle.farm_replay.specs.Answering.{IsRunTo, HaveRun, ShowsCall, step_calls, steps_answers, HasAnswers, AnswersCalls, ShowsRun, AnswersAsked, ShowsAsked}
 
 -- ---- runs
 
@@ -58,6 +64,21 @@ one_more_answer told answer text l m has words more = record {
   kept = more has.texts has.kept;
 }
 
+-- many answers of the same words
+many_words : (n : ℕ) (answer : Answer) (text : List ℕ) → answer_words answer ≡ Some text → map answer_words (replicate n answer) ≡ map Some (replicate n text)
+many_words zero answer text words = refl
+many_words (suc n) answer text words = λ i. words i ∷ many_words n answer text words i
+
+many_more_answers : (told : List Answer) (n : ℕ) (answer : Answer) (text : List ℕ) (l m : KeptList) → HasAnswers told l → answer_words answer ≡ Some text
+    → ((texts : List (List ℕ)) → HoldsTexts texts l → HoldsTexts (texts ++ replicate n text) m) → HasAnswers (told ++ replicate n answer) m
+many_more_answers told n answer text l m has words more = record {
+  texts = has.texts ++ replicate n text;
+  words =
+      map-append answer_words told (replicate n answer) ∙ (λ i. has.words i ++ many_words n answer text words i)
+      ∙ sym (map-append (λ (t : List ℕ). Some t) has.texts (replicate n text));
+  kept = more has.texts has.kept;
+}
+
 pub answers_nothing : (domains : List DomainValue) (l : KeptList) → AnswersCalls [] domains domains l l
 answers_nothing domains l = record { told = []; run = no_calls domains; gains = λ earlier has. subst (λ ts. HasAnswers ts l) (sym (append_none earlier)) has }
   where
@@ -79,6 +100,47 @@ answers_call call old new text l m shows more = record {
   told = shows.answer ∷ [];
   run = shows.run;
   gains = λ earlier has. one_more_answer earlier shows.answer text l m has shows.words more;
+}
+
+-- Steps that are done at once
+pub answers_steps : (domain node before : ℕ) (last : Stepped) (ran text : List ℕ) (old new : List DomainValue) (k l m : KeptList) → HaveRun old new (step_calls domain node (before + 1)) (steps_answers before last)
+    → ran ≡ stepped_text Ran → text ≡ stepped_text last → ((texts : List (List ℕ)) → HoldsTexts texts k → HoldsTexts (texts ++ replicate before ran) l)
+    → ((texts : List (List ℕ)) → HoldsTexts texts l → HoldsTexts (texts ++ text ∷ []) m) → AnswersCalls (step_calls domain node (before + 1)) old new k m
+answers_steps domain node before last ran text old new k l m run first second many one = record {
+  told = steps_answers before last;
+  run = run;
+  gains = λ earlier has.
+      let rans : List Answer = replicate before (Ok (reply.Stepped Ran)) in
+      subst (λ ts. HasAnswers ts m) (append_assoc earlier rans (Ok (reply.Stepped last) ∷ []))
+      (one_more_answer (earlier ++ rans) (Ok (reply.Stepped last)) text l m (many_more_answers earlier before (Ok (reply.Stepped Ran)) ran k l has (ap (λ t. Some t) (sym first)) many)
+      (ap (λ t. Some t) (sym second)) one);
+}
+
+-- ---- a call that changes nothing
+
+-- what was run goes on so from there
+again : (b c : List DomainValue) (calls : List (ℕ × Call)) (told : List Answer) → HaveRun b c calls told → states_in c ≡ states_in b → HaveRun c c calls told
+again b c calls told run same = record {
+  places = refl;
+  each = λ farm made.
+      let was : IsMadeOf (places_in b) farm (states_in b) = subst (IsMadeOf (places_in b) farm) same (subst (λ p. IsMadeOf p farm (states_in c)) run.places made) in
+      subst (λ p. IsRunTo p farm calls told c) (sym run.places) (run.each farm was);
+}
+
+run_alike : RunsAddUp → (b c : List DomainValue) (call : ℕ × Call) (told : Answer) (n : ℕ) → HaveRun b c (call ∷ []) (told ∷ []) → states_in c ≡ states_in b
+    → HaveRun b c (repeat (suc n) (call ∷ [])) (replicate (suc n) told)
+run_alike law b c call told zero run same = run
+run_alike law b c call told (suc n) run same =
+    more_calls law b c c (call ∷ []) (repeat (suc n) (call ∷ [])) (told ∷ []) (replicate (suc n) told) run
+    (again b c (repeat (suc n) (call ∷ [])) (replicate (suc n) told) (run_alike law b c call told n run same) same)
+
+answers_alike : RunsAddUp → (call : ℕ × Call) (n : ℕ) (old new : List DomainValue) (text : List ℕ) (l m : KeptList) → 0 < n → ShowsCall call old new text → states_in new ≡ states_in old
+    → ((texts : List (List ℕ)) → HoldsTexts texts l → HoldsTexts (texts ++ replicate n text) m) → AnswersCalls (repeat n (call ∷ [])) old new l m
+answers_alike law call zero old new text l m some shows same more = absurd (omega (arith, some))
+answers_alike law call (suc n) old new text l m some shows same more = record {
+  told = replicate (suc n) shows.answer;
+  run = run_alike law old new call shows.answer n shows.run same;
+  gains = λ earlier has. many_more_answers earlier (suc n) shows.answer text l m has shows.words more;
 }
 
 -- a call that is answered by these words, unless memory runs out
@@ -104,6 +166,30 @@ repeat_more zero calls = append_none calls
     append_none [] = refl
     append_none (x ∷ xs) = ap (λ ys. x ∷ ys) (append_none xs)
 repeat_more (suc n) calls = ap (λ (xs : List (ℕ × Call)). calls ++ xs) (repeat_more n calls) ∙ sym (append_assoc calls (repeat n calls) calls)
+
+repeat_both : (i j : ℕ) (calls : List (ℕ × Call)) → repeat (i + j) calls ≡ repeat i calls ++ repeat j calls
+repeat_both zero j calls = let sum : zero + j ≡ j = omega arith in ap (λ n. repeat n calls) sum
+repeat_both (suc i) j calls =
+    let sum : suc i + j ≡ suc (i + j) = omega arith in
+    ap (λ n. repeat n calls) sum ∙ ap (λ (xs : List (ℕ × Call)). calls ++ xs) (repeat_both i j calls) ∙ sym (append_assoc calls (repeat i calls) (repeat j calls))
+
+-- so often, and then as often as is left
+pub answers_both : RunsAddUp → (a b c : List DomainValue) (k l m : KeptList) (calls : List (ℕ × Call)) (i j n : ℕ) → i + j ≡ n → AnswersCalls (repeat i calls) a b k l → AnswersCalls (repeat j calls) b c l m
+    → AnswersCalls (repeat n calls) a c k m
+answers_both law a b c k l m calls i j n sum one two =
+    subst (λ (asked : List (ℕ × Call)). AnswersCalls asked a c k m) (sym (repeat_both i j calls) ∙ ap (λ x. repeat x calls) sum) (answers_more law a b c k l m (repeat i calls) (repeat j calls) one two)
+
+-- a call that changes nothing is answered alike as often as is left
+pub answers_rest : RunsAddUp → (a b c : List DomainValue) (k l m : KeptList) (call : ℕ × Call) (i j n : ℕ) (text : List ℕ) → i + j ≡ n → 0 < j → AnswersCalls (repeat i (call ∷ [])) a b k l
+    → ShowsCall call b c text → states_in c ≡ states_in b → ((texts : List (List ℕ)) → HoldsTexts texts l → HoldsTexts (texts ++ replicate j text) m) → AnswersCalls (repeat n (call ∷ [])) a c k m
+answers_rest law a b c k l m call i j n text sum some one shows same more =
+    answers_both law a b c k l m (call ∷ []) i j n sum one (answers_alike law call j b c text l m some shows same more)
+
+-- a call is answered once more
+pub answers_once_more : RunsAddUp → (a b c : List DomainValue) (k l m : KeptList) (call : ℕ × Call) (i : ℕ) (text : List ℕ) → AnswersCalls (repeat i (call ∷ [])) a b k l → ShowsCall call b c text
+    → ((texts : List (List ℕ)) → HoldsTexts texts l → HoldsTexts (texts ++ text ∷ []) m) → AnswersCalls (repeat (i + 1) (call ∷ [])) a c k m
+answers_once_more law a b c k l m call i text one shows more =
+    answers_both law a b c k l m (call ∷ []) i 1 (i + 1) refl one (answers_call call b c text l m shows more)
 
 -- one more of the events
 pub events_more : RunsAddUp → (a b c : List DomainValue) (k l m : KeptList) (domain : ℕ) (by : By) (events : List Event) (index : ℕ) (d : Event) → index < length events
@@ -145,3 +231,15 @@ all_times plan Else n a b l m line answers none lists = tt
 pub of_each : {T E : Type 0} (r : Result T E) {P Q : T → Type 0} → ((x : T) → P x → Q x) → IfOk r P → IfOk r Q
 of_each (Ok x) follows p = follows x p
 of_each (Err e) follows p = p
+
+-- what follows of a success
+pub on_ok : {T E : Type 0} (r : Result T E) {P Q : Type 0} → (P → Q) → OnOk r P → OnOk r Q
+on_ok (Ok x) follows p = follows p
+on_ok (Err e) follows p = p
+
+-- counts that compare as equal
+pub same_count : (a b : Option ℕ) → option_eq eqb a b ≡ true → a ≡ b
+same_count None None same = refl
+same_count None (Some n) same = absurd cc
+same_count (Some m) None same = absurd cc
+same_count (Some m) (Some n) same = ap (λ x. Some x) (eqb-true m n same)

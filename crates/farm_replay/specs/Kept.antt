@@ -33,3 +33,7 @@ HoldsTextsAt texts l (suc more) = IsBehind texts l
 -- the list has these texts, by its own count
 abbrev pub HoldsTexts : List (List ℕ) → KeptList → Type 0
 HoldsTexts texts l = HoldsTextsAt texts l l.count
+
+-- the list gains these texts
+abbrev pub TakesTexts : KeptList → KeptList → List (List ℕ) → Type 0
+TakesTexts old new more = (texts : List (List ℕ)) → HoldsTexts texts old → HoldsTexts (texts ++ more) new

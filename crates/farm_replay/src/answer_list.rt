@@ -1,7 +1,7 @@
 //! The answers to several events in one line.
-ghost use Rattle.std.specs.Prelude.{◌≡◌, ◌++◌, ◌∷◌, ℕ, List, [], OnOk, IfOk, string_bytes};
+ghost use Rattle.std.specs.Prelude.{◌≡◌, ◌++◌, ◌∷◌, ℕ, List, [], OnOk, IfOk, replicate, string_bytes};
 ghost use Rattle.farm_replay.specs.Listing.{IsListing, group_text};
-ghost use Rattle.farm_replay.specs.Kept.{HoldsTexts};
+ghost use Rattle.farm_replay.specs.Kept.{HoldsTexts, TakesTexts};
 
 use domain_core::NoMemory;
 use std::alloc::Global;
@@ -39,17 +39,27 @@ impl AnswerList {
     }
 
     /// One more answer. `NoMemory` also if the number of equal neighbours no longer fits 64 bits.
-    #[tactic(auto, using(crate::proofs::Groups::push_alike, crate::proofs::Groups::push_other))]
     pub fn push(&mut self, answer: String) -> Result<(), NoMemory>
-        ensures kept { OnOk result ((texts : List (List ℕ)) → HoldsTexts texts self.old → HoldsTexts (texts ++ string_bytes answer ∷ []) self.new) }
+        ensures kept { OnOk result (TakesTexts self.old self.new (string_bytes answer ∷ [])) }
     {
+        self.push_many(answer, 1)
+    }
+
+    /// The same answer so many times more. `NoMemory` also if the number of equal neighbours no longer fits 64 bits.
+    #[tactic(auto, using(crate::proofs::Groups::push_alike, crate::proofs::Groups::push_other))]
+    pub fn push_many(&mut self, answer: String, times: u64) -> Result<(), NoMemory>
+        ensures kept { OnOk result (TakesTexts self.old self.new (replicate times (string_bytes answer))) }
+    {
+        if times == 0 {
+            return Ok(());
+        }
         if self.count == 0 {
             self.last = answer;
-            self.count = 1;
+            self.count = times;
             return Ok(());
         }
         if self.last == answer {
-            let Some(count) = self.count.checked_add(1) else {
+            let Some(count) = self.count.checked_add(times) else {
                 return Err(NoMemory);
             };
             self.count = count;
@@ -58,7 +68,7 @@ impl AnswerList {
         self.write_last()?;
         self.text.push_str(", ")?;
         self.last = answer;
-        self.count = 1;
+        self.count = times;
         Ok(())
     }
 

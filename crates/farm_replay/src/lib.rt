@@ -2,6 +2,7 @@
 #![tactic(auto)]
 
 mod answer_list;
+mod bursts;
 mod fault;
 mod open_farm;
 mod reading;

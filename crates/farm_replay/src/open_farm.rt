@@ -1,12 +1,14 @@
 //! A farm with its tickets, and what it answers.
-ghost use Rattle.std.specs.Prelude.{◌≡◌, ◌↔◌, ◌<◌, IsTrue, IfOk, IfSome, OnOk, length, string_bytes};
+ghost use Rattle.std.specs.Prelude.{◌≡◌, ◌↔◌, ◌<◌, ◌≤◌, IsTrue, IfOk, IfSome, OnOk, length, string_bytes};
+ghost use Rattle.answer_text.specs.Replies.{stepped_text};
 ghost use Rattle.farm_core.specs.Places.{places_of};
 ghost use Rattle.farm_replay.specs.Plain.{event_calls, asked_once, asked_of_domain};
-ghost use Rattle.farm_replay.specs.Answering.{ShowsCall, AnswersCalls, AnswersAsked, StaysIfLooked, IsOpenedFarm};
+ghost use Rattle.farm_replay.specs.Answering.{ShowsCall, StayIfUnrecorded, AnswersCalls, AnswersTimes, AnswersAsked, StaysIfLooked, IsOpenedFarm};
 
 use crate::answer_list::AnswerList;
+use crate::bursts::{DoneSteps, burst};
 use crate::request::{DomainRequest, Request};
-use answer_text::{write_entry, write_refusal, write_reply};
+use answer_text::{write_entry, write_refusal, write_reply, write_stepped};
 use crossbar::{PORTS, Word};
 use domain_core::{By, Committed, Event, NoMemory, Refusal, Ticket};
 use farm_core::PlainFarm;
@@ -14,6 +16,7 @@ use farm_core::laws::runs_add_up;
 use plan_checker::AcceptedPlan;
 use script_text::TextWriter;
 use std::alloc::Global;
+use t414_step::Stepped;
 
 /// A farm, and the tickets that it gave, each until it is spent.
 #[derive(Drop)]
@@ -120,14 +123,110 @@ impl OpenFarm {
         Ok(())
     }
 
+    /// Adds the answers to an event that is asked so often. Steps for which the farm asks are done at once, as far as they
+    /// are recorded.
+    pub fn answer_repeated(
+        &mut self,
+        plan: &AcceptedPlan,
+        domain: u8,
+        by: By,
+        event: Event,
+        times: u64,
+        answers: &mut AnswerList,
+    ) -> Result<(), NoMemory>
+        ensures calls { OnOk result (AnswersTimes times domain by event self.old.farm self.new.farm answers.old answers.new) }
+    {
+        // A run of calls and then of others is the run of all.
+        runs_add_up();
+        let done = self.answer_burst(plan, domain, by, event, times, answers)?;
+        self.answer_each(domain, by, event, times - done, answers)
+    }
+
+    // Adds the answers to Steps that are done at once, if the event is a Step for which the farm asks: how many there were,
+    // so many at most.
+    fn answer_burst(
+        &mut self,
+        plan: &AcceptedPlan,
+        domain: u8,
+        by: By,
+        event: Event,
+        most: u64,
+        answers: &mut AnswerList,
+    ) -> Result<u64, NoMemory>
+        ensures calls { IfOk result (λ done. AnswersTimes done domain by event self.old.farm self.new.farm answers.old answers.new) }
+        ensures most { IfOk result (λ done. done ≤ most) }
+    {
+        let (By::Farm, Event::Step(node)) = (by, event) else {
+            return Ok(0);
+        };
+        // A copy of the node doesn't pay for one Step.
+        if most == 1 {
+            return Ok(0);
+        }
+        let most = most.min(self.room(plan, domain));
+        let Some(DoneSteps { before, last }) = burst(&mut self.farm, domain, node, most)? else {
+            return Ok(0);
+        };
+        answers.push_many(self.stepped(Stepped::Ran)?, before)?;
+        answers.push(self.stepped(last)?)?;
+        Ok(before + 1)
+    }
+
+    // How many events more the domain may record.
+    fn room(&self, plan: &AcceptedPlan, domain: u8) -> u64 {
+        if domain >= plan.domains() {
+            return 0;
+        }
+        let recorded = self.farm.recorded(domain).unwrap_or(0);
+        plan.part(domain).limit().saturating_sub(recorded)
+    }
+
+    // The answer to a Step.
+    fn stepped(&self, stepped: Stepped) -> Result<String, NoMemory>
+        ensures text { IfOk result (λ text. string_bytes text ≡ stepped_text stepped) }
+    {
+        let mut answer = String::new(self.alloc);
+        write_stepped(&mut answer, stepped)?;
+        Ok(answer)
+    }
+
+    // Adds the answers to an event that is asked so often, one time after another. A time that isn't recorded changes
+    // nothing, so that all others are answered as it is.
+    fn answer_each(
+        &mut self,
+        domain: u8,
+        by: By,
+        event: Event,
+        times: u64,
+        answers: &mut AnswerList,
+    ) -> Result<(), NoMemory>
+        ensures calls { OnOk result (AnswersTimes times domain by event self.old.farm self.new.farm answers.old answers.new) }
+    {
+        // A run of calls and then of others is the run of all.
+        runs_add_up();
+        for asked in 0..times {
+            let before = self.farm.recorded(domain);
+            let answer = self.answer_event(domain, by, event)?;
+            if self.farm.recorded(domain) == before {
+                return answers.push_many(answer, times - asked);
+            }
+            answers.push(answer)?;
+        }
+        Ok(())
+    }
+
     fn answer_event(&mut self, domain: u8, by: By, event: Event) -> Result<String, NoMemory>
         ensures call { IfOk result (λ text. ShowsCall (domain, record { by = by; event = event }) self.old.farm self.new.farm (string_bytes text)) }
+        ensures unrecorded { IfOk result (λ _. StayIfUnrecorded domain self.old.farm self.new.farm) }
     {
+        // A domain is what its journal says, before and after.
+        self.farm.whole_law();
         let mut answer = String::new(self.alloc);
         match self.farm.apply(domain, by, event) {
             Ok(reply) => write_reply(&mut answer, reply)?,
             Err(refusal) => write_refusal(&mut answer, refusal)?,
         }
+        self.farm.whole_law();
         Ok(answer)
     }
 

@@ -1,11 +1,11 @@
 //! Reading a line.
 
 use crate::request::{DomainRequest, RepeatedRequest, Request};
-use domain_core::{By, Event};
+use domain_core::{By, Event, MOST_STEPS};
 use script_text::{WordFault, Words, decimal_number};
 use std::alloc::{AllocError, Global};
 
-/// The most times that one line is asked.
+/// The most times that one line is asked, unless it asks the farm for Steps.
 const MOST_TIMES: u64 = 1_000_000;
 
 /// The greatest quantum, in Steps.
@@ -82,6 +82,9 @@ pub fn read_request(alloc: Global, line: &str) -> Result<RepeatedRequest, WordFa
     let mut words = Words::of(line);
     let times = read_times(&mut words);
     let request = read_once(alloc, &mut words)?;
+    if times > most_times(&request) {
+        words.reject();
+    }
     words.finish(RepeatedRequest { times, request })
 }
 
@@ -92,9 +95,17 @@ fn read_times(words: &mut Words) -> u64 {
     if ahead.peek() != "times" {
         return 1;
     }
-    let times = words.decimal(MOST_TIMES);
+    let times = words.decimal(MOST_STEPS);
     let _ = words.take();
     times
+}
+
+// How often a line may ask this. Steps for which the farm asks may be as many as those of a ticket.
+fn most_times(request: &Request) -> u64 {
+    match request.one_event() {
+        Some((_, By::Farm, Event::Step(_))) => MOST_STEPS,
+        _ => MOST_TIMES,
+    }
 }
 
 fn read_once(alloc: Global, words: &mut Words) -> Result<Request, AllocError> {

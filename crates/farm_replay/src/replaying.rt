@@ -175,6 +175,10 @@ fn answer_times(
     // A run of calls and then of others is the run of all.
     runs_add_up();
     let mut answers = AnswerList::new(alloc);
+    if let Some((domain, by, event)) = request.request.one_event() {
+        farm.answer_repeated(plan, domain, by, event, request.times, &mut answers)?;
+        return answers.finish();
+    }
     for _ in 0..request.times {
         farm.answer(plan, &request.request, &mut answers)?;
     }

@@ -1,4 +1,6 @@
 //! What a line asks.
+ghost use Rattle.std.specs.Prelude.{◌≡◌, [], ◌∷◌, IfSome};
+ghost use Rattle.farm_replay.specs.Plain.{Calls, event_calls, asked_once};
 
 use domain_core::{By, Event};
 
@@ -20,6 +22,21 @@ pub enum Request {
     Events(u8, By, Vec<Event>),
     /// Something else of a domain.
     Domain(u8, DomainRequest),
+}
+
+impl Request {
+    /// The event that is asked, with its domain and who asks, if there is just one.
+    pub(crate) fn one_event(&self) -> Option<(u8, By, Event)>
+        ensures event { IfSome result (λ one. asked_once self.now ≡ Calls (event_calls one.0 one.1 (one.2 ∷ []))) }
+    {
+        let Request::Events(domain, by, events) = self else {
+            return None;
+        };
+        match events.as_slice() {
+            [event] => Some((*domain, *by, *event)),
+            _ => None,
+        }
+    }
 }
 
 /// What is asked of a domain beside events.

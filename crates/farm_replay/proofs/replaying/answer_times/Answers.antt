@@ -1,8 +1,8 @@
-use Rattle.std.proofs.Common.{◌≡◌, string_bytes, subst}
+use Rattle.std.proofs.Common.{◌≡◌, [], ◌∷◌, string_bytes, sym, subst}
 use Rattle.std.proofs.Math.Nat.{le_antisymm}
 use Rattle.farm_core.specs.Places.{places_of}
-use Rattle.farm_replay.specs.Plain.{asked_once, asked_times}
-use Rattle.farm_replay.specs.Answering.{AnswersAsked}
+use Rattle.farm_replay.specs.Plain.{Asked, Calls, event_calls, asked_once, asked_times}
+use Rattle.farm_replay.specs.Answering.{AnswersAsked, ShowsAsked}
 use Rattle.farm_replay.proofs.Running.{no_times, times_more, all_times, of_each}
 use Rattle.farm_replay.proofs.replaying.answer_times.Goals as goal
 
@@ -21,6 +21,19 @@ returns c =
     let answers : AnswersAsked (places_of c.args.plan.now) (asked_times c.args.request.now.times asked) c.args.farm.now.farm c.loop.farm.farm c.new-answers.result c.loop.answers =
     subst (λ n. AnswersAsked (places_of c.args.plan.now) (asked_times n asked) c.args.farm.now.farm c.loop.farm.farm c.new-answers.result c.loop.answers) times c.loop.invariant in
     record {
+      asked = of_each c.finish-2.result
+          (λ line lists. all_times (places_of c.args.plan.now) asked c.args.request.now.times c.args.farm.now.farm c.loop.farm.farm c.new-answers.result c.loop.answers (string_bytes line) answers c.new-answers.ensures lists) c.finish-2.ensures.listing;
+    }
+
+pub returns-in-Some : goal.returns-in-Some
+returns-in-Some c =
+    let plan = places_of c.args.plan.now in
+    let times = c.args.request.now.times in
+    let old = c.args.farm.now.farm in
+    let new = c.answer_repeated.new.self.farm in
+    let calls = event_calls c.in-Some.domain c.in-Some.by (c.in-Some.event ∷ []) in
+    record {
       asked = of_each c.finish.result
-          (λ line lists. all_times (places_of c.args.plan.now) asked c.args.request.now.times c.args.farm.now.farm c.loop.farm.farm c.new-answers.result c.loop.answers (string_bytes line) answers c.new-answers.ensures lists) c.finish.ensures.listing;
+          (λ line lists. subst (λ (asked : Asked). ShowsAsked plan (asked_times times asked) old new (string_bytes line)) (sym c.in-Some.ensures.event)
+          (all_times plan (Calls calls) times old new c.new-answers.result c.answer_repeated.new.answers (string_bytes line) c.in_ok-answer_repeated.ensures.calls c.new-answers.ensures lists)) c.finish.ensures.listing;
     }

@@ -1,0 +1,31 @@
+use Rattle.std.proofs.Common.{◌≡◌, ◌+◌, ◌<◌, Ok, slice_get, sym, ap, ◌∙◌, subst, arith}
+use Rattle.domain_core.specs.declared.domain.Committed.{Committed}
+use Rattle.domain_core.specs.Ticket.{TicketValue, fresh_ticket, steps_told}
+use Rattle.farm_core.specs.PlainFarm.{IsCommittedAt}
+use Rattle.farm_replay.proofs.Grown.{steps_run, no_steps_run}
+use Rattle.farm_replay.proofs.bursts.burst.Goals as goal
+
+pub returns-in_default-2 : goal.returns-in_default-2
+returns-in_default-2 c =
+    let committed = subst (λ (told : Committed). IsCommittedAt c.burst.new.self (Ok told) (slice_get c.args.farm.now c.args.domain) (slice_get c.commit.new.self c.args.domain)) c.in-Ok-Done.field-0-is c.in-Ok-Done.ensures.own in
+    record {
+      steps = no_steps_run c.each_call_is_private.ensures.call c.args.domain c.args.farm.now c.commit.new.self c.burst.new.self
+          (record { separate = c.whole_law.ensures.separate; before = c.whole_law.ensures.meant; now = c.whole_law-2.ensures.meant; places = c.commit.ensures.places; others = c.commit.ensures.others }) committed
+          (ap (steps_told c.burst.new.self.number c.burst.new.self.steps) (sym c.last-last.ensures ∙ c.in_default.is-0));
+    }
+
+pub returns : goal.returns
+returns c =
+    let committed = subst (λ (told : Committed). IsCommittedAt c.burst.new.self (Ok told) (slice_get c.args.farm.now c.args.domain) (slice_get c.commit.new.self c.args.domain)) c.in-Ok-Done.field-0-is c.in-Ok-Done.ensures.own in
+    let fresh : c.in-Ok.ticket ≡ fresh_ticket c.args.domain c.args.node c.in-Ok.ticket.start = c.in-Ok.ensures.ticket.1 in
+    let none : c.in-Ok.ticket.steps ≡ 0 = ap (λ (t : TicketValue). t.steps) fresh in
+    let count : c.burst.new.self.steps ≡ c.in-Some-Some.before + 1 = omega (arith, c.steps-steps.ensures, c.in-Some-Some.ensures.0, c.in-Some-Some.ensures.1) in
+    let most : c.in-Some-Some.before < c.args.most = omega (arith, count, none, c.burst.ensures.steps, c.burst.ensures.at_most) in
+    record {
+      steps = (
+        most,
+        steps_run c.each_call_is_private.ensures.call c.args.domain c.args.node c.in-Some-Some.before c.in-Some-Some.last c.args.farm.now c.commit.new.self c.burst.new.self
+            (record { separate = c.whole_law.ensures.separate; before = c.whole_law.ensures.meant; now = c.whole_law-2.ensures.meant; places = c.commit.ensures.places; others = c.commit.ensures.others }) committed
+            (c.burst.ensures.number ∙ ap (λ (t : TicketValue). t.number) fresh) count (sym c.last-last.ensures ∙ c.in-Some-Some.is-0),
+      );
+    }
