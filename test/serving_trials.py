@@ -69,6 +69,12 @@ class Client:
         self.stream.connect(path)
         self.lines = self.stream.makefile("rb")
 
+    def leave(self):
+        """Ends the connection at once."""
+        self.stream.shutdown(socket.SHUT_RDWR)
+        self.lines.close()
+        self.stream.close()
+
     def say(self, text):
         self.stream.sendall(text.encode())
 
@@ -182,10 +188,10 @@ class Served:
             time.sleep(0.01)
         raise AssertionError("serve has no live")
 
-    def flood(self, name, reads, is_over, cuts):
-        """Sends lines without end, and reads the answers or lets them lie. A connection that is cut off is followed by
+    def flood(self, name, reads, is_over, cuts, line=b"config " + b"ff" * 200):
+        """Sends a line without end, and reads the answers or lets them lie. A connection that is cut off is followed by
         another."""
-        lines = (b"config " + b"ff" * 200 + b"\n") * 100
+        lines = (line + b"\n") * 100
         while not is_over.is_set():
             client = self.client(name)
             reading = threading.Thread(target=drain, args=(client,), daemon=True)
@@ -200,16 +206,15 @@ class Served:
             except OSError:
                 cuts.append(name)
             try:
-                client.stream.shutdown(socket.SHUT_RDWR)
+                client.leave()
             except OSError:
                 pass
-            client.stream.close()
 
 
 def drain(client):
     """Reads what comes until the connection ends."""
     try:
-        while client.lines.read(1 << 16):
+        while client.stream.recv(1 << 16):
             pass
     except OSError:
         pass
