@@ -15,6 +15,8 @@ HISTORY = os.path.expanduser("~/.nadzsumek_history")
 MOST_HISTORY = 1000
 # How long the next line waits for the answers to the line before it: at a prompt, and if lines come from a file.
 PROMPT_SECONDS, FILE_SECONDS = 0.5, 60
+# How long the operator waits until the farm that he stops has ended.
+STOP_SECONDS = 60
 # The answer to a poke that load sent.
 POKED = " 9"
 
@@ -24,7 +26,7 @@ class Terminal:
 
     def __init__(self, stream, name, is_person):
         self.stream, self.name, self.is_person = stream, name, is_person
-        self.sent, self.heard, self.hushed = 0, 0, 0
+        self.sent, self.heard, self.hushed, self.stops = 0, 0, 0, False
         self.news, self.has_ended, self.at_prompt = threading.Condition(), False, False
         self.prompt = f"{name}> "
         self.reader = threading.Thread(target=self.read, daemon=True)
@@ -76,6 +78,7 @@ class Terminal:
     def do(self, line):
         """Does one line; false if it is the last."""
         first, _, words = split(self.name, line)
+        self.stops = first == "stop"
         if first == "quit":
             return False
         if first == "help":
@@ -128,7 +131,9 @@ class Terminal:
 
     def end(self):
         """Sends nothing more, and waits for the answers that are due."""
-        ended_first = self.has_ended
+        if self.stops:
+            self.reader.join(STOP_SECONDS)
+        ended_first = self.has_ended and not self.stops
         try:
             self.stream.shutdown(socket.SHUT_WR)
             self.reader.join()

@@ -1,5 +1,6 @@
 """What the trials of `serve` share: a farm that is served in a folder of its own, its clients, and random lines."""
 import os
+import random
 import signal
 import socket
 import subprocess
@@ -221,12 +222,16 @@ def drain(client):
 
 
 def talk(served, name, lines, half=b""):
-    """What a client hears that sends these lines, and ends its side."""
+    """What a client hears that sends these lines in pieces of any size, and ends its side."""
     client = served.client(name)
     heard = []
     reading = threading.Thread(target=lambda: heard.append(client.lines.read()))
     reading.start()
-    client.stream.sendall(b"".join(line + b"\n" for line in lines) + half)
+    text, at, chance = b"".join(line + b"\n" for line in lines) + half, 0, random.Random(name)
+    while at < len(text):
+        size = chance.choice((1, 7, 100, 5000, 1 << 20))
+        client.stream.sendall(text[at:at + size])
+        at += size
     client.stream.shutdown(socket.SHUT_WR)
     reading.join()
     return heard[0]
