@@ -1,0 +1,139 @@
+"""A class: its folders and sheets, its farms, and what its students have done."""
+import argparse
+import json
+import os
+import subprocess
+import sys
+import time
+
+from .folder import TOP, Refused, is_locked, program, socket_path
+from .plans import Machine, farms_of, plan_of, students_of
+from .sheets import count, sheet
+from .status import ask_operator, rows_of, table
+
+FILE = "class.json"
+STOP_SECONDS = 90
+
+
+def save(path, text):
+    with open(path, "w", encoding="utf-8") as it:
+        it.write(text)
+
+
+def connect_command():
+    """What a student types for a terminal."""
+    installed = os.path.join(os.path.dirname(os.path.dirname(TOP)), "bin", "connect")
+    return installed if os.path.exists(installed) else os.path.join(TOP, "connect")
+
+
+def make(words):
+    """Writes the folders, plans and sheets of a class."""
+    folder, machine = os.path.abspath(words.DIR), Machine(words.nodes, words.hosts, words.memory, words.limit)
+    machine.check()
+    students = students_of(words.students)
+    if os.path.exists(os.path.join(folder, FILE)):
+        raise Refused(f"there is a class in {folder} already: take another folder")
+    farms = {f"farm-{at}": names for at, names in enumerate(farms_of([*students], machine), 1)}
+    for farm in farms:
+        for name in farms[farm]:
+            socket_path(os.path.join(folder, farm), name)
+    os.makedirs(os.path.join(folder, "sheets"), exist_ok=True)
+    for farm, names in farms.items():
+        place = os.path.join(folder, farm)
+        os.makedirs(place, exist_ok=True)
+        save(os.path.join(place, "plan.toml"), plan_of(names, machine))
+        for name in names:
+            save(os.path.join(folder, "sheets", f"{name}.txt"), sheet(students[name], name, machine, place, connect_command()))
+    rights = ["--mode", words.mode] + (["--group", words.group] if words.group else [])
+    save(os.path.join(folder, FILE), json.dumps({"farms": farms, "rights": rights}, indent=1) + "\n")
+    print(f"{count(len(students), 'student')} in {count(len(farms), 'farm')}, each with {count(machine.ports(), 'port')}; their sheets "
+          f"are in {os.path.join(words.DIR, 'sheets')}")
+    return 0
+
+
+def class_in(folder):
+    """The farms of a class with their users, and the rights of the sockets."""
+    try:
+        with open(os.path.join(folder, FILE), encoding="utf-8") as it:
+            kept = json.load(it)
+    except FileNotFoundError:
+        raise Refused(f"there is no class in {folder}: make it first, see ./class --help") from None
+    return {os.path.join(os.path.abspath(folder), farm): names for farm, names in kept["farms"].items()}, kept["rights"]
+
+
+def is_up(farm):
+    """Whether the operator of a farm is answered."""
+    try:
+        return bool(ask_operator(farm, "!words"))
+    except OSError:
+        return False
+
+
+def start(folder):
+    """Starts each farm that isn't served yet, and waits until it answers."""
+    farms, rights = class_in(folder)
+    begun = {}
+    for farm in farms:
+        if not is_locked(farm):
+            with open(os.path.join(farm, "serve.log"), "ab") as log:
+                # pylint: disable-next=consider-using-with
+                begun[farm] = subprocess.Popen([program("serve"), *rights, os.path.join(farm, "plan.toml"), farm],
+                                               stdin=subprocess.DEVNULL, stdout=log, stderr=log, start_new_session=True)
+    failed = 0
+    for farm, names in farms.items():
+        while not (up := is_up(farm)) and (farm not in begun or begun[farm].poll() is None):
+            time.sleep(0.05)
+        failed += not up
+        told = f"up, {len(names)} users" if up else f"it did not start, see {os.path.join(farm, 'serve.log')}"
+        print(f"{os.path.basename(farm)}: {told}")
+    return 1 if failed else 0
+
+
+def stop(folder):
+    """Stops each farm. Its records stay, and it goes on from them when it is started again."""
+    farms, _ = class_in(folder)
+    for farm in farms:
+        if is_locked(farm):
+            ask_operator(farm, "!stop")
+    failed, end = 0, time.monotonic() + STOP_SECONDS
+    for farm in farms:
+        while is_locked(farm) and time.monotonic() < end:
+            time.sleep(0.05)
+        failed += is_locked(farm)
+        print(f"{os.path.basename(farm)}: {'it did not stop' if is_locked(farm) else 'off'}")
+    return 1 if failed else 0
+
+
+def status(folder):
+    """Prints a row for each student."""
+    farms, _ = class_in(folder)
+    print("\n".join(table([row for farm, names in farms.items() for row in rows_of(farm, names)])))
+    return 0
+
+
+ORDERS = {"start": start, "stop": stop, "status": status}
+
+
+def words_of(given):
+    it = argparse.ArgumentParser(prog="class", description="A farm for each student of a class.", usage="""\
+class --students NAMES.txt --nodes N [--hosts H] [--memory M] [--limit L] [--mode M] [--group G] DIR
+       class start|stop|status DIR""")
+    it.add_argument("--students", required=True, metavar="NAMES.txt", help="a file with one name a line")
+    it.add_argument("--nodes", type=int, required=True, metavar="N", help="how many nodes each student has, 1 to 8")
+    it.add_argument("--hosts", type=int, default=1, metavar="H", help="how many hosts, 1 to 4, default 1")
+    it.add_argument("--memory", type=int, default=4096, metavar="M", help="how many bytes each node has, default 4096")
+    it.add_argument("--limit", type=int, default=10 ** 9, metavar="L", help="how many events are recorded, default 1000000000")
+    it.add_argument("--mode", default="600", metavar="M", help="the mode of the students' sockets, default 600")
+    it.add_argument("--group", metavar="G", help="the group of the students' sockets; %%u in it stands for the user's name")
+    it.add_argument("DIR", help="the folder of the class")
+    return it.parse_args(given)
+
+
+def main(given):
+    try:
+        if len(given) == 2 and given[0] in ORDERS:
+            return ORDERS[given[0]](given[1])
+        return make(words_of(given))
+    except (Refused, OSError) as error:
+        print(f"class: {error}", file=sys.stderr)
+        return 1

@@ -1,0 +1,86 @@
+"""A class as plans: whose name is which, how many farms there are, and what each student gets."""
+import os
+import re
+import unicodedata
+from typing import NamedTuple
+
+from .folder import OPERATOR, Refused
+
+# What one farm has, and what its plan allows: see docs/PLAN.md.
+DOMAINS, PORTS, NODES, HOSTS, NAME = 16, 32, range(1, 9), range(1, 5), 32
+MEMORY, LIMIT = range(2048, 65537, 4), range(1, (1 << 40) + 1)
+
+
+class Machine(NamedTuple):
+    """What each student gets. A node by itself has one wired link, and each of several has two, so that they can be joined in a
+    row or in a ring."""
+
+    nodes: int
+    hosts: int
+    memory: int
+    limit: int
+
+    def links(self):
+        return 1 if self.nodes == 1 else 2
+
+    def ports(self):
+        return self.nodes * self.links() + self.hosts
+
+    def devices(self):
+        """The device at each port, from port 0."""
+        links = [f"node {node}, link {link}" for node in range(self.nodes) for link in range(self.links())]
+        return links + [f"host {host}" for host in range(self.hosts)]
+
+    def check(self):
+        """Refuses what no plan may have."""
+        for what, number, among in (("nodes", self.nodes, NODES), ("hosts", self.hosts, HOSTS), ("memory", self.memory, MEMORY),
+                                    ("limit", self.limit, LIMIT)):
+            if number not in among:
+                step = f", a multiple of {among.step}" if among.step > 1 else ""
+                raise Refused(f"--{what} is {among[0]} to {among[-1]}{step}, and not {number}")
+
+    def domain(self, name, first):
+        """The part of a plan for this user, whose ports begin at this one."""
+        own = self.nodes * self.links()
+        text = [f'\n[[domain]]\nuser = [{{ name = "{name}", host = {[own + host for host in range(self.hosts)]} }}]',
+                f"range = [[{first}, {first + self.ports() - 1}]]", f"limit = {self.limit}"]
+        for node in range(self.nodes):
+            ports = [node * self.links() + link for link in range(self.links())]
+            text.append(f"\n[[domain.node]]\nmemory = {self.memory}\nlinks = {ports + [-1] * (4 - len(ports))}")
+        return "\n".join(text) + "\n"
+
+
+def user_name(person):
+    """A person's name as a user's: letters without their marks, digits, and hyphens between words."""
+    letters = unicodedata.normalize("NFKD", person).encode("ascii", "ignore").decode().lower()
+    return re.sub(r"[^a-z0-9]+", "-", letters).strip("-")[:NAME].strip("-")
+
+
+def students_of(path):
+    """The people that a file names, one a line, each with the name of a user."""
+    students = {}
+    with open(path, encoding="utf-8") as lines:
+        for number, line in enumerate(lines, 1):
+            person = line.strip()
+            if not person or person.startswith("#"):
+                continue
+            name = user_name(person)
+            if not name or name == OPERATOR:
+                raise Refused(f"{path}, line {number}: {person!r} makes no user's name: write it with a to z and digits")
+            if name in students:
+                raise Refused(f"{path}, line {number}: {person} is the user {name}, as {students[name]} is: add something to one")
+            students[name] = person
+    if not students:
+        raise Refused(f"{os.path.abspath(path)} names nobody: write one name a line")
+    return students
+
+
+def farms_of(names, machine):
+    """The users of each farm, so many as it has domains and ports for."""
+    most = min(DOMAINS, PORTS // machine.ports())
+    return [names[at:at + most] for at in range(0, len(names), most)]
+
+
+def plan_of(names, machine):
+    """The plan of one farm."""
+    return "version = 3\n" + "".join(machine.domain(name, at * machine.ports()) for at, name in enumerate(names))

@@ -1,0 +1,174 @@
+"""Who speaks to `live`: the users and the operator, each with the clients at his socket and the lines that aren't answered yet."""
+import asyncio
+import re
+
+from .lines import MOST_LINE, Lines
+
+# So many lines of a speaker may be on their way at once. `live` keeps 1,024 lines for a domain, which has four users at most,
+# so no line of a client is refused as too many.
+MOST_ON_WAY = 250
+# A longer line counts as several.
+BYTES_OF_ONE = 1 << 12
+# A client that lets more bytes than this wait for it is cut off.
+MOST_BACKLOG = 1 << 20
+MOST_CLIENTS = 16
+# So much of a line is told to its user if it wasn't answered.
+MOST_TOLD = 200
+
+
+class Asked:
+    """A line on its way: its text, who sent it, and as how many lines it counts."""
+
+    def __init__(self, text, client, size):
+        self.text, self.client, self.size = text, client, size
+
+
+class Speaker:
+    """A user, with his name before each of his lines."""
+
+    def __init__(self, name):
+        self.name = name
+        self.prefix = name.encode() + b" "
+        self.clients, self.asked = set(), {}
+        self.room, self.turn = asyncio.Semaphore(MOST_ON_WAY), asyncio.Lock()
+
+    def line(self, text):
+        """The line of `live` for a client's line."""
+        return self.prefix + text + b"\n"
+
+    def told(self, answer):
+        """What a client is told of an answer."""
+        return answer[len(self.prefix):]
+
+    async def enter(self, text, client):
+        """Waits until one more line may be on its way. Clients of one speaker take turns."""
+        size = min(1 + len(text) // BYTES_OF_ONE, MOST_ON_WAY)
+        async with self.turn:
+            for _ in range(size):
+                await self.room.acquire()
+        return Asked(text, client, size)
+
+    def sent(self, number, asked):
+        """The line is that of this number among the lines of this run of `live`."""
+        self.asked[number] = asked
+        asked.client.waits += 1
+
+    def answered(self, answer):
+        """Takes off the line that is answered: an error has its number, and all others are answered in their order."""
+        error = re.fullmatch(rb"error (\d+) \w+", self.told(answer))
+        self.take(int(error[1]) if error else next(iter(self.asked), None))
+
+    def take(self, number):
+        asked = self.asked.pop(number, None)
+        if asked is not None:
+            for _ in range(asked.size):
+                self.room.release()
+            asked.client.waits -= 1
+        return asked
+
+    def tell(self, text):
+        for client in [*self.clients]:
+            client.tell(text)
+
+    def forget(self):
+        """Names the lines that weren't answered to the clients."""
+        for number in [*self.asked]:
+            text = self.take(number).text
+            more = b".." if len(text) > MOST_TOLD else b""
+            self.tell(b"error: not answered, send it again if you want it: " + text[:MOST_TOLD] + more + b"\n")
+        self.rest()
+
+    def rest(self):
+        """Ends the clients that send nothing more and wait for nothing."""
+        for client in [*self.clients]:
+            client.rest()
+
+
+class Operator(Speaker):
+    """The operator, whose lines and answers begin with an exclamation mark."""
+
+    def __init__(self, name, users):
+        super().__init__(name)
+        self.prefix, self.users, self.heard = b"!", users, 0
+
+    def line(self, text):
+        return (b"" if text.startswith(b"!") else b"!") + text + b"\n"
+
+    def told(self, answer):
+        return answer
+
+    def sent(self, number, asked):
+        """`!stop` is not answered."""
+        if self.words(asked) == [b"!stop"]:
+            for _ in range(asked.size):
+                self.room.release()
+        else:
+            super().sent(number, asked)
+
+    def words(self, asked):
+        """The words of a line as `live` gets it."""
+        return self.line(asked.text)[:-1].removesuffix(b"\r").split(b" ")
+
+    def answered(self, answer):
+        """`!users` has a line for each user; `!restart` is answered when its domain has begun anew."""
+        words = answer.split(b" ")
+        if words[:2] == [b"!", b"error"]:
+            self.take(int(words[2]))
+            return
+        if words[0] == b"!users":
+            self.heard = (self.heard + 1) % self.users
+            if self.heard:
+                return
+        wanted = words[:2] if words[0] == b"!restart" else words[:1]
+        for number, asked in self.asked.items():
+            if self.words(asked) == wanted:
+                self.take(number)
+                return
+
+    def forget(self):
+        self.heard = 0
+        super().forget()
+
+
+class Client:
+    """One connection of a speaker."""
+
+    def __init__(self, speaker, reader, writer):
+        self.speaker, self.writer = speaker, writer
+        self.lines = Lines(reader, MOST_LINE)
+        self.waits, self.has_ended = 0, False
+
+    def tell(self, text):
+        """Hands over what the client is to read; if it has let too much wait, it is cut off."""
+        transport = self.writer.transport
+        if transport.is_closing():
+            return
+        if transport.get_write_buffer_size() > MOST_BACKLOG:
+            transport.abort()
+            return
+        self.writer.write(text)
+
+    def rest(self):
+        if self.has_ended and self.waits == 0:
+            self.writer.close()
+
+    async def serve(self, send):
+        """Sends each line of the client until it ends, and keeps it until all of them are answered."""
+        if len(self.speaker.clients) >= MOST_CLIENTS:
+            self.tell(b"error: %d connections are open, close one of them first\n" % MOST_CLIENTS)
+            self.writer.close()
+            return
+        self.speaker.clients.add(self)
+        try:
+            while lines := await self.lines.some():
+                for line in lines:
+                    await send(self.speaker, self, line)
+            if self.lines.half():
+                self.tell(b"error: the last line has no line feed, so it is not sent\n")
+            self.has_ended = True
+            self.rest()
+            await self.writer.wait_closed()
+        except OSError:
+            self.writer.transport.abort()
+        finally:
+            self.speaker.clients.discard(self)
