@@ -21,9 +21,9 @@ alike_if (Some d) (Some e) p q r s px qy pq rx sy rs names = record {
 -- the domain of this number, which is there
 at_number : (plan : List DomainData) (d : DomainData) (number : ℕ) → number < length plan → IfSome (slice_get plan number) (λ e. AreAlike d e) → IsOnlyDomain plan number (d ∷ [])
 at_number plan d number less alike = elim (slice_get_cases plan number).1 [
-    | inl found ↦ record { alone = d; domain = found.0; only = refl; there = found.2; alike = subst (λ (o : Option DomainData). IfSome o (λ e. AreAlike d e)) found.2 alike }
-    | inr past ↦ absurd (omega (arith, less, past.0))
-  ]
+  | inl found ↦ record { alone = d; domain = found.0; only = refl; there = found.2; alike = subst (λ (o : Option DomainData). IfSome o (λ e. AreAlike d e)) found.2 alike }
+  | inr past ↦ absurd (omega (arith, less, past.0))
+]
 
 -- one domain, like that of this number
 pub only_domain : (plan alone : List DomainData) (number : ℕ) → length alone ≡ 1 → number < length plan → IfSome (slice_get alone 0) (λ d. IfSome (slice_get plan number) (λ e. AreAlike d e)) → IsOnlyDomain plan number alone

@@ -107,7 +107,7 @@ behind_the_head a b head torn d e first lines = record {
 pub more_of_the_head : (a b c : Option (List ℕ)) (head line : List ℕ) (taken : ℕ) → Consumes a b (take taken head) → Consumes b c line → take (length line) (drop taken head) ≡ line → Consumes a c (take (taken + length line) head)
 more_of_the_head a b c head line taken first next same =
     subst (λ (t : List ℕ). Consumes a c t) (ap (λ l. take taken head ++ l) (sym same) ∙ sym (take-add taken (length line) head))
-        (consumes_more a b c (take taken head) line first next)
+    (consumes_more a b c (take taken head) line first next)
 
 -- a head of which only so much was there
 pub beginning_of : (a b : Option (List ℕ)) (head : List ℕ) (taken : ℕ) → Consumes a b (take taken head) → IsAtEnd b → taken < length head → HasBeginning a head

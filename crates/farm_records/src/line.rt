@@ -26,10 +26,12 @@ pub fn read_call(alloc: Global, line: &[u8]) -> Result<RecordedCall, RedoFault> 
         return Err(RedoFault::NoLine);
     };
     match read_request(alloc, call) {
-        Ok(RepeatedRequest {
-            times,
-            request: Request::Events(_, by, events),
-        }) => match events.as_slice() {
+        Ok(
+            RepeatedRequest {
+                times,
+                request: Request::Events(_, by, events),
+            },
+        ) => match events.as_slice() {
             [event] => Ok(RecordedCall {
                 times,
                 by,

@@ -89,7 +89,9 @@ fn redo_call<O: Outputs + Drop>(
     call: RecordedCall,
 ) -> Result<Reply, RedoFault>
     ensures { IfOk result (λ reply. GainsHistory (line_history (record {
-        times = call.times; answered = record { call = record { by = call.by; event = call.event }; reply = reply } })) domain.old domain.new) }
+      times = call.times;
+      answered = record { call = record { by = call.by; event = call.event }; reply = reply };
+    })) domain.old domain.new) }
 {
     let RecordedCall { times, by, event } = call;
     match (times, by, event) {

@@ -47,18 +47,18 @@ fn write_ran(text: &mut String, by: By, node: u8, count: u64) -> Result<(), NoMe
     if count == 0 {
         return Ok(());
     }
-    write_line(text, count, by, Event::Step(node), Reply::Stepped(Stepped::Ran))
+    write_line(
+        text,
+        count,
+        by,
+        Event::Step(node),
+        Reply::Stepped(Stepped::Ran),
+    )
 }
 
 // Appends the lines of Steps of a node, of which the last came to this.
 #[tactic(auto, using(crate::proofs::Lines::ended_run_text))]
-fn write_run(
-    text: &mut String,
-    by: By,
-    node: u8,
-    count: u64,
-    last: Stepped,
-) -> Result<(), NoMemory>
+fn write_run(text: &mut String, by: By, node: u8, count: u64, last: Stepped) -> Result<(), NoMemory>
     ensures text { OnOk result (string_bytes text.new ≡ string_bytes text.old ++ record_text (run_lines by node count last)) }
 {
     match last {

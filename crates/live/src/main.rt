@@ -12,11 +12,11 @@ use live_farm::{
 use plan_checker::{AcceptedPlan, check, read_plan};
 use script_text::{ReadFault, read_whole, write_whole};
 use std::alloc::Global;
+use std::fs::{File, Files};
 use std::io::{self, BufRead, BufReader, Write};
 use std::process::ExitCode;
 use std::sync::{Mutex, Wait};
 use std::thread::Threads;
-use std::fs::{File, Files};
 use std::{env, fs};
 
 /// What is asked for by the words.

@@ -15,7 +15,8 @@ use crate::record::{NotKept, SharedRecord};
 use crate::threads::run_crew;
 use domain_core::Refusal;
 use farm_service::{
-    Closed, Histories, NoGate, NoMemory, Opened, Service, UserPass, WorkerPass, run_users_and_workers,
+    Closed, Histories, NoGate, NoMemory, Opened, Service, UserPass, WorkerPass,
+    run_users_and_workers,
 };
 use line_answers::Quantum;
 use std::alloc::Global;

@@ -1,8 +1,4 @@
 //! The record of a domain: what it answered is written before it is told.
-ghost use Rattle.std.specs.Prelude.{◌≡◌, OnOk};
-ghost use Rattle.std.specs.Io.KnownBytes.{Appends};
-ghost use Rattle.live_farm.specs.Kept.{KeepsPiece};
-
 use domain_core::{Entry, Journal, Mark, NoMemory};
 use farm_records::write_records_of;
 use farm_service::Service;
@@ -123,7 +119,12 @@ impl<S: RecordStore> DomainRecord<S> {
     }
 
     // Records all that the journal has gained by now.
-    fn keep_gained<R: Wait>(&mut self, rt: &R, service: &Service, domain: u8) -> Result<(), NotKept> {
+    fn keep_gained<R: Wait>(
+        &mut self,
+        rt: &R,
+        service: &Service,
+        domain: u8,
+    ) -> Result<(), NotKept> {
         for _ in rt.forever() {
             if !self.keep_piece(rt, service, domain)? {
                 break;

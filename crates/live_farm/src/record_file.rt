@@ -279,7 +279,9 @@ impl<'a, F: Files<File = File>> RecordFolder<'a, F> {
             return Err(LiveFailure::of_file(self.alloc, path, error));
         }
         let cut = found.length.saturating_sub(found.whole);
-        let text = format!(in self.alloc; "{path}: {cut} bytes behind the last whole line are cut off\n")?;
+        let text = format!(in self.alloc;
+            "{path}: {cut} bytes behind the last whole line are cut off\n"
+        )?;
         let _ = write_whole(errors, text.as_bytes());
         Ok(())
     }
