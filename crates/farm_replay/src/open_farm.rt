@@ -159,11 +159,11 @@ impl OpenFarm {
         let (By::Farm, Event::Step(node)) = (by, event) else {
             return Ok(0);
         };
-        // A copy of the node doesn't pay for one Step.
-        if most == 1 {
+        let most = most.min(self.room(plan, domain));
+        // One Step alone is done quicker without a copy of the node.
+        if most < 2 {
             return Ok(0);
         }
-        let most = most.min(self.room(plan, domain));
         let Some(DoneSteps { before, last }) = burst(&mut self.farm, domain, node, most)? else {
             return Ok(0);
         };
