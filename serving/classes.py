@@ -46,8 +46,8 @@ def make(words):
             save(os.path.join(folder, "sheets", f"{name}.txt"), sheet(students[name], name, machine, place, connect_command()))
     rights = ["--mode", words.mode] + (["--group", words.group] if words.group else [])
     save(os.path.join(folder, FILE), json.dumps({"farms": farms, "rights": rights}, indent=1) + "\n")
-    print(f"{count(len(students), 'student')} in {count(len(farms), 'farm')}, each with {count(machine.ports(), 'port')}; their sheets "
-          f"are in {os.path.join(words.DIR, 'sheets')}")
+    print(f"{count(len(students), 'student')} in {count(len(farms), 'farm')}, each with {count(machine.ports(), 'port')}; "
+          f"their sheets are in {os.path.join(words.DIR, 'sheets')}")
     return 0
 
 

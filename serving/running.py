@@ -19,6 +19,15 @@ WORDS, PLAN, FILES = 2, 3, 6
 KEPT = 4096
 
 
+def report(text):
+    """Writes to standard error, if that takes it."""
+    try:
+        sys.stderr.buffer.write(text)
+        sys.stderr.flush()
+    except OSError:
+        pass
+
+
 def how(status):
     """How a process ended."""
     if status < 0:
@@ -44,8 +53,7 @@ class Live:
         """Hands on what it says on standard error, and keeps the end of it."""
         while piece := await self.process.stderr.read(KEPT):
             self.errors = (self.errors + piece)[-KEPT:]
-            sys.stderr.buffer.write(piece)
-            sys.stderr.flush()
+            report(piece)
 
     def say(self, line):
         """Sends a line, and returns its number in this run."""

@@ -63,7 +63,7 @@ class Server:
         speaker.sent(self.live.say(speaker.line(text)), asked)
 
     def tell_all(self, text):
-        print(f"serve: {text}", file=sys.stderr, flush=True)
+        running.report(f"serve: {text}\n".encode())
         for speaker in self.speakers.values():
             speaker.tell(f"note: {text}\n".encode())
 
@@ -75,7 +75,7 @@ class Server:
                 name = OPERATOR if line.startswith(b"!") else line.partition(b" ")[0].decode(errors="replace")
                 speaker = self.speakers.get(name)
                 if speaker is None:
-                    print(f"serve: live said {line!r}", file=sys.stderr, flush=True)
+                    running.report(f"serve: live said {line!r}\n".encode())
                     continue
                 speaker.answered(line)
                 told.setdefault(speaker, []).append(speaker.told(line) + b"\n")
@@ -88,7 +88,7 @@ class Server:
         self.live, users = await running.begin(self.call(), self.begun)
         if not self.speakers:
             await self.open(users)
-            print(f"serve: {len(users)} users, their sockets are in {self.folder.path}", file=sys.stderr, flush=True)
+            running.report(f"serve: {len(users)} users, their sockets are in {self.folder.path}\n".encode())
         elif users != [*self.speakers][:-1]:
             raise Refused("the plan has other users now: start serve again in a fresh folder, or give the plan as it was")
         self.is_up.set()
@@ -109,7 +109,7 @@ class Server:
             self.is_up.clear()
             for speaker in self.speakers.values():
                 speaker.forget()
-            if status == 0 or self.is_stopping:
+            if status == 0 or self.is_stopping or self.speakers[OPERATOR].has_stopped:
                 self.tell_all("the farm is stopped")
                 return 0 if status <= 0 else 1
             self.tell_all(f"the farm ended {running.how(status)} and is started again")
@@ -127,8 +127,8 @@ class Server:
                 if self.is_stopping:
                     raise
                 status = ended.status
-        raise Refused(f"live ended {running.MOST_STARTS + 1} times in a minute, the last time {running.how(status)}. What was told is "
-                      f"in {self.folder.records}. Look above for what live said, and start serve again when that is mended")
+        raise Refused(f"live ended {running.MOST_STARTS + 1} times in a minute, the last time {running.how(status)}. What was "
+                      f"told is in {self.folder.records}. Look above for what live said, and start serve again after that")
 
     def stop(self):
         """Stops the farm when all lines that wait are answered; the second time at once."""

@@ -1,4 +1,4 @@
-"""Who speaks to `live`: the users and the operator, each with the clients at his socket and the lines that aren't answered yet."""
+"""Who speaks to `live`: the users and the operator, each with his clients and the lines that aren't answered yet."""
 import asyncio
 import re
 
@@ -89,7 +89,7 @@ class Operator(Speaker):
 
     def __init__(self, name, users):
         super().__init__(name)
-        self.prefix, self.users, self.heard = b"!", users, 0
+        self.prefix, self.users, self.heard, self.has_stopped = b"!", users, 0, False
 
     def line(self, text):
         return (b"" if text.startswith(b"!") else b"!") + text + b"\n"
@@ -100,6 +100,7 @@ class Operator(Speaker):
     def sent(self, number, asked):
         """`!stop` is not answered."""
         if self.words(asked) == [b"!stop"]:
+            self.has_stopped = True
             for _ in range(asked.size):
                 self.room.release()
         else:

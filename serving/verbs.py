@@ -31,7 +31,7 @@ class Verb(NamedTuple):
 
 
 USERS = {
-    "config": Verb((HEX,), "config 01000703", "sends configuration bytes to your switch: here 01 joins ports 0 and 7, 03 makes ready"),
+    "config": Verb((HEX,), "config 01000703", "sends configuration bytes: here 01 joins the ports 0 and 7, 03 makes ready"),
     "write": Verb((HOST, HEX), "write 0 68690a", "gives a host bytes to send"),
     "boot": Verb((HOST, HEX), "boot 0 b424f224f2243081ff21f5", "boots the node that is joined with the host with this code"),
     "poke": Verb((HOST, WORD, WORD), "poke 0 80000100 12345678", "stores a word in a booting node, through the host"),
@@ -58,7 +58,7 @@ ALL = {
 # What the last words of an answer mean, and what can be done.
 MEANINGS = (
     (r".* nosuch", "there is no such host or node, or the host is another user's"),
-    (r".* journalfull", "your machine has recorded as many events as its limit: restart begins anew, reset ends what a node does"),
+    (r".* journalfull", "your machine has recorded as many events as its limit: restart begins anew"),
     (r"config .*badport.*", "a port of the message is none of yours: compare it with your plan"),
     (r"config .*badcommand.*", "a message begins with 00 to 06"),
     (r"boot .* refused 1", "code has two bytes at least"),

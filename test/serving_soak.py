@@ -194,7 +194,8 @@ class User:
         """Each message for the host that the record has was sent, and each that was answered is there, in its order."""
         with open(f"{records}/{self.name}.replay", "rb") as it:
             text = it.read().partition(b"\n---\n")[2]
-        held = b"".join(bytes.fromhex(it.decode()) for it in re.findall(rb"^0 write 0 ([0-9a-f]{2})(?: @0)? = written$", text, re.M))
+        written = re.findall(rb"^0 write 0 ([0-9a-f]{2})(?: @0)? = written$", text, re.M)
+        held = b"".join(bytes.fromhex(it.decode()) for it in written)
         there, at = [], 0
         while at < len(held):
             size = {0: 9, 1: 5}.get(held[at], 1)
@@ -246,6 +247,7 @@ def soak(live, minutes, seed):
     print("\n".join(faults[:50]))
     counts = {it: sum(getattr(user, it) for user in users) for it in ("heard", "lost", "cuts", "floods")}
     count = sum(int(it) for it in re.findall(r": (\d+) rows, 0 wrong$", rows.stdout, re.M))
-    print(f"{counts['heard']} answers, {counts['lost']} lines told as not answered, {counts['cuts']} cuts, {counts['floods']} floods, "
-          f"{kills} kills; {messages} messages and {count} rows of records compared, {len(faults)} wrong")
+    print(f"{counts['heard']} answers, {counts['lost']} lines told as not answered, {counts['cuts']} cuts, "
+          f"{counts['floods']} floods, {kills} kills; {messages} messages and {count} rows of records compared, "
+          f"{len(faults)} wrong")
     return 1 if faults else 0

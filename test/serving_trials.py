@@ -189,14 +189,14 @@ class Served:
             time.sleep(0.01)
         raise AssertionError("serve has no live")
 
-    def flood(self, name, reads, is_over, cuts, line=b"config " + b"ff" * 200):
+    def flood(self, name, reads, is_over, cuts, line=b"config " + b"ff" * 100):
         """Sends a line without end, and reads the answers or lets them lie. A connection that is cut off is followed by
         another."""
         lines = (line + b"\n") * 100
         while not is_over.is_set():
             client = self.client(name)
             reading = threading.Thread(target=drain, args=(client,), daemon=True)
-            client.stream.settimeout(1)
+            client.stream.settimeout(1 if reads else SECONDS)
             if reads:
                 reading.start()
             try:
