@@ -189,7 +189,7 @@ class Served:
             time.sleep(0.01)
         raise AssertionError("serve has no live")
 
-    def flood(self, name, reads, is_over, cuts, line=b"config " + b"ff" * 100):
+    def flood(self, name, reads, is_over, cuts, line):
         """Sends a line without end, and reads the answers or lets them lie. A connection that is cut off is followed by
         another."""
         lines = (line + b"\n") * 100
