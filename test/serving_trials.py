@@ -10,7 +10,7 @@ import time
 
 from trials import TOP
 
-SECONDS = 20
+SECONDS, START_SECONDS = 20, 60
 TIMES = 60
 PLAN = """version = 3
 
@@ -128,7 +128,7 @@ class Served:
         # pylint: disable-next=consider-using-with
         self.process = subprocess.Popen(self.call(*more), env=self.env, stdin=subprocess.DEVNULL, stdout=subprocess.DEVNULL,
                                         stderr=subprocess.PIPE)
-        end = time.monotonic() + SECONDS
+        end = time.monotonic() + START_SECONDS
         while True:
             try:
                 self.client("operator").stream.close()
@@ -188,6 +188,13 @@ class Served:
                 return int(numbers[-1])
             time.sleep(0.01)
         raise AssertionError("serve has no live")
+
+    def kill_live(self):
+        """Kills `live`, and waits until `serve` knows it."""
+        number = self.live_process()
+        os.kill(number, signal.SIGKILL)
+        while os.path.exists(f"/proc/{number}"):
+            time.sleep(0.01)
 
     def flood(self, name, reads, is_over, cuts, line):
         """Sends a line without end, and reads the answers or lets them lie. A connection that is cut off is followed by
