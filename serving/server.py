@@ -56,10 +56,13 @@ class Server:
         self.servers.append(await asyncio.start_unix_server(serve, sock=one, limit=PIECE))
 
     async def send(self, speaker, client, text):
-        """Sends a client's line as his speaker's, as soon as there is room and `live` is up."""
+        """Sends a client's line as his speaker's, as soon as there is room and `live` is up, if he is there still."""
         asked = await speaker.enter(text, client)
         while not self.is_up.is_set():
             await self.is_up.wait()
+        if client.is_gone():
+            speaker.free(asked)
+            return
         speaker.sent(self.live.say(speaker.line(text)), asked)
 
     def tell_all(self, text):

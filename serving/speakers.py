@@ -7,6 +7,8 @@ from .lines import MOST_LINE, Lines
 # So many lines of a speaker may be on their way at once. `live` keeps 1,024 lines for a domain, which has four users at most,
 # so no line of a client is refused as too many.
 MOST_ON_WAY = 250
+# The operator's lines are answered by the thread that reads, so all others wait for them.
+MOST_OF_OPERATOR = 16
 # A longer line counts as several.
 BYTES_OF_ONE = 1 << 12
 # A client that lets more bytes than this wait for it is cut off.
@@ -26,11 +28,11 @@ class Asked:
 class Speaker:
     """A user, with his name before each of his lines."""
 
-    def __init__(self, name):
-        self.name = name
+    def __init__(self, name, most=MOST_ON_WAY):
+        self.name, self.most = name, most
         self.prefix = name.encode() + b" "
         self.clients, self.asked = set(), {}
-        self.room, self.turn = asyncio.Semaphore(MOST_ON_WAY), asyncio.Lock()
+        self.room, self.turn = asyncio.Semaphore(most), asyncio.Lock()
 
     def line(self, text):
         """The line of `live` for a client's line."""
@@ -42,7 +44,7 @@ class Speaker:
 
     async def enter(self, text, client):
         """Waits until one more line may be on its way. Clients of one speaker take turns."""
-        size = min(1 + len(text) // BYTES_OF_ONE, MOST_ON_WAY)
+        size = min(1 + len(text) // BYTES_OF_ONE, self.most)
         async with self.turn:
             for _ in range(size):
                 await self.room.acquire()
@@ -61,10 +63,14 @@ class Speaker:
     def take(self, number):
         asked = self.asked.pop(number, None)
         if asked is not None:
-            for _ in range(asked.size):
-                self.room.release()
+            self.free(asked)
             asked.client.waits -= 1
         return asked
+
+    def free(self, asked):
+        """The line is no longer on its way."""
+        for _ in range(asked.size):
+            self.room.release()
 
     def tell(self, text):
         for client in [*self.clients]:
@@ -88,7 +94,7 @@ class Operator(Speaker):
     """The operator, whose lines and answers begin with an exclamation mark."""
 
     def __init__(self, name, users):
-        super().__init__(name)
+        super().__init__(name, MOST_OF_OPERATOR)
         self.prefix, self.users, self.heard, self.has_stopped = b"!", users, 0, False
 
     def line(self, text):
@@ -101,8 +107,7 @@ class Operator(Speaker):
         """`!stop` is not answered."""
         if self.words(asked) == [b"!stop"]:
             self.has_stopped = True
-            for _ in range(asked.size):
-                self.room.release()
+            self.free(asked)
         else:
             super().sent(number, asked)
 
@@ -142,12 +147,16 @@ class Client:
     def tell(self, text):
         """Hands over what the client is to read; if it has let too much wait, it is cut off."""
         transport = self.writer.transport
-        if transport.is_closing():
+        if self.is_gone():
             return
         if transport.get_write_buffer_size() > MOST_BACKLOG:
             transport.abort()
             return
         self.writer.write(text)
+
+    def is_gone(self):
+        """It was cut off, or has vanished: what it sent before isn't done any more."""
+        return self.writer.transport.is_closing()
 
     def rest(self):
         if self.has_ended and self.waits == 0:

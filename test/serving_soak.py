@@ -2,11 +2,9 @@
 and compares each answer with it; at the end the records are compared with the lists, and done again by `lab rows`."""
 import collections
 import glob
-import os
 import queue
 import random
 import re
-import signal
 import subprocess
 import threading
 import time
@@ -219,7 +217,7 @@ def kill_till(served, end, chance):
     kills = 0
     while time.monotonic() + SECONDS_OF_KILL < end:
         time.sleep(SECONDS_OF_KILL + 4 * chance.random())
-        os.kill(served.live_process(), signal.SIGKILL)
+        served.kill_live()
         kills += 1
     return kills
 

@@ -10,7 +10,7 @@ import time
 
 from trials import TOP
 
-SECONDS = 20
+SECONDS, START_SECONDS = 20, 60
 TIMES = 60
 PLAN = """version = 3
 
@@ -128,7 +128,7 @@ class Served:
         # pylint: disable-next=consider-using-with
         self.process = subprocess.Popen(self.call(*more), env=self.env, stdin=subprocess.DEVNULL, stdout=subprocess.DEVNULL,
                                         stderr=subprocess.PIPE)
-        end = time.monotonic() + SECONDS
+        end = time.monotonic() + START_SECONDS
         while True:
             try:
                 self.client("operator").stream.close()
@@ -189,7 +189,14 @@ class Served:
             time.sleep(0.01)
         raise AssertionError("serve has no live")
 
-    def flood(self, name, reads, is_over, cuts, line=b"config " + b"ff" * 100):
+    def kill_live(self):
+        """Kills `live`, and waits until `serve` knows it."""
+        number = self.live_process()
+        os.kill(number, signal.SIGKILL)
+        while os.path.exists(f"/proc/{number}"):
+            time.sleep(0.01)
+
+    def flood(self, name, reads, is_over, cuts, line):
         """Sends a line without end, and reads the answers or lets them lie. A connection that is cut off is followed by
         another."""
         lines = (line + b"\n") * 100
