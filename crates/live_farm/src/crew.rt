@@ -1,5 +1,7 @@
 //! All users of a farm, by the domains that they share.
 
+ghost use Rattle.std.specs.Prelude.{◌<◌, length, IfSome};
+
 use crate::group::DomainUsers;
 use crate::letter::{Letter, Matter};
 use crate::mailbox::Sent;
@@ -29,8 +31,10 @@ pub struct Crew<'a> {
     pub stations: Vec<Station<'a>>,
 }
 
-// The name of a user of a plan.
-fn name_of<'a>(plan: &'a AcceptedPlan, number: UserNumber) -> Option<&'a str> {
+/// The name of a user of a plan.
+pub(crate) fn name_of<'a>(plan: &'a AcceptedPlan, number: UserNumber) -> Option<&'a str>
+    ensures { IfSome result (λ _. number.domain < length plan.now) }
+{
     if number.domain < plan.domains() && number.user < plan.users(number.domain) {
         Some(plan.name(number.domain, number.user))
     } else {

@@ -1,6 +1,7 @@
 //! Records in files of a folder.
 
 use crate::command_line::RecordSettings;
+use crate::crew::{UserNumber, name_of};
 use crate::failure::LiveFailure;
 use crate::record::{DomainRecord, RecordStore};
 use domain_core::NoMemory;
@@ -210,6 +211,30 @@ fn redo_file<F: Files<File = File>>(
     })
 }
 
+// How a domain's record begins, and what it is called.
+#[derive(Drop)]
+struct RecordName {
+    head: String,
+    name: String,
+}
+
+// The head of a domain's record, and its first user. Every domain of a plan has one.
+fn record_name(alloc: Global, plan: &AcceptedPlan, number: u8) -> Result<RecordName, LiveFailure> {
+    let first = UserNumber {
+        domain: number,
+        user: 0,
+    };
+    let Some(name) = name_of(plan, first) else {
+        return Err(LiveFailure::Histories);
+    };
+    let name = String::from_str(alloc, name)?;
+    match head_of(alloc, plan, number) {
+        Ok(head) => Ok(RecordName { head, name }),
+        Err(HeadFault::Memory(_)) => Err(LiveFailure::Memory),
+        Err(HeadFault::Unlike) => Err(LiveFailure::Histories),
+    }
+}
+
 // A domain's record before any file changes: what was found, or nothing.
 #[derive(Drop)]
 struct PlannedRecord {
@@ -319,12 +344,7 @@ impl<'a, F: Files<File = File>> RecordFolder<'a, F> {
     ) -> Result<Vec<PlannedRecord>, LiveFailure> {
         let mut planned = Vec::new(self.alloc);
         for number in 0..histories.plan().domains() {
-            let head = match head_of(self.alloc, histories.plan(), number) {
-                Ok(head) => head,
-                Err(HeadFault::Memory(_)) => return Err(LiveFailure::Memory),
-                Err(HeadFault::Unlike) => return Err(LiveFailure::Io),
-            };
-            let name = String::from_str(self.alloc, histories.plan().name(number, 0))?;
+            let RecordName { head, name } = record_name(self.alloc, histories.plan(), number)?;
             let Some(domain) = histories.domains.get_mut(usize::from(number)) else {
                 break;
             };

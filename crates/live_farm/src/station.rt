@@ -79,11 +79,13 @@ fn record_answer(
     requires { letter.now.user < length group.now.sessions.items }
     ensures { IfOk result (λ a. TellsUnrecorded group.now letter.now (string_bytes a.text)) }
 {
-    let name = match letter.matter {
-        Matter::OperatorRestart => "!",
-        _ => group.name(usize::from(letter.user)),
-    };
-    error_answer(alloc, name, letter.number, Why::Record)
+    let name = group.name(usize::from(letter.user));
+    match letter.matter {
+        Matter::OperatorRestart => error_answer(alloc, "!", letter.number, Why::Record),
+        Matter::Asked(_) | Matter::Wrong(_) => {
+            error_answer(alloc, name, letter.number, Why::Record)
+        }
+    }
 }
 
 // Answers a letter, and records what the domain answered by then before the answer is given to anybody. Once something wasn't
