@@ -12,7 +12,6 @@ use live_farm::{
 use plan_checker::{AcceptedPlan, check, read_plan};
 use script_text::{ReadFault, read_whole, write_whole};
 use std::alloc::Global;
-use std::fs::{File, Files};
 use std::io::{self, BufRead, BufReader, Write};
 use std::process::ExitCode;
 use std::sync::{Mutex, Wait};
@@ -46,15 +45,9 @@ fn main(rt: HostRuntime) -> ExitCode {
 }
 
 // Answers the lines of an input on a farm of the plan, and records it if that is asked for.
-fn serve<
-    R: Threads + Wait + Sync,
-    F: Files<File = File> + Sync,
-    I: BufRead + Send,
-    O: SharedOutlet + Sync,
-    E: Write + Send,
->(
+fn serve<R: Threads + Wait + Sync, I: BufRead + Send, O: SharedOutlet + Sync, E: Write + Send>(
     rt: &R,
-    files: &F,
+    files: &HostRuntime,
     alloc: Global,
     start: Start,
     outlet: &O,
@@ -69,17 +62,11 @@ fn serve<
 }
 
 // The same with the folder of the records, if there is one.
-fn serve_in<
-    R: Threads + Wait + Sync,
-    F: Files<File = File> + Sync,
-    I: BufRead + Send,
-    O: SharedOutlet + Sync,
-    E: Write + Send,
->(
+fn serve_in<R: Threads + Wait + Sync, I: BufRead + Send, O: SharedOutlet + Sync, E: Write + Send>(
     rt: &R,
     alloc: Global,
     start: Start,
-    folder: Option<&RecordFolder<'_, F>>,
+    folder: Option<&RecordFolder<'_, HostRuntime>>,
     outlet: &O,
     input: &mut I,
     errors: &mut E,
@@ -87,7 +74,7 @@ fn serve_in<
     let Start { settings, plan } = start;
     let mut histories = Histories::open(alloc, plan)?;
     let resumes = settings.records.as_ref().is_some_and(|it| it.resumes);
-    let records: FileRecords<'_, F> = match folder {
+    let records: FileRecords<'_, HostRuntime> = match folder {
         Some(folder) => folder.open_records(&mut histories, resumes, errors)?,
         None => no_records(alloc, histories.plan())?,
     };
