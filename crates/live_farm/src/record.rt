@@ -27,6 +27,16 @@ pub enum NotKept {
     Memory,
 }
 
+impl NotKept {
+    // A call of the store failed.
+    fn of(error: &io::Error) -> NotKept {
+        match error.kind() {
+            io::ErrorKind::OutOfMemory => NotKept::Memory,
+            _ => NotKept::Failed,
+        }
+    }
+}
+
 impl From<NoMemory> for NotKept {
     fn from(_error: NoMemory) -> NotKept {
         NotKept::Memory
@@ -111,8 +121,8 @@ impl<S: RecordStore> DomainRecord<S> {
         }
         self.text.clear();
         write_records_of(&mut self.text, self.room.as_slice())?;
-        if store.append(self.text.as_str()).is_err() {
-            return Err(NotKept::Failed);
+        if let Err(error) = store.append(self.text.as_str()) {
+            return Err(NotKept::of(&error));
         }
         self.mark = mark;
         Ok(self.room.len() == self.room.capacity())
@@ -139,10 +149,13 @@ impl<S: RecordStore> DomainRecord<S> {
             return Ok(());
         };
         self.mark = Mark::start();
-        if store.begin_next().is_err() || store.append(self.head.as_str()).is_err() {
-            return Err(NotKept::Failed);
+        if let Err(error) = store.begin_next() {
+            return Err(NotKept::of(&error));
         }
-        Ok(())
+        match store.append(self.head.as_str()) {
+            Ok(()) => Ok(()),
+            Err(error) => Err(NotKept::of(&error)),
+        }
     }
 
     /// Records all that the domain has answered by now, in the next record if its journal began anew.
