@@ -8,30 +8,11 @@ import tempfile
 import threading
 import time
 
+from live_lines import PLAN
 from trials import TOP
 
 SECONDS, START_SECONDS = 20, 60
 TIMES = 60
-PLAN = """version = 3
-
-[[domain]]
-user = [{ name = "ann", host = [7] }]
-range = [[0, 7]]
-limit = 1000000
-
-[[domain.node]]
-memory = 4096
-links = [0, -1, -1, -1]
-
-[[domain]]
-user = [{ name = "bob", host = [7] }, { name = "cas", host = [6] }]
-range = [[8, 15]]
-limit = 1099511627776
-
-[[domain.node]]
-memory = 4096
-links = [0, -1, -1, -1]
-"""
 # Keeps what `live` gets beside it.
 LOGGING = """#!/bin/bash
 exec "{live}" "$@" < <(exec tee -a "{log}" 2> /dev/null)
