@@ -32,6 +32,13 @@ impl Node {
         }
     }
 
+    /// What the node is doing.
+    pub fn state(&self) -> NodeState
+        ensures answer { result ≡ self.now.state }
+    {
+        self.state
+    }
+
     /// The node's memory.
     pub fn memory(&self) -> &Memory
         ensures answer { result.now ≡ self.now.memory }

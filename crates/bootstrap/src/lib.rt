@@ -23,6 +23,7 @@ pub use crate::link_numbers::{link_of, number_of};
 pub use crate::messages::{BootFault, boot_message, peek_message, poke_message, word_of};
 pub use crate::node::Node;
 pub use crate::seen::{Activity, Seen};
+pub use crate::state::{NodeState, Task};
 pub use link_channels::{LinkNumber, Links};
 pub use node_memory::{Fault, Memory, NoMemory, is_memory_size};
 pub use os_link::Packet;

@@ -82,6 +82,17 @@ impl Numbering {
         self.count += 1;
     }
 
+    /// An equal numbering.
+    pub fn copy(&self) -> Numbering
+        ensures { result ≡ self.now }
+    {
+        Numbering {
+            ports: self.ports,
+            numbers: self.numbers,
+            count: self.count,
+        }
+    }
+
     /// How many virtual ports there are, 0 to 32.
     pub fn count(&self) -> u8
         ensures { result ≡ length self.now }

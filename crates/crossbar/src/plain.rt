@@ -58,6 +58,16 @@ impl PlainOutputs {
     {
         PlainOutputs::of([Word::UNUSED; PORTS as usize], ranges)
     }
+
+    /// Equal outputs, whose words are their own.
+    pub fn copy(&self) -> PlainOutputs
+        ensures { result ≡ self.now }
+    {
+        PlainOutputs {
+            numbering: self.numbering.copy(),
+            words: self.words,
+        }
+    }
 }
 
 impl Outputs for PlainOutputs {

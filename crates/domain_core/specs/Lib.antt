@@ -18,3 +18,5 @@ pub mod Laws
 pub mod Entries
 pub mod Numbers
 pub mod Routes
+pub mod Moments
+pub mod PortStates

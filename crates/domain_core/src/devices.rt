@@ -6,6 +6,7 @@ ghost use Rattle.bootstrap.specs.Opening.{opened_node};
 ghost use Rattle.bootstrap.specs.Opening.{restarted};
 ghost use Rattle.bootstrap.specs.Seen.{seen};
 ghost use Rattle.bootstrap.specs.Step.{node_step, is_quiet};
+ghost use Rattle.bootstrap.specs.Steps.{IsBurst, after_steps};
 ghost use Rattle.domain_core.specs.Hosts.{is_full, host_written, front, host_read};
 ghost use Rattle.domain_core.specs.Hosts.{opened_host};
 ghost use Rattle.domain_core.specs.Devices.{HasDevice, AreQuiet, node_at, host_at, with_node, with_host, opened_devices, reopened, packet_waiting, taken_from_device, arrived_at_device};
@@ -15,7 +16,7 @@ use crate::NoMemory;
 use crate::device::Device;
 use crate::host::Host;
 use crate::ticket::Ticket;
-use bootstrap::{Node, Seen};
+use bootstrap::{Burst, Node, Seen};
 use os_link::Packet;
 use plan_rules::{HostPart, NodePart, Part};
 use std::alloc::Global;
@@ -61,6 +62,28 @@ fn open_hosts(alloc: Global, parts: &[HostPart]) -> Result<Vec<Host>, NoMemory>
     Ok(hosts)
 }
 
+// Equal nodes.
+fn copy_nodes(alloc: Global, nodes: &[Node]) -> Result<Vec<Node>, NoMemory>
+    ensures { IfOk result (λ copies. copies.items ≡ nodes.now) }
+{
+    let mut copies = Vec::with_capacity(alloc, nodes.len())?;
+    for node in nodes {
+        copies.push(node.copy()?)?;
+    }
+    Ok(copies)
+}
+
+// Equal hosts.
+fn copy_hosts(alloc: Global, hosts: &[Host]) -> Result<Vec<Host>, NoMemory>
+    ensures { IfOk result (λ copies. copies.items ≡ hosts.now) }
+{
+    let mut copies = Vec::with_capacity(alloc, hosts.len())?;
+    for host in hosts {
+        copies.push(host.copy(alloc)?)?;
+    }
+    Ok(copies)
+}
+
 // Makes a node as it was opened, with the memory that it has.
 fn clear_node(home: &mut Node)
     ensures { home.new ≡ opened_node (length home.old.memory) }
@@ -75,6 +98,15 @@ impl Devices {
     {
         let nodes = open_nodes(alloc, part.nodes())?;
         let hosts = open_hosts(alloc, part.hosts())?;
+        Ok(Devices { nodes, hosts })
+    }
+
+    /// Equal nodes and hosts with memories and queues of their own.
+    pub(crate) fn copy(&self, alloc: Global) -> Result<Devices, NoMemory>
+        ensures { IfOk result (λ devices. devices ≡ self.now) }
+    {
+        let nodes = copy_nodes(alloc, self.nodes.as_slice())?;
+        let hosts = copy_hosts(alloc, self.hosts.as_slice())?;
         Ok(Devices { nodes, hosts })
     }
 
@@ -201,6 +233,22 @@ impl Devices {
         ensures node { option_copied result ≡ slice_get self.now.nodes number }
     {
         self.nodes.get(usize::from(number))
+    }
+
+    /// A host, if it is there.
+    pub(crate) fn host(&self, number: u8) -> Option<&Host>
+        ensures host { option_copied result ≡ slice_get self.now.hosts number }
+    {
+        self.hosts.get(usize::from(number))
+    }
+
+    /// Steps of a node, up to so many or to the first that would not be recorded.
+    pub(crate) fn burst(&mut self, node: u8, most: u64) -> Burst
+        requires { node < length self.old.nodes }
+        ensures burst { IsBurst most (node_at self.old node) result (node_at self.new node) }
+        ensures state { self.new ≡ with_node node (after_steps result.steps (node_at self.old node)) self.old }
+    {
+        self.nodes[usize::from(node)].burst(most)
     }
 
     /// Puts a ticket's copy in its node's place.

@@ -1,6 +1,7 @@
 //! A domain: its machine, with the journal of what it answered.
 ghost use Rattle.std.specs.Prelude.{◌≡◌, ◌≢◌, ◌<◌, ◌+◌, [], None, Some, Ok, Err, length, IfErr, IfOk, IfSome, OnErr, IsTrue, ◌↔◌, slice_get, true, not};
 ghost use Rattle.std.specs.List.{AllZip};
+ghost use Rattle.std.specs.Option.{option_copied};
 ghost use Rattle.crossbar.specs.Row.{switch_of, AreWordsOf, number_in};
 ghost use Rattle.crossbar.specs.Switch.{cleared};
 ghost use Rattle.crossbar.specs.Word.{CountsChange};
@@ -13,13 +14,16 @@ ghost use Rattle.domain_core.specs.MachineValue.{machine_of};
 ghost use Rattle.domain_core.specs.PrivateFarm.{opening};
 ghost use Rattle.domain_core.specs.Journal.{expanded};
 ghost use Rattle.domain_core.specs.Domain.{state_of, IsMeant, IsCalled, IsPastLimit, Fits, IsQuiet};
+ghost use Rattle.domain_core.specs.PortStates.{IsPortState};
 ghost use Rattle.domain_core.specs.Ticket.{IsCurrent, Commits, fresh_ticket};
 
 use crate::NoMemory;
 use crate::event::{By, Event, Refusal, Reply};
+use crate::host::Host;
 use crate::journal::Journal;
 use crate::machine::{Acted, RunningMachine};
 use crate::moves::has_moved;
+use crate::port_state::PortState;
 use crate::ticket::Ticket;
 use bootstrap::Node;
 use crossbar::laws::unchanged_words_count_nothing;
@@ -255,6 +259,29 @@ impl<O: Outputs + Drop> Domain<O> {
             recorded: _,
         } = self;
         journal
+    }
+
+    /// A node, if it is there.
+    pub fn node(&self, number: u8) -> Option<&Node>
+        ensures { option_copied result ≡ slice_get self.now.machine.devices.nodes number }
+    {
+        self.machine.node(number)
+    }
+
+    /// A host, if it is there.
+    pub fn host(&self, number: u8) -> Option<&Host>
+        ensures { option_copied result ≡ slice_get self.now.machine.devices.hosts number }
+    {
+        self.machine.host(number)
+    }
+
+    /// What waits at a virtual port, and what a Move of it would come to. Nothing changes.
+    pub fn port_state(&mut self, port: u8) -> PortState
+        requires { port < self.old.machine.part.count }
+        ensures state { IsPortState self.old.machine.part (machine_of self.old.machine) port result }
+        ensures unchanged { self.new ≡ self.old }
+    {
+        self.machine.port_state(port)
     }
 
     // A node, or `NoSuch`.

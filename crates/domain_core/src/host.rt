@@ -1,5 +1,6 @@
 //! Hosts: what a user's machine sends and receives at a port.
-ghost use Rattle.std.specs.Prelude.{◌≡◌, IfOk, not};
+ghost use Rattle.std.specs.Prelude.{◌≡◌, ◌≤◌, IfOk, not};
+ghost use Rattle.std.specs.VecDeque.{deque_capacity};
 ghost use Rattle.os_link.specs.End.{next_of};
 ghost use Rattle.os_link.specs.declared.latch.Packet.TheVariants.{Ack};
 ghost use Rattle.domain_core.specs.Hosts.{opened_host, is_full, host_written, front, host_read, delivered, packet_left, sending_on, receiving};
@@ -34,6 +35,18 @@ impl Model for Host {
     ghost invariant = { λ h. (4096 ≤ deque_capacity h.sending) × (4096 ≤ deque_capacity h.received) };
 }
 
+// A queue of the same bytes.
+fn copy_queue(alloc: Global, queue: &VecDeque<u8>) -> Result<VecDeque<u8>, NoMemory>
+    ensures items { IfOk result (λ copy. copy.items ≡ queue.now.items) }
+    ensures room { IfOk result (λ copy. 4096 ≤ deque_capacity copy) }
+{
+    let (front, back) = queue.as_slices();
+    let mut bytes = Vec::with_capacity(alloc, QUEUE_BYTES)?;
+    bytes.extend_from_slice(front)?;
+    bytes.extend_from_slice(back)?;
+    Ok(VecDeque::from_vec(bytes))
+}
+
 impl Host {
     /// A host to which nothing happened. Both queues are reserved; `NoMemory` where they can't be.
     pub fn open(alloc: Global) -> Result<Host, NoMemory>
@@ -44,6 +57,38 @@ impl Host {
             received: VecDeque::with_capacity(alloc, QUEUE_BYTES)?,
             end: LinkEnd::new(),
         })
+    }
+
+    /// An equal host with queues of its own. `NoMemory` where they can't be allocated.
+    pub fn copy(&self, alloc: Global) -> Result<Host, NoMemory>
+        ensures { IfOk result (λ host. host ≡ self.now) }
+    {
+        Ok(Host {
+            sending: copy_queue(alloc, &self.sending)?,
+            received: copy_queue(alloc, &self.received)?,
+            end: self.end,
+        })
+    }
+
+    /// What is to be sent, front first, with the byte whose acknowledge hasn't come.
+    pub fn sending(&self) -> &VecDeque<u8>
+        ensures { result.now.items ≡ self.now.sending }
+    {
+        &self.sending
+    }
+
+    /// What was received and not taken yet, front first.
+    pub fn received(&self) -> &VecDeque<u8>
+        ensures { result.now.items ≡ self.now.received }
+    {
+        &self.received
+    }
+
+    /// The host's end of its link.
+    pub fn end(&self) -> LinkEnd
+        ensures { result ≡ self.now.end }
+    {
+        self.end
     }
 
     /// Empties both queues and clears the link end: the host is as it was opened.

@@ -12,7 +12,9 @@ mod host;
 mod journal;
 pub mod laws;
 mod machine;
+mod moment;
 mod moves;
+mod port_state;
 mod table;
 mod ticket;
 
@@ -23,6 +25,8 @@ pub use event::{By, Event, Moved, Refusal, Reply};
 pub use host::{Host, QUEUE_BYTES};
 pub use journal::{Entry, Journal};
 pub use laws::peek_answers_the_word;
+pub use moment::Moment;
+pub use port_state::PortState;
 pub use std::alloc::AllocError as NoMemory;
 pub use table::device_at;
 pub use ticket::{MOST_STEPS, Ticket};

@@ -7,23 +7,27 @@ ghost use Rattle.crossbar.specs.Row.{switch_of, AreWordsOf, number_in};
 ghost use Rattle.crossbar.specs.Switch.{cleared};
 ghost use Rattle.virtual_switch.specs.Each.{KeepsPorts};
 ghost use Rattle.virtual_switch.specs.SwitchValue.{private_of};
+ghost use Rattle.bootstrap.specs.Steps.{IsBurst, after_steps};
 ghost use Rattle.domain_core.specs.Devices.{memories, node_at, with_node};
 ghost use Rattle.domain_core.specs.Moves.{moved};
 ghost use Rattle.domain_core.specs.Machine.{acted, is_recorded, fresh_machine};
 ghost use Rattle.domain_core.specs.MachineValue.{machine_of, IsIn};
 ghost use Rattle.domain_core.specs.Routes.{route_answer, route_leaves, HasItsDevice};
+ghost use Rattle.domain_core.specs.PortStates.{IsPortState};
 ghost use Rattle.domain_core.specs.PrivateFarm.{is_there, is_known, owns};
 ghost use Rattle.domain_core.specs.Ticket.{fresh_ticket};
 
 use crate::NoMemory;
 use crate::devices::Devices;
 use crate::event::{By, Event, Moved, Reply};
+use crate::host::Host;
 use crate::moves::{Fate, Route, copy_to, fate_of, has_moved};
+use crate::port_state::PortState;
 use crate::table::{DeviceTable, table_of};
 use crate::ticket::Ticket;
-use bootstrap::Node;
+use bootstrap::{Burst, Node};
 use crossbar::laws::unchanged_words_count_nothing;
-use crossbar::{Numbering, Outputs, Word};
+use crossbar::{Numbering, Outputs, PlainOutputs, Word};
 use plan_rules::Part;
 use std::alloc::Global;
 use std::marker::Model;
@@ -261,6 +265,43 @@ impl<O: Outputs + Drop> RunningMachine<O> {
         self.devices.node(number)
     }
 
+    /// A host, if it is there.
+    pub(crate) fn host(&self, number: u8) -> Option<&Host>
+        ensures host { option_copied result ≡ slice_get self.now.devices.hosts number }
+    {
+        self.devices.host(number)
+    }
+
+    /// Steps of a node, up to so many or to the first that would not be recorded.
+    pub(crate) fn burst(&mut self, node: u8, most: u64) -> Burst
+        requires { node < length self.old.devices.nodes }
+        ensures burst { IsBurst most (node_at self.old.devices node) result (node_at self.new.devices node) }
+        ensures state { self.new ≡ record self.old { devices = with_node node (after_steps result.steps (node_at self.old.devices node)) self.old.devices } }
+    {
+        // Steps keep the size of memory.
+        bootstrap::steps_keep_the_size();
+        self.devices.burst(node, most)
+    }
+
+    /// What waits at a port, and what a Move of it would come to. Nothing changes.
+    pub(crate) fn port_state(&mut self, port: u8) -> PortState
+        requires { port < self.old.part.count }
+        ensures state { IsPortState self.old.part (machine_of self.old) port result }
+        ensures unchanged { self.new ≡ self.old }
+    {
+        let packet = match self.table[usize::from(port)] {
+            Some(device) => self.devices.waiting(device),
+            None => None,
+        };
+        let drives = self.switch.drives(port);
+        let moved = self.route(port).answer();
+        PortState {
+            packet,
+            drives,
+            moved,
+        }
+    }
+
     /// Whether the home node of a ticket is there, and is the ticket's start.
     pub(crate) fn is_current(&self, ticket: &Ticket) -> bool
         ensures home { IsTrue result ↔ (slice_get self.now.devices.nodes ticket.now.number ≡ Some ticket.now.start) }
@@ -339,5 +380,19 @@ impl<O: Outputs + Drop> RunningMachine<O> {
         let route = self.route(port);
         self.follow(route);
         route.answer()
+    }
+}
+
+impl RunningMachine<PlainOutputs> {
+    /// An equal machine with words, memories and queues of its own.
+    pub(crate) fn copy(&self, alloc: Global) -> Result<RunningMachine<PlainOutputs>, NoMemory>
+        ensures { IfOk result (λ machine. machine ≡ self.now) }
+    {
+        Ok(RunningMachine {
+            part: self.part.copy(alloc)?,
+            switch: self.switch.copy(),
+            devices: self.devices.copy(alloc)?,
+            table: self.table,
+        })
     }
 }

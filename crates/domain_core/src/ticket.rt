@@ -158,8 +158,8 @@ impl Ticket {
     }
 }
 
-// The lesser of two numbers.
-fn at_most(n: u64, most: u64) -> u64
+/// The lesser of two numbers.
+pub(crate) fn at_most(n: u64, most: u64) -> u64
     ensures { result ≡ min n most }
 {
     if n < most { n } else { most }
