@@ -1,9 +1,10 @@
 //! The switch of a farm as a drawing.
 ghost use Rattle.std.specs.Prelude.{◌<◌, length};
 
-use self::Piece::{Number, Text};
 use crate::NoMemory;
 use crate::ports::{PortView, port_view};
+use crate::svg::Piece::{Number, Text};
+use crate::svg::push_all;
 use crate::table::write_device;
 use crossbar::{Connection, PORTS, Word};
 use plan_checker::AcceptedPlan;
@@ -19,32 +20,33 @@ const NAMES: u32 = 250;
 /// The room for the legend, below.
 const LEGEND: u32 = 60;
 
-/// Draws the crossbar of a farm in SVG: a column for each of the 32 physical inputs and a row for each output, each with its
-/// domain, its virtual number and the device that is joined there. The squares whose input and output are both of one
+/// Draws the crossbar of a farm in SVG: a column for each physical input that a domain has and a row for each output, each with
+/// its domain, its virtual number and the device that is joined there. The squares whose input and output are both of one
 /// domain have its colour. A dot stands where an input drives an output: a full one if the output is ready.
 ///
 /// `words` are the switch words of the physical outputs, from 0; an output without one is drawn as disconnected.
 pub fn draw(alloc: Global, plan: &AcceptedPlan, words: &[Word]) -> Result<String, NoMemory> {
     let mut svg = TextWriter::new(alloc);
-    let side = NAMES + SQUARE * u32::from(PORTS) + 10;
+    let order = ports_of(alloc, plan)?;
+    let side = place(order.as_slice(), PORTS).saturating_add(10);
     push_all(
         &mut svg,
         &[
             Text("<svg xmlns=\"http://www.w3.org/2000/svg\" width=\""),
             Number(side),
             Text("\" height=\""),
-            Number(side + LEGEND),
+            Number(side.saturating_add(LEGEND)),
             Text("\" font-family=\"sans-serif\" font-size=\"11\">\n"),
             Text("<rect width=\"100%\" height=\"100%\" fill=\"white\"/>\n"),
         ],
     );
     for domain in 0..plan.domains() {
-        draw_domain(&mut svg, plan, domain);
+        draw_domain(&mut svg, plan, domain, order.as_slice());
     }
-    draw_grid(&mut svg);
+    draw_grid(&mut svg, order.as_slice());
     for (output, word) in (0u8..PORTS).zip(words.iter()) {
         if let Some(connection) = word.connection() {
-            draw_connection(&mut svg, output, connection);
+            draw_connection(&mut svg, order.as_slice(), output, connection);
         }
     }
     draw_legend(&mut svg, side);
@@ -52,42 +54,53 @@ pub fn draw(alloc: Global, plan: &AcceptedPlan, words: &[Word]) -> Result<String
     svg.finish()
 }
 
-// A piece of the drawing's text.
-#[derive(Clone, Copy)]
-enum Piece<'a> {
-    Text(&'a str),
-    Number(u32),
-}
-
-fn push_all(svg: &mut TextWriter, pieces: &[Piece]) {
-    for piece in pieces {
-        match *piece {
-            Text(text) => svg.push(text),
-            Number(number) => svg.push_decimal(u64::from(number)),
+// The physical ports that domains have, in their order.
+fn ports_of(alloc: Global, plan: &AcceptedPlan) -> Result<Vec<u8>, NoMemory> {
+    let mut order = Vec::new(alloc);
+    for physical in 0..PORTS {
+        if is_of_a_domain(plan, physical) {
+            order.push(physical)?;
         }
     }
+    Ok(order)
 }
 
-// The place at which the column or row of a port begins.
-fn place(port: u8) -> u32
-    ensures bound { result < 10000 }
-{
-    NAMES + SQUARE * u32::from(port)
+// Whether a domain has a physical port.
+fn is_of_a_domain(plan: &AcceptedPlan, physical: u8) -> bool {
+    for domain in 0..plan.domains() {
+        for range in plan.ranges(domain).into_iter().flatten() {
+            if range.first <= physical && physical <= range.last {
+                return true;
+            }
+        }
+    }
+    false
+}
+
+// The place at which the column or row of a physical port begins: behind those of the ports below it.
+fn place(order: &[u8], physical: u8) -> u32 {
+    let mut place = NAMES;
+    for port in order {
+        if *port < physical {
+            place = place.saturating_add(SQUARE);
+        }
+    }
+    place
 }
 
 // The squares of a domain, and the names of its ports.
-fn draw_domain(svg: &mut TextWriter, plan: &AcceptedPlan, domain: u8)
+fn draw_domain(svg: &mut TextWriter, plan: &AcceptedPlan, domain: u8, order: &[u8])
     requires { domain < length plan.now }
 {
     let numbering = plan.ports(domain);
     let hue = u32::from(domain) * 137 % 360;
     for number in 0..numbering.count() {
         let port = port_view(plan, domain, number);
+        let row = place(order, port.physical);
         for column in 0..numbering.count() {
-            let (x, y) = (place(numbering.physical(column)), place(port.physical));
-            draw_square(svg, x, y, hue);
+            draw_square(svg, place(order, numbering.physical(column)), row, hue);
         }
-        draw_name(svg, plan, domain, number, port);
+        draw_name(svg, plan, domain, number, port, row.saturating_add(13));
     }
 }
 
@@ -111,11 +124,17 @@ fn draw_square(svg: &mut TextWriter, x: u32, y: u32, hue: u32) {
 }
 
 // The name of a port, beside its row and above its column.
-fn draw_name(svg: &mut TextWriter, plan: &AcceptedPlan, domain: u8, number: u8, port: PortView)
+fn draw_name(
+    svg: &mut TextWriter,
+    plan: &AcceptedPlan,
+    domain: u8,
+    number: u8,
+    port: PortView,
+    middle: u32,
+)
     requires { domain < length plan.now }
 {
     let end = NAMES - 30;
-    let middle = place(port.physical) + 13;
     push_all(
         svg,
         &[
@@ -157,34 +176,38 @@ fn push_port_name(svg: &mut TextWriter, domain: u8, what: &str, number: u8) {
 }
 
 // The lines between the squares, and the numbers of the ports.
-fn draw_grid(svg: &mut TextWriter) {
-    let end = place(PORTS);
-    for line in 0..=PORTS {
-        let at = place(line);
-        push_all(
-            svg,
-            &[
-                Text("<path d=\"M"),
-                Number(NAMES),
-                Text(" "),
-                Number(at),
-                Text("H"),
-                Number(end),
-                Text("M"),
-                Number(at),
-                Text(" "),
-                Number(NAMES),
-                Text("V"),
-                Number(end),
-                Text("\" stroke=\"#bbb\"/>\n"),
-            ],
-        );
+fn draw_grid(svg: &mut TextWriter, order: &[u8]) {
+    let end = place(order, PORTS);
+    draw_grid_line(svg, end, end);
+    for port in order {
+        let at = place(order, *port);
+        draw_grid_line(svg, at, end);
+        let middle = at.saturating_add(SQUARE / 2);
+        draw_number(svg, "end", NAMES - 8, middle.saturating_add(4), *port);
+        draw_number(svg, "middle", middle, NAMES - 8, *port);
     }
-    for port in 0..PORTS {
-        let middle = place(port) + SQUARE / 2;
-        draw_number(svg, "end", NAMES - 8, middle + 4, port);
-        draw_number(svg, "middle", middle, NAMES - 8, port);
-    }
+}
+
+// A line across, and one down.
+fn draw_grid_line(svg: &mut TextWriter, at: u32, end: u32) {
+    push_all(
+        svg,
+        &[
+            Text("<path d=\"M"),
+            Number(NAMES),
+            Text(" "),
+            Number(at),
+            Text("H"),
+            Number(end),
+            Text("M"),
+            Number(at),
+            Text(" "),
+            Number(NAMES),
+            Text("V"),
+            Number(end),
+            Text("\" stroke=\"#bbb\"/>\n"),
+        ],
+    );
 }
 
 // The number of a port, at a row or a column.
@@ -206,9 +229,13 @@ fn draw_number(svg: &mut TextWriter, anchor: &str, x: u32, y: u32, port: u8) {
 }
 
 // A dot where an input drives an output.
-fn draw_connection(svg: &mut TextWriter, output: u8, connection: Connection) {
+fn draw_connection(svg: &mut TextWriter, order: &[u8], output: u8, connection: Connection) {
     let Connection { input, ready } = connection;
-    let (x, y) = (place(input) + SQUARE / 2, place(output) + SQUARE / 2);
+    let (column, row) = (place(order, input), place(order, output));
+    let (x, y) = (
+        column.saturating_add(SQUARE / 2),
+        row.saturating_add(SQUARE / 2),
+    );
     draw_dot(svg, x, y, ready);
     push_all(
         svg,

@@ -5,12 +5,15 @@
 mod breach;
 mod drawing;
 mod names;
+mod network;
 mod ports;
 mod shape;
+mod svg;
 mod table;
 mod view;
 
 pub use drawing::draw;
+pub use network::draw_network;
 pub use std::alloc::AllocError as NoMemory;
 pub use table::table_of;
 pub use view::{PlanRefusal, accepted};
