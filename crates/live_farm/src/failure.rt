@@ -63,8 +63,6 @@ pub enum LiveFailure {
     File { path: String, error: io::Error },
     #[error("{path}: {why}\n")]
     Record { path: String, why: String },
-    #[error("a record isn't whole\n")]
-    NotRecorded,
     #[error("the histories aren't those of the plan\n")]
     Histories,
     #[error("threads\n")]
@@ -117,7 +115,6 @@ impl LiveFailure {
             LiveFailure::Io
             | LiveFailure::File { .. }
             | LiveFailure::Record { .. }
-            | LiveFailure::NotRecorded
             | LiveFailure::Histories => 6,
             LiveFailure::Threads => 7,
         }

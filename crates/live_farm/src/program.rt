@@ -114,15 +114,17 @@ fn serve_all<
         outlet,
         reader,
     )?;
-    let kept = keep_rest(rt, service, records);
+    let kept = keep_rest(rt, alloc, service, records);
     reader.ended?;
     kept?;
     Ok(crew.end(alloc)?)
 }
 
-// Records what the domains answered since their last lines. All threads have ended.
+// Records what the domains answered since their last lines. All threads have ended. Of several records that aren't whole the
+// last is told.
 fn keep_rest<R: Wait, K: SharedRecord>(
     rt: &R,
+    alloc: Global,
     service: &Service,
     records: &[K],
 ) -> Result<(), LiveFailure> {
@@ -130,7 +132,7 @@ fn keep_rest<R: Wait, K: SharedRecord>(
     for (domain, record) in (0..service.plan().domains()).zip(records) {
         match record.keep(rt, service, domain, false) {
             Ok(()) => {}
-            Err(NotKept::Failed) => kept = Err(LiveFailure::NotRecorded),
+            Err(NotKept::Failed) => kept = Err(record.failure(rt, alloc)),
             Err(NotKept::Memory) => return Err(LiveFailure::Memory),
         }
     }

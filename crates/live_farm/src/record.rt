@@ -1,4 +1,5 @@
 //! The record of a domain: what it answered is written before it is told.
+use crate::failure::LiveFailure;
 use domain_core::{Entry, Journal, Mark, NoMemory};
 use farm_records::write_records_of;
 use farm_service::Service;
@@ -16,6 +17,9 @@ pub trait RecordStore: Drop {
 
     /// Begins the next record of the domain, which holds nothing yet.
     fn begin_next(&mut self) -> io::Result<()>;
+
+    /// Where the record is that is written to.
+    fn path(&self, alloc: Global) -> Result<String, NoMemory>;
 }
 
 /// Why what a domain answered isn't recorded.
@@ -181,6 +185,17 @@ impl<S: RecordStore> DomainRecord<S> {
         self.failed = false;
         Ok(())
     }
+
+    // That the record isn't whole, with its place.
+    fn failure(&self, alloc: Global) -> LiveFailure {
+        match &self.store {
+            Some(store) => match store.path(alloc) {
+                Ok(path) => LiveFailure::of_record(alloc, path.as_str(), "it isn't whole"),
+                Err(NoMemory) => LiveFailure::Memory,
+            },
+            None => LiveFailure::Memory,
+        }
+    }
 }
 
 /// A record that a domain's thread uses, and at the end who closes the farm.
@@ -196,6 +211,9 @@ pub trait SharedRecord {
 
     /// Whether something wasn't recorded.
     fn has_failed<R: Wait>(&self, rt: &R) -> bool;
+
+    /// What the run says at its end of a record in which something is missing.
+    fn failure<R: Wait>(&self, rt: &R, alloc: Global) -> LiveFailure;
 }
 
 impl<S: RecordStore> SharedRecord for Mutex<DomainRecord<S>> {
@@ -211,5 +229,9 @@ impl<S: RecordStore> SharedRecord for Mutex<DomainRecord<S>> {
 
     fn has_failed<R: Wait>(&self, rt: &R) -> bool {
         self.lock(rt).failed
+    }
+
+    fn failure<R: Wait>(&self, rt: &R, alloc: Global) -> LiveFailure {
+        self.lock(rt).failure(alloc)
     }
 }

@@ -33,6 +33,7 @@ pub struct RecordFolder<'a, F: Files<File = File>> {
 pub struct RecordFile<'a, F: Files<File = File>> {
     files: &'a F,
     alloc: Global,
+    folder: String,
     // The path without what tells it from the domain's other records.
     stem: String,
     number: u64,
@@ -126,12 +127,21 @@ fn newest<F: Files<File = File>>(files: &F, alloc: Global, stem: &str) -> Result
     Ok(0)
 }
 
-// A new file for a record.
-fn create_record<F: Files<File = File>>(files: &F, path: &str) -> io::Result<File> {
-    OpenOptions::new()
+// A new file for a record. If it syncs, the file's name is on the disk too when the call returns.
+fn create_record<F: Files<File = File>>(
+    files: &F,
+    folder: &str,
+    path: &str,
+    syncs: bool,
+) -> io::Result<File> {
+    let file = OpenOptions::new()
         .append(true)
         .create_new(true)
-        .open(files, path)
+        .open(files, path)?;
+    if syncs {
+        fs::open(files, folder)?.sync_all()?;
+    }
+    Ok(file)
 }
 
 impl<'a, F: Files<File = File>> RecordFile<'a, F> {
@@ -152,9 +162,14 @@ impl<'a, F: Files<File = File>> RecordStore for RecordFile<'a, F> {
     fn begin_next(&mut self) -> io::Result<()> {
         let number = self.number.saturating_add(1);
         let path = record_path(self.alloc, self.stem.as_str(), number)?;
-        self.file = create_record(self.files, path.as_str())?;
         self.number = number;
+        let folder = self.folder.as_str();
+        self.file = create_record(self.files, folder, path.as_str(), self.syncs)?;
         Ok(())
+    }
+
+    fn path(&self, alloc: Global) -> Result<String, NoMemory> {
+        record_path(alloc, self.stem.as_str(), self.number)
     }
 }
 
@@ -277,21 +292,27 @@ impl<'a, F: Files<File = File>> RecordFolder<'a, F> {
     // Opens the first record of a domain that has none.
     fn first_file(&self, stem: String) -> Result<RecordFile<'a, F>, LiveFailure> {
         let path = record_path(self.alloc, stem.as_str(), 1)?;
-        match create_record(self.files, path.as_str()) {
-            Ok(file) => Ok(self.file_of(stem, 1, file)),
+        match create_record(self.files, self.path.as_str(), path.as_str(), self.syncs) {
+            Ok(file) => Ok(self.file_of(stem, 1, file)?),
             Err(error) => Err(LiveFailure::of_file(self.alloc, path.as_str(), error)),
         }
     }
 
-    fn file_of(&self, stem: String, number: u64, file: File) -> RecordFile<'a, F> {
-        RecordFile {
+    fn file_of(
+        &self,
+        stem: String,
+        number: u64,
+        file: File,
+    ) -> Result<RecordFile<'a, F>, NoMemory> {
+        Ok(RecordFile {
             files: self.files,
             alloc: self.alloc,
+            folder: String::from_str(self.alloc, self.path.as_str())?,
             stem,
             number,
             syncs: self.syncs,
             file,
-        }
+        })
     }
 
     // Cuts off what isn't whole, and says so.
@@ -323,7 +344,7 @@ impl<'a, F: Files<File = File>> RecordFolder<'a, F> {
             Some(found) => {
                 self.mend(&found, errors)?;
                 (
-                    self.file_of(stem, found.number, found.file),
+                    self.file_of(stem, found.number, found.file)?,
                     found.whole == 0,
                 )
             }
