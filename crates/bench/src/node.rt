@@ -3,11 +3,12 @@
 
 use crate::processor::{begun, place};
 use crate::selection::Selection;
+use crate::step::ARITHMETIC;
 use bootstrap::{Node, boot_message};
 use link_channels::{LinkNumber, Links};
 use node_memory::Memory;
 use os_link::Packet;
-use std::alloc::Global;
+use std::alloc::{AllocError, Global};
 use std::io;
 use t414_step::{Cpu, Stepped, step};
 
@@ -16,17 +17,12 @@ const START: u32 = 0x8000_0048;
 
 const WORKSPACE: u32 = 0x8000_0064;
 
-static LOOP: [u8; 28] = [
-    0x40, 0xd0, // ldc 0; stl 0
-    0x40, 0xd1, // ldc 0; stl 1
-    0x70, 0x81, 0xd0, // ldl 0; adc 1; stl 0
-    0x71, 0x70, 0xf2, 0xd1, // ldl 1; ldl 0; bsub; stl 1
-    0x71, 0x23, 0xf3, 0xd2, // ldl 1; xor; stl 2
-    0x70, 0x4f, 0x24, 0xf6, 0xa2, // ldl 0; ldc 15; and; cj over two bytes
-    0x40, 0xa0, // ldc 0; cj over none
-    0x61, 0x0c, // j to ldl 0
-    0x40, 0x40, 0x40, 0x40, // where a process that is sliced saves its place
-];
+// The arithmetic loop, and behind it four bytes where a process that is sliced saves its place.
+fn code(alloc: Global) -> Result<Vec<u8>, AllocError> {
+    let mut code = Vec::from_slice(alloc, &ARITHMETIC)?;
+    code.extend_from_slice(&[0x40, 0x40, 0x40, 0x40])?;
+    Ok(code)
+}
 
 // Gives a node its boot message, a byte a Step.
 fn boot(node: &mut Node, message: &[u8]) {
@@ -39,7 +35,7 @@ fn boot(node: &mut Node, message: &[u8]) {
 
 // Runs the loop through a node's bursts.
 fn run_node(rt: &impl Print, alloc: Global, count: u64) -> io::Result<()> {
-    let Ok(message) = boot_message(alloc, &LOOP) else {
+    let Ok(message) = boot_message(alloc, code(alloc)?.as_slice()) else {
         return Ok(());
     };
     let mut node = Node::open(alloc, 4096)?;
@@ -62,7 +58,7 @@ fn burst(cpu: &mut Cpu, memory: &mut Memory, links: &mut Links, limit: u64) -> u
 // Runs the loop through the processor's step, which begins as that node does.
 fn run_processor(rt: &impl Print, alloc: Global, count: u64) -> io::Result<()> {
     let mut memory = Memory::new(alloc, 4096)?;
-    if place(&mut memory, START, &LOOP).is_err() {
+    if place(&mut memory, START, code(alloc)?.as_slice()).is_err() {
         return Ok(());
     }
     let mut cpu = begun(START, WORKSPACE, LinkNumber::Zero.input_channel());

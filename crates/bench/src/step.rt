@@ -14,7 +14,8 @@ const START: u32 = 0x8000_0100;
 /// The workspace of a loop, of which the word behind the first is told at the end.
 const WORKSPACE: u32 = 0x8000_0200;
 
-const ARITHMETIC: [u8; 24] = [
+/// A loop of arithmetic, logic and a jump that is taken now and then.
+pub const ARITHMETIC: [u8; 24] = [
     0x40, 0xd0, // ldc 0; stl 0
     0x40, 0xd1, // ldc 0; stl 1
     0x70, 0x81, 0xd0, // ldl 0; adc 1; stl 0
