@@ -1,0 +1,296 @@
+//! What changes from one frame to the next, as it is written in JSON.
+
+use crate::NoMemory;
+use crate::code::{CodeBytes, KnownCode};
+use crate::frame::{Frame, HostFrame, NodeFrame};
+use answer_text::write_seen;
+use bootstrap::{Cpu, NodeState, Seen};
+use crossbar::Word;
+use domain_core::Moment;
+use script_text::TextWriter;
+use serde::Serialize;
+use std::alloc::Global;
+
+/// What changed of a domain.
+#[derive(Drop, Serialize)]
+pub struct FrameChanges {
+    recorded: u64,
+    #[serde(skip_serializing_if = "Vec::is_empty")]
+    words: Vec<ChangedWord>,
+    #[serde(skip_serializing_if = "Vec::is_empty")]
+    nodes: Vec<ChangedNode>,
+    #[serde(skip_serializing_if = "Vec::is_empty")]
+    hosts: Vec<ChangedHost>,
+}
+
+/// The new switch word of a virtual output, in hexadecimal digits.
+#[derive(Drop, Serialize)]
+struct ChangedWord {
+    output: u8,
+    word: String,
+}
+
+/// What changed of a node. What isn't named is as it was, but a node that doesn't run has no registers.
+#[derive(Drop, Serialize)]
+struct ChangedNode {
+    node: u8,
+    /// What a look shows.
+    #[serde(skip_serializing_if = "Option::is_none")]
+    look: Option<String>,
+    #[serde(skip_serializing_if = "Option::is_none")]
+    registers: Option<ChangedRegisters>,
+    #[serde(skip_serializing_if = "Option::is_none")]
+    code: Option<CodeBytes>,
+}
+
+/// The registers that changed, under the handbook's names.
+#[derive(Clone, Copy, PartialEq, Eq, Drop, Serialize)]
+struct ChangedRegisters {
+    #[serde(rename = "Iptr", skip_serializing_if = "Option::is_none")]
+    instruction: Option<u32>,
+    #[serde(rename = "W", skip_serializing_if = "Option::is_none")]
+    workspace: Option<u32>,
+    #[serde(rename = "A", skip_serializing_if = "Option::is_none")]
+    a: Option<u32>,
+    #[serde(rename = "B", skip_serializing_if = "Option::is_none")]
+    b: Option<u32>,
+    #[serde(rename = "C", skip_serializing_if = "Option::is_none")]
+    c: Option<u32>,
+    #[serde(rename = "O", skip_serializing_if = "Option::is_none")]
+    operand: Option<u32>,
+    #[serde(rename = "Error", skip_serializing_if = "Option::is_none")]
+    error: Option<bool>,
+}
+
+/// What changed of a host's queues.
+#[derive(Drop, Serialize)]
+struct ChangedHost {
+    host: u8,
+    #[serde(skip_serializing_if = "Option::is_none")]
+    sending: Option<ChangedQueue>,
+    #[serde(skip_serializing_if = "Option::is_none")]
+    received: Option<ChangedQueue>,
+}
+
+/// How many bytes left the front of a queue, and which came behind its end, in hexadecimal digits.
+#[derive(Drop, Serialize)]
+struct ChangedQueue {
+    left: u64,
+    came: String,
+}
+
+// A value if it isn't the old one.
+fn if_new<T: Copy + PartialEq>(old: Option<T>, new: T) -> Option<T> {
+    if old == Some(new) { None } else { Some(new) }
+}
+
+fn register_change(old: Option<Cpu>, new: Cpu) -> Option<ChangedRegisters> {
+    let change = ChangedRegisters {
+        instruction: if_new(old.map(|it| it.instruction), new.instruction),
+        workspace: if_new(old.map(|it| it.workspace), new.workspace),
+        a: if_new(old.map(|it| it.a), new.a),
+        b: if_new(old.map(|it| it.b), new.b),
+        c: if_new(old.map(|it| it.c), new.c),
+        operand: if_new(old.map(|it| it.operand), new.operand),
+        error: if_new(old.map(|it| it.error), new.error),
+    };
+    let nothing = ChangedRegisters {
+        instruction: None,
+        workspace: None,
+        a: None,
+        b: None,
+        c: None,
+        operand: None,
+        error: None,
+    };
+    if change == nothing {
+        None
+    } else {
+        Some(change)
+    }
+}
+
+// The registers of a node that runs.
+fn registers_of(node: Option<NodeFrame>) -> Option<Cpu> {
+    match node {
+        Some(
+            NodeFrame {
+                state: NodeState::Runs(registers),
+                ..
+            },
+        ) => Some(registers),
+        _ => None,
+    }
+}
+
+fn look_text(alloc: Global, seen: Seen) -> Result<String, NoMemory> {
+    let mut text = String::new(alloc);
+    write_seen(&mut text, seen)?;
+    Ok(text)
+}
+
+// What a look shows, if it didn't show that before.
+fn look_change(
+    alloc: Global,
+    old: Option<NodeFrame>,
+    new: NodeFrame,
+) -> Result<Option<String>, NoMemory> {
+    match old {
+        Some(old) if old.seen == new.seen => Ok(None),
+        _ => Ok(Some(look_text(alloc, new.seen)?)),
+    }
+}
+
+// What changed of a node, if anything did.
+fn node_change(
+    alloc: Global,
+    known: &mut KnownCode,
+    moment: &Moment,
+    number: u8,
+    old: Option<NodeFrame>,
+    new: NodeFrame,
+) -> Result<Option<ChangedNode>, NoMemory> {
+    let running = registers_of(Some(new));
+    let change = ChangedNode {
+        node: number,
+        look: look_change(alloc, old, new)?,
+        registers: match running {
+            Some(registers) => register_change(registers_of(old), registers),
+            None => None,
+        },
+        code: match (running, moment.node(number)) {
+            (Some(registers), Some(node)) => {
+                known.tell(alloc, number, node.memory(), registers.instruction)?
+            }
+            _ => None,
+        },
+    };
+    if change.look.is_none() && change.registers.is_none() && change.code.is_none() {
+        return Ok(None);
+    }
+    Ok(Some(change))
+}
+
+fn hexadecimal(alloc: Global, bytes: &[u8]) -> Result<String, NoMemory> {
+    let mut text = TextWriter::new(alloc);
+    text.push_bytes(bytes);
+    text.finish()
+}
+
+// What became of a queue. The least number of bytes left that explains it is told.
+fn queue_change(alloc: Global, old: &[u8], new: &[u8]) -> Result<Option<ChangedQueue>, NoMemory> {
+    if old == new {
+        return Ok(None);
+    }
+    for left in 0..old.len() {
+        if let Some(came) = new.strip_prefix(&old[left..]) {
+            return Ok(Some(ChangedQueue {
+                left: left as u64,
+                came: hexadecimal(alloc, came)?,
+            }));
+        }
+    }
+    Ok(Some(ChangedQueue {
+        left: old.len() as u64,
+        came: hexadecimal(alloc, new)?,
+    }))
+}
+
+// What changed of a host, if anything did.
+fn host_change(
+    alloc: Global,
+    number: u8,
+    old: Option<&HostFrame>,
+    new: &HostFrame,
+) -> Result<Option<ChangedHost>, NoMemory> {
+    let (sending, received): (&[u8], &[u8]) = match old {
+        Some(old) => (old.sending.as_slice(), old.received.as_slice()),
+        None => (&[], &[]),
+    };
+    let change = ChangedHost {
+        host: number,
+        sending: queue_change(alloc, sending, new.sending.as_slice())?,
+        received: queue_change(alloc, received, new.received.as_slice())?,
+    };
+    if change.sending.is_none() && change.received.is_none() {
+        return Ok(None);
+    }
+    Ok(Some(change))
+}
+
+// The words that changed. An output of which nothing was told had the word 0.
+fn word_changes(alloc: Global, old: &[Word], new: &[Word]) -> Result<Vec<ChangedWord>, NoMemory> {
+    let mut changes = Vec::new(alloc);
+    for (output, word) in (0u8..32).zip(new.iter()) {
+        let before = old
+            .get(usize::from(output))
+            .copied()
+            .unwrap_or(Word::UNUSED);
+        if before != *word {
+            let mut text = TextWriter::new(alloc);
+            text.push_hexadecimal(word.bits);
+            let word = text.finish()?;
+            changes.push(ChangedWord { output, word })?;
+        }
+    }
+    Ok(changes)
+}
+
+fn node_changes(
+    alloc: Global,
+    known: &mut KnownCode,
+    moment: &Moment,
+    old: Option<&Frame>,
+    new: &Frame,
+) -> Result<Vec<ChangedNode>, NoMemory> {
+    let mut changes = Vec::new(alloc);
+    for number in 0u8..8 {
+        let before = old.and_then(|it| it.nodes[usize::from(number)]);
+        if let Some(node) = new.nodes[usize::from(number)] {
+            if let Some(change) = node_change(alloc, known, moment, number, before, node)? {
+                changes.push(change)?;
+            }
+        }
+    }
+    Ok(changes)
+}
+
+fn host_changes(
+    alloc: Global,
+    old: Option<&Frame>,
+    new: &Frame,
+) -> Result<Vec<ChangedHost>, NoMemory> {
+    let mut changes = Vec::new(alloc);
+    for number in 0u8..4 {
+        let before = match old {
+            Some(old) => old.hosts[usize::from(number)].as_ref(),
+            None => None,
+        };
+        if let Some(host) = &new.hosts[usize::from(number)] {
+            if let Some(change) = host_change(alloc, number, before, host)? {
+                changes.push(change)?;
+            }
+        }
+    }
+    Ok(changes)
+}
+
+/// What changed from a frame, or from a domain of which nothing is told, to the frame of a moment.
+pub fn changes_of(
+    alloc: Global,
+    known: &mut KnownCode,
+    moment: &Moment,
+    old: Option<&Frame>,
+    new: &Frame,
+) -> Result<FrameChanges, NoMemory> {
+    let words: &[Word] = match old {
+        Some(old) => old.words.as_slice(),
+        None => &[],
+    };
+    Ok(FrameChanges {
+        recorded: new.recorded,
+        words: word_changes(alloc, words, new.words.as_slice())?,
+        nodes: node_changes(alloc, known, moment, old, new)?,
+        hosts: host_changes(alloc, old, new)?,
+    })
+}

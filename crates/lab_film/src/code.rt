@@ -1,0 +1,98 @@
+//! The bytes of memory around the instruction pointer.
+
+use crate::NoMemory;
+use bootstrap::Memory;
+use node_memory::MEMORY_START;
+use script_text::TextWriter;
+use serde::Serialize;
+use std::alloc::Global;
+
+/// How many bytes are told before the instruction pointer.
+const BEFORE: usize = 16;
+
+/// How many bytes are told from the instruction pointer on.
+const BEHIND: usize = 32;
+
+/// The most bytes that a memory has.
+const MOST_BYTES: usize = 65_536;
+
+/// Bytes of memory, in hexadecimal digits, of which the first stands so far behind the first byte of memory.
+#[derive(Drop, Serialize)]
+pub struct CodeBytes {
+    offset: u64,
+    bytes: String,
+}
+
+/// What is known of the nodes' memories: the bytes that were told last. A byte that was never told is none.
+#[derive(Drop)]
+pub struct KnownCode {
+    nodes: Vec<Vec<Option<u8>>>,
+}
+
+// The byte so far behind the first of a memory.
+fn byte_at(memory: &Memory, offset: usize) -> Option<u8> {
+    let offset = u32::try_from(offset).ok()?;
+    memory.byte(MEMORY_START.wrapping_add(offset)).ok()
+}
+
+// The bytes of a memory from one place up to another, those outside left out.
+fn window(alloc: Global, memory: &Memory, start: usize, end: usize) -> Result<Vec<u8>, NoMemory> {
+    let mut bytes = Vec::new(alloc);
+    for offset in start..end {
+        if let Some(byte) = byte_at(memory, offset) {
+            bytes.push(byte)?;
+        }
+    }
+    Ok(bytes)
+}
+
+// Notes the bytes from a place on, and answers whether one of them wasn't known.
+fn learn(known: &mut [Option<u8>], start: usize, bytes: &[u8]) -> bool {
+    let mut is_new = false;
+    for (place, byte) in known.iter_mut().skip(start).zip(bytes.iter()) {
+        if *place != Some(*byte) {
+            *place = Some(*byte);
+            is_new = true;
+        }
+    }
+    is_new
+}
+
+impl KnownCode {
+    /// Nothing is known of so many nodes.
+    pub fn none(alloc: Global, nodes: usize) -> Result<KnownCode, NoMemory> {
+        let mut known = Vec::new(alloc);
+        for _ in 0..nodes {
+            known.push(vec![in alloc; None; MOST_BYTES]?)?;
+        }
+        Ok(KnownCode { nodes: known })
+    }
+
+    /// The bytes around an address in the memory of a node, if not all of them are known. They are known then.
+    pub fn tell(
+        &mut self,
+        alloc: Global,
+        node: u8,
+        memory: &Memory,
+        address: u32,
+    ) -> Result<Option<CodeBytes>, NoMemory> {
+        let place = address.wrapping_sub(MEMORY_START) as usize;
+        let Some(known) = self.nodes.get_mut(usize::from(node)) else {
+            return Ok(None);
+        };
+        if place >= MOST_BYTES {
+            return Ok(None);
+        }
+        let start = place.saturating_sub(BEFORE);
+        let bytes = window(alloc, memory, start, place.saturating_add(BEHIND))?;
+        if !learn(known.as_mut_slice(), start, bytes.as_slice()) {
+            return Ok(None);
+        }
+        let mut text = TextWriter::new(alloc);
+        text.push_bytes(bytes.as_slice());
+        Ok(Some(CodeBytes {
+            offset: start as u64,
+            bytes: text.finish()?,
+        }))
+    }
+}

@@ -1,0 +1,19 @@
+//! A record as a film: what a domain was at each moment of it, as one page to look at.
+#![tactic(auto)]
+
+mod changes;
+mod code;
+mod fault;
+mod filming;
+mod frame;
+mod page;
+mod plan;
+mod script;
+mod shot;
+
+pub use fault::FilmFault;
+pub use filming::{Span, USUAL_COUNT, film_of};
+pub use frame::{Frame, HostFrame, NodeFrame, frame_of};
+pub use page::page_of;
+pub use shot::{FilmedCall, Shot, read_call, shot_of};
+pub use std::alloc::AllocError as NoMemory;

@@ -1,0 +1,137 @@
+//! The plan of a film's domain, as it is written in JSON.
+ghost use Rattle.std.specs.Prelude.{◌<◌, length};
+
+use crate::NoMemory;
+use domain_core::{Device, device_at};
+use plan_checker::AcceptedPlan;
+use script_text::TextWriter;
+use serde::Serialize;
+use std::alloc::Global;
+use t414_assembly::{Instruction, write_instruction};
+use t414_decode::{Function, decode};
+
+/// A code of no operation.
+const NO_OPERATION: u32 = 255;
+
+/// What the plan says of the domain, and the names of the processor's functions and operations.
+#[derive(Drop, Serialize)]
+pub struct PlanTold {
+    limit: u64,
+    users: Vec<String>,
+    /// The bytes of memory of each node.
+    nodes: Vec<u32>,
+    /// The owner of each host.
+    hosts: Vec<u8>,
+    ports: Vec<PortTold>,
+    functions: Vec<String>,
+    operations: Vec<OperationTold>,
+}
+
+/// A virtual port, with the device that is joined there.
+#[derive(Drop, Serialize)]
+struct PortTold {
+    physical: u8,
+    #[serde(skip_serializing_if = "Option::is_none")]
+    host: Option<u8>,
+    #[serde(skip_serializing_if = "Option::is_none")]
+    node: Option<u8>,
+    #[serde(skip_serializing_if = "Option::is_none")]
+    link: Option<u8>,
+}
+
+/// The code of an operation, and its name.
+#[derive(Drop, Serialize)]
+struct OperationTold {
+    code: u32,
+    name: String,
+}
+
+fn users_of(alloc: Global, plan: &AcceptedPlan) -> Result<Vec<String>, NoMemory>
+    requires { 0 < length plan.now }
+{
+    let mut users = Vec::new(alloc);
+    for user in 0..plan.users(0) {
+        users.push(String::from_str(alloc, plan.name(0, user))?)?;
+    }
+    Ok(users)
+}
+
+// A port with the device that is joined there.
+fn port_told(physical: u8, device: Option<Device>) -> PortTold {
+    let (host, node, link) = match device {
+        Some(Device::Host(host)) => (Some(host), None, None),
+        Some(Device::Link { node, link }) => (None, Some(node), Some(link as u8)),
+        None => (None, None, None),
+    };
+    PortTold {
+        physical,
+        host,
+        node,
+        link,
+    }
+}
+
+fn ports_of(alloc: Global, plan: &AcceptedPlan) -> Result<Vec<PortTold>, NoMemory>
+    requires { 0 < length plan.now }
+{
+    let mut ports = Vec::new(alloc);
+    let numbering = plan.ports(0);
+    for port in 0..numbering.count() {
+        ports.push(port_told(numbering.physical(port), device_at(plan.part(0), port)))?;
+    }
+    Ok(ports)
+}
+
+// An instruction as the assembler reads it.
+fn instruction_text(alloc: Global, function: Function, operand: u32) -> Result<String, NoMemory> {
+    let mut text = TextWriter::new(alloc);
+    write_instruction(&mut text, Instruction { function, operand });
+    text.finish()
+}
+
+// The names of the functions, by their nibbles.
+fn functions(alloc: Global) -> Result<Vec<String>, NoMemory> {
+    let mut names = Vec::new(alloc);
+    for nibble in 0u8..16 {
+        let text = instruction_text(alloc, decode(nibble << 4).0, NO_OPERATION)?;
+        let (name, _) = text.split_once(" ").unwrap_or((text.as_str(), ""));
+        names.push(String::from_str(alloc, name)?)?;
+    }
+    Ok(names)
+}
+
+// The operations with their codes.
+fn operations(alloc: Global) -> Result<Vec<OperationTold>, NoMemory> {
+    let mut operations = Vec::new(alloc);
+    for code in 0..NO_OPERATION {
+        let name = instruction_text(alloc, Function::Operate, code)?;
+        if !name.contains(" ") {
+            operations.push(OperationTold { code, name })?;
+        }
+    }
+    Ok(operations)
+}
+
+/// What a plan says of its first domain.
+pub fn plan_told(alloc: Global, plan: &AcceptedPlan) -> Result<PlanTold, NoMemory>
+    requires { 0 < length plan.now }
+{
+    let part = plan.part(0);
+    let mut nodes = Vec::new(alloc);
+    for node in part.nodes() {
+        nodes.push(node.memory)?;
+    }
+    let mut hosts = Vec::new(alloc);
+    for host in part.hosts() {
+        hosts.push(host.user)?;
+    }
+    Ok(PlanTold {
+        limit: part.limit(),
+        users: users_of(alloc, plan)?,
+        nodes,
+        hosts,
+        ports: ports_of(alloc, plan)?,
+        functions: functions(alloc)?,
+        operations: operations(alloc)?,
+    })
+}
