@@ -25,6 +25,8 @@ pub enum LabRequest<'a> {
     Help(String),
     /// To compare files of rows with what they expect.
     Rows(Vec<&'a str>),
+    /// To say why the nodes of the record in a file wait, after its first so many events.
+    Why(&'a str, u64),
     /// To read standard input.
     Read(Reading<'a>),
 }
@@ -36,8 +38,8 @@ pub enum Reading<'a> {
     Replay,
     /// The plan there is shown.
     Plan,
-    /// The switch of the farm that it leaves is drawn.
-    Draw,
+    /// The switch of the farm that it leaves is drawn, or the network of one of its domains.
+    Draw(Option<u8>),
     /// What it asks of a node is traced.
     Trace,
     /// Nothing: a node is booted with code, and at most so many Steps are traced.
@@ -57,6 +59,7 @@ enum Subcommand {
     Assemble,
     Disassemble,
     Rows,
+    Why,
 }
 
 impl Subcommand {
@@ -70,7 +73,7 @@ impl Subcommand {
                 "Shows the domains, users, ports and devices of a plan, or where and why it is refused"
             }
             Subcommand::Draw => {
-                "Draws the switch in SVG after the events of a text as replay reads it"
+                "Draws the switch, or a domain's network, in SVG after the events of a text as replay reads it"
             }
             Subcommand::Trace => {
                 "Traces a node alone: reads lines that set it and let it do Steps"
@@ -84,11 +87,14 @@ impl Subcommand {
             Subcommand::Rows => {
                 "Compares the answers of worked rows with those that their files expect"
             }
+            Subcommand::Why => {
+                "Says why each node waits, halted or runs on: reads the record of a domain"
+            }
         }
     }
 }
 
-const SUBCOMMANDS: [(&str, Subcommand); 7] = [
+const SUBCOMMANDS: [(&str, Subcommand); 8] = [
     ("replay", Subcommand::Replay),
     ("plan", Subcommand::Plan),
     ("draw", Subcommand::Draw),
@@ -96,6 +102,7 @@ const SUBCOMMANDS: [(&str, Subcommand); 7] = [
     ("assemble", Subcommand::Assemble),
     ("disassemble", Subcommand::Disassemble),
     ("rows", Subcommand::Rows),
+    ("why", Subcommand::Why),
 ];
 
 /// Reads the words of the command line, of which the first is the program's name.
@@ -145,9 +152,9 @@ fn with_arguments<'a>(
             .arg(listing_argument(alloc))?
             .arg(pokes_argument(alloc)),
         Subcommand::Rows => command.arg(files_argument(alloc)),
-        Subcommand::Replay | Subcommand::Plan | Subcommand::Draw | Subcommand::Disassemble => {
-            Ok(command)
-        }
+        Subcommand::Draw => command.arg(domain_argument(alloc)),
+        Subcommand::Why => command.arg(record_argument(alloc))?.arg(at_argument(alloc)),
+        Subcommand::Replay | Subcommand::Plan | Subcommand::Disassemble => Ok(command),
     }
 }
 
@@ -169,6 +176,17 @@ fn steps_argument<'a>(alloc: Global) -> Arg<'a> {
         .value_parser(value_parser!(u32))
 }
 
+fn domain_argument<'a>(alloc: Global) -> Arg<'a> {
+    Arg::new(alloc, "domain")
+        .long("domain")
+        .value_name("D")
+        .help(
+            "Draws the network of this domain, its nodes, hosts and wires, in place of the switch",
+        )
+        .action(ArgAction::Set)
+        .value_parser(value_parser!(u8))
+}
+
 fn files_argument<'a>(alloc: Global) -> Arg<'a> {
     Arg::new(alloc, "file")
         .value_name("FILE")
@@ -178,6 +196,23 @@ fn files_argument<'a>(alloc: Global) -> Arg<'a> {
         .required(true)
         .num_args(1..)
         .action(ArgAction::Append)
+}
+
+fn record_argument<'a>(alloc: Global) -> Arg<'a> {
+    Arg::new(alloc, "record")
+        .value_name("RECORD")
+        .help("The record of a domain, as live --record writes it")
+        .required(true)
+        .action(ArgAction::Set)
+}
+
+fn at_argument<'a>(alloc: Global) -> Arg<'a> {
+    Arg::new(alloc, "at")
+        .long("at")
+        .value_name("N")
+        .help("Looks after the first N events of the record, and not at its end")
+        .action(ArgAction::Set)
+        .value_parser(value_parser!(u64))
 }
 
 fn listing_argument<'a>(alloc: Global) -> Arg<'a> {
@@ -204,11 +239,12 @@ fn read_matches<'a>(alloc: Global, matches: &ArgMatches<'a>) -> Result<LabReques
     Ok(match subcommand {
         Subcommand::Replay => LabRequest::Read(Reading::Replay),
         Subcommand::Plan => LabRequest::Read(Reading::Plan),
-        Subcommand::Draw => LabRequest::Read(Reading::Draw),
+        Subcommand::Draw => LabRequest::Read(Reading::Draw(matches.get_one::<u8>("domain"))),
         Subcommand::Trace => LabRequest::Read(read_trace(alloc, matches)?),
         Subcommand::Assemble => LabRequest::Read(Reading::Assemble(read_options(matches))),
         Subcommand::Disassemble => LabRequest::Read(Reading::Disassemble),
         Subcommand::Rows => LabRequest::Rows(read_files(alloc, matches)?),
+        Subcommand::Why => read_why(matches)?,
     })
 }
 
@@ -220,6 +256,12 @@ fn read_options<'a>(matches: &ArgMatches<'a>) -> AssemblyOptions<'a> {
             _ => None,
         },
     }
+}
+
+fn read_why<'a>(matches: &ArgMatches<'a>) -> Result<LabRequest<'a>, LabFailure> {
+    let record = matches.get_str("record").ok_or(LabFailure::Subcommand)?;
+    let most = matches.get_one::<u64>("at").unwrap_or(u64::MAX);
+    Ok(LabRequest::Why(record, most))
 }
 
 fn read_files<'a>(alloc: Global, matches: &ArgMatches<'a>) -> Result<Vec<&'a str>, AllocError> {

@@ -1,5 +1,6 @@
 //! Why the lab ends without its output.
 
+use farm_causes::WhyFault;
 use farm_replay::ReplayFault;
 use node_trace::BootFault;
 use plan_views::PlanRefusal;
@@ -24,8 +25,12 @@ pub enum LabFailure {
     RefusedPlan(PlanRefusal),
     /// A line asks nothing that there is.
     Line(u64),
+    /// A text is no record, or can't be followed.
+    Record(WhyFault),
     /// A text is no program, or no digits.
     Text(TextFault),
+    /// The last farm of a text has no domain of this number.
+    Domain(u8),
     /// A boot can't take so many bytes of code.
     Length(usize),
     /// So many bytes of code can't be poked.
@@ -47,7 +52,9 @@ impl fmt::Display for LabFailure {
             LabFailure::Plan(number) => write!(f, "plan: {number}\n"),
             LabFailure::RefusedPlan(refusal) => write!(f, "{refusal}\n"),
             LabFailure::Line(number) => write!(f, "line {number}\n"),
+            LabFailure::Record(fault) => write!(f, "{fault}\n"),
             LabFailure::Text(fault) => write!(f, "{fault}\n"),
+            LabFailure::Domain(domain) => write!(f, "the farm has no domain {domain}\n"),
             LabFailure::Length(count) => {
                 write!(f, "the code has {count} bytes, and a boot takes 2 to 255\n")
             }
@@ -88,8 +95,11 @@ impl LabFailure {
             | LabFailure::Subcommand
             | LabFailure::Code => 2,
             LabFailure::Plan(_) | LabFailure::RefusedPlan(_) => 3,
-            LabFailure::Line(_)
+            LabFailure::Record(WhyFault::Plan(_) | WhyFault::Domains(_)) => 3,
+            LabFailure::Record(_)
+            | LabFailure::Line(_)
             | LabFailure::Text(_)
+            | LabFailure::Domain(_)
             | LabFailure::Length(_)
             | LabFailure::Poked(_) => 4,
             LabFailure::Memory => 5,
@@ -148,6 +158,15 @@ impl From<ReplayFault> for LabFailure {
             ReplayFault::Plan(number) => LabFailure::Plan(number),
             ReplayFault::Line(number) => LabFailure::Line(number),
             ReplayFault::Memory(_) => LabFailure::Memory,
+        }
+    }
+}
+
+impl From<WhyFault> for LabFailure {
+    fn from(fault: WhyFault) -> LabFailure {
+        match fault {
+            WhyFault::Memory(_) => LabFailure::Memory,
+            fault => LabFailure::Record(fault),
         }
     }
 }

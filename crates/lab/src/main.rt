@@ -7,11 +7,13 @@ mod failure;
 mod plans;
 mod reports;
 mod rows;
+mod why;
 
 use crate::command_line::{LabRequest, read_words};
 use crate::failure::LabFailure;
 use crate::reports::{Report, report_of};
 use crate::rows::report_rows;
+use crate::why::report_why;
 use script_text::{read_whole, write_whole};
 use std::env;
 use std::process::ExitCode;
@@ -40,6 +42,7 @@ fn report(rt: &HostRuntime) -> Result<Report, LabFailure> {
     match read_words(alloc, words.as_slice())? {
         LabRequest::Help(text) => Ok(Report { text, status: 0 }),
         LabRequest::Rows(files) => report_rows(rt, files.as_slice()),
+        LabRequest::Why(record, most) => report_why(rt, record, most),
         LabRequest::Read(reading) => {
             let text = read_whole(alloc, &mut rt.reader())?;
             report_of(alloc, &reading, text.as_slice())

@@ -5,7 +5,7 @@ use crate::command_line::Reading;
 use crate::failure::LabFailure;
 use farm_replay::{Replayed, replay};
 use node_trace::{trace, trace_boot};
-use plan_views::{accepted, draw, table_of};
+use plan_views::{accepted, draw, draw_network, table_of};
 use script_text::{Answered, TextWriter, divide};
 use std::alloc::{AllocError, Global};
 
@@ -26,7 +26,7 @@ fn print_reading(alloc: Global, reading: &Reading, text: &[u8]) -> Result<String
     match reading {
         Reading::Replay => print_replayed(alloc, text),
         Reading::Plan => print_plan(alloc, text),
-        Reading::Draw => print_drawing(alloc, text),
+        Reading::Draw(domain) => print_drawing(alloc, text, *domain),
         Reading::Trace => print_traced(alloc, text),
         Reading::Boot(code, steps) => Ok(trace_boot(alloc, code.as_slice(), u64::from(*steps))?),
         Reading::Assemble(options) => print_assembled(alloc, *options, text),
@@ -50,12 +50,16 @@ fn print_plan(alloc: Global, text: &[u8]) -> Result<String, LabFailure> {
     Ok(table_of(alloc, &plan)?)
 }
 
-// The switch of the last farm of a text.
-fn print_drawing(alloc: Global, text: &[u8]) -> Result<String, LabFailure> {
+// The switch of the last farm of a text, or the network of one of its domains.
+fn print_drawing(alloc: Global, text: &[u8], domain: Option<u8>) -> Result<String, LabFailure> {
     let Replayed { answers: _, last } = replay(alloc, text)?;
-    match last {
-        Some(farm) => Ok(draw(alloc, &farm.plan, farm.words.as_slice())?),
-        None => Ok(String::new(alloc)),
+    match (last, domain) {
+        (Some(farm), None) => Ok(draw(alloc, &farm.plan, farm.words.as_slice())?),
+        (Some(farm), Some(domain)) if domain < farm.plan.domains() => {
+            Ok(draw_network(alloc, &farm.plan, domain, farm.words.as_slice())?)
+        }
+        (Some(_), Some(domain)) => Err(LabFailure::Domain(domain)),
+        (None, _) => Ok(String::new(alloc)),
     }
 }
 

@@ -1,0 +1,116 @@
+-- A moment that goes on by calls.
+use Rattle.std.specs.Prelude.{◌≡◌, ◌+◌, ◌<◌, take, ◌++◌, ◌∷◌, [], ℕ, zero, suc, List, Option, Some, None, Ok, IfSome, length, map, replicate, slice_get}
+use Rattle.std.proofs.Common.{refl, ap, sym, subst, ◌∙◌, arith, get_or}
+use Rattle.std.proofs.lemmas.List.{replicate_more, length-replicate, length-append, map-append, take_more, append-nil}
+use Rattle.std.proofs.lemmas.Grind.{flat_map-append}
+use Rattle.t414_step.specs.declared.stepping.Stepped.{Stepped}
+use Rattle.t414_step.specs.declared.stepping.Stepped.TheVariants.{Ran}
+use Rattle.plan_rules.specs.Data.{DomainData}
+use Rattle.plan_rules.specs.Part.{PartData, part_of}
+use Rattle.domain_core.specs.declared.event.By.TheVariants.{Farm}
+use Rattle.domain_core.specs.declared.event.Event.TheVariants.{Step}
+use Rattle.domain_core.specs.declared.event.Reply.{Reply}
+use Rattle.domain_core.specs.Journal.{AnsweredCall, calls_of, answered_step, IsHistory}
+use Rattle.domain_core.specs.Laws.{HistoriesGrow}
+use Rattle.domain_core.specs.Moments.{MomentValue, state_at, LeadsOn}
+use Rattle.domain_core.specs.PrivateFarm.{State, Answer, Call, next, opening}
+use Rattle.domain_core.specs.Ticket.{steps_told}
+use Rattle.farm_causes.specs.declared.line.RecordedLine.{RecordedLine}
+use Rattle.farm_causes.specs.declared.line.SaidCall.{SaidCall}
+use Rattle.farm_causes.specs.Following.{calls_said, all_said, FollowsCalls, MovesOn, IsStateAfter, IsMomentAfter}
+
+-- one call that was answered and recorded
+pub one_call : HistoriesGrow → (old new : MomentValue) (call : Call) (reply : Reply) → next old.machine.part (state_at old) call ≡ (state_at new, Ok reply) → new.machine.part ≡ old.machine.part → new.recorded ≡ old.recorded + 1 → MovesOn old (call ∷ []) new
+one_call grow old new call reply called part recorded =
+    let one : AnsweredCall = record { call = call; reply = reply } in
+    let told : (next old.machine.part (state_at old) call).1 ≡ Ok reply = ap (λ (p : State × Answer). p.1) called in
+    let left : (next old.machine.part (state_at old) call).0 ≡ state_at new = ap (λ (p : State × Answer). p.0) called in
+    record {
+      part = part;
+      follows = record {
+        gain = one ∷ [];
+        calls_are = refl;
+        leads = λ history of. subst (λ (t : State). IsHistory old.machine.part (history ++ one ∷ []) t) left (grow old.machine.part history (state_at old) call reply of told);
+        recorded_is = recorded;
+      };
+    }
+
+-- one more
+one_more : (more : ℕ) → more + 1 ≡ suc more
+one_more more = omega arith
+
+-- Steps of which the last ran all ran
+ran_told : (node count : ℕ) → steps_told node count (Some Ran) ≡ replicate count (answered_step Farm node Ran)
+ran_told node zero = refl
+ran_told node (suc more) = replicate_more more (answered_step Farm node Ran) ∙ ap (λ n. replicate n (answered_step Farm node Ran)) (one_more more)
+
+-- the calls of alike answers are alike
+alike_calls : (count : ℕ) (a : AnsweredCall) → calls_of (replicate count a) ≡ replicate count a.call
+alike_calls zero a = refl
+alike_calls (suc more) a = ap (λ calls. a.call ∷ calls) (alike_calls more a)
+
+-- Steps of a node that all ran, as many as were asked
+pub steps_ran : (old new : MomentValue) (node times steps : ℕ) (last : Option Stepped) → steps ≡ times → last ≡ Some Ran → LeadsOn old.machine.part (state_at old) (steps_told node steps last) (state_at new) → new.recorded ≡ old.recorded + steps → new.machine.part ≡ old.machine.part → MovesOn old (calls_said (record { times = times; by = Farm; event = Step node })) new
+steps_ran old new node times steps last count ran leads recorded part =
+    let call : Call = record { by = Farm; event = Step node } in
+    let told : steps_told node steps last ≡ replicate times (answered_step Farm node Ran) =
+    ap (λ n. steps_told node n last) count ∙ (ap (λ l. steps_told node times l) ran ∙ ran_told node times) in
+    record {
+      part = part;
+      follows = record {
+        gain = steps_told node steps last;
+        calls_are = ap calls_of told ∙ alike_calls times (answered_step Farm node Ran);
+        leads = leads;
+        recorded_is = omega (arith, recorded, count, length-replicate times call);
+      };
+    }
+
+-- as it is opened, no call has come
+opened_at : (d : Option DomainData) (m : MomentValue) → IfSome d (λ d. state_at m ≡ opening (part_of d)) → IfSome d (λ d. m.machine.part ≡ part_of d) → IfSome d (λ d. (m.machine.part ≡ part_of d) × IsStateAfter (part_of d) [] (state_at m))
+opened_at None m state part = tt
+opened_at (Some d) m state part = (
+  part,
+  record {
+    history = [];
+    calls_are = refl;
+    leads = record { state = sym state; replies = refl };
+    recorded_is = ap (λ (s : State). s.recorded) state;
+  },
+)
+
+-- the same of the only domain of a plan
+pub opened : (plan : List DomainData) (m : MomentValue) → IfSome (slice_get plan 0) (λ d. state_at m ≡ opening (part_of d)) → IfSome (slice_get plan 0) (λ d. m.machine.part ≡ part_of d) → IsMomentAfter plan [] m
+opened plan m state part = opened_at (slice_get plan 0) m state part
+
+-- a state after calls, and after others behind them
+state_on : (part : PartData) (s t : State) (xs ys : List Call) → IsStateAfter part xs s → FollowsCalls part s ys t → IsStateAfter part (xs ++ ys) t
+state_on part s t xs ys a b = record {
+  history = a.history ++ b.gain;
+  calls_are = map-append (λ (it : AnsweredCall). it.call) a.history b.gain ∙ (ap (λ cs. cs ++ calls_of b.gain) a.calls_are ∙ ap (λ cs. xs ++ cs) b.calls_are);
+  leads = b.leads a.history a.leads;
+  recorded_is = omega (arith, a.recorded_is, b.recorded_is, length-append xs ys);
+}
+
+-- a moment after calls, and after others behind them
+moved_at : (d : Option DomainData) (xs ys : List Call) (f g : MomentValue) → IfSome d (λ d. (f.machine.part ≡ part_of d) × IsStateAfter (part_of d) xs (state_at f)) → MovesOn f ys g → IfSome d (λ d. (g.machine.part ≡ part_of d) × IsStateAfter (part_of d) (xs ++ ys) (state_at g))
+moved_at None xs ys f g is on = tt
+moved_at (Some d) xs ys f g is on = (
+  on.part ∙ is.0,
+  state_on (part_of d) (state_at f) (state_at g) xs ys is.1 (subst (λ (p : PartData). FollowsCalls p (state_at f) ys (state_at g)) is.0 on.follows),
+)
+
+-- the same of the only domain of a plan
+pub moment_on : (plan : List DomainData) (xs ys : List Call) (f g : MomentValue) → IsMomentAfter plan xs f → MovesOn f ys g → IsMomentAfter plan (xs ++ ys) g
+moment_on plan xs ys f g is on = moved_at (slice_get plan 0) xs ys f g is on
+
+-- one line more was followed
+pub one_line : (plan : List DomainData) (lines : List RecordedLine) (i : ℕ) (d : RecordedLine) (f g : MomentValue) → i < length lines → IsMomentAfter plan (all_said (map (λ line. line.call) (take i lines))) f → MovesOn f (calls_said (get_or lines i d).call) g → IsMomentAfter plan (all_said (map (λ line. line.call) (take (i + 1) lines))) g
+one_line plan lines i d f g less is on =
+    let call : RecordedLine → SaidCall = λ line. line.call in
+    let line : RecordedLine = get_or lines i d in
+    let more : all_said (map call (take (i + 1) lines)) ≡ all_said (map call (take i lines)) ++ calls_said (call line) =
+    ap (λ (some : List RecordedLine). all_said (map call some)) (take_more lines i d less)
+    ∙ (ap all_said (map-append call (take i lines) (line ∷ []))
+    ∙ (flat_map-append calls_said (map call (take i lines)) (call line ∷ [])
+    ∙ ap (λ (calls : List Call). all_said (map call (take i lines)) ++ calls) (append-nil (calls_said (call line))))) in
+    subst (λ (calls : List Call). IsMomentAfter plan calls g) (sym more) (moment_on plan (all_said (map call (take i lines))) (calls_said (call line)) f g is on)

@@ -1,0 +1,40 @@
+-- What the lines of a record say, and the state to which they lead.
+use Rattle.std.specs.Prelude.{◌≡◌, ◌+◌, List, length, replicate, IfSome, slice_get}
+use Rattle.std.specs.List.{flat_map}
+use Rattle.plan_rules.specs.Data.{DomainData}
+use Rattle.plan_rules.specs.Part.{PartData, part_of}
+use Rattle.domain_core.specs.Journal.{AnsweredCall, calls_of, IsHistory}
+use Rattle.domain_core.specs.Moments.{MomentValue, state_at, LeadsOn}
+use Rattle.domain_core.specs.PrivateFarm.{State, Call}
+use Rattle.farm_causes.specs.declared.line.SaidCall.{SaidCall}
+
+-- the calls that a line says: one, so many times
+abbrev pub calls_said : SaidCall → List Call
+calls_said said = replicate said.times (record { by = said.by; event = said.event })
+
+-- the calls that lines say
+abbrev pub all_said : List SaidCall → List Call
+all_said lines = flat_map calls_said lines
+
+-- just these calls lead from one state to another, and each of them was recorded
+pub record FollowsCalls (part : PartData) (s : State) (calls : List Call) (t : State) : Type 0 where
+  pub gain : List AnsweredCall
+  pub calls_are : calls_of gain ≡ calls
+  pub leads : LeadsOn part s gain t
+  pub recorded_is : t.recorded ≡ s.recorded + length calls
+
+-- a moment after such calls, of the same part
+pub record MovesOn (old : MomentValue) (calls : List Call) (new : MomentValue) : Type 0 where
+  pub part : new.machine.part ≡ old.machine.part
+  pub follows : FollowsCalls old.machine.part (state_at old) calls (state_at new)
+
+-- the state to which just these calls lead from the opening, each of which was recorded
+pub record IsStateAfter (part : PartData) (calls : List Call) (s : State) : Type 0 where
+  pub history : List AnsweredCall
+  pub calls_are : calls_of history ≡ calls
+  pub leads : IsHistory part history s
+  pub recorded_is : s.recorded ≡ length calls
+
+-- the only domain of a plan, at the moment after these calls
+abbrev pub IsMomentAfter : List DomainData → List Call → MomentValue → Type 0
+IsMomentAfter plan calls m = IfSome (slice_get plan 0) (λ d. (m.machine.part ≡ part_of d) × IsStateAfter (part_of d) calls (state_at m))

@@ -1,0 +1,5 @@
+-- what must be believed
+pub mod Causes
+-- what only helps contracts
+pub mod Passage
+pub mod Following

@@ -1,0 +1,89 @@
+//! Why nothing is said of a record.
+
+use domain_core::Refusal;
+use plan_checker::PlanFault;
+use script_text::NumberedLineFault;
+use std::alloc::{AllocError, AllocFailed};
+use thiserror::Error;
+
+/// Why a line of a record isn't done.
+#[derive(Clone, Copy, Debug, PartialEq, Eq, Error)]
+pub enum FollowFault {
+    /// It asks no single event of domain 0.
+    #[error("a record has lines as `0 write 0 05 @0 = written` and `3 times 0 step 0 @farm = 3 ran`")]
+    NoEvent,
+    /// The domain has no such user, host, node or port.
+    #[error("the plan has no such user, host, node or port: take the plan that the record begins with")]
+    NoSuch,
+    /// The limit of the plan is reached.
+    #[error("the record is at its limit of events: raise `limit` in its plan")]
+    Full,
+    /// Nothing is recorded of it.
+    #[error("nothing happens here, so a record has no such line: leave it out")]
+    NotRecorded,
+    /// Not all Steps of the line ran.
+    #[error("not all these Steps ran: write the last of them on a line of its own")]
+    Fewer,
+    /// The domain answers otherwise than the line says.
+    #[error("the domain answers otherwise: a line before it is missing or was changed")]
+    Differs,
+    #[error("memory")]
+    Memory(#[from(alloc)] AllocError),
+}
+
+impl From<Refusal> for FollowFault {
+    fn from(refusal: Refusal) -> FollowFault {
+        match refusal {
+            Refusal::NoSuch => FollowFault::NoSuch,
+            Refusal::JournalFull => FollowFault::Full,
+            Refusal::NoMemory => FollowFault::Memory(AllocError),
+        }
+    }
+}
+
+/// Why nothing is said of a text.
+#[derive(Clone, Copy, Debug, PartialEq, Eq, Error)]
+pub enum WhyFault {
+    /// It has no line behind a plan.
+    #[error("it is no record: a record is a plan, a line ---, and the events of its domain, as `live --record` writes it")]
+    NoMark,
+    /// Its plan is refused, with the number of its smallest fault.
+    #[error("plan: {0}: `lab plan` says where and why")]
+    Plan(u8),
+    /// Its plan has so many domains.
+    #[error("the plan of a record has one domain, and this one has {0}")]
+    Domains(u8),
+    /// The line of this number in the whole text isn't done.
+    #[error("line {number}: {fault}")]
+    Line { number: u64, fault: FollowFault },
+    #[error("memory")]
+    Memory(#[from(alloc)] AllocError),
+}
+
+impl WhyFault {
+    /// The line of this number isn't done.
+    pub fn of_line(number: u64, fault: FollowFault) -> WhyFault {
+        match fault {
+            FollowFault::Memory(error) => WhyFault::Memory(error),
+            fault => WhyFault::Line { number, fault },
+        }
+    }
+}
+
+impl From<PlanFault> for WhyFault {
+    fn from(fault: PlanFault) -> WhyFault {
+        match fault {
+            PlanFault::NoMemory => WhyFault::Memory(AllocError),
+            fault => WhyFault::Plan(fault.number()),
+        }
+    }
+}
+
+impl From<NumberedLineFault> for WhyFault {
+    fn from(fault: NumberedLineFault) -> WhyFault {
+        match fault {
+            NumberedLineFault::Wrong(number) => WhyFault::of_line(number, FollowFault::NoEvent),
+            NumberedLineFault::Memory(error) => WhyFault::Memory(error),
+        }
+    }
+}

@@ -1,0 +1,177 @@
+//! A domain is led to a moment by the lines of its record.
+
+ghost use Rattle.std.specs.Prelude.{◌≡◌, ◌<◌, ◌∷◌, [], IfOk, IfSome, OnOk, None, ◌↔◌, length, map, slice_get};
+ghost use Rattle.plan_rules.specs.Part.{part_of};
+ghost use Rattle.domain_core.specs.Moments.{state_at};
+ghost use Rattle.domain_core.specs.PrivateFarm.{opening};
+ghost use Rattle.farm_causes.specs.Causes.{IsCause};
+ghost use Rattle.farm_causes.specs.Following.{calls_said, all_said, MovesOn, IsMomentAfter};
+
+use crate::cause::Cause;
+use crate::fault::{FollowFault, WhyFault};
+use crate::finding::cause_in;
+use crate::glance::{code_end_of, glance_before, note_event};
+use crate::line::{RecordedLine, SaidCall};
+use crate::past::Past;
+use answer_text::write_reply;
+use domain_core::laws::histories_grow;
+use domain_core::{By, Event, Moment, NoMemory, Reply};
+use plan_checker::AcceptedPlan;
+use std::alloc::Global;
+use std::marker::Model;
+use t414_step::Stepped;
+
+/// A domain at the moment to which its record leads, and what was noted on the way.
+#[derive(Drop)]
+pub struct Follower {
+    alloc: Global,
+    moment: Moment,
+    past: Past,
+}
+
+impl Model for Follower {
+    ghost use Rattle.domain_core.specs.Moments.{MomentValue};
+
+    ghost Value = { MomentValue };
+
+    ghost view = { λ f. f.moment };
+}
+
+// Whether an answer is what a line says that was asked so many times.
+fn is_told(alloc: Global, told: Option<&str>, times: u64, reply: Reply) -> Result<bool, NoMemory> {
+    let Some(told) = told else {
+        return Ok(true);
+    };
+    let mut answer = String::new(alloc);
+    write_reply(&mut answer, reply)?;
+    if answer.as_str() == told {
+        return Ok(true);
+    }
+    let several = format!(in alloc; "{times} {answer}")?;
+    Ok(times > 1 && several.as_str() == told)
+}
+
+impl Follower {
+    /// The only domain of a plan as it is opened. `NoMemory` where memories or queues can't be allocated.
+    #[tactic(auto, using(crate::proofs::Followed::opened))]
+    pub fn open(alloc: Global, plan: &AcceptedPlan) -> Result<Follower, NoMemory>
+        requires { length plan.now ≡ 1 }
+        ensures after { IfOk result (λ f. IsMomentAfter plan.now [] f) }
+    {
+        Ok(Follower {
+            alloc,
+            moment: Moment::open(alloc, plan, 0)?,
+            past: Past::new(),
+        })
+    }
+
+    /// How many events were recorded till then.
+    pub fn recorded(&self) -> u64
+        ensures { result ≡ self.now.recorded }
+    {
+        self.moment.recorded()
+    }
+
+    /// What was noted on the way.
+    pub fn past(&self) -> &Past {
+        &self.past
+    }
+
+    /// A copy of the moment. `NoMemory` where it can't be allocated.
+    pub fn moment(&self) -> Result<Moment, NoMemory>
+        ensures { IfOk result (λ m. m ≡ self.now) }
+    {
+        self.moment.copy(self.alloc)
+    }
+
+    /// Why a node does no more than it does, at the moment to which the lines have led. `None` where there is no such node.
+    pub fn cause_of(&self, node: u8) -> Option<Cause>
+        ensures cause { IfSome result (λ cause. IfSome (slice_get self.now.machine.devices.nodes node) (λ n. IsCause n cause)) }
+        ensures there { (result ≡ None) ↔ (slice_get self.now.machine.devices.nodes node ≡ None) }
+    {
+        match self.moment.node(node) {
+            Some(node) => Some(cause_in(node)),
+            None => None,
+        }
+    }
+
+    // Does one event, which is recorded.
+    fn follow_event(&mut self, by: By, event: Event) -> Result<Reply, FollowFault>
+        ensures { IfOk result (λ reply. MovesOn self.old (record { by = by; event = event } ∷ []) self.new) }
+    {
+        // What comes next makes a history longer.
+        histories_grow();
+        let before = self.moment.recorded();
+        let glance = glance_before(&mut self.moment, event)?;
+        let reply = self.moment.apply(by, event)?;
+        let after = self.moment.recorded();
+        if after <= before || after - before != 1 {
+            return Err(FollowFault::NotRecorded);
+        }
+        note_event(&mut self.past, &self.moment, glance, event, reply, after);
+        Ok(reply)
+    }
+
+    // Does Steps of a node at once, of which all run.
+    fn follow_steps(&mut self, node: u8, times: u64) -> Result<Reply, FollowFault>
+        ensures { IfOk result (λ reply. MovesOn self.old (calls_said (record { times = times; by = By.Farm; event = Event.Step node })) self.new) }
+    {
+        let code_end = match self.moment.node(node) {
+            Some(node) => code_end_of(node),
+            None => None,
+        };
+        let burst = self.moment.burst(node, times)?;
+        if burst.steps != times || burst.last != Some(Stepped::Ran) {
+            return Err(FollowFault::Fewer);
+        }
+        self.past.note_steps(node, times, code_end);
+        Ok(Reply::Stepped(Stepped::Ran))
+    }
+
+    // Does a call as often as it was made. Only Steps stand together.
+    fn follow_call(&mut self, call: SaidCall) -> Result<Reply, FollowFault>
+        ensures { IfOk result (λ reply. MovesOn self.old (calls_said call) self.new) }
+    {
+        let SaidCall { times, by, event } = call;
+        match (times, by, event) {
+            (1, _, _) => self.follow_event(by, event),
+            (_, By::Farm, Event::Step(node)) => self.follow_steps(node, times),
+            _ => Err(FollowFault::NoEvent),
+        }
+    }
+
+    /// Does what a line says, and compares what the domain answers with what it says. After an error nothing is said of the
+    /// moment.
+    pub fn follow(&mut self, line: &RecordedLine) -> Result<(), FollowFault>
+        ensures { OnOk result (MovesOn self.old (calls_said line.now.call) self.new) }
+    {
+        let reply = self.follow_call(line.call)?;
+        if is_told(self.alloc, line.answer, line.call.times, reply)? {
+            Ok(())
+        } else {
+            Err(FollowFault::Differs)
+        }
+    }
+}
+
+/// The only domain of a plan, led from its opening by the lines of its record.
+///
+/// # Errors
+///
+/// `Line` with the first line whose event the domain refuses, doesn't record or answers otherwise; `Memory`.
+pub fn follow_record(
+    alloc: Global,
+    plan: &AcceptedPlan,
+    lines: &[RecordedLine],
+) -> Result<Follower, WhyFault>
+    requires { length plan.now ≡ 1 }
+    ensures { IfOk result (λ f. IsMomentAfter plan.now (all_said (map (λ l. l.call) lines.now)) f) }
+{
+    let mut follower = Follower::open(alloc, plan)?;
+    for line in lines {
+        if let Err(fault) = follower.follow(line) {
+            return Err(WhyFault::of_line(line.number, fault));
+        }
+    }
+    Ok(follower)
+}

@@ -1,0 +1,24 @@
+//! Why the nodes of a domain do no more than they do, at a moment of its record.
+#![tactic(auto)]
+
+mod cause;
+mod explaining;
+mod fault;
+mod finding;
+mod following;
+mod glance;
+mod line;
+mod packets;
+mod passage;
+mod past;
+mod telling;
+mod words;
+
+pub use cause::{Cause, InputWait, InsideWait, LinkWaits, OutputWait, Rendezvous};
+pub use explaining::explain_record;
+pub use fault::{FollowFault, WhyFault};
+pub use finding::{cause_in, inside_waits};
+pub use following::{Follower, follow_record};
+pub use line::{RecordedLine, SaidCall};
+pub use passage::{Arrival, SentByte, Supply, arrival_at, sent_byte, supply_of};
+pub use past::{FaultPast, NodePast, Past, PortPast};

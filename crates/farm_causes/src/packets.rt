@@ -1,0 +1,183 @@
+//! What is said of packets: where one is, and what comes to a link.
+
+use crate::passage::{Arrival, SentByte, Supply, arrival_at, is_in_mask, sent_byte, supply_of};
+use crate::telling::Scene;
+use crate::words::{push_device, push_link, push_lost, push_move};
+use domain_core::Device;
+use link_channels::LinkNumber;
+use os_link::Packet;
+use script_text::TextWriter;
+
+impl Scene<'_> {
+    /// Says where the byte is that a device sent last.
+    pub(crate) fn write_sent(&mut self, device: Device, text: &mut TextWriter) {
+        match sent_byte(&mut self.moment, device) {
+            SentByte::Unwired => {
+                text.push("  The byte stays: no port of the switch is joined to that link.\n");
+            }
+            SentByte::Waits { port, moved } => {
+                text.push("  The byte waits at port ");
+                text.push_decimal(u64::from(port));
+                push_move(text, port, moved);
+            }
+            SentByte::Left { port, drives } => match self.past.port(port).byte {
+                Some(event) => {
+                    text.push("  The byte");
+                    push_lost(text, port, event);
+                }
+                None => self.write_arrivals(port, drives, text),
+            },
+        }
+    }
+
+    // Says what became of a byte that left a port, at each output that this drives.
+    fn write_arrivals(&mut self, port: u8, drives: u32, text: &mut TextWriter) {
+        if drives == 0 {
+            text.push("  The byte left, and input ");
+            text.push_decimal(u64::from(port));
+            text.push(" drives no output now.\n");
+        }
+        for output in 0..self.moment.part().count() {
+            if is_in_mask(drives, output) {
+                self.write_arrival(output, text);
+            }
+        }
+    }
+
+    // Says what became of a byte that came to an output.
+    fn write_arrival(&mut self, output: u8, text: &mut TextWriter) {
+        if output >= self.moment.part().count() {
+            return;
+        }
+        text.push("  At output ");
+        text.push_decimal(u64::from(output));
+        text.push(" ");
+        match arrival_at(&mut self.moment, output) {
+            Arrival::Nobody => text.push("no device is joined that could take the byte.\n"),
+            Arrival::Held(device) => {
+                push_device(text, device);
+                text.push(match device {
+                    Device::Host(_) => " holds a byte, as its queue is full: it is to be read.\n",
+                    Device::Link { .. } => " holds a byte that nobody has taken.\n",
+                });
+            }
+            Arrival::Acknowledged { device, moved } => {
+                push_device(text, device);
+                text.push(" took the byte. Its acknowledge waits at port ");
+                text.push_decimal(u64::from(output));
+                push_move(text, output, moved);
+            }
+            Arrival::Gone(device) => match self.past.port(output).acknowledge {
+                Some(event) => {
+                    push_device(text, device);
+                    text.push(" took the byte, but its acknowledge");
+                    push_lost(text, output, event);
+                }
+                None => {
+                    push_device(text, device);
+                    text.push(" has neither the byte nor an acknowledge of it.\n");
+                }
+            },
+        }
+    }
+
+    /// Says whence bytes come to a link, if it is joined to a port.
+    pub(crate) fn write_supply_if_wired(
+        &mut self,
+        node: u8,
+        link: LinkNumber,
+        text: &mut TextWriter,
+    ) {
+        match supply_of(&mut self.moment, Device::Link { node, link }) {
+            Supply::Unwired => {}
+            _ => self.write_supply(node, link, text),
+        }
+    }
+
+    /// Says whence bytes come to a link.
+    pub(crate) fn write_supply(&mut self, node: u8, link: LinkNumber, text: &mut TextWriter) {
+        match supply_of(&mut self.moment, Device::Link { node, link }) {
+            Supply::Unwired => {
+                text.push("  No byte comes: no port of the switch is joined to ");
+                push_link(text, link);
+                text.push(".\n");
+            }
+            Supply::Undriven { port } => {
+                text.push("  No byte comes by ");
+                push_link(text, link);
+                text.push(": no input drives output ");
+                text.push_decimal(u64::from(port));
+                text.push(".\n");
+                self.write_own_loss(port, link, text);
+            }
+            Supply::Driven {
+                port,
+                input,
+                source,
+                packet,
+                moved,
+            } => {
+                text.push("  Input ");
+                text.push_decimal(u64::from(input));
+                text.push(" drives output ");
+                text.push_decimal(u64::from(port));
+                text.push(" of ");
+                push_link(text, link);
+                text.push(". ");
+                match (source, packet) {
+                    (Some(source), Some(packet)) => {
+                        push_waiting(text, source, packet);
+                        push_move(text, input, moved);
+                    }
+                    (Some(source), None) => self.write_silence(source, text),
+                    (None, _) => text.push("No device is joined there.\n"),
+                }
+                self.write_own_loss(port, link, text);
+            }
+        }
+    }
+
+    // Says why nothing waits at a device.
+    fn write_silence(&self, source: Device, text: &mut TextWriter) {
+        let awaits = match source {
+            Device::Host(number) => match self.moment.host(number) {
+                Some(host) => host.end().output.awaits,
+                None => false,
+            },
+            Device::Link { node, link } => match self.moment.node(node) {
+                Some(home) => home.links().at(link).end.output.awaits,
+                None => false,
+            },
+        };
+        text.push("Of ");
+        push_device(text, source);
+        text.push(if awaits {
+            " a byte isn't acknowledged yet.\n"
+        } else {
+            " nothing waits there.\n"
+        });
+    }
+
+    // Says so if an acknowledge of a link was lost at its port.
+    fn write_own_loss(&self, port: u8, link: LinkNumber, text: &mut TextWriter) {
+        if let Some(event) = self.past.port(port).acknowledge {
+            text.push("  An acknowledge of ");
+            push_link(text, link);
+            push_lost(text, port, event);
+        }
+    }
+}
+
+// Begins a sentence about a packet that waits at a device's port.
+fn push_waiting(text: &mut TextWriter, source: Device, packet: Packet) {
+    match packet {
+        Packet::Byte(byte) => {
+            text.push("Byte ");
+            text.push_byte(byte);
+        }
+        Packet::Ack => text.push("An acknowledge"),
+    }
+    text.push(" of ");
+    push_device(text, source);
+    text.push(" waits there");
+}

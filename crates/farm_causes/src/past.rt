@@ -1,0 +1,158 @@
+//! What a later look at a domain can't see.
+
+use domain_core::{Device, Moved};
+use os_link::Packet;
+use t414_step::Cpu;
+
+/// What was lost at a port, since nothing of its kind passed from there.
+#[derive(Clone, Copy, Debug, PartialEq, Eq)]
+pub struct PortPast {
+    /// The event in which a byte was lost.
+    pub byte: Option<u64>,
+    /// The event in which an acknowledge was lost.
+    pub acknowledge: Option<u64>,
+}
+
+/// What a node met at its fault.
+#[derive(Clone, Copy, Debug, PartialEq, Eq)]
+pub struct FaultPast {
+    /// The event.
+    pub event: u64,
+    /// The registers before the instruction byte, if one was done.
+    pub registers: Option<Cpu>,
+    /// The instruction byte.
+    pub byte: Option<u8>,
+}
+
+/// What was noted of a node.
+#[derive(Clone, Copy, Debug, PartialEq, Eq)]
+pub struct NodePast {
+    /// The address behind the code that was loaded last.
+    pub code_end: Option<u32>,
+    /// How many Steps it has done since a packet came or went.
+    pub steps: u64,
+    pub fault: Option<FaultPast>,
+}
+
+/// What was noted on the way to a moment.
+#[derive(Drop)]
+pub struct Past {
+    ports: [PortPast; 32],
+    nodes: [NodePast; 8],
+    /// How many packets went from node to node since the last event of a user and the last packet of a host.
+    pub exchanges: u64,
+    /// The number of that event.
+    pub alone_since: u64,
+}
+
+impl PortPast {
+    // Nothing was lost.
+    fn new() -> PortPast {
+        PortPast {
+            byte: None,
+            acknowledge: None,
+        }
+    }
+}
+
+impl NodePast {
+    // As after a reset.
+    fn new() -> NodePast {
+        NodePast {
+            code_end: None,
+            steps: 0,
+            fault: None,
+        }
+    }
+}
+
+impl Past {
+    /// Nothing has happened.
+    pub fn new() -> Past {
+        Past {
+            ports: [PortPast::new(); 32],
+            nodes: [NodePast::new(); 8],
+            exchanges: 0,
+            alone_since: 0,
+        }
+    }
+
+    /// What was lost at a port.
+    pub fn port(&self, port: u8) -> PortPast {
+        match self.ports.get(usize::from(port)) {
+            Some(past) => *past,
+            None => PortPast::new(),
+        }
+    }
+
+    /// What was noted of a node.
+    pub fn node(&self, node: u8) -> NodePast {
+        match self.nodes.get(usize::from(node)) {
+            Some(past) => *past,
+            None => NodePast::new(),
+        }
+    }
+
+    /// A user asked for something in this event.
+    pub fn note_user(&mut self, event: u64) {
+        self.exchanges = 0;
+        self.alone_since = event;
+    }
+
+    /// A node was reset.
+    pub fn note_reset(&mut self, node: u8) {
+        if let Some(past) = self.nodes.get_mut(usize::from(node)) {
+            *past = NodePast::new();
+        }
+    }
+
+    /// A node did Steps, and the code that it loads ends before this address.
+    pub fn note_steps(&mut self, node: u8, steps: u64, code_end: Option<u32>) {
+        if let Some(past) = self.nodes.get_mut(usize::from(node)) {
+            past.steps = past.steps.saturating_add(steps);
+            past.code_end = code_end.or(past.code_end);
+        }
+    }
+
+    /// A node met a fault.
+    pub fn note_fault(&mut self, node: u8, fault: FaultPast) {
+        if let Some(past) = self.nodes.get_mut(usize::from(node)) {
+            past.fault = Some(fault);
+        }
+    }
+
+    /// A packet left a port in this event, and was lost or passed.
+    pub fn note_packet(&mut self, port: u8, packet: Packet, moved: Moved, event: u64) {
+        let lost = if moved == Moved::Lost {
+            Some(event)
+        } else {
+            None
+        };
+        if let Some(past) = self.ports.get_mut(usize::from(port)) {
+            match packet {
+                Packet::Byte(_) => past.byte = lost,
+                Packet::Ack => past.acknowledge = lost,
+            }
+        }
+    }
+
+    /// A packet came to a device or left it; whether that is a node's.
+    pub fn note_traffic(&mut self, device: Option<Device>) -> bool {
+        let Some(Device::Link { node, .. }) = device else {
+            return false;
+        };
+        if let Some(past) = self.nodes.get_mut(usize::from(node)) {
+            past.steps = 0;
+        }
+        true
+    }
+
+    /// A packet passed in this event, from node to node alone, or else a host had a part in it.
+    pub fn note_exchange(&mut self, is_among_nodes: bool, event: u64) {
+        if is_among_nodes {
+            self.exchanges = self.exchanges.saturating_add(1);
+        } else {
+            self.note_user(event);
+        }
+    }
+}
