@@ -1,4 +1,5 @@
-"""What the scripts of rates share: the program that they measure, and the shortest of several runs."""
+"""What the scripts of rates share: the program that they measure, the shortest of several runs, and the rows of the tables of
+docs/SPEED.md that they print."""
 import os
 import subprocess
 import sys
@@ -32,14 +33,44 @@ def timed(call, text="", cores=None, more=None):
         return time.perf_counter_ns() - begun, done.stdout, int(peak.read()) / 1024
 
 
-def shortest(is_right, *calls, **how):
-    """The shortest of five runs of each of these calls, which take turns, as `timed` tells it. What any run prints must be
-    right."""
-    best = [None] * len(calls)
-    for _ in range(RUNS):
+def in_turns(is_right, *calls, runs=RUNS, **how):
+    """So many runs of each of these calls, which take turns, as `timed` tells them. What any run prints must be right."""
+    taken = [[] for _ in calls]
+    for _ in range(runs):
         for at, call in enumerate(calls):
-            taken = timed(call, **how)
-            if not is_right(taken[1]):
-                sys.exit(f"{call[-1]}: a wrong answer: {taken[1][-300:]}")
-            best[at] = min(best[at] or taken, taken, key=lambda it: it[0])
-    return best
+            taken[at].append(timed(call, **how))
+            if not is_right(taken[at][-1][1]):
+                sys.exit(f"{call[-1]}: a wrong answer: {taken[at][-1][1][-300:]}")
+    return taken
+
+
+def shortest(is_right, *calls, **how):
+    """The shortest of several runs of each of these calls, which take turns, as `timed` tells it."""
+    return [min(it, key=lambda run: run[0]) for it in in_turns(is_right, *calls, **how)]
+
+
+def heading(*names):
+    """Prints the head of a table."""
+    print("\n| " + " | ".join(names) + " |\n|" + "---|" * len(names), flush=True)
+
+
+def row(*cells):
+    """Prints a row of a table."""
+    print("| " + " | ".join(str(it) for it in cells) + " |", flush=True)
+
+
+RATIOS = ("Work", "Ours", "Yardstick", "Ratio", "Spread", "Goal")
+
+
+def spoken(nanoseconds):
+    """A time of one event, with its unit."""
+    return f"{nanoseconds:.3g} ns" if nanoseconds < 1000 else f"{nanoseconds / 1000:.3g} µs"
+
+
+def ratio_row(work, events, what, goal, taken):
+    """Prints the row of a work and its yardstick, which each did so many events in runs that took turns: the time of an event in
+    the shortest run of each, how many times as fast ours is, and between which bounds that lay in the pairs of runs."""
+    ours, plain = (min(run[0] for run in it) for it in taken)
+    pairs = [b[0] / a[0] for a, b in zip(*taken)]
+    spread = f"{min(pairs):.2f} to {max(pairs):.2f}"
+    row(work, spoken(ours / events), f"{spoken(plain / events)}, {what}", f"{plain / ours:.2f}", spread, goal)

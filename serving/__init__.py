@@ -1,1 +1,2 @@
-"""People at one farm: sockets round `live` (serve), a terminal for a user (connect), and folders for a class (class)."""
+"""People at one farm: sockets round `live` (serve), a terminal for a user (connect), and folders for a class
+(class)."""

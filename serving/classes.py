@@ -6,13 +6,15 @@ import subprocess
 import sys
 import time
 
-from .folder import TOP, Refused, is_locked, program, socket_path
+from .folder import TOP, Refused, is_locked, program, ready, socket_path
 from .plans import Machine, farms_of, plan_of, students_of
 from .sheets import count, sheet
 from .status import ask_operator, rows_of, table
 
 FILE = "class.json"
 STOP_SECONDS = 90
+# The status of a program that Ctrl-C has ended.
+INTERRUPTED = 130
 
 
 def save(path, text):
@@ -72,6 +74,7 @@ def is_up(farm):
 def start(folder):
     """Starts each farm that isn't served yet, and waits until it answers."""
     farms, rights = class_in(folder)
+    ready("live")
     begun = {}
     for farm in farms:
         if not is_locked(farm):
@@ -84,7 +87,7 @@ def start(folder):
         while not (up := is_up(farm)) and (farm not in begun or begun[farm].poll() is None):
             time.sleep(0.05)
         failed += not up
-        told = f"up, {len(names)} users" if up else f"it did not start, see {os.path.join(farm, 'serve.log')}"
+        told = f"up, {count(len(names), 'user')}" if up else f"it did not start, see {os.path.join(farm, 'serve.log')}"
         print(f"{os.path.basename(farm)}: {told}")
     return 1 if failed else 0
 
@@ -133,7 +136,11 @@ def main(given):
     try:
         if len(given) == 2 and given[0] in ORDERS:
             return ORDERS[given[0]](given[1])
+        if given and given[0] in ORDERS:
+            raise Refused(f"{given[0]} wants the folder of the class behind it, and nothing else. Try: class {given[0]} course")
         return make(words_of(given))
     except (Refused, OSError) as error:
         print(f"class: {error}", file=sys.stderr)
         return 1
+    except KeyboardInterrupt:
+        return INTERRUPTED

@@ -2,10 +2,14 @@
 import fcntl
 import grp
 import os
+import pwd
 import socket
 import stat
+import subprocess
+import sys
 
 TOP = os.path.dirname(os.path.dirname(os.path.abspath(__file__)))
+EXAMPLES = os.path.join(TOP, "examples", "programs")
 OPERATOR = "operator"
 # As many bytes as the path of a socket may have.
 MOST_PATH = 107
@@ -18,8 +22,18 @@ class Refused(Exception):
 
 
 def program(name):
-    """The path of a program: that of the variable with its name in capitals (LIVE, LAB), or else the command at the top."""
+    """The path of a program: that of the variable with its name in capitals (LIVE, LAB), or else the command at the
+    top."""
     return os.path.abspath(os.environ.get(name.upper()) or os.path.join(TOP, name))
+
+
+def ready(name):
+    """Builds a program if it isn't built or is stale, and shows that. One that a variable names is taken as it is."""
+    if os.environ.get(name.upper()):
+        return
+    call = [os.path.join(TOP, "tools", "start"), "--only-build", name]
+    if subprocess.run(call, stdin=subprocess.DEVNULL, stdout=sys.stderr, check=False).returncode != 0:
+        raise Refused(f"the program {name} can't be built: see above")
 
 
 def socket_path(folder, name):
@@ -30,12 +44,59 @@ def socket_path(folder, name):
     return path
 
 
+def no_socket(folder, name):
+    """Why there is no socket of this name, and what to do."""
+    if not os.path.isdir(folder):
+        return f"there is no folder {folder}: give the folder of the farm, as serve PLAN DIR has it"
+    try:
+        there = sorted(it[:-5] for it in os.listdir(folder) if it.endswith(".sock"))
+    except PermissionError:
+        return f"there is no socket of {name} in {folder}: is the farm up, and is this the user's name?"
+    if there:
+        return f"there is no socket of {name} in {folder}: there are {', '.join(there)}"
+    return f"no farm is up in {folder}: start it by serve PLAN {folder}"
+
+
+def no_right(folder, name):
+    """Why this account can't open the socket of this name, and what to do."""
+    me, told = account_name(os.geteuid()), "ask the operator (serve --mode, --group)"
+    try:
+        it = os.stat(os.path.join(folder, f"{name}.sock"))
+    except OSError:
+        return f"this account ({me}) may not enter the folder {folder}: ask the operator for its mode"
+    owner, whose = f"the account {account_name(it.st_uid)}", f"this account ({me}) may not speak as {name}"
+    if not it.st_mode & stat.S_IWGRP:
+        return f"{whose}: the socket is for {owner} alone. If it is yours, {told}"
+    group = group_name(it.st_gid)
+    if me in group.gr_mem and it.st_gid not in os.getgroups():
+        return f"{whose} yet: it came into the group {group.gr_name} after it had logged in. Log in again"
+    return f"{whose}: the socket is for {owner} and the group {group.gr_name}. If it is yours, {told}"
+
+
+def account_name(number):
+    try:
+        return pwd.getpwuid(number).pw_name
+    except KeyError:
+        return str(number)
+
+
+def group_name(number):
+    """A group with its members, also if it has no name."""
+    try:
+        return grp.getgrgid(number)
+    except KeyError:
+        return grp.struct_group((str(number), "", number, []))
+
+
 def is_locked(folder):
     """Whether a `serve` has the folder at present."""
     try:
         file = os.open(os.path.join(folder, "lock"), os.O_RDWR)
     except FileNotFoundError:
         return False
+    except PermissionError:
+        raise Refused(f"this account ({account_name(os.geteuid())}) may not see who has {folder}: "
+                      f"ask the account that started the farm there") from None
     try:
         fcntl.flock(file, fcntl.LOCK_EX | fcntl.LOCK_NB)
         return False
@@ -51,8 +112,14 @@ class Folder:
     def __init__(self, path):
         self.path = os.path.abspath(path)
         self.records = os.path.join(self.path, "records")
-        os.makedirs(self.path, exist_ok=True)
-        self.file = os.open(os.path.join(self.path, "lock"), os.O_RDWR | os.O_CREAT, 0o600)
+        try:
+            os.makedirs(self.path, exist_ok=True)
+            self.file = os.open(os.path.join(self.path, "lock"), os.O_RDWR | os.O_CREAT, 0o600)
+        except (FileExistsError, NotADirectoryError):
+            raise Refused(f"{self.path} is no folder, and can't be made: choose another") from None
+        except PermissionError:
+            raise Refused(f"this account ({account_name(os.geteuid())}) may not write in {self.path}: choose another folder, or "
+                          f"let the operator give it to this account") from None
         try:
             fcntl.flock(self.file, fcntl.LOCK_EX | fcntl.LOCK_NB)
         except BlockingIOError:
@@ -81,7 +148,6 @@ class Folder:
         if group is not None:
             os.chown(path, -1, group_number(group.replace(USER_HERE, name)))
         os.chmod(path, mode)
-        one.listen(128)
         one.setblocking(False)
         return one
 

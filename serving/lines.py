@@ -1,13 +1,14 @@
 """Streams of bytes as lines."""
 
-# A line may have so many bytes for `live`, its user's name and its line feed among them. Of a longer one just so much is kept
-# that it is too long.
+# A line may have so many bytes for `live`, its user's name and its line feed among them. Of a longer one just so much
+# is kept that it is too long.
 MOST_LINE = 1 << 20
 PIECE = 1 << 16
 
 
 class Lines:
-    """The lines of a stream, which ends when there are no more. Of a line no more than `most` bytes and a piece are kept."""
+    """The lines of a stream, which ends when there are no more. Of a line no more than `most` bytes and a piece are
+    kept."""
 
     def __init__(self, reader, most=None):
         self.reader, self.most = reader, most

@@ -3,11 +3,10 @@ import os
 import re
 import subprocess
 
-from .folder import OPERATOR, TOP, program
+from .folder import EXAMPLES, OPERATOR, Refused, program, ready
 from .verbs import ALL, FILE, OPERATORS, TEXT, USERS, Wrong, check, find
 
 ESCAPES = {"n": b"\n", "r": b"\r", "t": b"\t", "0": b"\0", "\\": b"\\", '"': b'"'}
-SHOWN = {"\n": "\\n", "\r": "\\r", "\t": "\\t", "\\": "\\\\", '"': '\\"'}
 
 
 def table_of(name):
@@ -18,8 +17,10 @@ def table_of(name):
 def split(name, line):
     """The verb of a line with its words. The last word of some verbs goes to the end of the line."""
     words = line.split()
-    table = table_of(name)
+    table, others = table_of(name), USERS if name == OPERATOR else OPERATORS
     first = words[0].removeprefix("!") if name == OPERATOR else words[0]
+    if first in others and first not in table:
+        raise Wrong(f"{first} is a verb of {'users: connect as one of them' if name == OPERATOR else 'the operator'}. Try: help")
     verb = find(table, first)
     most = len(verb.kinds)
     if verb.kinds and verb.kinds[-1] in (TEXT, FILE):
@@ -53,7 +54,7 @@ def text_bytes(word):
             made += bytes.fromhex(piece[2:])
         elif piece.startswith("\\"):
             if piece[1:] not in ESCAPES:
-                raise Wrong(f"{piece!r} is no escape: there are \\n \\r \\t \\0 \\\\ \\\" and \\x41")
+                raise Wrong(f"{piece} is no escape: there are \\n \\r \\t \\0 \\\\ \\\" and \\x41")
             made += ESCAPES[piece[1:]]
         else:
             made += piece.encode("utf-8", "surrogateescape")
@@ -63,13 +64,15 @@ def text_bytes(word):
 
 
 def found(file):
-    """The path of a program's file: as it is said, or one of the examples."""
-    examples = os.path.join(TOP, "examples", "programs")
-    for path in (os.path.expanduser(file), os.path.join(examples, file), os.path.join(examples, f"{file}.s")):
+    """The path of a program's file: as it is said, with quotes round it or without, or one of the examples."""
+    name = file[1:-1] if len(file) > 2 and file[0] in "'\"" and file[-1] == file[0] else file
+    for path in (os.path.expanduser(name), os.path.join(EXAMPLES, name), os.path.join(EXAMPLES, f"{name}.s")):
         if os.path.isfile(path):
             return path
-    there = [it for it in os.listdir(examples) if it.endswith(".s")] if os.path.isdir(examples) else []
-    raise Wrong(f"there is no file {file}" + (f". Examples are {', '.join(sorted(there))}" if there else ""))
+    if os.path.isdir(os.path.expanduser(name)):
+        raise Wrong(f"{name} is a folder, and load wants a file. Try: load 0 hello.s")
+    there = [it for it in os.listdir(EXAMPLES) if it.endswith(".s")] if os.path.isdir(EXAMPLES) else []
+    raise Wrong(f"there is no file {name} in {os.getcwd()}" + (f". Examples are {', '.join(sorted(there))}" if there else ""))
 
 
 def assembled(path, *words):
@@ -84,26 +87,13 @@ def loading(name, host, file):
     """The lines that boot a program: its code, or pokes and a jump if it is too long for a boot."""
     path = found(file)
     try:
+        ready("lab")
         code, told = assembled(path)
         if code:
             return [f"boot {host} {code[0]}"]
-        lines, _ = assembled(path, "--pokes", host, name)
-    except OSError as error:
+        lines, told = assembled(path, "--pokes", host, name)
+    except (OSError, Refused) as error:
         raise Wrong(f"{file} can't be assembled: {error}") from None
     if not lines:
-        raise Wrong(f"{file}: {told}")
+        raise Wrong(f"{file}: {told or 'lab assemble was broken off'}")
     return [line.removeprefix(f"{name} ") for line in lines]
-
-
-def with_text(answer):
-    """An answer, and behind the bytes that were collected their text, if that can be printed."""
-    collected = re.fullmatch(r"collect \d+ ((?:[0-9a-f]{2})+)", answer)
-    if not collected:
-        return answer
-    try:
-        text = bytes.fromhex(collected[1]).decode()
-    except UnicodeDecodeError:
-        return answer
-    if not all(it.isprintable() or it in "\n\r\t" for it in text):
-        return answer
-    return f'{answer}  "{"".join(SHOWN.get(it, it) for it in text)}"'

@@ -12,8 +12,8 @@ MEMORY, LIMIT = range(2048, 65537, 4), range(1, (1 << 40) + 1)
 
 
 class Machine(NamedTuple):
-    """What each student gets. A node by itself has one wired link, and each of several has two, so that they can be joined in a
-    row or in a ring."""
+    """What each student gets. A node by itself has one wired link, and each of several has two, so that they can be
+    joined in a row or in a ring."""
 
     nodes: int
     hosts: int

@@ -1,7 +1,6 @@
 """One run of `live` after another: how it is started, spoken to, and started again if it ends by a fault."""
 import asyncio
 import collections
-import os
 import signal
 import sys
 import time
@@ -14,8 +13,10 @@ MOST_STARTS = 5
 WITHIN = 60
 # How long it is waited for a `live` of a `serve` that was killed.
 LOCK_SECONDS = 60
-# The statuses of docs/LIVE.md that the program's words and the plan have.
+# The statuses of docs/LIVE.md that the program's words, the plan and the records have, and what it says of records that
+# another has.
 WORDS, PLAN, FILES = 2, 3, 6
+TAKEN = b"another farm records there"
 KEPT = 4096
 
 
@@ -50,10 +51,12 @@ class Live:
         return cls(await asyncio.create_subprocess_exec(*words, stdin=pipe, stdout=pipe, stderr=pipe, start_new_session=True))
 
     async def listen(self):
-        """Hands on what it says on standard error, and keeps the end of it."""
+        """Hands on what it says on standard error, and keeps the end of it. `begin` says itself that records are
+        taken."""
         while piece := await self.process.stderr.read(KEPT):
             self.errors = (self.errors + piece)[-KEPT:]
-            report(piece)
+            if TAKEN not in piece:
+                report(piece)
 
     def say(self, line):
         """Sends a line, and returns its number in this run."""
@@ -103,10 +106,10 @@ class Starts:
         return 0.05 * (2 ** (len(self.times) - 1) - 1)
 
 
-async def begin(words, begun):
-    """A run of `live` that answers, and its users. `begun` is told of each process. While another `live` has the records it is
-    waited."""
-    last = time.monotonic() + LOCK_SECONDS
+async def begin(words, records, begun):
+    """A run of `live` that answers, and its users. `begun` is told of each process. While another `live` has the
+    records, as that of a `serve` that was killed has for a moment, it is waited."""
+    last, has_told = time.monotonic() + LOCK_SECONDS, False
     while True:
         live = await Live.start(words)
         begun(live)
@@ -114,10 +117,15 @@ async def begin(words, begun):
         if users:
             return live, users
         status = await live.end()
-        if status != FILES or b"another farm" not in live.errors:
+        if status != FILES or TAKEN not in live.errors:
             raise Ended(status, live.errors)
         if time.monotonic() > last:
-            raise Refused("another live has the records, and did not end in a minute: end that one, and start serve again")
+            raise Refused(f"another live has had {records} for {LOCK_SECONDS} seconds: end it (fuser {records}/lock tells its "
+                          f"number), and start serve again")
+        if not has_told:
+            has_told = True
+            report(f"serve: another live still has {records}. It is waited until that ends, {LOCK_SECONDS} seconds at most\n"
+                   .encode())
         await asyncio.sleep(0.2)
 
 
@@ -134,6 +142,4 @@ class Ended(Exception):
             return f"the plan is refused: ./lab plan < {plan} says where and why"
         if self.status == WORDS:
             return "live refuses its words: see above, and ./live --help"
-        if not os.access(plan, os.R_OK):
-            return f"the plan {plan} can't be read"
         return f"live ended {how(self.status)} before it answered ({self.errors or 'it said nothing'}): see docs/LIVE.md"

@@ -15,6 +15,8 @@ from .speakers import Client, Operator, Speaker
 
 # How long a farm may take to answer what waits when it is stopped.
 STOP_SECONDS = 60
+# So many connections of a socket are accepted before others have their turn, and so many wait.
+MOST_ACCEPTED, MOST_WAITING = 2, 128
 # Clients of 64 users need so many open files at most.
 MOST_FILES = 4096
 
@@ -53,7 +55,8 @@ class Server:
             await Client(speaker, reader, writer).serve(self.send)
 
         one = self.folder.listen(speaker.name, mode, group)
-        self.servers.append(await asyncio.start_unix_server(serve, sock=one, limit=PIECE))
+        self.servers.append(await asyncio.start_unix_server(serve, sock=one, limit=PIECE, backlog=MOST_ACCEPTED))
+        one.listen(MOST_WAITING)
 
     async def send(self, speaker, client, text):
         """Sends a client's line as his speaker's, as soon as there is room and `live` is up, if he is there still."""
@@ -88,10 +91,10 @@ class Server:
 
     async def begin(self):
         """Starts `live`, opens the sockets if it is the first, and says to whom lines go."""
-        self.live, users = await running.begin(self.call(), self.begun)
+        self.live, users = await running.begin(self.call(), self.folder.records, self.begun)
         if not self.speakers:
             await self.open(users)
-            running.report(f"serve: {len(users)} users, their sockets are in {self.folder.path}\n".encode())
+            running.report(f"serve: {len(users)} user{'s' * (len(users) != 1)}, their sockets are in {self.folder.path}\n".encode())
         elif users != [*self.speakers][:-1]:
             raise Refused("the plan has other users now: start serve again in a fresh folder, or give the plan as it was")
         self.is_up.set()
@@ -200,6 +203,12 @@ def main(given):
     logging.getLogger("asyncio").setLevel(logging.CRITICAL)
     most = resource.getrlimit(resource.RLIMIT_NOFILE)[1]
     resource.setrlimit(resource.RLIMIT_NOFILE, (most if most in range(MOST_FILES) else MOST_FILES, most))
+    try:
+        with open(words.PLAN, "rb"):
+            pass
+    except OSError as error:
+        print(f"serve: the plan {words.PLAN} can't be read: {error.strerror}", file=sys.stderr)
+        return 1
     try:
         return asyncio.run(run(words))
     except (Refused, OSError) as error:

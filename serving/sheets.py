@@ -18,7 +18,7 @@ Your first three lines join host 0 with node 0, load a program that sends a gree
 
 To the last you are answered: collect 0 68656c6c6f0a  "hello\\n"
 
-If a program never ends: reset 0. To begin with a fresh machine: restart. All verbs with examples: help.
+If nothing comes: why. If a program never ends: reset 0. To begin with a fresh machine: restart. All verbs with examples: help.
 """
 
 

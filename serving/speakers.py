@@ -3,9 +3,10 @@ import asyncio
 import re
 
 from .lines import MOST_LINE, Lines
+from .verbs import goes_on
 
-# So many lines of a speaker may be on their way at once. `live` keeps 1,024 lines for a domain, which has four users at most,
-# so no line of a client is refused as too many.
+# So many lines of a speaker may be on their way at once. `live` keeps 1,024 lines for a domain, which has four users at
+# most, so no line of a client is refused as too many.
 MOST_ON_WAY = 250
 # The operator's lines are answered by the thread that reads, so all others wait for them.
 MOST_OF_OPERATOR = 16
@@ -56,7 +57,10 @@ class Speaker:
         asked.client.waits += 1
 
     def answered(self, answer):
-        """Takes off the line that is answered: an error has its number, and all others are answered in their order."""
+        """Takes off the line that is answered: an error has its number, and all others are answered in their order. Of
+        several lines of one answer the last counts."""
+        if goes_on(self.told(answer).decode(errors="replace")):
+            return
         error = re.fullmatch(rb"error (\d+) \w+", self.told(answer))
         self.take(int(error[1]) if error else next(iter(self.asked), None))
 
@@ -170,8 +174,11 @@ class Client:
             return
         self.speaker.clients.add(self)
         try:
-            while lines := await self.lines.some():
+            while not self.is_gone() and (lines := await self.lines.some()):
                 for line in lines:
+                    # thousands of lines may be left of a client that was cut off, and to pass them over takes time too
+                    if self.is_gone():
+                        break
                     await send(self.speaker, self, line)
             if self.lines.half():
                 self.tell(b"error: the last line has no line feed, so it is not sent\n")

@@ -7,7 +7,8 @@ import socket
 from .folder import OPERATOR, is_locked, socket_path
 
 SECONDS = 30
-# A burst of the farm's own may be so long, and is done only if all of it can be recorded. So a node can't go on with less room.
+# A burst of the farm's own may be so long, and is done only if all of it can be recorded. So a node can't go on with
+# less room.
 BURST = 256
 HEAD = ("user", "farm", "lines", "events", "of limit", "now", "room", "last fault")
 

@@ -1,15 +1,21 @@
 """A terminal for one user of a farm, or for its operator."""
 import argparse
+import collections
+import contextlib
+import math
 import os
 import readline
 import signal
 import socket
 import sys
 import threading
+import time
 
-from .folder import OPERATOR, Refused, socket_path
-from .orders import lines_of, split, table_of, with_text
-from .verbs import Wrong, help_lines, meaning
+from .answers import Due, Loading, with_meaning
+from .completion import complete_with
+from .folder import OPERATOR, Refused, no_right, no_socket, socket_path
+from .orders import lines_of, split, table_of
+from .verbs import Wrong, goes_on, help_lines
 
 HISTORY = os.path.expanduser("~/.nadzsumek_history")
 MOST_HISTORY = 1000
@@ -17,8 +23,14 @@ MOST_HISTORY = 1000
 PROMPT_SECONDS, FILE_SECONDS = 0.5, 60
 # How long the operator waits until the farm that he stops has ended.
 STOP_SECONDS = 60
-# The answer to a poke that load sent.
-POKED = " 9"
+# So many lines of a `load` are sent at once. Ctrl-C leaves out those that follow.
+AT_ONCE = 64
+# The status of a program that Ctrl-C has ended.
+INTERRUPTED = 130
+
+
+class Gone(Exception):
+    """The connection has ended while the person was asked for a line."""
 
 
 class Terminal:
@@ -26,54 +38,64 @@ class Terminal:
 
     def __init__(self, stream, name, is_person):
         self.stream, self.name, self.is_person = stream, name, is_person
-        self.sent, self.heard, self.hushed, self.stops = 0, 0, 0, False
+        self.due, self.status, self.stops, self.is_unread = collections.deque(), 0, False, False
         self.news, self.has_ended, self.at_prompt = threading.Condition(), False, False
+        self.interrupts, self.is_sending = 0, False
         self.prompt = f"{name}> "
         self.reader = threading.Thread(target=self.read, daemon=True)
         self.reader.start()
 
     def show(self, text):
         """Prints a line. What is typed at the prompt is shown again below it."""
-        if self.at_prompt:
-            print(f"\r\x1b[K{text}\n{self.prompt}{readline.get_line_buffer()}", end="", flush=True)
-        else:
-            print(text, flush=True)
+        try:
+            if self.at_prompt:
+                print(f"\r\x1b[K{text}\n{self.prompt}{readline.get_line_buffer()}", end="", flush=True)
+            else:
+                print(text, flush=True)
+        except OSError:
+            self.is_unread = True
+            raise
 
     def read(self):
-        """Shows the answers until the connection ends."""
+        """Shows the answers until the connection ends, and then calls the person away from the prompt."""
         try:
             with self.stream.makefile("rb") as lines:
                 for line in lines:
-                    self.hear(line.decode(errors="backslashreplace").removesuffix("\n"))
+                    if line.endswith(b"\n"):
+                        self.hear(line.decode(errors="backslashreplace").removesuffix("\n"))
         except OSError:
             pass
         with self.news:
             self.has_ended = True
             self.news.notify_all()
-            if self.at_prompt:
-                os.kill(os.getpid(), signal.SIGINT)
+        while self.at_prompt:
+            signal.pthread_kill(threading.main_thread().ident, signal.SIGUSR1)
+            time.sleep(0.1)
 
     def hear(self, answer):
         with self.news:
-            if self.hushed and answer.startswith("poke ") and answer.endswith(POKED):
-                self.hushed -= 1
-            else:
-                self.show(with_text(answer))
-                text = meaning(answer)
-                if text:
-                    self.show(f"  ({text})")
-            if not answer.startswith("note: "):
-                self.heard += 1
+            due = next((it for it in self.due if it.is_answered_by(answer)), None)
+            for text in due.told(answer) if due else with_meaning(None, answer):
+                self.show(text)
+            if due and not goes_on(answer):
+                self.due.remove(due)
+                if not self.is_person and answer.startswith(("error", "! error")):
+                    self.status = 1
                 self.news.notify_all()
 
     def send(self, lines):
-        pokes = [line for line in lines if line.startswith("poke ")]
-        with self.news:
-            self.heard = self.sent
-            self.sent += len(lines)
-            if len(lines) > 1:
-                self.hushed += len(pokes)
-        self.stream.sendall("".join(f"{line}\n" for line in lines).encode("utf-8", "surrogateescape"))
+        """Sends the lines of one verb, whole ones always. Ctrl-C leaves out what isn't sent yet."""
+        loading = Loading() if len(lines) > 1 else None
+        for at in range(0, len(lines), AT_ONCE):
+            if self.interrupts:
+                self.show(f"  (broken off: {at} of {len(lines)} lines were sent)")
+                break
+            piece = lines[at:at + AT_ONCE]
+            with self.news:
+                self.due.extend(Due(line, loading) for line in piece if line != "!stop")
+            self.is_sending = True
+            self.stream.sendall("".join(f"{line}\n" for line in piece).encode("utf-8", "surrogateescape"))
+            self.is_sending = False
 
     def do(self, line):
         """Does one line; false if it is the last."""
@@ -91,57 +113,90 @@ class Terminal:
     def wait(self):
         """Waits a little, so that the answers stand before what comes next."""
         with self.news:
-            most = PROMPT_SECONDS if self.is_person else FILE_SECONDS
-            self.news.wait_for(lambda: self.has_ended or self.heard >= self.sent, most)
-            self.heard = self.sent
+            self.news.wait_for(lambda: self.has_ended or not self.due, PROMPT_SECONDS if self.is_person else FILE_SECONDS)
+            if not self.is_person:
+                self.due.clear()
 
     def ask(self):
         """The next line of the person, or of the input; none at the end."""
         self.wait()
         if not self.is_person:
-            return sys.stdin.readline() or None
+            return None if self.has_ended else sys.stdin.readline() or None
+        with self.news:
+            self.at_prompt = not self.has_ended
         try:
-            with self.news:
-                self.at_prompt = not self.has_ended
             return input(self.prompt) if self.at_prompt else None
         except EOFError:
             print()
             return None
-        except KeyboardInterrupt:
-            print()
-            return None if self.has_ended else ""
         finally:
             self.at_prompt = False
 
+    def go_on(self):
+        """Does the next line; false if it was the last."""
+        line = self.ask()
+        self.interrupts = 0
+        if line is None:
+            return False
+        if not line.strip() or line.lstrip().startswith("#"):
+            return True
+        try:
+            return self.do(line)
+        except Wrong as wrong:
+            self.status = 0 if self.is_person else 1
+            print(f"error: {wrong}", file=sys.stderr, flush=True)
+            return True
+
     def run(self):
         """Does lines until the input or the connection ends; the status."""
-        status = 0
-        while (line := self.ask()) is not None:
-            if not line.strip() or line.lstrip().startswith("#"):
-                continue
+        goes_on = True
+        while goes_on:
             try:
-                if not self.do(line):
-                    break
-            except Wrong as wrong:
-                status = 0 if self.is_person else 1
-                print(f"error: {wrong}", file=sys.stderr, flush=True)
-            except OSError:
-                break
-        return max(status, self.end())
+                goes_on = self.go_on()
+            except KeyboardInterrupt:
+                if not self.is_person:
+                    raise
+                print(flush=True)
+            except (Gone, OSError):
+                goes_on = False
+        return max(self.status, self.end())
 
     def end(self):
         """Sends nothing more, and waits for the answers that are due."""
+        self.interrupts = 0
         if self.stops:
-            self.reader.join(STOP_SECONDS)
+            self.join(STOP_SECONDS)
         ended_first = self.has_ended and not self.stops
-        try:
+        with contextlib.suppress(OSError):
             self.stream.shutdown(socket.SHUT_WR)
-            self.reader.join()
-        except (OSError, KeyboardInterrupt):
-            pass
-        if ended_first:
-            print("error: the farm has ended the connection", file=sys.stderr)
-        return 1 if ended_first else 0
+        self.join(math.inf)
+        if self.is_unread:
+            os.dup2(os.open(os.devnull, os.O_WRONLY), sys.stdout.fileno())
+        elif ended_first or (self.due and self.has_ended and not self.stops):
+            print("error: the farm has ended the connection. When it is up again, connect once more", file=sys.stderr)
+        else:
+            return 0
+        return 1
+
+    def join(self, seconds):
+        """Waits for the end of the connection, so long at most, or until Ctrl-C."""
+        end = time.monotonic() + seconds
+        while self.reader.is_alive() and not self.interrupts and time.monotonic() < end:
+            self.reader.join(0.1)
+
+    def called_away(self, *_):
+        """The reader has sent a signal: the connection has ended."""
+        if self.at_prompt:
+            raise Gone
+
+    def interrupt(self, *_):
+        """Ctrl-C. At the prompt it drops what is typed. Else it is noted, so that nothing is left half done; if lines can't
+        be sent, the next one ends the terminal."""
+        if self.at_prompt:
+            raise KeyboardInterrupt
+        self.interrupts += 1
+        if self.is_sending and self.interrupts > 1:
+            raise Gone
 
 
 def opened(folder, name):
@@ -151,55 +206,29 @@ def opened(folder, name):
         stream.connect(socket_path(os.path.relpath(folder), name))
         return stream
     except FileNotFoundError:
-        there = sorted(it[:-5] for it in os.listdir(folder) if it.endswith(".sock")) if os.path.isdir(folder) else []
-        why = f"there are {', '.join(there)}" if there else "is serve running, and is this its folder?"
-        raise Refused(f"there is no socket of {name} in {folder}: {why}") from None
+        raise Refused(no_socket(folder, name)) from None
+    except NotADirectoryError:
+        raise Refused(f"{folder} is no folder: give the folder of the farm") from None
     except ConnectionRefusedError:
-        raise Refused(f"nobody listens in {folder}: start serve there") from None
+        raise Refused(f"nobody listens in {folder}, so the farm isn't up: start serve there") from None
     except PermissionError:
-        raise Refused(f"this account may not speak as {name}: ask the operator for the socket's mode and group") from None
+        raise Refused(no_right(folder, name)) from None
 
 
-def complete_with(terminal):
-    """Completes verbs, and files behind `load`."""
-    def candidates(text):
-        line = readline.get_line_buffer()
-        if " " not in line.lstrip():
-            return [f"{it} " for it in table_of(terminal.name) if it.startswith(text)]
-        if line.split()[0] == "help":
-            return [it for it in table_of(terminal.name) if it.startswith(text)]
-        if line.split()[0] != "load":
-            return []
-        folder, start = os.path.split(text)
-        return [os.path.join(folder, it) for it in sorted(os.listdir(folder or ".")) if it.startswith(start)]
-
-    def complete(text, number):
-        try:
-            return ([*candidates(text), None])[number]
-        except OSError:
-            return None
-
-    readline.set_completer_delims(" ")
-    readline.set_completer(complete)
-    readline.parse_and_bind("tab: complete")
-
-
-def at_terminal(terminal):
+def at_terminal(terminal, folder):
     """Runs a terminal with completion and the history of earlier ones."""
-    complete_with(terminal)
-    try:
+    complete_with(folder, terminal.name)
+    with contextlib.suppress(OSError):
         readline.read_history_file(HISTORY)
-    except OSError:
-        pass
     readline.set_history_length(MOST_HISTORY)
+    signal.signal(signal.SIGUSR1, terminal.called_away)
+    signal.signal(signal.SIGINT, terminal.interrupt)
     print(f"You are {terminal.name}. help lists the verbs, Ctrl-D ends.")
     try:
         return terminal.run()
     finally:
-        try:
+        with contextlib.suppress(OSError):
             readline.write_history_file(HISTORY)
-        except OSError:
-            pass
 
 
 def main(given):
@@ -208,9 +237,13 @@ def main(given):
     it.add_argument("USER", help=f"the user's name, or {OPERATOR}")
     words = it.parse_args(given)
     sys.stdin.reconfigure(errors="surrogateescape")
+    sys.stdout.reconfigure(errors="backslashreplace")
+    is_person = sys.stdin.isatty() and sys.stdout.isatty()
     try:
-        terminal = Terminal(opened(words.DIR, words.USER), words.USER, sys.stdin.isatty())
+        terminal = Terminal(opened(words.DIR, words.USER), words.USER, is_person)
+        return at_terminal(terminal, words.DIR) if is_person else terminal.run()
     except (Refused, OSError) as error:
         print(f"connect: {error}", file=sys.stderr)
         return 1
-    return at_terminal(terminal) if terminal.is_person else terminal.run()
+    except KeyboardInterrupt:
+        return INTERRUPTED

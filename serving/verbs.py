@@ -1,4 +1,4 @@
-"""The verbs that a person at a terminal has, what stands behind each, and what their answers mean."""
+"""The verbs that a person at a terminal has, and what stands behind each."""
 import difflib
 import re
 from typing import NamedTuple
@@ -10,24 +10,26 @@ class Kind(NamedTuple):
     pattern: str
     most: int
     meaning: str
+    example: str
 
 
-HEX = Kind(r"([0-9a-fA-F]{2})+", 0, "an even number of hexadecimal digits, such as 01000703")
-WORD = Kind(r"[0-9a-fA-F]{8}", 0, "eight hexadecimal digits, such as 80000100")
-HOST = Kind(r"\d+", 255, "the number of a host, such as 0")
-NODE = Kind(r"\d+", 255, "the number of a node, such as 0")
-PORT = Kind(r"\d+", 31, "the number of a port, 0 to 31")
-FILE = Kind(r".+", 0, "a file")
-TEXT = Kind(r".+", 0, "a text, such as \"hello\\n\"")
-USER = Kind(r"[a-z0-9-]{1,32}", 0, "a user's name")
+HEX = Kind(r"([0-9a-fA-F]{2})+", 0, "an even number of hexadecimal digits", "01000703")
+WORD = Kind(r"[0-9a-fA-F]{8}", 0, "eight hexadecimal digits", "80000100")
+HOST = Kind(r"\d+", 255, "the number of a host", "0")
+NODE = Kind(r"\d+", 255, "the number of a node", "0")
+PORT = Kind(r"\d+", 31, "the number of a port", "7")
+FILE = Kind(r".+", 0, "a file", "hello.s")
+TEXT = Kind(r".+", 0, "a text", '"hello\\n"')
+USER = Kind(r"[a-z0-9-]{1,32}", 0, "a user's name", "ann")
 
 
 class Verb(NamedTuple):
-    """The words behind a verb, an example, and what the verb does."""
+    """The words behind a verb, an example, what the verb does, and how many of the words may be left out."""
 
     kinds: tuple
     example: str
     meaning: str
+    optional: int = 0
 
 
 USERS = {
@@ -39,6 +41,7 @@ USERS = {
     "collect": Verb((HOST,), "collect 0", "takes all bytes that came to the host"),
     "reset": Verb((NODE,), "reset 0", "resets a node; its memory stays"),
     "look": Verb((NODE,), "look 0", "tells a node's state, and how many bytes each link dropped"),
+    "why": Verb((NODE,), "why 0", "tells why a node waits, halted or runs on; why alone tells it of all nodes", 1),
     "rest": Verb((), "rest", "tells whether something goes on in your machine: quiet or busy"),
     "restart": Verb((), "restart", "makes your machine as it was opened, if it is yours alone"),
     "join": Verb((PORT, PORT), "join 0 7", "joins two ports both ways and makes them ready: config 01000703"),
@@ -53,27 +56,10 @@ OPERATORS = {
 }
 ALL = {
     "help": Verb((), "help load", "lists the verbs, or tells of one"),
-    "quit": Verb((), "quit", "leaves the farm as it is and ends this terminal"),
+    "quit": Verb((), "quit", "leaves the farm as it is and ends this terminal, as Ctrl-D does"),
 }
-# What the last words of an answer mean, and what can be done.
-MEANINGS = (
-    (r".* nosuch", "there is no such host or node, or the host is another user's"),
-    (r".* journalfull", "your machine has recorded as many events as its limit: restart begins anew"),
-    (r"config .*badport.*", "a port of the message is none of yours: compare it with your plan"),
-    (r"config .*badcommand.*", "a message begins with 00 to 06"),
-    (r"boot .* refused 1", "code has two bytes at least"),
-    (r"boot .* refused 2", "code has 255 bytes at most: load pokes longer code"),
-    (r"peek \d+ -", "no word came: is the node booting (look), and joined with the host both ways (join)?"),
-    (r"restart operator", "other users share your machine: ask the operator"),
-    (r"error \d+ busy", "too many lines wait: send it again later"),
-    (r"error \d+ long", "a line has 1,048,576 bytes at most"),
-    (r"error \d+ record", "the records can't be written: tell the operator"),
-    (r"look \d+ halted 1 .*", "an address outside memory"),
-    (r"look \d+ halted 2 .*", "an operation that isn't there"),
-    (r"look \d+ halted 3 .*", "an Error while HaltOnError was set"),
-    (r"look \d+ halted 4 .*", "a process or a queue of high priority"),
-    (r"look \d+ halted 5 .*", "the event channel, or a link's channel in the wrong direction"),
-)
+# The verbs whose answers begin with a number of their lines.
+NUMBERED = {name for name, verb in USERS.items() if verb.kinds[:1] in ((HOST,), (NODE,)) and not verb.optional}
 
 
 class Wrong(Exception):
@@ -81,7 +67,10 @@ class Wrong(Exception):
 
 
 def is_of(kind, word):
-    return re.fullmatch(kind.pattern, word, re.ASCII) is not None and (not kind.most or int(word) <= kind.most)
+    if re.fullmatch(kind.pattern, word, re.ASCII) is None:
+        return False
+    digits = word.lstrip("0") or "0"
+    return not kind.most or (len(digits) <= len(str(kind.most)) and int(digits) <= kind.most)
 
 
 def find(table, word):
@@ -96,16 +85,17 @@ def check(name, verb, words):
     """Refuses the words behind a verb if their number is wrong, or one of them."""
     for kind, word in zip(verb.kinds, words):
         if not is_of(kind, word):
-            raise Wrong(f"{word!r} is wrong: {name} wants {kind.meaning} there. Try: {verb.example}")
-    if len(words) < len(verb.kinds):
-        raise Wrong(f"{name} wants {verb.kinds[len(words)].meaning} behind it. Try: {verb.example}")
+            raise Wrong(f"{word!r} is wrong: {name} wants {kind.meaning} there, such as {kind.example}. Try: {verb.example}")
+    if len(words) < len(verb.kinds) - verb.optional:
+        kind = verb.kinds[len(words)]
+        raise Wrong(f"{name} wants {kind.meaning} behind it, such as {kind.example}. Try: {verb.example}")
     if len(words) > len(verb.kinds):
-        raise Wrong(f"{words[len(verb.kinds)]!r} is too much behind {name}. Try: {verb.example}")
+        raise Wrong(f"{words[len(verb.kinds)]!r} is too much behind {verb.example.partition(' ')[0]}. Try: {verb.example}")
 
 
-def meaning(answer):
-    """What an answer means, if that isn't plain."""
-    return next((text for pattern, text in MEANINGS if re.fullmatch(pattern, answer)), None)
+def goes_on(answer):
+    """Whether this isn't the last line of an answer: only `why` has several, and its last is `why end`."""
+    return answer.startswith("why ") and not re.fullmatch(r"why (end|\d+ nosuch)", answer)
 
 
 def help_lines(table, word=None):

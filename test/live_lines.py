@@ -30,6 +30,8 @@ links = [0, -1, -1, -1]
 LOOP = ["config 01000703", "boot 0 b4600e"]
 # The same, but it ends after 2^24 rounds: ldc 16777216, stl 0, and then ldl 0, adc -1, stl 0, ldl 0, cj 2, j -8; stopp.
 LONG = ["config 01000703", "boot 0 b4" "2120202020204" "0d0" "70608fd070a26008" "21f5"]
+# Waits for a word of four bytes: ajw 4, ldlp 1, mint, ldnlp 4, ldc 4, and in at 8000004e; stopp.
+WORD = ["config 01000703", "boot 0 b41124f25444f721f5"]
 # His two nodes, each of which gives the other its byte back for ever: the one that is booted last begins.
 BACK = "1124f25441f7" "1124f241fb" "6003"
 PINGS = ["config 01000201040301050103", f"boot 0 b4{BACK}", f"boot 1 b424f240fe{BACK}"]
@@ -99,6 +101,14 @@ class Live:
     def ask(self, line):
         self.say(line + "\n")
         return self.hear()
+
+    def ask_why(self, line):
+        """The lines of the answer to a `why`, up to the last."""
+        self.say(line + "\n")
+        told = [self.hear()]
+        while not told[-1].endswith(" why end\n"):
+            told.append(self.hear())
+        return told
 
     def end(self):
         """Ends the input: the status, and what else was printed."""

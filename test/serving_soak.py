@@ -1,7 +1,9 @@
-"""Sixteen users at a served farm for some minutes: random lines, floods, cuts and kills. Each user keeps a list of what he sent
-and compares each answer with it; at the end the records are compared with the lists, and done again by `lab rows`."""
+"""Sixteen users at a served farm for some minutes: random lines, floods, cuts, restarts, and kills of `live` and of
+`serve`. Each user keeps a list of what he sent and what he was told; at the end it is held against the records, which
+`lab rows` does again."""
 import collections
 import glob
+import os
 import queue
 import random
 import re
@@ -9,14 +11,18 @@ import subprocess
 import threading
 import time
 
-from serving_trials import SECONDS, Client, Served, plan_of_users
+from serving_trials import Client, Served, plan_of_users
+from serving_transcripts import Sent, events_of, fault_of
 from trials import built
 
 USERS = 16
 FIRST, WORDS = 0x80000100, 48
-# A connection that follows one that was cut off uses other words of memory, since what the other has sent may still be done.
-GENERATIONS = 8
+# ajw 4, then three times mint, ldc and outbyte, which sends "hi\n" by link 0; stopp
+GREETING = b"boot 0 b424f22648fe24f22649fe24f24afe21f5"
+JOINED = b"config 01000103"
 WRONG = [b"", b"\0", b"frob 0", b"\xff\xfe 1", b"look", b"peek 0 0", b"poke 0 80000100 zz", b"!stop", b"user-1 rest", b"\r\r"]
+# Records get long, and the machine may have other things to do.
+PATIENCE = 120
 # More kills than five a minute would end the farm.
 SECONDS_OF_KILL = 14
 # Nobody else asks this, and it has a short answer: who reads is not to fall behind.
@@ -24,12 +30,8 @@ FLOOD = "look 99"
 LOST = "error: not answered, send it again if you want it: "
 
 
-class Sent:
-    """A line that was sent: its bytes for the host, and whether it was answered."""
-
-    def __init__(self, text, message=b"", address=0, value=0):
-        self.text, self.message, self.address, self.value = text, message, address, value
-        self.is_answered = False
+class Ended(Exception):
+    """The connection has ended, since `serve` was killed."""
 
 
 class Listener(Client):
@@ -37,6 +39,7 @@ class Listener(Client):
 
     def __init__(self, served, path):
         super().__init__(served, path)
+        self.stream.settimeout(None)
         self.pieces, self.ready, self.half = queue.SimpleQueue(), collections.deque(), b""
         threading.Thread(target=self.listen, daemon=True).start()
 
@@ -50,123 +53,123 @@ class Listener(Client):
 
     def hear(self):
         while not self.ready:
-            piece = self.pieces.get(timeout=SECONDS)
+            piece = self.pieces.get(timeout=PATIENCE)
             if not piece:
-                return None
+                raise Ended
             *lines, self.half = (self.half + piece).split(b"\n")
             self.ready.extend(lines)
         return self.ready.popleft().decode(errors="backslashreplace")
 
 
+def listener(served, name, end):
+    """A connection, as soon as there is a socket. Between two runs of `serve` there is none."""
+    while True:
+        try:
+            return Listener(served, f"{served.folder}/{name}.sock")
+        except OSError:
+            if time.monotonic() > end:
+                raise
+            time.sleep(0.05)
+
+
 class User:
-    """A user who writes words and reads them back, among lines that are wrong."""
+    """A user who asks for all that there is, among lines that are wrong."""
 
     def __init__(self, served, number, seed):
-        self.served, self.name, self.chance = served, f"user-{number}", random.Random(f"{seed} {number}")
-        self.number, self.values, self.generation = number, 0, 0
-        self.possible, self.waits, self.list, self.faults = {}, collections.deque(), [], []
-        self.cuts = self.lost = self.heard = self.floods = 0
+        self.served, self.number, self.name = served, number, f"user-{number}"
+        self.chance, self.values, self.marks = random.Random(f"{seed} {number}"), 0, 0
+        self.waits, self.sent, self.loose, self.faults = collections.deque(), [], [], []
+        self.cuts = self.lost = self.heard = self.floods = self.restarts = 0
         self.client, self.calm = None, 0.0
 
-    def word(self, value):
-        """A value that no other user writes, and this one never again."""
-        return self.number << 24 | value
-
-    def line(self):
-        """A random line."""
-        kind = self.chance.randrange(10)
-        address = FIRST + 4 * (self.generation % GENERATIONS * WORDS + self.chance.randrange(WORDS))
-        if kind < 5:
+    def lines(self):
+        """A random line, or two of which the second belongs to the first."""
+        kind, address = self.chance.randrange(200), b"%08x" % (FIRST + 4 * self.chance.randrange(WORDS))
+        if kind < 90:
+            # no other user writes this value, and this one never again
             self.values += 1
-            value = self.word(self.values)
-            message = b"\0" + address.to_bytes(4, "little") + value.to_bytes(4, "little")
-            return Sent(f"poke 0 {address:08x} {value:08x}".encode(), message, address, value)
-        if kind < 8:
-            return Sent(f"peek 0 {address:08x}".encode(), b"\1" + address.to_bytes(4, "little"), address)
-        return Sent(b"rest") if kind == 8 else Sent(self.chance.choice(WRONG))
+            return [b"poke 0 %s %08x" % (address, self.number << 24 | self.values)]
+        if kind < 150:
+            return [b"peek 0 " + address]
+        if kind == 150 and self.number % 4 == 1:
+            self.restarts += 1
+            return [*([GREETING, b"collect 0"] if self.chance.random() < 0.5 else []), b"restart", JOINED]
+        rest = (b"reset 0", JOINED, b"config 0200", b"config 0207", b"collect 0", b"look 0", b"rest", self.chance.choice(WRONG))
+        return [rest[kind % 8]]
+
+    def batch(self, most):
+        return [line for _ in range(self.chance.randrange(1, most)) for line in self.lines()]
 
     def connect(self):
-        """A connection, on which only answers to its own lines are due."""
-        self.client = Listener(self.served, f"{self.served.folder}/{self.name}.sock")
-        self.generation += 1
-        self.possible = {it: value for it, value in self.possible.items() if not self.is_own(it)}
-        mark = f"look {100 + self.generation % 150}"
-        self.client.say(f"{mark}\n")
-        while (answer := self.client.hear()) != f"{mark} nosuch":
-            if answer is None:
-                raise AssertionError("the connection ended")
-            if answer == LOST + mark:
-                self.client.say(f"{mark}\n")
-        self.send([Sent(f"peek 0 {it:08x}".encode(), b"\1" + it.to_bytes(4, "little"), it) for it in self.own_words()])
-        self.hear_all()
+        """A connection, on which only answers to its own lines are due from now on."""
+        self.loose += [it.text for it in self.waits]
+        self.waits.clear()
+        end = time.monotonic() + PATIENCE
+        while True:
+            self.client = listener(self.served, self.name, end)
+            self.marks += 1
+            mark = Sent(b"look %d" % (100 + self.marks % 150), True)
+            mark.loose = len(self.loose)
+            try:
+                self.client.say(mark.text.decode() + "\n")
+                while (answer := self.client.hear()) != mark.text.decode() + " nosuch":
+                    if answer == LOST + mark.text.decode():
+                        self.client.say(mark.text.decode() + "\n")
+            except (Ended, OSError):
+                continue
+            self.sent.append(mark)
+            return
 
-    def own_words(self):
-        begin = FIRST + 4 * (self.generation % GENERATIONS * WORDS)
-        return range(begin, begin + 4 * WORDS, 4)
-
-    def is_own(self, address):
-        return address in self.own_words()
-
-    def send(self, lines, half=b""):
+    def send(self, texts, half=b""):
+        lines = [Sent(it) for it in texts]
+        for line in lines:
+            line.loose = len(self.loose)
         self.waits.extend(lines)
-        self.list.extend(lines)
-        self.client.stream.sendall(b"".join(it.text + b"\n" for it in lines) + half)
+        self.client.stream.sendall(b"".join(it + b"\n" for it in texts) + half)
 
     def hear_all(self):
         while self.waits:
             answer = self.client.hear()
-            if answer is None:
-                raise AssertionError("the connection ended")
-            if answer.startswith(("note: ", FLOOD, LOST + FLOOD)):
-                continue
-            sent = self.waits.popleft()
-            if answer.startswith(LOST):
-                self.lose(sent, answer)
-            else:
-                self.check(sent, answer)
+            if not answer.startswith(("note: ", FLOOD, LOST + FLOOD)):
+                self.take(self.waits.popleft(), answer)
 
-    def lose(self, sent, answer):
-        """The line wasn't answered, so it may have been done."""
-        self.lost += 1
-        text = sent.text.removesuffix(b"\r").decode(errors="backslashreplace")
-        if answer[len(LOST):].rstrip("\r") != text.rstrip("\r"):
-            self.faults.append(f"{self.name}: {answer!r} for {sent.text!r}")
-        if sent.message[:1] == b"\0":
-            self.possible.setdefault(sent.address, {0}).add(sent.value)
-
-    def check(self, sent, answer):
-        """The answer is that of this line."""
-        self.heard += 1
-        sent.is_answered = True
-        if sent.message[:1] == b"\0":
-            is_right = answer == "poke 0 9"
-            self.possible[sent.address] = {sent.value}
-        elif sent.message:
-            value = re.fullmatch(r"peek 0 ([0-9a-f]{8})", answer)
-            # the first look at a word after a cut tells what it is
-            is_right = value is not None and int(value[1], 16) in self.possible.get(sent.address, {int(value[1], 16)})
-            if value is not None:
-                is_right = is_right and (int(value[1], 16) == 0 or int(value[1], 16) >> 24 == self.number)
-                self.possible[sent.address] = {int(value[1], 16)}
-        elif sent.text == b"rest":
-            is_right = answer in ("rest quiet", "rest busy")
+    def take(self, sent, answer):
+        """The answer to a line, or that there is none."""
+        self.sent.append(sent)
+        if answer.startswith(LOST):
+            self.lost += 1
+            text = sent.text.decode(errors="backslashreplace")
+            is_right = answer[len(LOST):].rstrip("\r") == text.rstrip("\r")
         else:
-            is_right = re.fullmatch(r"error \d+ (verb|args|hex)", answer) is not None
+            self.heard += 1
+            sent.answer = answer.encode()
+            is_right = self.is_of(sent.text, answer)
         if not is_right:
-            self.faults.append(f"{self.name}: {answer!r} for {sent.text!r}, of {self.possible.get(sent.address)}")
+            self.faults.append(f"{self.name}: {answer!r} for {sent.text!r}")
+
+    def is_of(self, text, answer):
+        """Whether an answer may be that of a line, by its form and by whose value it has. What its value is the records
+        say."""
+        if text == b"rest":
+            return answer in ("rest quiet", "rest busy")
+        if text in WRONG:
+            return re.fullmatch(r"error \d+ (verb|args|hex)", answer) is not None
+        value = re.fullmatch(r"peek 0 ([0-9a-f]{8})", answer)
+        if value is not None and int(value[1], 16) >> 24 not in (0, self.number):
+            return False
+        return answer.startswith(text.decode().split(" ")[0] + " ")
 
     def cut(self):
         """Leaves in the middle of a line."""
         self.cuts += 1
-        half = self.line()
-        self.send([self.line() for _ in range(self.chance.randrange(20))], half.text[:self.chance.randrange(len(half.text) + 1)])
+        half = self.lines()[0]
+        self.send(self.batch(20), half[:self.chance.randrange(len(half) + 1)])
         self.client.leave()
-        self.waits.clear()
         self.connect()
 
     def flood(self):
-        """Floods a second connection for a second, and reads it or not. As long as its lines are before `live`, those of a
-        connection that is cut off could come after those of the next; so no cut is made."""
+        """Floods a second connection for a second, and reads it or not. As long as its lines are before `live`, those
+        of a connection that is cut off could come after those of the next; so no cut is made."""
         self.floods += 1
         self.calm = time.monotonic() + 4
         is_over = threading.Event()
@@ -174,52 +177,96 @@ class User:
         words = (self.name, self.chance.random() < 0.5, is_over, [], FLOOD.encode())
         threading.Thread(target=self.served.flood, args=words).start()
 
+    def go_on(self):
+        """Some lines with their answers, and what comes with them."""
+        try:
+            self.send(self.batch(20))
+            self.hear_all()
+            if self.chance.random() < 0.03 and time.monotonic() > self.calm:
+                self.cut()
+            if self.chance.random() < 0.005:
+                self.flood()
+        except (Ended, OSError):
+            self.connect()
+
     def run(self, end):
         try:
-            self.served.ask(self.name, "config 01000103")
             self.connect()
+            self.send([JOINED])
             while time.monotonic() < end:
-                self.send([self.line() for _ in range(self.chance.randrange(1, 30))])
-                self.hear_all()
-                if self.chance.random() < 0.03 and time.monotonic() > self.calm:
-                    self.cut()
-                if self.chance.random() < 0.002:
-                    self.flood()
+                self.go_on()
+                time.sleep(0.2 * self.chance.random())
         except (AssertionError, OSError, queue.Empty) as error:
             self.faults.append(f"{self.name}: {error!r}")
 
-    def compare(self, records):
-        """Each message for the host that the record has was sent, and each that was answered is there, in its order."""
-        with open(f"{records}/{self.name}.replay", "rb") as it:
-            text = it.read().partition(b"\n---\n")[2]
-        written = re.findall(rb"^0 write 0 ([0-9a-f]{2})(?: @0)? = written$", text, re.M)
-        held = b"".join(bytes.fromhex(it.decode()) for it in written)
-        there, at = [], 0
-        while at < len(held):
-            size = {0: 9, 1: 5}.get(held[at], 1)
-            there.append(held[at:at + size])
-            at += size
-        sent = collections.Counter(it.message for it in self.list)
-        told = [it.message for it in self.list if it.is_answered and it.message]
-        for message, number in (collections.Counter(there) - sent).items():
-            self.faults.append(f"{self.name}: {number} times {message.hex()} in the record, which wasn't sent")
-        for message, number in (collections.Counter(told) - collections.Counter(there)).items():
-            self.faults.append(f"{self.name}: {number} times {message.hex()} was answered and isn't in the record")
-        pokes = [it for it in told if it[0] == 0]
-        every = set(pokes)
-        if [it for it in there if it in every] != pokes:
-            self.faults.append(f"{self.name}: pokes stand in another order in the record")
-        return len(there)
+    def compare(self, records, restarts):
+        """How many events the records have that this user asked for. What is wrong is added to the faults."""
+        events = events_of(records, self.name)
+        fault = fault_of(self.sent, self.loose + [it.text for it in self.waits], events, restarts)
+        if fault:
+            self.faults.append(f"{self.name}: {fault}")
+        return len(events)
+
+
+class Operator(threading.Thread):
+    """The operator, who restarts every fourth user's domain now and then: how often he was answered, and how often he
+    asked."""
+
+    def __init__(self, served, chance, end):
+        super().__init__()
+        self.served, self.chance, self.last = served, chance, end
+        self.answered, self.asked, self.faults = collections.Counter(), collections.Counter(), []
+
+    def run(self):
+        client = None
+        while time.monotonic() < self.last:
+            time.sleep(4 * self.chance.random())
+            name = f"user-{4 * self.chance.randrange(USERS // 4) + 2}"
+            try:
+                client = client or listener(self.served, "operator", time.monotonic() + PATIENCE)
+                self.asked[name] += 1
+                client.say(f"restart {name}\n")
+                while (answer := client.hear()).startswith("note: "):
+                    pass
+                self.answered[name] += answer == f"!restart {name} ok"
+                if answer not in (f"!restart {name} ok", f"{LOST}restart {name}"):
+                    self.faults.append(f"operator: {answer!r} for restart {name}")
+            except (Ended, OSError):
+                client = None
+            except queue.Empty as error:
+                self.faults.append(f"operator: {error!r}")
+                return
 
 
 def kill_till(served, end, chance):
-    """Kills `live` now and then; how often."""
-    kills = 0
+    """Kills `live` now and then, and `serve` at each fourth time, behind which another `serve` is started at once; how
+    often each."""
+    kills = collections.Counter()
     while time.monotonic() + SECONDS_OF_KILL < end:
         time.sleep(SECONDS_OF_KILL + 4 * chance.random())
-        served.kill_live()
-        kills += 1
+        if kills.total() % 4 == 2:
+            kills["serve"] += 1
+            served.process.kill()
+            served.process.wait()
+            served.start()
+        else:
+            kills["live"] += 1
+            served.kill_live()
     return kills
+
+
+def wrong_rows(records):
+    """How many rows the records have, and what `lab rows` finds wrong there."""
+    paths, rows, faults = sorted(glob.glob(f"{records}/*.replay")), 0, []
+    for at in range(0, len(paths), 100):
+        told = subprocess.run([built("lab"), "rows", *paths[at:at + 100]], capture_output=True, encoding="utf-8", check=False)
+        rows += sum(int(it) for it in re.findall(r": (\d+) rows, ", told.stdout))
+        faults += [it for it in told.stdout.splitlines() if not it.endswith(", 0 wrong")]
+        # a record that begins with a restart may have no events yet
+        is_said = re.search(r": 0 rows|[1-9]\d* wrong$", told.stdout, re.M) is not None
+        if told.returncode != 0 and not (told.returncode == 1 and is_said):
+            faults.append(f"lab rows: {told.returncode}: {told.stderr}")
+    return rows, faults, len(paths)
 
 
 def soak(live, minutes, seed):
@@ -228,24 +275,25 @@ def soak(live, minutes, seed):
     with Served(live, plan_of_users([f"user-{it}" for it in range(USERS)])) as served:
         users = [User(served, it, seed) for it in range(USERS)]
         end = time.monotonic() + 60 * minutes
-        threads = [threading.Thread(target=user.run, args=(end,)) for user in users]
+        operator = Operator(served, random.Random(f"{seed} operator"), end)
+        threads = [operator, *(threading.Thread(target=user.run, args=(end,)) for user in users)]
         for thread in threads:
             thread.start()
         kills = kill_till(served, end, chance)
         for thread in threads:
             thread.join()
         time.sleep(2)
-        status, errors = served.stop()
+        status, errors = served.stop(PATIENCE)
         records = f"{served.folder}/records"
-        messages = sum(user.compare(records) for user in users)
-        rows = subprocess.run([built("lab"), "rows", *sorted(glob.glob(f"{records}/*.replay"))], capture_output=True,
-                              encoding="utf-8", timeout=60 * SECONDS, check=False)
-    faults = [fault for user in users for fault in user.faults] + ([f"serve: {status}: {errors}"] if status else [])
-    faults += [line for line in rows.stdout.splitlines() if not line.endswith(", 0 wrong")]
+        size = sum(it.stat().st_size for it in os.scandir(records))
+        events = sum(it.compare(records, (operator.answered[it.name], operator.asked[it.name])) for it in users)
+        rows, faults, files = wrong_rows(records)
+    faults += operator.faults + [fault for user in users for fault in user.faults]
+    faults += [f"serve: {status}: {errors}"] if status else []
     print("\n".join(faults[:50]))
-    counts = {it: sum(getattr(user, it) for user in users) for it in ("heard", "lost", "cuts", "floods")}
-    count = sum(int(it) for it in re.findall(r": (\d+) rows, 0 wrong$", rows.stdout, re.M))
+    counts = {it: sum(getattr(user, it) for user in users) for it in ("heard", "lost", "cuts", "floods", "restarts")}
     print(f"{counts['heard']} answers, {counts['lost']} lines told as not answered, {counts['cuts']} cuts, "
-          f"{counts['floods']} floods, {kills} kills; {messages} messages and {count} rows of records compared, "
-          f"{len(faults)} wrong")
+          f"{counts['floods']} floods, {kills['live']} kills of live and {kills['serve']} of serve, "
+          f"{counts['restarts']} restarts by users and {operator.answered.total()} by the operator; {events} events of "
+          f"users and {rows} rows in {files} records of {size / 1e6:.0f} MB compared, {len(faults)} wrong")
     return 1 if faults else 0

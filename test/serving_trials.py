@@ -1,4 +1,5 @@
 """What the trials of `serve` share: a farm that is served in a folder of its own, its clients, and random lines."""
+import contextlib
 import os
 import random
 import signal
@@ -11,7 +12,7 @@ import time
 from live_lines import PLAN
 from trials import TOP
 
-SECONDS, START_SECONDS = 20, 60
+SECONDS, START_SECONDS = 20, 120
 TIMES = 60
 # Keeps what `live` gets beside it.
 LOGGING = """#!/bin/bash
@@ -130,9 +131,9 @@ class Served:
             self.process.wait()
         self.room.cleanup()
 
-    def stop(self):
+    def stop(self, seconds=SECONDS):
         self.process.send_signal(signal.SIGTERM)
-        errors = self.process.communicate(timeout=SECONDS)[1]
+        errors = self.process.communicate(timeout=seconds)[1]
         return self.process.returncode, errors
 
     def client(self, name):
@@ -170,6 +171,17 @@ class Served:
             time.sleep(0.01)
         raise AssertionError("serve has no live")
 
+    @contextlib.contextmanager
+    def held_live(self):
+        """Lets `live` do nothing until the end of a block, which gets its number."""
+        number = self.live_process()
+        os.kill(number, signal.SIGSTOP)
+        try:
+            yield number
+        finally:
+            with contextlib.suppress(ProcessLookupError):
+                os.kill(number, signal.SIGCONT)
+
     def kill_live(self):
         """Kills `live`, and waits until `serve` knows it."""
         number = self.live_process()
@@ -182,7 +194,11 @@ class Served:
         another."""
         lines = (line + b"\n") * 100
         while not is_over.is_set():
-            client = self.client(name)
+            try:
+                client = self.client(name)
+            except OSError:
+                time.sleep(0.05)
+                continue
             reading = threading.Thread(target=drain, args=(client,), daemon=True)
             client.stream.settimeout(1 if reads else SECONDS)
             if reads:
@@ -212,6 +228,7 @@ def drain(client):
 def talk(served, name, lines, half=b""):
     """What a client hears that sends these lines in pieces of any size, and ends its side."""
     client = served.client(name)
+    client.stream.settimeout(START_SECONDS)
     heard = []
     reading = threading.Thread(target=lambda: heard.append(client.lines.read()))
     reading.start()
@@ -222,6 +239,7 @@ def talk(served, name, lines, half=b""):
         at += size
     client.stream.shutdown(socket.SHUT_WR)
     reading.join()
+    client.leave()
     return heard[0]
 
 
@@ -237,6 +255,9 @@ def times(client):
 
 PIECES = [b"\r", b"\0", b" ", b"\xff\xfe", b"ann ", b"bob ", b"cas ", b"!", b"!stop", b"!words", b"look 0", b"collect 0", b"rest",
           b"write 0 00", b"config 04", b"#", b"\t", b"operator", b"zed look 0", b"0" * 3000]
+# So many bytes a line may have, with its line feed (docs/LIVE.md). Now and then one has more.
+MOST_LINE, LONG = 1 << 20, 10_000_000
+ONE_LONG = 40_000
 
 
 def fuzzed(chance, count, name):
@@ -246,5 +267,14 @@ def fuzzed(chance, count, name):
         line = b"".join(chance.choices(PIECES, k=chance.randrange(5)))
         if name == "operator" and line.lstrip(b"!").startswith((b"stop", b"words", b"users")):
             continue
-        lines.append(line)
+        lines.append(b"look 0" + b"9" * LONG if chance.randrange(ONE_LONG) == 0 else line)
     return lines
+
+
+def connections(chance, lines, most):
+    """The lines divided among connections, each with some bytes behind its last line feed."""
+    at = 0
+    while at < len(lines):
+        count = chance.randrange(1, most)
+        yield lines[at:at + count], b"".join(chance.choices(PIECES, k=chance.randrange(3)))
+        at += count

@@ -10,6 +10,7 @@ sys.path.append(os.path.join(os.path.dirname(os.path.dirname(os.path.abspath(__f
 from tree import TOP, built
 
 EXAMPLES = f"{TOP}/examples"
+PROGRAMS = f"{EXAMPLES}/programs"
 STORED = f"{TOP}/crates/farm"
 # By how many workers each text is run.
 WORKERS = (1, 2, 8)
@@ -31,6 +32,35 @@ def examples():
     for name in names_in(EXAMPLES):
         yield name, contents(f"{EXAMPLES}/{name}.farm"), contents(f"{EXAMPLES}/{name}.out")
     yield "the stored run", contents(f"{STORED}/stdin"), contents(f"{STORED}/stdout")
+
+
+def assembled(lab, name, words):
+    """What `lab assemble` prints for a program of programs/."""
+    status, out, errors = run([lab, "assemble", *words], contents(f"{PROGRAMS}/{name}.s"))
+    if status != 0:
+        sys.exit(f"lab assemble < {name}.s: status {status}, {errors.decode()}")
+    return out.decode()
+
+
+def with_code(lab, text):
+    """A text of programs/ with code in the place of its lines that begin with @."""
+    lines = []
+    for line in text.decode().splitlines(keepends=True):
+        if line.startswith("@boot "):
+            _, user, host, name = line.split()
+            lines.append(f"{user} boot {host} {assembled(lab, name, [])}")
+        elif line.startswith("@pokes "):
+            _, user, host, name = line.split()
+            lines.append(assembled(lab, name, ["--pokes", host, user]))
+        else:
+            lines.append(line)
+    return "".join(lines).encode()
+
+
+def programs(lab):
+    """The same of each example of programs/, with the code that `lab assemble` makes."""
+    for name in names_in(PROGRAMS):
+        yield f"programs/{name}", with_code(lab, contents(f"{PROGRAMS}/{name}.farm")), contents(f"{PROGRAMS}/{name}.out")
 
 
 def library(name, folder):

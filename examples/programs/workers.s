@@ -1,46 +1,53 @@
 -- Three processes in one node. The first sends 6 to the second over a channel in memory, and the second squares it. When
 -- both have ended, and the process that started them too, the square goes to the host at link 0.
-        ajw 40              -- room for the workspaces of the two, 10 and 20 words below
+        def next = 0        -- words of the first workspace: where the last of the three goes on,
+        def missing = 1     -- how many end there, right behind it,
+        def channel = 3     -- the channel between the two others,
+        def square = 4      -- and what comes of it
+        def all = 1         -- words of the others: the first workspace,
+        def taken = 2       -- and what came over the channel
+        def apart = 10      -- how many words lie between two workspaces
+        ajw 40              -- room for those of the two, 10 and 20 words below
         mint
-        stl 3               -- the channel: no process waits there
+        stl channel         -- no process waits there
         ldc joined - one
         ldpi
-one:    stl 0               -- where the last of the three goes on
+one:    stl next
         ldc 3
-        stl 1               -- how many end there
+        stl missing
         ldlp 0
-        ldlp -10
-        stnl 1              -- word 1 of the first is this workspace
+        ldlp -apart
+        stnl all
         ldc first - two
-        ldlp -10
+        ldlp -apart
         startp
 two:    ldlp 0
-        ldlp -20
-        stnl 1
+        ldlp -apart - apart
+        stnl all
         ldc second - three
-        ldlp -20
+        ldlp -apart - apart
         startp
-three:  ldlp 0
+three:  ldlp next
         endp
-first:  ldl 1
-        ldnlp 3             -- the channel
+first:  ldl all
+        ldnlp channel
         ldc 6
         outword
-        ldl 1
+        ldl all
         endp
-second: ldlp 2
-        ldl 1
-        ldnlp 3
+second: ldlp taken
+        ldl all
+        ldnlp channel
         ldc 4
         in
-        ldl 2
-        ldl 2
+        ldl taken
+        ldl taken
         mul
-        ldl 1
-        stnl 4              -- word 4 of the workspace of all is the square
-        ldl 1
+        ldl all
+        stnl square
+        ldl all
         endp
 joined: mint
-        ldl 4
+        ldl square
         outword
         stopp

@@ -17,7 +17,7 @@ use Rattle.domain_core.specs.PrivateFarm.{State, Answer, Call, next, opening}
 use Rattle.domain_core.specs.Ticket.{steps_told}
 use Rattle.farm_causes.specs.declared.line.RecordedLine.{RecordedLine}
 use Rattle.farm_causes.specs.declared.line.SaidCall.{SaidCall}
-use Rattle.farm_causes.specs.Following.{calls_said, all_said, FollowsCalls, MovesOn, IsStateAfter, IsMomentAfter}
+use Rattle.farm_causes.specs.Following.{calls_said, all_said, entry_calls, calls_before, FollowsCalls, MovesOn, IsStateAfter, IsMomentAfter, MomentsGoOn}
 
 -- one call that was answered and recorded
 pub one_call : HistoriesGrow → (old new : MomentValue) (call : Call) (reply : Reply) → next old.machine.part (state_at old) call ≡ (state_at new, Ok reply) → new.machine.part ≡ old.machine.part → new.recorded ≡ old.recorded + 1 → MovesOn old (call ∷ []) new
@@ -36,7 +36,7 @@ one_call grow old new call reply called part recorded =
     }
 
 -- one more
-one_more : (more : ℕ) → more + 1 ≡ suc more
+pub one_more : (more : ℕ) → more + 1 ≡ suc more
 one_more more = omega arith
 
 -- Steps of which the last ran all ran
@@ -45,7 +45,7 @@ ran_told node zero = refl
 ran_told node (suc more) = replicate_more more (answered_step Farm node Ran) ∙ ap (λ n. replicate n (answered_step Farm node Ran)) (one_more more)
 
 -- the calls of alike answers are alike
-alike_calls : (count : ℕ) (a : AnsweredCall) → calls_of (replicate count a) ≡ replicate count a.call
+pub alike_calls : (count : ℕ) (a : AnsweredCall) → calls_of (replicate count a) ≡ replicate count a.call
 alike_calls zero a = refl
 alike_calls (suc more) a = ap (λ calls. a.call ∷ calls) (alike_calls more a)
 
@@ -78,9 +78,9 @@ opened_at (Some d) m state part = (
   },
 )
 
--- the same of the only domain of a plan
-pub opened : (plan : List DomainData) (m : MomentValue) → IfSome (slice_get plan 0) (λ d. state_at m ≡ opening (part_of d)) → IfSome (slice_get plan 0) (λ d. m.machine.part ≡ part_of d) → IsMomentAfter plan [] m
-opened plan m state part = opened_at (slice_get plan 0) m state part
+-- the same of a domain of a plan
+pub opened : (plan : List DomainData) (number : ℕ) (m : MomentValue) → IfSome (slice_get plan number) (λ d. state_at m ≡ opening (part_of d)) → IfSome (slice_get plan number) (λ d. m.machine.part ≡ part_of d) → IsMomentAfter plan number [] m
+opened plan number m state part = opened_at (slice_get plan number) m state part
 
 -- a state after calls, and after others behind them
 state_on : (part : PartData) (s t : State) (xs ys : List Call) → IsStateAfter part xs s → FollowsCalls part s ys t → IsStateAfter part (xs ++ ys) t
@@ -99,12 +99,12 @@ moved_at (Some d) xs ys f g is on = (
   state_on (part_of d) (state_at f) (state_at g) xs ys is.1 (subst (λ (p : PartData). FollowsCalls p (state_at f) ys (state_at g)) is.0 on.follows),
 )
 
--- the same of the only domain of a plan
-pub moment_on : (plan : List DomainData) (xs ys : List Call) (f g : MomentValue) → IsMomentAfter plan xs f → MovesOn f ys g → IsMomentAfter plan (xs ++ ys) g
-moment_on plan xs ys f g is on = moved_at (slice_get plan 0) xs ys f g is on
+-- the same of a domain of a plan
+pub moment_on : MomentsGoOn
+moment_on plan number xs ys f g is on = moved_at (slice_get plan number) xs ys f g is on
 
 -- one line more was followed
-pub one_line : (plan : List DomainData) (lines : List RecordedLine) (i : ℕ) (d : RecordedLine) (f g : MomentValue) → i < length lines → IsMomentAfter plan (all_said (map (λ line. line.call) (take i lines))) f → MovesOn f (calls_said (get_or lines i d).call) g → IsMomentAfter plan (all_said (map (λ line. line.call) (take (i + 1) lines))) g
+pub one_line : (plan : List DomainData) (lines : List RecordedLine) (i : ℕ) (d : RecordedLine) (f g : MomentValue) → i < length lines → IsMomentAfter plan 0 (all_said (map (λ line. line.call) (take i lines))) f → MovesOn f (calls_said (get_or lines i d).call) g → IsMomentAfter plan 0 (all_said (map (λ line. line.call) (take (i + 1) lines))) g
 one_line plan lines i d f g less is on =
     let call : RecordedLine → SaidCall = λ line. line.call in
     let line : RecordedLine = get_or lines i d in
@@ -113,4 +113,5 @@ one_line plan lines i d f g less is on =
     ∙ (ap all_said (map-append call (take i lines) (line ∷ []))
     ∙ (flat_map-append calls_said (map call (take i lines)) (call line ∷ [])
     ∙ ap (λ (calls : List Call). all_said (map call (take i lines)) ++ calls) (append-nil (calls_said (call line))))) in
-    subst (λ (calls : List Call). IsMomentAfter plan calls g) (sym more) (moment_on plan (all_said (map call (take i lines))) (calls_said (call line)) f g is on)
+    subst (λ (calls : List Call). IsMomentAfter plan 0 calls g) (sym more)
+    (moment_on plan 0 (all_said (map call (take i lines))) (calls_said (call line)) f g is on)

@@ -1,1 +1,2 @@
+pub mod EntryCalls
 pub mod Followed

@@ -1,9 +1,10 @@
--- What the lines of a record say, and the state to which they lead.
-use Rattle.std.specs.Prelude.{◌≡◌, ◌+◌, List, length, replicate, IfSome, slice_get}
+-- What the lines of a record and the entries of a journal say, and the state to which they lead.
+use Rattle.std.specs.Prelude.{◌≡◌, ◌+◌, ◌-◌, ◌++◌, ℕ, List, take, length, replicate, IfSome, slice_get}
 use Rattle.std.specs.List.{flat_map}
 use Rattle.plan_rules.specs.Data.{DomainData}
 use Rattle.plan_rules.specs.Part.{PartData, part_of}
-use Rattle.domain_core.specs.Journal.{AnsweredCall, calls_of, IsHistory}
+use Rattle.domain_core.specs.declared.journal.Entry.{Entry}
+use Rattle.domain_core.specs.Journal.{AnsweredCall, expanded, calls_of, IsHistory}
 use Rattle.domain_core.specs.Moments.{MomentValue, state_at, LeadsOn}
 use Rattle.domain_core.specs.PrivateFarm.{State, Call}
 use Rattle.farm_causes.specs.declared.line.SaidCall.{SaidCall}
@@ -15,6 +16,14 @@ calls_said said = replicate said.times (record { by = said.by; event = said.even
 -- the calls that lines say
 abbrev pub all_said : List SaidCall → List Call
 all_said lines = flat_map calls_said lines
+
+-- the calls for which entries stand
+abbrev pub entry_calls : List Entry → List Call
+entry_calls entries = calls_of (expanded entries)
+
+-- of some calls those that come before so many events are recorded
+abbrev pub calls_before : ℕ → MomentValue → List Call → List Call
+calls_before most m calls = take (most - m.recorded) calls
 
 -- just these calls lead from one state to another, and each of them was recorded
 pub record FollowsCalls (part : PartData) (s : State) (calls : List Call) (t : State) : Type 0 where
@@ -35,6 +44,17 @@ pub record IsStateAfter (part : PartData) (calls : List Call) (s : State) : Type
   pub leads : IsHistory part history s
   pub recorded_is : s.recorded ≡ length calls
 
--- the only domain of a plan, at the moment after these calls
-abbrev pub IsMomentAfter : List DomainData → List Call → MomentValue → Type 0
-IsMomentAfter plan calls m = IfSome (slice_get plan 0) (λ d. (m.machine.part ≡ part_of d) × IsStateAfter (part_of d) calls (state_at m))
+-- the domain of this number of a plan, at the moment after these calls
+abbrev pub IsMomentAfter : List DomainData → ℕ → List Call → MomentValue → Type 0
+IsMomentAfter plan number calls m =
+    IfSome (slice_get plan number) (λ d. (m.machine.part ≡ part_of d) × IsStateAfter (part_of d) calls (state_at m))
+
+-- a domain of a plan at a moment to which some calls lead
+abbrev pub IsReached : List DomainData → ℕ → MomentValue → Type 0
+IsReached plan number m = (calls : List Call) × IsMomentAfter plan number calls m
+
+-- a moment after calls that goes on by others is one after those and these
+abbrev pub MomentsGoOn : Type 0
+MomentsGoOn =
+    (plan : List DomainData) (number : ℕ) (before after : List Call) (m n : MomentValue) → IsMomentAfter plan number before m → MovesOn m after n
+    → IsMomentAfter plan number (before ++ after) n

@@ -2,7 +2,7 @@
 
 use domain_core::Refusal;
 use plan_checker::PlanFault;
-use script_text::NumberedLineFault;
+use script_text::{NumberedLineFault, WordFault, WordMistake, WrongLine};
 use std::alloc::{AllocError, AllocFailed};
 use thiserror::Error;
 
@@ -12,6 +12,9 @@ pub enum FollowFault {
     /// It asks no single event of domain 0.
     #[error("a record has lines as `0 write 0 05 @0 = written` and `3 times 0 step 0 @farm = 3 ran`")]
     NoEvent,
+    /// A word of it is wrong.
+    #[error("{0}")]
+    Words(WordMistake),
     /// The domain has no such user, host, node or port.
     #[error("the plan has no such user, host, node or port: take the plan that the record begins with")]
     NoSuch,
@@ -29,6 +32,15 @@ pub enum FollowFault {
     Differs,
     #[error("memory")]
     Memory(#[from(alloc)] AllocError),
+}
+
+impl From<WordFault> for FollowFault {
+    fn from(fault: WordFault) -> FollowFault {
+        match fault {
+            WordFault::Wrong(mistake) => FollowFault::Words(mistake),
+            WordFault::Memory(error) => FollowFault::Memory(error),
+        }
+    }
 }
 
 impl From<Refusal> for FollowFault {
@@ -56,6 +68,9 @@ pub enum WhyFault {
     /// The line of this number in the whole text isn't done.
     #[error("line {number}: {fault}")]
     Line { number: u64, fault: FollowFault },
+    /// A line of the whole text has a mistake.
+    #[error("{0}")]
+    Wrong(WrongLine),
     #[error("memory")]
     Memory(#[from(alloc)] AllocError),
 }
@@ -64,6 +79,10 @@ impl WhyFault {
     /// The line of this number isn't done.
     pub fn of_line(number: u64, fault: FollowFault) -> WhyFault {
         match fault {
+            FollowFault::Words(mistake) => WhyFault::Wrong(WrongLine {
+                line: number,
+                mistake,
+            }),
             FollowFault::Memory(error) => WhyFault::Memory(error),
             fault => WhyFault::Line { number, fault },
         }
@@ -82,7 +101,7 @@ impl From<PlanFault> for WhyFault {
 impl From<NumberedLineFault> for WhyFault {
     fn from(fault: NumberedLineFault) -> WhyFault {
         match fault {
-            NumberedLineFault::Wrong(number) => WhyFault::of_line(number, FollowFault::NoEvent),
+            NumberedLineFault::Wrong(wrong) => WhyFault::Wrong(wrong),
             NumberedLineFault::Memory(error) => WhyFault::Memory(error),
         }
     }

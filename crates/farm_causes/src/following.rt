@@ -1,8 +1,11 @@
 //! A domain is led to a moment by the lines of its record.
 
-ghost use Rattle.std.specs.Prelude.{◌≡◌, ◌<◌, ◌∷◌, [], IfOk, IfSome, OnOk, None, ◌↔◌, length, map, slice_get};
+ghost use Rattle.std.specs.Prelude.{◌≡◌, ◌<◌, ◌∷◌, [], IfOk, IfSome, OnOk, None, Some, ◌↔◌, length, map, slice_get};
+ghost use Rattle.std.specs.Option.{option_copied};
 ghost use Rattle.plan_rules.specs.Part.{part_of};
+ghost use Rattle.domain_core.specs.MachineValue.{machine_of};
 ghost use Rattle.domain_core.specs.Moments.{state_at};
+ghost use Rattle.domain_core.specs.PortStates.{IsPortState};
 ghost use Rattle.domain_core.specs.PrivateFarm.{opening};
 ghost use Rattle.farm_causes.specs.Causes.{IsCause};
 ghost use Rattle.farm_causes.specs.Following.{calls_said, all_said, MovesOn, IsMomentAfter};
@@ -14,9 +17,12 @@ use crate::glance::{code_end_of, glance_before, note_event};
 use crate::line::{RecordedLine, SaidCall};
 use crate::past::Past;
 use answer_text::write_reply;
+use bootstrap::Node;
+use crossbar::Word;
 use domain_core::laws::histories_grow;
-use domain_core::{By, Event, Moment, NoMemory, Reply};
+use domain_core::{By, Event, Host, Moment, NoMemory, PortState, Reply};
 use plan_checker::AcceptedPlan;
+use plan_rules::Part;
 use std::alloc::Global;
 use std::marker::Model;
 use t414_step::Stepped;
@@ -52,15 +58,15 @@ fn is_told(alloc: Global, told: Option<&str>, times: u64, reply: Reply) -> Resul
 }
 
 impl Follower {
-    /// The only domain of a plan as it is opened. `NoMemory` where memories or queues can't be allocated.
+    /// The domain of this number of a plan as it is opened. `NoMemory` where memories or queues can't be allocated.
     #[tactic(auto, using(crate::proofs::Followed::opened))]
-    pub fn open(alloc: Global, plan: &AcceptedPlan) -> Result<Follower, NoMemory>
-        requires { length plan.now ≡ 1 }
-        ensures after { IfOk result (λ f. IsMomentAfter plan.now [] f) }
+    pub fn open(alloc: Global, plan: &AcceptedPlan, number: u8) -> Result<Follower, NoMemory>
+        requires { number < length plan.now }
+        ensures after { IfOk result (λ f. IsMomentAfter plan.now number [] f) }
     {
         Ok(Follower {
             alloc,
-            moment: Moment::open(alloc, plan, 0)?,
+            moment: Moment::open(alloc, plan, number)?,
             past: Past::new(),
         })
     }
@@ -96,7 +102,7 @@ impl Follower {
     }
 
     // Does one event, which is recorded.
-    fn follow_event(&mut self, by: By, event: Event) -> Result<Reply, FollowFault>
+    pub(crate) fn follow_event(&mut self, by: By, event: Event) -> Result<Reply, FollowFault>
         ensures { IfOk result (λ reply. MovesOn self.old (record { by = by; event = event } ∷ []) self.new) }
     {
         // What comes next makes a history longer.
@@ -113,7 +119,7 @@ impl Follower {
     }
 
     // Does Steps of a node at once, of which all run.
-    fn follow_steps(&mut self, node: u8, times: u64) -> Result<Reply, FollowFault>
+    pub(crate) fn follow_steps(&mut self, node: u8, times: u64) -> Result<Reply, FollowFault>
         ensures { IfOk result (λ reply. MovesOn self.old (calls_said (record { times = times; by = By.Farm; event = Event.Step node })) self.new) }
     {
         let code_end = match self.moment.node(node) {
@@ -140,17 +146,64 @@ impl Follower {
         }
     }
 
-    /// Does what a line says, and compares what the domain answers with what it says. After an error nothing is said of the
-    /// moment.
-    pub fn follow(&mut self, line: &RecordedLine) -> Result<(), FollowFault>
-        ensures { OnOk result (MovesOn self.old (calls_said line.now.call) self.new) }
+    /// Does what a line says, compares what the domain answers with what it says, and gives the answer, of several Steps that of
+    /// each. After an error nothing is said of the moment.
+    pub fn answer(&mut self, line: &RecordedLine) -> Result<Reply, FollowFault>
+        ensures { IfOk result (λ reply. MovesOn self.old (calls_said line.now.call) self.new) }
     {
         let reply = self.follow_call(line.call)?;
         if is_told(self.alloc, line.answer, line.call.times, reply)? {
-            Ok(())
+            Ok(reply)
         } else {
             Err(FollowFault::Differs)
         }
+    }
+
+    /// The same, without the answer.
+    pub fn follow(&mut self, line: &RecordedLine) -> Result<(), FollowFault>
+        ensures { OnOk result (MovesOn self.old (calls_said line.now.call) self.new) }
+    {
+        let _reply = self.answer(line)?;
+        Ok(())
+    }
+
+    /// The part of the domain.
+    pub fn part(&self) -> &Part
+        ensures { result.now ≡ self.now.machine.part }
+    {
+        self.moment.part()
+    }
+
+    /// A node, if it is there.
+    pub fn node(&self, number: u8) -> Option<&Node>
+        ensures { option_copied result ≡ slice_get self.now.machine.devices.nodes number }
+    {
+        self.moment.node(number)
+    }
+
+    /// A host, if it is there.
+    pub fn host(&self, number: u8) -> Option<&Host>
+        ensures { option_copied result ≡ slice_get self.now.machine.devices.hosts number }
+    {
+        self.moment.host(number)
+    }
+
+    /// The switch word of a virtual output below the domain's count. Nothing changes.
+    pub fn word(&mut self, output: u8) -> Word
+        requires { output < self.old.machine.part.count }
+        ensures word { slice_get self.old.machine.switch.words output ≡ Some result }
+        ensures unchanged { self.new ≡ self.old }
+    {
+        self.moment.word(output)
+    }
+
+    /// What waits at a virtual port, and what a Move of it would come to. Nothing changes.
+    pub fn port_state(&mut self, port: u8) -> PortState
+        requires { port < self.old.machine.part.count }
+        ensures state { IsPortState self.old.machine.part (machine_of self.old.machine) port result }
+        ensures unchanged { self.new ≡ self.old }
+    {
+        self.moment.port_state(port)
     }
 }
 
@@ -165,9 +218,9 @@ pub fn follow_record(
     lines: &[RecordedLine],
 ) -> Result<Follower, WhyFault>
     requires { length plan.now ≡ 1 }
-    ensures { IfOk result (λ f. IsMomentAfter plan.now (all_said (map (λ l. l.call) lines.now)) f) }
+    ensures { IfOk result (λ f. IsMomentAfter plan.now 0 (all_said (map (λ l. l.call) lines.now)) f) }
 {
-    let mut follower = Follower::open(alloc, plan)?;
+    let mut follower = Follower::open(alloc, plan, 0)?;
     for line in lines {
         if let Err(fault) = follower.follow(line) {
             return Err(WhyFault::of_line(line.number, fault));

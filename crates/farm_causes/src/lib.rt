@@ -2,23 +2,27 @@
 #![tactic(auto)]
 
 mod cause;
+mod entries;
 mod explaining;
 mod fault;
 mod finding;
 mod following;
 mod glance;
+pub mod laws;
 mod line;
 mod packets;
 mod passage;
 mod past;
+mod record;
 mod telling;
 mod words;
 
 pub use cause::{Cause, InputWait, InsideWait, LinkWaits, OutputWait, Rendezvous};
-pub use explaining::explain_record;
+pub use explaining::{explain_moment, explain_record};
 pub use fault::{FollowFault, WhyFault};
 pub use finding::{cause_in, inside_waits};
 pub use following::{Follower, follow_record};
 pub use line::{RecordedLine, SaidCall};
 pub use passage::{Arrival, SentByte, Supply, arrival_at, sent_byte, supply_of};
 pub use past::{FaultPast, NodePast, Past, PortPast};
+pub use record::{Record, read_record};

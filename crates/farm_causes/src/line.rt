@@ -3,7 +3,6 @@
 use crate::fault::FollowFault;
 use domain_core::{By, Event};
 use farm_replay::{RepeatedRequest, Request, read_request};
-use script_text::WordFault;
 use std::alloc::Global;
 
 /// What stands between a call and its answer.
@@ -44,21 +43,16 @@ pub fn read_line<'a>(
 
 // The call before the answer of a line.
 fn read_call(alloc: Global, text: &str) -> Result<SaidCall, FollowFault> {
-    match read_request(alloc, text) {
-        Ok(
-            RepeatedRequest {
-                times,
-                request: Request::Events(0, by, events),
-            },
-        ) => match events.as_slice() {
-            [event] => Ok(SaidCall {
-                times,
-                by,
-                event: *event,
-            }),
-            _ => Err(FollowFault::NoEvent),
-        },
-        Ok(_) | Err(WordFault::Wrong) => Err(FollowFault::NoEvent),
-        Err(WordFault::Memory(error)) => Err(FollowFault::Memory(error)),
+    let RepeatedRequest { times, request } = read_request(alloc, text)?;
+    let Request::Events(0, by, events) = request else {
+        return Err(FollowFault::NoEvent);
+    };
+    match events.as_slice() {
+        [event] => Ok(SaidCall {
+            times,
+            by,
+            event: *event,
+        }),
+        _ => Err(FollowFault::NoEvent),
     }
 }

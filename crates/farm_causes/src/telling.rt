@@ -19,31 +19,47 @@ const MANY_STEPS: u64 = 100_000;
 /// How many packets among nodes are said to be many.
 const MANY_PACKETS: u64 = 256;
 
+/// Of what is said.
+#[derive(Clone, Copy)]
+pub struct Chosen {
+    /// One node, or all of the domain.
+    pub node: Option<u8>,
+    /// So many processes that wait at channels in a node's memory.
+    pub most_inside: usize,
+}
+
 /// A domain of which something is said.
 #[derive(Drop)]
 pub struct Scene<'a> {
     alloc: Global,
     pub(crate) moment: Moment,
     pub(crate) past: &'a Past,
+    most_inside: usize,
 }
 
-/// Writes why each node does no more than it does, at the moment to which a record has led.
+/// Writes why the chosen nodes do no more than they do, at the moment to which a domain was led.
 pub fn write_causes(
     alloc: Global,
     follower: &Follower,
+    chosen: Chosen,
     text: &mut TextWriter,
 ) -> Result<(), NoMemory> {
     let mut scene = Scene {
         alloc,
         moment: follower.moment()?,
         past: follower.past(),
+        most_inside: chosen.most_inside,
     };
     for number in 0..8u8 {
-        if let Some(cause) = follower.cause_of(number) {
+        if let Some(cause) = follower.cause_of(number)
+            && chosen.node.unwrap_or(number) == number
+        {
             scene.write_node(number, cause, text)?;
         }
     }
-    scene.write_exchanges(text);
+    if chosen.node.is_none() {
+        scene.write_exchanges(text);
+    }
     Ok(())
 }
 
@@ -217,15 +233,22 @@ impl Scene<'_> {
         inside: &[InsideWait],
         text: &mut TextWriter,
     ) {
-        let mut any = false;
+        let mut count: usize = 0;
         for wait in inside {
             if !is_at_link(waits, wait.process) {
-                any = true;
-                write_rendezvous(*wait, text);
-                self.write_workspace(number, wait.process.workspace, text);
+                count = count.saturating_add(1);
+                if count <= self.most_inside {
+                    write_rendezvous(*wait, text);
+                    self.write_workspace(number, wait.process.workspace, text);
+                }
             }
         }
-        if any && !is_waited_for(waits) {
+        if count > self.most_inside {
+            text.push("  ");
+            text.push_decimal((count - self.most_inside) as u64);
+            text.push(" more processes wait at channels in its memory.\n");
+        }
+        if count > 0 && !is_waited_for(waits) {
             text.push("  No other process is left that could come there: a deadlock.\n");
         }
     }

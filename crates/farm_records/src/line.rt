@@ -39,7 +39,7 @@ pub fn read_call(alloc: Global, line: &[u8]) -> Result<RecordedCall, RedoFault> 
             }),
             _ => Err(RedoFault::NoLine),
         },
-        Ok(_) | Err(WordFault::Wrong) => Err(RedoFault::NoLine),
+        Ok(_) | Err(WordFault::Wrong(_)) => Err(RedoFault::NoLine),
         Err(WordFault::Memory(error)) => Err(RedoFault::Memory(error)),
     }
 }

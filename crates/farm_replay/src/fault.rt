@@ -1,28 +1,33 @@
 //! Why a text isn't replayed.
 
 use plan_checker::PlanFault;
-use script_text::NumberedLineFault;
+use script_text::{NumberedLineFault, WrongLine};
 use std::alloc::AllocError;
 use thiserror::Error;
 
 /// Why a text isn't replayed. None of its lines is then.
 #[derive(Clone, Copy, Debug, PartialEq, Eq, Error)]
 pub enum ReplayFault {
-    /// A plan is refused, with the number of its smallest fault.
-    #[error("plan: {0}")]
-    Plan(u8),
-    /// The line of this number in the whole text is wrong.
-    #[error("line {0}")]
-    Line(u64),
+    /// The plan that begins at this line is refused.
+    #[error("plan: {number}: {fault}, in the plan that begins at line {line} (`lab plan` says where)", number = .fault.number())]
+    Plan { fault: PlanFault, line: u64 },
+    /// The plan that begins at this line is refused, and no line divides it from what stands behind it.
+    #[error("plan: {number}: {fault}, in the plan that begins at line {line} (no line behind it is just ---, so all was read as the plan)", number = .fault.number())]
+    NoMark { fault: PlanFault, line: u64 },
+    /// A line of the whole text is wrong.
+    #[error("{0}")]
+    Line(WrongLine),
     #[error("memory")]
     Memory(#[from(alloc)] AllocError),
 }
 
-impl From<PlanFault> for ReplayFault {
-    fn from(fault: PlanFault) -> ReplayFault {
+impl ReplayFault {
+    /// The plan that begins at this line is refused, and a mark stands behind it or doesn't.
+    pub fn of_plan(fault: PlanFault, line: u64, is_marked: bool) -> ReplayFault {
         match fault {
             PlanFault::NoMemory => ReplayFault::Memory(AllocError),
-            _ => ReplayFault::Plan(fault.number()),
+            _ if is_marked => ReplayFault::Plan { fault, line },
+            _ => ReplayFault::NoMark { fault, line },
         }
     }
 }

@@ -2,7 +2,7 @@
 
 use crate::request::{DomainRequest, RepeatedRequest, Request};
 use domain_core::{By, Event, MOST_STEPS};
-use script_text::{WordFault, Words, decimal_number};
+use script_text::{Wanted, WordFault, WordForm, WordHint, WordRole, Words, decimal_number};
 use std::alloc::{AllocError, Global};
 
 /// The most times that one line is asked, unless it asks the farm for Steps.
@@ -77,13 +77,21 @@ const VERBS: [(&str, RequestVerb); 19] = [
     ("look", RequestVerb::Events(EventVerb::One(EventKind::Look))),
 ];
 
-/// What a line asks, and how often. `Wrong` if a word of it is wrong or missing, or one stands behind its end.
+// The names of the verbs, as they are told.
+const VERB_NAMES: [&str; 19] = [
+    "config", "configs", "write", "writes", "read", "reset", "look", "step", "move", "moves",
+    "word", "quiet", "recorded", "journal", "restart", "checkout", "burst", "commit", "settle",
+];
+
+/// What a line asks, and how often. `Wrong` with the first word that is wrong or missing, or that stands behind the end.
 pub fn read_request(alloc: Global, line: &str) -> Result<RepeatedRequest, WordFault> {
     let mut words = Words::of(line);
+    let begin = words.place();
     let times = read_times(&mut words);
     let request = read_once(alloc, &mut words)?;
     if times > most_times(&request) {
-        words.reject();
+        let wanted = Wanted::decimal(WordRole::Times, 0, MOST_TIMES);
+        words.reject_with(begin, wanted, Some(WordHint::FewerTimes));
     }
     words.finish(RepeatedRequest { times, request })
 }
@@ -91,12 +99,12 @@ pub fn read_request(alloc: Global, line: &str) -> Result<RepeatedRequest, WordFa
 // The number before `times`, if the line begins so.
 fn read_times(words: &mut Words) -> u64 {
     let mut ahead = *words;
-    let _ = ahead.take();
+    let _ = ahead.take(Wanted::End);
     if ahead.peek() != "times" {
         return 1;
     }
-    let times = words.decimal(MOST_STEPS);
-    let _ = words.take();
+    let times = words.decimal(WordRole::Times, MOST_STEPS);
+    let _ = words.take_if("times");
     times
 }
 
@@ -115,16 +123,20 @@ fn read_once(alloc: Global, words: &mut Words) -> Result<Request, AllocError> {
     if words.take_if("reopen") {
         return Ok(Request::Reopen);
     }
-    let domain = words.small_decimal();
-    Ok(match words.named(&VERBS, RequestVerb::Quiet) {
+    let domain = words.small_decimal(WordRole::Domain);
+    let wanted = Wanted::Word(WordRole::DomainVerb, WordForm::OneOf(&VERB_NAMES));
+    Ok(match words.named(&VERBS, RequestVerb::Quiet, wanted) {
         RequestVerb::Quiet => Request::Domain(domain, DomainRequest::Quiet),
-        RequestVerb::Word => Request::Domain(domain, DomainRequest::Word(words.small_decimal())),
+        RequestVerb::Word => Request::Domain(
+            domain,
+            DomainRequest::Word(words.small_decimal(WordRole::Output)),
+        ),
         RequestVerb::Recorded => Request::Domain(domain, DomainRequest::Recorded),
         RequestVerb::Restart => Request::Domain(domain, DomainRequest::Restart),
         RequestVerb::Journal => Request::Domain(domain, DomainRequest::Journal),
         RequestVerb::Checkout => Request::Domain(
             domain,
-            DomainRequest::Checkout(words.small_decimal()),
+            DomainRequest::Checkout(words.small_decimal(WordRole::Node)),
         ),
         RequestVerb::Burst => Request::Domain(domain, read_burst(words)),
         RequestVerb::Commit => Request::Domain(domain, DomainRequest::Commit(read_ticket(words))),
@@ -137,19 +149,16 @@ fn read_once(alloc: Global, words: &mut Words) -> Result<Request, AllocError> {
 }
 
 fn read_burst(words: &mut Words) -> DomainRequest {
-    DomainRequest::Burst(read_ticket(words), words.decimal(u64::MAX))
+    DomainRequest::Burst(read_ticket(words), words.decimal(WordRole::Steps, u64::MAX))
 }
 
 fn read_ticket(words: &mut Words) -> usize {
-    words.decimal(u64::MAX) as usize
+    words.decimal(WordRole::Ticket, u64::MAX) as usize
 }
 
 fn read_settle(words: &mut Words) -> DomainRequest {
-    let quantum = words.decimal(MOST_QUANTUM);
-    if quantum == 0 {
-        words.reject();
-    }
-    DomainRequest::Settle(quantum, words.decimal(u64::MAX))
+    let quantum = words.decimal_from(WordRole::Quantum, 1, MOST_QUANTUM);
+    DomainRequest::Settle(quantum, words.decimal(WordRole::Rounds, u64::MAX))
 }
 
 // Who asks if the line doesn't say it: the farm steps and moves, and user 0 asks for the rest.
@@ -162,10 +171,12 @@ fn usual_asker(verb: EventVerb) -> By {
 
 // Who asks, if the next word says so behind `@`.
 fn read_asker(usual: By, words: &mut Words) -> By {
+    let place = words.place();
     match words.peek().strip_prefix("@") {
         Some(name) => {
-            let _ = words.take();
-            words.or_reject(asker_named(name), usual)
+            let wanted = Wanted::Word(WordRole::User, WordForm::Asker);
+            let _ = words.take(wanted);
+            words.or_reject(place, asker_named(name), usual, wanted)
         }
         None => usual,
     }
@@ -200,7 +211,7 @@ fn read_moves(alloc: Global, words: &mut Words) -> Result<Vec<Event>, AllocError
         if words.peek().starts_with("@") {
             break;
         }
-        events.push(Event::Move(words.small_decimal()))?;
+        events.push(Event::Move(words.small_decimal(WordRole::Port)))?;
     }
     Ok(events)
 }
@@ -215,7 +226,7 @@ fn read_configs(alloc: Global, words: &mut Words) -> Result<Vec<Event>, AllocErr
 }
 
 fn read_writes(alloc: Global, words: &mut Words) -> Result<Vec<Event>, AllocError> {
-    let host = words.small_decimal();
+    let host = words.small_decimal(WordRole::Host);
     let bytes = words.bytes(alloc)?;
     let mut events = Vec::new(alloc);
     for byte in &bytes {
@@ -226,12 +237,15 @@ fn read_writes(alloc: Global, words: &mut Words) -> Result<Vec<Event>, AllocErro
 
 fn read_event(kind: EventKind, words: &mut Words) -> Event {
     match kind {
-        EventKind::Step => Event::Step(words.small_decimal()),
-        EventKind::Move => Event::Move(words.small_decimal()),
-        EventKind::Config => Event::Config(words.byte()),
-        EventKind::Write => Event::Write(words.small_decimal(), words.byte()),
-        EventKind::Read => Event::Read(words.small_decimal()),
-        EventKind::Reset => Event::Reset(words.small_decimal()),
-        EventKind::Look => Event::Look(words.small_decimal()),
+        EventKind::Step => Event::Step(words.small_decimal(WordRole::Node)),
+        EventKind::Move => Event::Move(words.small_decimal(WordRole::Port)),
+        EventKind::Config => Event::Config(words.byte(WordForm::TwoDigits)),
+        EventKind::Write => Event::Write(
+            words.small_decimal(WordRole::Host),
+            words.byte(WordForm::TwoDigits),
+        ),
+        EventKind::Read => Event::Read(words.small_decimal(WordRole::Host)),
+        EventKind::Reset => Event::Reset(words.small_decimal(WordRole::Node)),
+        EventKind::Look => Event::Look(words.small_decimal(WordRole::Node)),
     }
 }

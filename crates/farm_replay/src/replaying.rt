@@ -12,7 +12,7 @@ use crate::request::RepeatedRequest;
 use crossbar::{PORTS, Word};
 use domain_core::NoMemory;
 use farm_core::laws::runs_add_up;
-use plan_checker::{AcceptedPlan, check, read_plan};
+use plan_checker::{AcceptedPlan, PlanFault, check, read_plan};
 use script_text::{Answered, NumberedLineFault, Question, divide, read_questions};
 use std::alloc::Global;
 
@@ -60,7 +60,7 @@ pub struct Replayed<'a> {
 /// Replays a text: for each of its farms, which stand between lines `===`, a plan, a line `---`, and lines that ask. All
 /// is read before any line asks; then each line has its answer, in order.
 ///
-/// The first fault of the text is answered: `Plan` if a plan is refused, and `Line` if a line asks nothing that there
+/// The first fault of the text is answered: `Plan` or `NoMark` if a plan is refused, and `Line` if a line asks nothing that there
 /// is; `Memory` if memory runs out anywhere.
 pub fn replay(alloc: Global, text: &[u8]) -> Result<Replayed<'_>, ReplayFault> {
     let scripts = read_scripts(alloc, text)?;
@@ -99,7 +99,13 @@ fn lines_with_mark(part: &[u8], before: u64) -> u64 {
 // A farm whose plan begins after so many lines of the text.
 fn read_script(alloc: Global, text: &[u8], before: u64) -> Result<Script<'_>, ReplayFault> {
     let (plan_text, rest) = divide(text, AFTER_THE_PLAN);
-    let plan = check(alloc, read_plan(alloc, plan_text)?)?;
+    let plan = match accepted_plan(alloc, plan_text) {
+        Ok(plan) => plan,
+        Err(fault) => {
+            let is_marked = plan_text.len() < text.len();
+            return Err(ReplayFault::of_plan(fault, before.saturating_add(1), is_marked));
+        }
+    };
     let questions = read_questions(alloc, rest, lines_with_mark(plan_text, before))?;
     let requests = read_requests(alloc, questions.as_slice())?;
     Ok(Script {
@@ -107,6 +113,11 @@ fn read_script(alloc: Global, text: &[u8], before: u64) -> Result<Script<'_>, Re
         questions,
         requests,
     })
+}
+
+// The plan of a text, if it is accepted.
+fn accepted_plan(alloc: Global, text: &[u8]) -> Result<AcceptedPlan, PlanFault> {
+    check(alloc, read_plan(alloc, text)?)
 }
 
 fn read_requests(

@@ -4,7 +4,9 @@ use crate::assembly::AssemblyOptions;
 use crate::failure::LabFailure;
 use clap::error::ErrorKind;
 use clap::{Arg, ArgAction, ArgMatches, Command, value_parser};
-use script_text::{HexFault, bytes_of, value_named};
+use lab_film::{Span, USUAL_COUNT};
+use node_trace::{LinkInput, LinkNumber, link_of};
+use script_text::{HexFault, bytes_of, decimal_number, hexadecimal_word, value_named};
 use std::alloc::{AllocError, Global};
 use std::convert::AsStr;
 
@@ -27,6 +29,8 @@ pub enum LabRequest<'a> {
     Rows(Vec<&'a str>),
     /// To say why the nodes of the record in a file wait, after its first so many events.
     Why(&'a str, u64),
+    /// To show a span of the record in a file as a page.
+    Film(&'a str, Span),
     /// To read standard input.
     Read(Reading<'a>),
 }
@@ -42,12 +46,25 @@ pub enum Reading<'a> {
     Draw(Option<u8>),
     /// What it asks of a node is traced.
     Trace,
-    /// Nothing: a node is booted with code, and at most so many Steps are traced.
-    Boot(Vec<u8>, u32),
+    /// Nothing: a node is booted with code, and traced.
+    Boot(BootOptions),
     /// It is assembled.
     Assemble(AssemblyOptions<'a>),
     /// It is disassembled.
     Disassemble,
+}
+
+/// How a node is traced that is booted with code.
+#[derive(Drop)]
+pub struct BootOptions {
+    /// The code.
+    pub code: Vec<u8>,
+    /// How many Steps are traced at most.
+    pub steps: u32,
+    /// The address before whose instruction the trace stops.
+    pub until: Option<u32>,
+    /// What is sent to the program.
+    pub inputs: Vec<LinkInput>,
 }
 
 #[derive(Clone, Copy)]
@@ -60,9 +77,15 @@ enum Subcommand {
     Disassemble,
     Rows,
     Why,
+    Film,
 }
 
 impl Subcommand {
+    // Whether it reads standard input, and no file.
+    fn reads_input(self) -> bool {
+        !matches!(self, Subcommand::Rows | Subcommand::Why | Subcommand::Film)
+    }
+
     // What the help says of it.
     fn about(self) -> &'static str {
         match self {
@@ -90,11 +113,25 @@ impl Subcommand {
             Subcommand::Why => {
                 "Says why each node waits, halted or runs on: reads the record of a domain"
             }
+            Subcommand::Film => {
+                "Shows the record of a domain as a film: prints a page that a browser opens"
+            }
         }
     }
 }
 
-const SUBCOMMANDS: [(&str, Subcommand); 8] = [
+/// The options of the subcommands that read standard input.
+const OPTIONS: [&str; 7] = [
+    "--boot",
+    "--steps",
+    "--until",
+    "--input",
+    "--domain",
+    "--listing",
+    "--pokes",
+];
+
+const SUBCOMMANDS: [(&str, Subcommand); 9] = [
     ("replay", Subcommand::Replay),
     ("plan", Subcommand::Plan),
     ("draw", Subcommand::Draw),
@@ -103,6 +140,7 @@ const SUBCOMMANDS: [(&str, Subcommand); 8] = [
     ("disassemble", Subcommand::Disassemble),
     ("rows", Subcommand::Rows),
     ("why", Subcommand::Why),
+    ("film", Subcommand::Film),
 ];
 
 /// Reads the words of the command line, of which the first is the program's name.
@@ -113,17 +151,45 @@ pub fn read_words<'a, S: AsStr>(
     let command = lab_command(alloc)?;
     match command.try_get_matches_from(words) {
         Ok(matches) => read_matches(alloc, &matches),
-        Err(error) => read_error(alloc, error),
+        Err(error) => read_error(alloc, words, error),
     }
 }
 
 // Help that is asked for, or what is wrong with the words.
-fn read_error<'a>(alloc: Global, error: clap::Error) -> Result<LabRequest<'a>, LabFailure> {
+fn read_error<'a, S: AsStr>(
+    alloc: Global,
+    words: &[S],
+    error: clap::Error,
+) -> Result<LabRequest<'a>, LabFailure> {
     match error.kind() {
         ErrorKind::OutOfMemory => Err(LabFailure::Memory),
         ErrorKind::DisplayHelp => Ok(LabRequest::Help(format!(in alloc; "{error}")?)),
+        ErrorKind::UnknownArgument => match file_named(words) {
+            Some((subcommand, file)) => Err(LabFailure::FileName {
+                subcommand,
+                file: String::from_str(alloc, file)?,
+            }),
+            None => Err(LabFailure::Words(error)),
+        },
         _ => Err(LabFailure::Words(error)),
     }
+}
+
+// The subcommand, and the file that stands last behind it, where only standard input is read.
+fn file_named<S: AsStr>(words: &[S]) -> Option<(&'static str, &str)> {
+    let [_, name, behind @ ..] = words else {
+        return None;
+    };
+    let name = name.as_str();
+    let (subcommand, kind) = SUBCOMMANDS.iter().find(|entry| entry.0 == name)?;
+    let last = behind.last()?.as_str();
+    let is_known = behind.iter().all(|word| is_known_option(word.as_str()));
+    (kind.reads_input() && is_known && !last.starts_with("-")).then_some((*subcommand, last))
+}
+
+// Whether a word is an option of a subcommand, or none at all.
+fn is_known_option(word: &str) -> bool {
+    !word.starts_with("-") || OPTIONS.iter().any(|option| *option == word)
 }
 
 fn lab_command<'a>(alloc: Global) -> Result<Command<'a>, AllocError> {
@@ -147,13 +213,19 @@ fn with_arguments<'a>(
     match subcommand {
         Subcommand::Trace => command
             .arg(boot_argument(alloc))?
-            .arg(steps_argument(alloc)),
+            .arg(steps_argument(alloc))?
+            .arg(until_argument(alloc))?
+            .arg(input_argument(alloc)),
         Subcommand::Assemble => command
             .arg(listing_argument(alloc))?
             .arg(pokes_argument(alloc)),
         Subcommand::Rows => command.arg(files_argument(alloc)),
         Subcommand::Draw => command.arg(domain_argument(alloc)),
         Subcommand::Why => command.arg(record_argument(alloc))?.arg(at_argument(alloc)),
+        Subcommand::Film => command
+            .arg(record_argument(alloc))?
+            .arg(from_argument(alloc))?
+            .arg(count_argument(alloc)),
         Subcommand::Replay | Subcommand::Plan | Subcommand::Disassemble => Ok(command),
     }
 }
@@ -176,6 +248,24 @@ fn steps_argument<'a>(alloc: Global) -> Arg<'a> {
         .value_parser(value_parser!(u32))
 }
 
+fn until_argument<'a>(alloc: Global) -> Arg<'a> {
+    Arg::new(alloc, "until")
+        .long("until")
+        .value_name("ADDRESS")
+        .help("Stops the trace of booted code before the instruction at this address")
+        .action(ArgAction::Set)
+}
+
+fn input_argument<'a>(alloc: Global) -> Arg<'a> {
+    Arg::new(alloc, "input")
+        .long("input")
+        .value_name("LINK:HEX")
+        .help(
+            "Sends these bytes to the booted code by this link, each when the one before it is taken",
+        )
+        .action(ArgAction::Append)
+}
+
 fn domain_argument<'a>(alloc: Global) -> Arg<'a> {
     Arg::new(alloc, "domain")
         .long("domain")
@@ -191,7 +281,7 @@ fn files_argument<'a>(alloc: Global) -> Arg<'a> {
     Arg::new(alloc, "file")
         .value_name("FILE")
         .help(
-            "Files of rows: plans if the name ends with .plans, programs if it ends with .assembly, for replay if it ends with .replay, and else for trace",
+            "Files of rows: plans if the name ends with .plans, programs if it ends with .assembly, wrong lines if it ends with .mistakes, for replay if it ends with .replay, and else for trace",
         )
         .required(true)
         .num_args(1..)
@@ -211,6 +301,26 @@ fn at_argument<'a>(alloc: Global) -> Arg<'a> {
         .long("at")
         .value_name("N")
         .help("Looks after the first N events of the record, and not at its end")
+        .action(ArgAction::Set)
+        .value_parser(value_parser!(u64))
+}
+
+fn from_argument<'a>(alloc: Global) -> Arg<'a> {
+    Arg::new(alloc, "from")
+        .long("from")
+        .value_name("N")
+        .help("Begins after the first N events of the record")
+        .default_value("0")
+        .action(ArgAction::Set)
+        .value_parser(value_parser!(u64))
+}
+
+fn count_argument<'a>(alloc: Global) -> Arg<'a> {
+    Arg::new(alloc, "count")
+        .long("count")
+        .value_name("N")
+        .help("How many frames are shown at most")
+        .default_value("100000")
         .action(ArgAction::Set)
         .value_parser(value_parser!(u64))
 }
@@ -245,6 +355,7 @@ fn read_matches<'a>(alloc: Global, matches: &ArgMatches<'a>) -> Result<LabReques
         Subcommand::Disassemble => LabRequest::Read(Reading::Disassemble),
         Subcommand::Rows => LabRequest::Rows(read_files(alloc, matches)?),
         Subcommand::Why => read_why(matches)?,
+        Subcommand::Film => read_film(matches)?,
     })
 }
 
@@ -264,6 +375,15 @@ fn read_why<'a>(matches: &ArgMatches<'a>) -> Result<LabRequest<'a>, LabFailure> 
     Ok(LabRequest::Why(record, most))
 }
 
+fn read_film<'a>(matches: &ArgMatches<'a>) -> Result<LabRequest<'a>, LabFailure> {
+    let record = matches.get_str("record").ok_or(LabFailure::Subcommand)?;
+    let span = Span {
+        from: matches.get_one::<u64>("from").unwrap_or(0),
+        count: matches.get_one::<u64>("count").unwrap_or(USUAL_COUNT),
+    };
+    Ok(LabRequest::Film(record, span))
+}
+
 fn read_files<'a>(alloc: Global, matches: &ArgMatches<'a>) -> Result<Vec<&'a str>, AllocError> {
     Vec::from_slice(alloc, matches.get_strs("file").unwrap_or(&[]))
 }
@@ -272,10 +392,55 @@ fn read_trace<'a>(alloc: Global, matches: &ArgMatches<'a>) -> Result<Reading<'a>
     let Some(digits) = matches.get_str("boot") else {
         return Ok(Reading::Trace);
     };
-    let steps = matches.get_one::<u32>("steps").unwrap_or(USUAL_STEPS);
+    Ok(Reading::Boot(BootOptions {
+        code: read_code(alloc, digits)?,
+        steps: matches.get_one::<u32>("steps").unwrap_or(USUAL_STEPS),
+        until: read_until(matches)?,
+        inputs: read_inputs(alloc, matches)?,
+    }))
+}
+
+fn read_code(alloc: Global, digits: &str) -> Result<Vec<u8>, LabFailure> {
     match bytes_of(alloc, digits) {
-        Ok(code) if (2..=255).contains(&code.len()) => Ok(Reading::Boot(code, steps)),
+        Ok(code) if (2..=255).contains(&code.len()) => Ok(code),
+        Ok(code) => Err(LabFailure::Booted(code.len())),
         Err(HexFault::NoMemory) => Err(LabFailure::Memory),
-        _ => Err(LabFailure::Code),
+        Err(HexFault::NotHex) => Err(LabFailure::Code),
+    }
+}
+
+fn read_until(matches: &ArgMatches) -> Result<Option<u32>, LabFailure> {
+    match matches.get_str("until") {
+        Some(word) => match hexadecimal_word(word) {
+            Some(address) => Ok(Some(address)),
+            None => Err(LabFailure::Address),
+        },
+        None => Ok(None),
+    }
+}
+
+fn read_inputs(alloc: Global, matches: &ArgMatches) -> Result<Vec<LinkInput>, LabFailure> {
+    let mut inputs = Vec::new(alloc);
+    for word in matches.get_strs("input").unwrap_or(&[]) {
+        inputs.push(read_input(alloc, word)?)?;
+    }
+    Ok(inputs)
+}
+
+// A link and bytes, `1:0a0b`.
+fn read_input(alloc: Global, word: &str) -> Result<LinkInput, LabFailure> {
+    let (link, digits) = word.split_once(':').ok_or(LabFailure::Input)?;
+    let link = read_link(link).ok_or(LabFailure::Input)?;
+    match bytes_of(alloc, digits) {
+        Ok(bytes) => Ok(LinkInput { link, bytes }),
+        Err(HexFault::NoMemory) => Err(LabFailure::Memory),
+        Err(HexFault::NotHex) => Err(LabFailure::Input),
+    }
+}
+
+fn read_link(word: &str) -> Option<LinkNumber> {
+    match decimal_number(word) {
+        Some(number) if number < 4 => Some(link_of(number as u8)),
+        _ => None,
     }
 }

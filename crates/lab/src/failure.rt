@@ -4,7 +4,7 @@ use farm_causes::WhyFault;
 use farm_replay::ReplayFault;
 use node_trace::BootFault;
 use plan_views::PlanRefusal;
-use script_text::{NumberedLineFault, ReadFault, write_whole};
+use script_text::{NumberedLineFault, ReadFault, WrongLine, write_whole};
 use std::alloc::{AllocError, AllocFailed, Global};
 use std::fmt;
 use std::io::{self, Write};
@@ -18,13 +18,25 @@ pub enum LabFailure {
     Arguments,
     /// The words name no subcommand.
     Subcommand,
+    /// The words name a file, and this subcommand reads standard input.
+    FileName {
+        subcommand: &'static str,
+        file: String,
+    },
+    /// The code of `--boot` isn't hexadecimal digits.
     Code,
-    /// A plan is refused, with the number of its fault.
-    Plan(u8),
+    /// The code of `--boot` has so many bytes.
+    Booted(usize),
+    /// `--until` is no address.
+    Address,
+    /// `--input` is no link with bytes.
+    Input,
+    /// A plan of a text for replay is refused.
+    ReplayedPlan(ReplayFault),
     /// A plan is refused, with the place and the reason.
     RefusedPlan(PlanRefusal),
-    /// A line asks nothing that there is.
-    Line(u64),
+    /// A line has a mistake.
+    Line(WrongLine),
     /// A text is no record, or can't be followed.
     Record(WhyFault),
     /// A text is no program, or no digits.
@@ -35,8 +47,26 @@ pub enum LabFailure {
     Length(usize),
     /// So many bytes of code can't be poked.
     Poked(usize),
+    /// A file can't be read.
+    Unread,
+    /// What is told of a file, with its name, and the status.
+    OfFile {
+        text: String,
+        status: u8,
+    },
     Memory,
     Io,
+}
+
+// What is said of code that a boot can't take.
+fn write_length<W: fmt::Write>(f: &mut fmt::Formatter<W>, count: usize) -> fmt::Result {
+    write!(f, "the code has {count} bytes, and a boot takes 2 to 255")?;
+    if count > 255 {
+        f.write_str(
+            " (`lab assemble --pokes HOST USER` prints the lines of a script that load more)",
+        )?;
+    }
+    f.write_str("\n")
 }
 
 /// The text for standard error.
@@ -46,24 +76,38 @@ impl fmt::Display for LabFailure {
             LabFailure::Words(error) => write!(f, "{error}"),
             LabFailure::Arguments => f.write_str("error: an argument isn't UTF-8\n"),
             LabFailure::Subcommand => f.write_str("error: a subcommand is missing\n"),
-            LabFailure::Code => {
-                f.write_str("error: the code is not 2 to 255 bytes in hexadecimal digits\n")
+            LabFailure::FileName { subcommand, file } => write!(
+                f,
+                "error: lab {subcommand} reads standard input: lab {subcommand} < {file}\n"
+            ),
+            LabFailure::Code => f.write_str(
+                "error: the code is not hexadecimal digits, two for each byte (`lab assemble` prints them of a program)\n",
+            ),
+            LabFailure::Booted(count) => {
+                f.write_str("error: ")?;
+                write_length(f, *count)
             }
-            LabFailure::Plan(number) => write!(f, "plan: {number}\n"),
+            LabFailure::Address => f.write_str(
+                "error: --until takes an address, one to eight hexadecimal digits: --until 8000004c\n",
+            ),
+            LabFailure::Input => f.write_str(
+                "error: --input takes a link, 0 to 3, a colon and bytes in hexadecimal digits: --input 1:0a0b\n",
+            ),
+            LabFailure::ReplayedPlan(fault) => write!(f, "{fault}\n"),
             LabFailure::RefusedPlan(refusal) => write!(f, "{refusal}\n"),
-            LabFailure::Line(number) => write!(f, "line {number}\n"),
+            LabFailure::Line(wrong) => write!(f, "{wrong}\n"),
             LabFailure::Record(fault) => write!(f, "{fault}\n"),
             LabFailure::Text(fault) => write!(f, "{fault}\n"),
             LabFailure::Domain(domain) => write!(f, "the farm has no domain {domain}\n"),
-            LabFailure::Length(count) => {
-                write!(f, "the code has {count} bytes, and a boot takes 2 to 255\n")
-            }
+            LabFailure::Length(count) => write_length(f, *count),
             LabFailure::Poked(count) => {
                 write!(
                     f,
                     "the code has {count} bytes, and 1 to 65456 can be poked\n"
                 )
             }
+            LabFailure::Unread => f.write_str("it can't be read\n"),
+            LabFailure::OfFile { text, .. } => write!(f, "{text}"),
             LabFailure::Memory => f.write_str("memory\n"),
             LabFailure::Io => f.write_str("io\n"),
         }
@@ -79,11 +123,20 @@ impl LabFailure {
         }
     }
 
-    /// A file or a stream couldn't be read.
+    /// A file couldn't be read.
     pub fn of_input(error: &io::Error) -> LabFailure {
         match error.kind() {
             io::ErrorKind::OutOfMemory => LabFailure::Memory,
-            _ => LabFailure::Io,
+            _ => LabFailure::Unread,
+        }
+    }
+
+    /// The same, with the name of the file of which it is told.
+    pub fn in_file(self, alloc: Global, file: &str) -> LabFailure {
+        let status = self.status();
+        match format!(in alloc; "{file}: {self}") {
+            Ok(text) => LabFailure::OfFile { text, status },
+            Err(_) => LabFailure::Memory,
         }
     }
 
@@ -93,8 +146,12 @@ impl LabFailure {
             LabFailure::Words(_)
             | LabFailure::Arguments
             | LabFailure::Subcommand
-            | LabFailure::Code => 2,
-            LabFailure::Plan(_) | LabFailure::RefusedPlan(_) => 3,
+            | LabFailure::FileName { .. }
+            | LabFailure::Code
+            | LabFailure::Booted(_)
+            | LabFailure::Address
+            | LabFailure::Input => 2,
+            LabFailure::ReplayedPlan(_) | LabFailure::RefusedPlan(_) => 3,
             LabFailure::Record(WhyFault::Plan(_) | WhyFault::Domains(_)) => 3,
             LabFailure::Record(_)
             | LabFailure::Line(_)
@@ -102,8 +159,9 @@ impl LabFailure {
             | LabFailure::Domain(_)
             | LabFailure::Length(_)
             | LabFailure::Poked(_) => 4,
+            LabFailure::OfFile { status, .. } => *status,
             LabFailure::Memory => 5,
-            LabFailure::Io => 6,
+            LabFailure::Unread | LabFailure::Io => 6,
         }
     }
 
@@ -146,7 +204,7 @@ impl From<ReadFault> for LabFailure {
 impl From<NumberedLineFault> for LabFailure {
     fn from(fault: NumberedLineFault) -> LabFailure {
         match fault {
-            NumberedLineFault::Wrong(line) => LabFailure::Line(line),
+            NumberedLineFault::Wrong(wrong) => LabFailure::Line(wrong),
             NumberedLineFault::Memory(_) => LabFailure::Memory,
         }
     }
@@ -155,9 +213,9 @@ impl From<NumberedLineFault> for LabFailure {
 impl From<ReplayFault> for LabFailure {
     fn from(fault: ReplayFault) -> LabFailure {
         match fault {
-            ReplayFault::Plan(number) => LabFailure::Plan(number),
-            ReplayFault::Line(number) => LabFailure::Line(number),
+            ReplayFault::Line(wrong) => LabFailure::Line(wrong),
             ReplayFault::Memory(_) => LabFailure::Memory,
+            fault => LabFailure::ReplayedPlan(fault),
         }
     }
 }
@@ -193,7 +251,7 @@ impl From<TextFault> for LabFailure {
     fn from(fault: TextFault) -> LabFailure {
         match fault {
             TextFault::Memory(_) => LabFailure::Memory,
-            TextFault::Wrong(_, _) => LabFailure::Text(fault),
+            fault => LabFailure::Text(fault),
         }
     }
 }

@@ -4,6 +4,8 @@
 mod assembly;
 mod command_line;
 mod failure;
+mod film;
+mod mistakes;
 mod plans;
 mod reports;
 mod rows;
@@ -11,6 +13,7 @@ mod why;
 
 use crate::command_line::{LabRequest, read_words};
 use crate::failure::LabFailure;
+use crate::film::report_film;
 use crate::reports::{Report, report_of};
 use crate::rows::report_rows;
 use crate::why::report_why;
@@ -43,6 +46,7 @@ fn report(rt: &HostRuntime) -> Result<Report, LabFailure> {
         LabRequest::Help(text) => Ok(Report { text, status: 0 }),
         LabRequest::Rows(files) => report_rows(rt, files.as_slice()),
         LabRequest::Why(record, most) => report_why(rt, record, most),
+        LabRequest::Film(record, span) => report_film(rt, record, span),
         LabRequest::Read(reading) => {
             let text = read_whole(alloc, &mut rt.reader())?;
             report_of(alloc, &reading, text.as_slice())

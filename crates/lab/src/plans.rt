@@ -1,8 +1,18 @@
 //! Plans that stand in files, each with what the checker is to answer.
 
 use plan_views::{PlanRefusal, accepted};
-use script_text::{Answered, NumberedLineFault, Question, TextWriter, numbered_lines};
+use script_text::{
+    Answered, NumberedLineFault, Question, TextWriter, Wanted, WordForm, WordMistake, WordRole,
+    WrongLine, numbered_lines,
+};
 use std::alloc::{AllocError, Global};
+
+/// What stands before a text that is replaced.
+const REPLACE: &str = "replace: ";
+
+const CHANGES: Wanted = Wanted::Word(WordRole::Change, WordForm::OneOf(&["replace:"]));
+
+const REPLACEMENTS: Wanted = Wanted::Word(WordRole::Change, WordForm::OneOf(&["with:"]));
 
 // What a heading says: what is expected, and why, and whether the plan is the base of those that follow.
 #[derive(Clone, Copy)]
@@ -123,7 +133,7 @@ fn plan_of(
     lines: &[&str],
 ) -> Result<String, NumberedLineFault> {
     match lines.first() {
-        Some(line) if line.starts_with("replace: ") => changed_plan(alloc, base, number, lines),
+        Some(line) if line.starts_with(REPLACE) => changed_plan(alloc, base, number, lines),
         _ => Ok(joined(alloc, lines)?),
     }
 }
@@ -135,6 +145,13 @@ fn joined(alloc: Global, lines: &[&str]) -> Result<String, AllocError> {
         text.push("\n");
     }
     text.finish()
+}
+
+// What a change replaces, and the number of the line that says it.
+#[derive(Clone, Copy)]
+struct ReplacedText<'a> {
+    line: u64,
+    text: &'a str,
 }
 
 // The base after the changes of lines, before which stands the line of this number.
@@ -154,7 +171,7 @@ fn changed_plan(
         }
     }
     match old {
-        Some(_) => Err(NumberedLineFault::Wrong(number)),
+        Some(_) => Err(wrong_change(number.saturating_add(1), "", REPLACEMENTS)),
         None => Ok(plan),
     }
 }
@@ -163,18 +180,43 @@ fn changed_plan(
 fn change<'a>(
     alloc: Global,
     plan: &mut String,
-    old: Option<&str>,
+    old: Option<ReplacedText<'_>>,
     line: &'a str,
     number: u64,
-) -> Result<Option<&'a str>, NumberedLineFault> {
-    let wrong = NumberedLineFault::Wrong(number);
-    let Some(text) = old else {
-        return Ok(Some(line.strip_prefix("replace: ").ok_or(wrong)?));
+) -> Result<Option<ReplacedText<'a>>, NumberedLineFault> {
+    let Some(replaced) = old else {
+        return match line.strip_prefix(REPLACE) {
+            Some(text) => Ok(Some(ReplacedText { line: number, text })),
+            None => Err(wrong_change(number, line, CHANGES)),
+        };
     };
-    let new = line.strip_prefix("with:").ok_or(wrong)?;
+    let Some(new) = line.strip_prefix("with:") else {
+        return Err(wrong_change(number, line, REPLACEMENTS));
+    };
     let new = new.strip_prefix(" ").unwrap_or(new);
-    *plan = replaced_once(alloc, plan.as_str(), text, new)?.ok_or(wrong)?;
+    match replaced_once(alloc, plan.as_str(), replaced.text, new)? {
+        Some(changed) => *plan = changed,
+        None => return Err(not_once(replaced)),
+    }
     Ok(None)
+}
+
+// A line of a change isn't what is wanted.
+fn wrong_change(number: u64, line: &str, wanted: Wanted) -> NumberedLineFault {
+    NumberedLineFault::Wrong(WrongLine {
+        line: number,
+        mistake: WordMistake::of_text(1, line, wanted),
+    })
+}
+
+// What is to be replaced doesn't stand once in the plan.
+fn not_once(replaced: ReplacedText) -> NumberedLineFault {
+    let wanted = Wanted::Word(WordRole::Replaced, WordForm::Once);
+    let column = (REPLACE.len() as u64).saturating_add(1);
+    NumberedLineFault::Wrong(WrongLine {
+        line: replaced.line,
+        mistake: WordMistake::of_text(column, replaced.text, wanted),
+    })
 }
 
 // The plan with `new` in the place of `old`, if that stands in it exactly once.

@@ -1,10 +1,10 @@
 //! What goes to standard output.
 
 use crate::assembly::{print_assembled, print_disassembled};
-use crate::command_line::Reading;
+use crate::command_line::{BootOptions, Reading};
 use crate::failure::LabFailure;
 use farm_replay::{Replayed, replay};
-use node_trace::{trace, trace_boot};
+use node_trace::{BootTrace, trace, trace_boot};
 use plan_views::{accepted, draw, draw_network, table_of};
 use script_text::{Answered, TextWriter, divide};
 use std::alloc::{AllocError, Global};
@@ -28,7 +28,7 @@ fn print_reading(alloc: Global, reading: &Reading, text: &[u8]) -> Result<String
         Reading::Plan => print_plan(alloc, text),
         Reading::Draw(domain) => print_drawing(alloc, text, *domain),
         Reading::Trace => print_traced(alloc, text),
-        Reading::Boot(code, steps) => Ok(trace_boot(alloc, code.as_slice(), u64::from(*steps))?),
+        Reading::Boot(options) => print_booted(alloc, options),
         Reading::Assemble(options) => print_assembled(alloc, *options, text),
         Reading::Disassemble => print_disassembled(alloc, text),
     }
@@ -42,6 +42,16 @@ fn print_replayed(alloc: Global, text: &[u8]) -> Result<String, LabFailure> {
 fn print_traced(alloc: Global, text: &[u8]) -> Result<String, LabFailure> {
     let answers = trace(alloc, text)?;
     Ok(print_answers(alloc, answers.as_slice())?)
+}
+
+fn print_booted(alloc: Global, options: &BootOptions) -> Result<String, LabFailure> {
+    let trace = BootTrace {
+        code: options.code.as_slice(),
+        steps: u64::from(options.steps),
+        until: options.until,
+        inputs: options.inputs.as_slice(),
+    };
+    Ok(trace_boot(alloc, &trace)?)
 }
 
 // The plan of a text as a table.

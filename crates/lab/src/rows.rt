@@ -2,6 +2,7 @@
 
 use crate::assembly::try_programs;
 use crate::failure::LabFailure;
+use crate::mistakes::try_lines;
 use crate::plans::try_plans;
 use crate::reports::Report;
 use farm_replay::{Replayed, replay};
@@ -26,12 +27,13 @@ pub fn report_rows(rt: &HostRuntime, files: &[&str]) -> Result<Report, LabFailur
 
 // Compares the rows of a file, and tells whether there are rows and all are right.
 fn report_file(rt: &HostRuntime, file: &str, text: &mut TextWriter) -> Result<bool, LabFailure> {
+    let alloc = rt.alloc();
     match fs::read(rt, file) {
-        Ok(bytes) => {
-            let answers = answer_rows(rt.alloc(), file, bytes.as_slice())?;
-            Ok(compare(text, file, answers.as_slice()))
-        }
-        Err(error) => Err(LabFailure::of_input(&error)),
+        Ok(bytes) => match answer_rows(alloc, file, bytes.as_slice()) {
+            Ok(answers) => Ok(compare(text, file, answers.as_slice())),
+            Err(failure) => Err(failure.in_file(alloc, file)),
+        },
+        Err(error) => Err(LabFailure::of_input(&error).in_file(alloc, file)),
     }
 }
 
@@ -48,6 +50,8 @@ fn answer_rows<'a>(
         Ok(try_plans(alloc, text)?)
     } else if file.ends_with(".assembly") {
         try_programs(alloc, text)
+    } else if file.ends_with(".mistakes") {
+        try_lines(alloc, text)
     } else {
         Ok(trace(alloc, text)?)
     }

@@ -12,6 +12,6 @@ pub fn report_why(rt: &HostRuntime, record: &str, most: u64) -> Result<Report, L
             text: explain_record(rt.alloc(), bytes.as_slice(), most)?,
             status: 0,
         }),
-        Err(error) => Err(LabFailure::of_input(&error)),
+        Err(error) => Err(LabFailure::of_input(&error).in_file(rt.alloc(), record)),
     }
 }

@@ -6,7 +6,7 @@ use crate::frame::{Frame, HostFrame, NodeFrame};
 use answer_text::write_seen;
 use bootstrap::{Cpu, NodeState, Seen};
 use crossbar::Word;
-use domain_core::Moment;
+use farm_causes::Follower;
 use script_text::TextWriter;
 use serde::Serialize;
 use std::alloc::Global;
@@ -145,7 +145,7 @@ fn look_change(
 fn node_change(
     alloc: Global,
     known: &mut KnownCode,
-    moment: &Moment,
+    follower: &Follower,
     number: u8,
     old: Option<NodeFrame>,
     new: NodeFrame,
@@ -158,7 +158,7 @@ fn node_change(
             Some(registers) => register_change(registers_of(old), registers),
             None => None,
         },
-        code: match (running, moment.node(number)) {
+        code: match (running, follower.node(number)) {
             (Some(registers), Some(node)) => {
                 known.tell(alloc, number, node.memory(), registers.instruction)?
             }
@@ -239,7 +239,7 @@ fn word_changes(alloc: Global, old: &[Word], new: &[Word]) -> Result<Vec<Changed
 fn node_changes(
     alloc: Global,
     known: &mut KnownCode,
-    moment: &Moment,
+    follower: &Follower,
     old: Option<&Frame>,
     new: &Frame,
 ) -> Result<Vec<ChangedNode>, NoMemory> {
@@ -247,7 +247,7 @@ fn node_changes(
     for number in 0u8..8 {
         let before = old.and_then(|it| it.nodes[usize::from(number)]);
         if let Some(node) = new.nodes[usize::from(number)] {
-            if let Some(change) = node_change(alloc, known, moment, number, before, node)? {
+            if let Some(change) = node_change(alloc, known, follower, number, before, node)? {
                 changes.push(change)?;
             }
         }
@@ -279,7 +279,7 @@ fn host_changes(
 pub fn changes_of(
     alloc: Global,
     known: &mut KnownCode,
-    moment: &Moment,
+    follower: &Follower,
     old: Option<&Frame>,
     new: &Frame,
 ) -> Result<FrameChanges, NoMemory> {
@@ -290,7 +290,7 @@ pub fn changes_of(
     Ok(FrameChanges {
         recorded: new.recorded,
         words: word_changes(alloc, words, new.words.as_slice())?,
-        nodes: node_changes(alloc, known, moment, old, new)?,
+        nodes: node_changes(alloc, known, follower, old, new)?,
         hosts: host_changes(alloc, old, new)?,
     })
 }

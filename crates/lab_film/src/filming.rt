@@ -1,244 +1,261 @@
-//! A record becomes a page.
-ghost use Rattle.std.specs.Prelude.{◌<◌, ◌≤◌, length};
+//! A record becomes a film.
+ghost use Rattle.std.specs.Prelude.{◌≡◌, length};
 
-use crate::NoMemory;
 use crate::changes::{FrameChanges, changes_of};
 use crate::code::KnownCode;
-use crate::fault::FilmFault;
 use crate::frame::{Frame, frame_of};
 use crate::plan::plan_told;
-use crate::shot::{FilmedCall, Shot, do_line, read_call, shot_of};
-use answer_text::write_event;
-use bootstrap::Packet;
-use domain_core::{By, Event, Moment};
-use plan_checker::{AcceptedPlan, check, read_plan};
-use script_text::{Question, TextWriter, divide, read_questions};
-use serde::Serialize;
+use crate::shot::{Shot, shot_of};
+use crate::steps::{check_steps, next_steps, part_of_line};
+use crate::told::{LineFrames, json_text, line_told};
+use farm_causes::{FollowFault, Follower, RecordedLine, WhyFault, read_record};
+use plan_checker::AcceptedPlan;
+use script_text::TextWriter;
 use std::alloc::Global;
 
-/// How many lines of a record are shown at most unless it is said.
+/// How many frames a film has at most unless it is said.
 pub const USUAL_COUNT: u64 = 100_000;
 
-/// What divides a plan from the lines of its record.
-const AFTER_THE_PLAN: &[u8] = b"---";
-
-/// Which lines of a record are shown.
+/// Which part of a record is shown.
 #[derive(Clone, Copy, Debug, PartialEq, Eq)]
 pub struct Span {
-    /// How many lines are done before the first that is shown.
+    /// How many events are done before the first frame.
     pub from: u64,
-    /// How many are shown at most.
+    /// How many frames follow it at most.
     pub count: u64,
 }
 
-/// A packet that a Move found. It is an acknowledge if it has no byte.
-#[derive(Drop, Serialize)]
-struct PacketTold {
-    #[serde(skip_serializing_if = "Option::is_none")]
-    byte: Option<u8>,
-    /// The outputs that its port drove, as a mask.
-    drives: u32,
+// Where a film begins: behind so many lines, and so many events of the next one.
+#[derive(Clone, Copy)]
+struct Beginning {
+    lines: usize,
+    events: u64,
 }
 
-/// What is told of an event, or of Steps that stand together.
-#[derive(Drop, Serialize)]
-struct EventTold {
-    line: u64,
-    #[serde(skip_serializing_if = "Option::is_none")]
-    times: Option<u64>,
-    /// The user who asked, or none if the farm did.
-    #[serde(skip_serializing_if = "Option::is_none")]
-    user: Option<u8>,
-    asks: String,
-    answer: String,
-    #[serde(skip_serializing_if = "Option::is_none")]
-    packet: Option<PacketTold>,
-    then: FrameChanges,
-}
-
-// A domain that does the lines of its record, what is known of its memories, and the frame that was told last.
+// A domain that does the lines of its record, what is known of its memories, the frame that was told last, and how many frames
+// may still follow.
 #[derive(Drop)]
 struct Filming {
     alloc: Global,
-    moment: Moment,
+    follower: Follower,
     known: KnownCode,
     last: Frame,
-}
-
-fn packet_told(shot: &Shot) -> Option<PacketTold> {
-    let found = shot.found?;
-    Some(PacketTold {
-        byte: match found.packet {
-            Packet::Byte(byte) => Some(byte),
-            Packet::Ack => None,
-        },
-        drives: found.drives,
-    })
-}
-
-fn asked_text(alloc: Global, event: Event) -> Result<String, NoMemory> {
-    let mut text = String::new(alloc);
-    write_event(&mut text, event)?;
-    Ok(text)
-}
-
-// What is told of a call that was done.
-fn event_told(
-    alloc: Global,
-    call: FilmedCall,
-    shot: &Shot,
-    then: FrameChanges,
-) -> Result<EventTold, NoMemory> {
-    Ok(EventTold {
-        line: call.line,
-        times: if call.times > 1 {
-            Some(call.times)
-        } else {
-            None
-        },
-        user: match call.by {
-            By::User(user) => Some(user),
-            By::Farm => None,
-        },
-        asks: asked_text(alloc, call.event)?,
-        answer: shot.answer.clone()?,
-        packet: packet_told(shot),
-        then,
-    })
+    left: u64,
 }
 
 impl Filming {
-    // Does a line, and writes what it changed.
-    fn show_line(&mut self, text: &mut TextWriter, question: &Question) -> Result<(), FilmFault> {
-        let alloc = self.alloc;
-        let call = read_call(alloc, question)?;
-        let shot = shot_of(alloc, &mut self.moment, question, call)?;
-        let then = changes_of(
-            alloc,
+    // What changed since the frame that was told last.
+    fn turn_to(&mut self, frame: Frame) -> Result<FrameChanges, FollowFault> {
+        let changes = changes_of(
+            self.alloc,
             &mut self.known,
-            &self.moment,
+            &self.follower,
             Some(&self.last),
-            &shot.frame,
+            &frame,
         )?;
-        let told = event_told(alloc, call, &shot, then)?;
-        text.push(serde_json::to_string(alloc, &told)?.as_str());
-        let Shot { frame, .. } = shot;
         self.last = frame;
+        self.left = self.left.saturating_sub(1);
+        Ok(changes)
+    }
+
+    // Does so many Steps of a line, or the event that it asks.
+    fn show_part(
+        &mut self,
+        line: &RecordedLine,
+        steps: u64,
+        frames: &mut LineFrames,
+    ) -> Result<(), FollowFault> {
+        let part = part_of_line(line, steps);
+        let Shot {
+            reply,
+            found,
+            frame,
+        } = shot_of(self.alloc, &mut self.follower, &part)?;
+        frames.found = found;
+        frames.reply = Some(reply);
+        let changes = self.turn_to(frame)?;
+        frames.then.push(changes)?;
         Ok(())
     }
-}
 
-// What of a record is shown, and whether it goes on.
-#[derive(Clone, Copy)]
-struct FilmedLines<'a> {
-    before: &'a [Question<'a>],
-    lines: &'a [Question<'a>],
-    goes_on: bool,
-}
+    // The frames of a line, as many as may follow. So many of its Steps are done already. Whether all of it is shown is told too.
+    fn frames_of(
+        &mut self,
+        line: &RecordedLine,
+        done: u64,
+    ) -> Result<(LineFrames, bool), FollowFault> {
+        check_steps(self.alloc, line)?;
+        let times = line.call.times.saturating_sub(done);
+        let mut frames = LineFrames {
+            found: None,
+            reply: None,
+            then: Vec::new(self.alloc),
+        };
+        let mut shown: u64 = 0;
+        for _ in 0..self.left {
+            if shown >= times {
+                break;
+            }
+            let steps = next_steps(shown, times);
+            self.show_part(line, steps, &mut frames)?;
+            shown += steps;
+        }
+        Ok((frames, shown >= times))
+    }
 
-// The lines of a span, and those before it.
-fn select_lines<'a>(questions: &'a [Question<'a>], span: Span) -> FilmedLines<'a> {
-    let from = at_most(span.from, questions.len());
-    let (before, behind) = questions.split_at(from);
-    let count = at_most(span.count, behind.len());
-    let (lines, rest) = behind.split_at(count);
-    FilmedLines {
-        before,
-        lines,
-        goes_on: !rest.is_empty(),
+    // Writes the frames of a line, and tells whether all of it is shown.
+    fn show_line(
+        &mut self,
+        line: &RecordedLine,
+        done: u64,
+        text: &mut TextWriter,
+    ) -> Result<bool, FollowFault> {
+        let alloc = self.alloc;
+        let (frames, is_whole) = self.frames_of(line, done)?;
+        let told = line_told(alloc, line, done, frames)?;
+        text.push(json_text(serde_json::to_string(alloc, &told))?.as_str());
+        Ok(is_whole)
     }
 }
 
-// A number, or how many there are if that is less.
-fn at_most(number: u64, there: usize) -> usize
-    ensures { result ≤ there }
-{
-    if number < there as u64 {
-        number as usize
-    } else {
-        there
+// Where the film begins that is to begin behind so many events.
+fn beginning_of(lines: &[RecordedLine], from: u64) -> Beginning {
+    let mut left = from;
+    for (place, line) in lines.iter().enumerate() {
+        if left < line.call.times {
+            return Beginning {
+                lines: place,
+                events: left,
+            };
+        }
+        left = left.saturating_sub(line.call.times);
+    }
+    Beginning {
+        lines: lines.len(),
+        events: 0,
     }
 }
 
-// The domain after the lines before the first that is shown, and what is told of it.
-fn begin(
+// The domain where the film begins.
+fn follow_to(
     alloc: Global,
     plan: &AcceptedPlan,
-    before: &[Question],
-    text: &mut TextWriter,
-) -> Result<Filming, FilmFault>
-    requires { 0 < length plan.now }
+    lines: &[RecordedLine],
+    start: Beginning,
+) -> Result<Follower, WhyFault>
+    requires { length plan.now ≡ 1 }
 {
-    let mut moment = Moment::open(alloc, plan, 0)?;
-    for question in before {
-        do_line(alloc, &mut moment, question)?;
+    let mut follower = Follower::open(alloc, plan, 0)?;
+    for line in lines.iter().take(start.lines) {
+        at_line(line, follower.follow(line))?;
     }
-    let mut known = KnownCode::none(alloc, moment.part().nodes().len())?;
-    let last = frame_of(alloc, &mut moment)?;
-    let first = changes_of(alloc, &mut known, &moment, None, &last)?;
-    text.push(serde_json::to_string(alloc, &first)?.as_str());
+    if let Some(line) = lines.get(start.lines) {
+        if start.events > 0 {
+            at_line(line, check_steps(alloc, line))?;
+            at_line(line, follower.follow(&part_of_line(line, start.events)))?;
+        }
+    }
+    Ok(follower)
+}
+
+// A fault with the line at which it came.
+fn at_line<T>(line: &RecordedLine, done: Result<T, FollowFault>) -> Result<T, WhyFault> {
+    match done {
+        Ok(value) => Ok(value),
+        Err(fault) => Err(WhyFault::of_line(line.number, fault)),
+    }
+}
+
+// Writes the first frame.
+fn begin(
+    alloc: Global,
+    follower: Follower,
+    most: u64,
+    text: &mut TextWriter,
+) -> Result<Filming, WhyFault> {
+    let mut follower = follower;
+    let mut known = KnownCode::none(alloc, follower.part().nodes().len())?;
+    let last = frame_of(alloc, &mut follower)?;
+    let first = changes_of(alloc, &mut known, &follower, None, &last)?;
+    text.push(json_text(serde_json::to_string(alloc, &first))?.as_str());
     Ok(Filming {
         alloc,
-        moment,
+        follower,
         known,
         last,
+        left: most,
     })
 }
 
-// Writes what each line changes, a line each.
+// Writes lines with their frames, and tells whether more follows.
 fn show_lines(
     filming: &mut Filming,
-    lines: &[Question],
+    lines: &[RecordedLine],
+    start: Beginning,
     text: &mut TextWriter,
-) -> Result<(), FilmFault> {
-    for (place, question) in lines.iter().enumerate() {
+) -> Result<bool, WhyFault> {
+    let mut done = start.events;
+    for (place, line) in lines.iter().skip(start.lines).enumerate() {
+        if filming.left == 0 {
+            return Ok(true);
+        }
         text.push(if place == 0 { "\n" } else { ",\n" });
-        filming.show_line(text, question)?;
+        if !at_line(line, filming.show_line(line, done, text))? {
+            return Ok(true);
+        }
+        done = 0;
     }
+    Ok(false)
+}
+
+// Writes the frames of a span.
+fn show_span(
+    alloc: Global,
+    plan: &AcceptedPlan,
+    lines: &[RecordedLine],
+    span: Span,
+    text: &mut TextWriter,
+) -> Result<(), WhyFault>
+    requires { length plan.now ≡ 1 }
+{
+    let start = beginning_of(lines, span.from);
+    let follower = follow_to(alloc, plan, lines, start)?;
+    text.push(",\"first\":");
+    let mut filming = begin(alloc, follower, span.count, text)?;
+    text.push(",\"lines\":[");
+    let goes_on = show_lines(&mut filming, lines, start, text)?;
+    text.push(if goes_on {
+        "\n],\"goes_on\":true}"
+    } else {
+        "\n],\"goes_on\":false}"
+    });
     Ok(())
 }
 
-// What a record shows, in JSON.
-fn film_text(alloc: Global, plan: &AcceptedPlan, shown: FilmedLines) -> Result<String, FilmFault>
-    requires { 0 < length plan.now }
-{
-    let mut text = TextWriter::new(alloc);
-    text.push("{\"plan\":");
-    text.push(serde_json::to_string(alloc, &plan_told(alloc, plan)?)?.as_str());
-    text.push(",\"from\":");
-    text.push_decimal(shown.before.len() as u64);
-    text.push(if shown.goes_on {
-        ",\"goes_on\":true"
-    } else {
-        ",\"goes_on\":false"
-    });
-    text.push(",\"first\":");
-    let mut filming = begin(alloc, plan, shown.before, &mut text)?;
-    text.push(",\"events\":[");
-    show_lines(&mut filming, shown.lines, &mut text)?;
-    text.push("\n]}");
-    Ok(text.finish()?)
-}
-
-// How many line feeds a text has, and one more.
-fn lines_with_mark(text: &[u8]) -> u64 {
-    let lines = text.iter().filter(|byte| **byte == b'\n').count() as u64;
-    lines.saturating_add(1)
-}
-
-/// The events of a record in JSON, which the page shows: the plan of its domain, the domain before the first line that is shown, and
-/// what each line of the span changes. What a line changes is told by frames of the moments before and after it.
+/// A record in JSON, which the page shows: the plan of its domain, the domain where the film begins, and for each line of the span
+/// what it asks, what it is answered, and what it changes. Each Step is a frame of its own, but for those in the middle of a line of
+/// more than 1,000. What changes is told by the frames of the moments before and after it (`shot_of`).
 ///
 /// # Errors
 ///
-/// `Plan` if the plan is refused; `Line` with the number of the first line that isn't one of a record, or that the domain answers
-/// otherwise; `Memory`.
-pub fn film_of(alloc: Global, text: &[u8], span: Span) -> Result<String, FilmFault> {
-    let (plan_text, rest) = divide(text, AFTER_THE_PLAN);
-    let plan = check(alloc, read_plan(alloc, plan_text)?)?;
-    let questions = read_questions(alloc, rest, lines_with_mark(plan_text))?;
-    if plan.domains() == 0 {
-        return Err(FilmFault::Line(1));
-    }
-    film_text(alloc, &plan, select_lines(questions.as_slice(), span))
+/// Those of `read_record`; `Line` with the first line that the domain refuses, doesn't record or answers otherwise.
+pub fn film_of(alloc: Global, text: &[u8], span: Span) -> Result<String, WhyFault> {
+    let record = read_record(alloc, text, u64::MAX)?;
+    let mut film = TextWriter::new(alloc);
+    film.push("{\"plan\":");
+    let plan = plan_told(alloc, &record.plan)?;
+    film.push(json_text(serde_json::to_string(alloc, &plan))?.as_str());
+    film.push(if record.is_cut {
+        ",\"is_cut\":true"
+    } else {
+        ",\"is_cut\":false"
+    });
+    show_span(
+        alloc,
+        &record.plan,
+        record.lines.as_slice(),
+        span,
+        &mut film,
+    )?;
+    Ok(film.finish()?)
 }

@@ -6,7 +6,8 @@ ghost use Rattle.lab_film.specs.Frames.{Shows, ShowsHost, ShowsHostOf, ShowsHost
 use crate::NoMemory;
 use bootstrap::{Node, NodeState, Seen};
 use crossbar::Word;
-use domain_core::{Host, Moment};
+use domain_core::Host;
+use farm_causes::Follower;
 use std::alloc::Global;
 use std::collections::VecDeque;
 
@@ -62,10 +63,10 @@ fn frame_of_host(alloc: Global, host: &Host) -> Result<HostFrame, NoMemory>
 }
 
 // The host of this number, if there is one.
-fn host_at(alloc: Global, moment: &Moment, number: u8) -> Result<Option<HostFrame>, NoMemory>
-    ensures { IfOk result (ShowsHostOf (slice_get moment.now.machine.devices.hosts number)) }
+fn host_at(alloc: Global, follower: &Follower, number: u8) -> Result<Option<HostFrame>, NoMemory>
+    ensures { IfOk result (ShowsHostOf (slice_get follower.now.machine.devices.hosts number)) }
 {
-    match moment.host(number) {
+    match follower.host(number) {
         Some(host) => Ok(Some(frame_of_host(alloc, host)?)),
         None => Ok(None),
     }
@@ -81,10 +82,10 @@ fn frame_of_node(node: &Node) -> NodeFrame
 }
 
 // The node of this number, if there is one.
-fn node_at(moment: &Moment, number: u8) -> Option<NodeFrame>
-    ensures { result ≡ node_told moment.now number }
+fn node_at(follower: &Follower, number: u8) -> Option<NodeFrame>
+    ensures { result ≡ node_told follower.now number }
 {
-    match moment.node(number) {
+    match follower.node(number) {
         Some(node) => Some(frame_of_node(node)),
         None => None,
     }
@@ -92,40 +93,40 @@ fn node_at(moment: &Moment, number: u8) -> Option<NodeFrame>
 
 // The switch words of the outputs.
 #[tactic(auto, using(crate::proofs::Words::next_word))]
-fn words_of(alloc: Global, moment: &mut Moment) -> Result<Vec<Word>, NoMemory>
-    ensures words { IfOk result (λ words. words.items ≡ take moment.old.machine.part.count moment.old.machine.switch.words) }
-    ensures unchanged { moment.new ≡ moment.old }
+fn words_of(alloc: Global, follower: &mut Follower) -> Result<Vec<Word>, NoMemory>
+    ensures words { IfOk result (λ words. words.items ≡ take follower.old.machine.part.count follower.old.machine.switch.words) }
+    ensures unchanged { follower.new ≡ follower.old }
 {
     let mut words = Vec::new(alloc);
-    for output in 0..moment.part().count() {
-        words.push(moment.word(output))?;
+    for output in 0..follower.part().count() {
+        words.push(follower.word(output))?;
     }
     Ok(words)
 }
 
-fn hosts_of(alloc: Global, moment: &Moment) -> Result<[Option<HostFrame>; 4], NoMemory>
-    ensures { IfOk result (ShowsHosts moment.now 0) }
+fn hosts_of(alloc: Global, follower: &Follower) -> Result<[Option<HostFrame>; 4], NoMemory>
+    ensures { IfOk result (ShowsHosts follower.now 0) }
 {
     Ok([
-        host_at(alloc, moment, 0)?,
-        host_at(alloc, moment, 1)?,
-        host_at(alloc, moment, 2)?,
-        host_at(alloc, moment, 3)?,
+        host_at(alloc, follower, 0)?,
+        host_at(alloc, follower, 1)?,
+        host_at(alloc, follower, 2)?,
+        host_at(alloc, follower, 3)?,
     ])
 }
 
-fn nodes_of(moment: &Moment) -> [Option<NodeFrame>; 8]
-    ensures { result ≡ map (node_told moment.now) (0 ∷ 1 ∷ 2 ∷ 3 ∷ 4 ∷ 5 ∷ 6 ∷ 7 ∷ []) }
+fn nodes_of(follower: &Follower) -> [Option<NodeFrame>; 8]
+    ensures { result ≡ map (node_told follower.now) (0 ∷ 1 ∷ 2 ∷ 3 ∷ 4 ∷ 5 ∷ 6 ∷ 7 ∷ []) }
 {
     [
-        node_at(moment, 0),
-        node_at(moment, 1),
-        node_at(moment, 2),
-        node_at(moment, 3),
-        node_at(moment, 4),
-        node_at(moment, 5),
-        node_at(moment, 6),
-        node_at(moment, 7),
+        node_at(follower, 0),
+        node_at(follower, 1),
+        node_at(follower, 2),
+        node_at(follower, 3),
+        node_at(follower, 4),
+        node_at(follower, 5),
+        node_at(follower, 6),
+        node_at(follower, 7),
     ]
 }
 
@@ -134,14 +135,14 @@ fn nodes_of(moment: &Moment) -> [Option<NodeFrame>; 8]
 /// # Errors
 ///
 /// `NoMemory` where the words or the queues can't be copied.
-pub fn frame_of(alloc: Global, moment: &mut Moment) -> Result<Frame, NoMemory>
-    ensures shows { IfOk result (Shows moment.old) }
-    ensures unchanged { moment.new ≡ moment.old }
+pub fn frame_of(alloc: Global, follower: &mut Follower) -> Result<Frame, NoMemory>
+    ensures shows { IfOk result (Shows follower.old) }
+    ensures unchanged { follower.new ≡ follower.old }
 {
     Ok(Frame {
-        recorded: moment.recorded(),
-        words: words_of(alloc, moment)?,
-        nodes: nodes_of(moment),
-        hosts: hosts_of(alloc, moment)?,
+        recorded: follower.recorded(),
+        words: words_of(alloc, follower)?,
+        nodes: nodes_of(follower),
+        hosts: hosts_of(alloc, follower)?,
     })
 }

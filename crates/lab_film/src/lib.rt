@@ -3,17 +3,19 @@
 
 mod changes;
 mod code;
-mod fault;
+mod drawing;
 mod filming;
 mod frame;
 mod page;
 mod plan;
 mod script;
 mod shot;
+mod steps;
+mod style;
+mod told;
 
-pub use fault::FilmFault;
 pub use filming::{Span, USUAL_COUNT, film_of};
 pub use frame::{Frame, HostFrame, NodeFrame, frame_of};
 pub use page::page_of;
-pub use shot::{FilmedCall, Shot, read_call, shot_of};
+pub use shot::{FoundPacket, Shot, shot_of};
 pub use std::alloc::AllocError as NoMemory;

@@ -1,11 +1,12 @@
 -- What the lines of a domain's users do to their sessions, and how they are answered.
-use Rattle.std.specs.Prelude.{string_bytes, ◌≡◌, ℕ, Bool, true, false, List, [], Some, length, map, slice_get, slice_set, codes, if◌then◌else◌}
+use Rattle.std.specs.Prelude.{string_bytes, ◌≡◌, ◌≤◌, ◌⊎◌, ℕ, Bool, true, false, List, [], Option, Some, None, IfSome, length, map, slice_get, slice_set, codes, if◌then◌else◌}
 use Rattle.std.specs.Borrow.{Bor}
 use Rattle.farm_service.specs.Passes.{SessionValue}
 use Rattle.script_lines.specs.declared.command.Command.{Command}
 use Rattle.line_answers.specs.Sessions.{IsAnswered}
 use Rattle.script_lines.specs.declared.fault.LineFault.TheVariants as fault
 use Rattle.farm_service.specs.Restarts.{begun_anew}
+use Rattle.live_farm.specs.declared.asked.WholeRequest.TheVariants as whole
 use Rattle.live_farm.specs.declared.asked.LiveRequest.TheVariants as request
 use Rattle.live_farm.specs.declared.group.DomainUsers.{DomainUsers}
 use Rattle.live_farm.specs.declared.letter.Letter.{Letter}
@@ -14,8 +15,7 @@ use Rattle.live_farm.specs.declared.letter.Matter.TheVariants as matter
 use Rattle.live_farm.specs.declared.texts.LiveAnswer.{LiveAnswer}
 use Rattle.live_farm.specs.declared.texts.Why.{Why}
 use Rattle.live_farm.specs.declared.texts.Why.TheVariants as why
-use Rattle.live_farm.specs.declared.verbs.DomainVerb.TheVariants as verb
-use Rattle.live_farm.specs.LiveTexts.{error_text, rest_text, restart_text, operator_restart_text}
+use Rattle.live_farm.specs.LiveTexts.{error_text, rest_text, restart_text, why_text, no_node_text, operator_restart_text}
 
 -- a line of this user is answered by this text: his session gains what the line asked, and no other session changes
 pub record AnswersLine (before after : DomainUsers) (user : ℕ) (command : Command) (text : List ℕ) : Type 0 where
@@ -55,6 +55,19 @@ AnswersRestart before after user done text =
     (name : Bor (List ℕ)) × IsNamedSo before user name × (text ≡ restart_text name.now done) × BeginsIf done before after
     × (done ≡ true → length before.sessions.items ≡ 1)
 
+-- the domain has no node of the number that is asked for
+abbrev pub LacksNode : DomainUsers → Option ℕ → List ℕ → List ℕ → Type 0
+LacksNode group None name text = ⊥
+LacksNode group (Some node) name text =
+    IfSome (slice_get group.service.now.plan group.domain) (λ d. length d.nodes ≤ node) × (text ≡ no_node_text name node)
+
+-- a user is told why the nodes of his domain, or one of them, do no more than they do: in lines of which each begins with his name, and of which the
+-- last says that it is the end; or that there is no such node; or, by the number of his line, that what the domain answered can't be done again
+abbrev pub AnswersWhy : DomainUsers → ℕ → ℕ → Option ℕ → List ℕ → Type 0
+AnswersWhy group user number node text =
+    (name : Bor (List ℕ)) × IsNamedSo group user name
+    × (((told : List ℕ) × (text ≡ why_text name.now told)) ⊎ (LacksNode group node name.now text ⊎ (text ≡ error_text name.now number why.Journal)))
+
 -- the domain of a user begins anew, as the operator asked in the line of this number; or nothing changes, and he is told so
 abbrev pub AnswersOperator : DomainUsers → DomainUsers → ℕ → ℕ → Bool → List ℕ → Type 0
 AnswersOperator before after user number done text =
@@ -69,9 +82,11 @@ AnswersWrong before after user number w text =
 -- what a line is answered, and whether the domain begins anew thereby
 abbrev pub AnswersMatter : DomainUsers → DomainUsers → ℕ → ℕ → Matter → Bool → List ℕ → Type 0
 AnswersMatter before after user number (matter.Asked (request.Script command)) anew text = AnswersLine before after user command text × (anew ≡ false)
-AnswersMatter before after user number (matter.Asked (request.Domain verb.Rest)) anew text =
+AnswersMatter before after user number (matter.Asked (request.Domain whole.Rest)) anew text =
     AnswersRest before user text × AllStay before after × (anew ≡ false)
-AnswersMatter before after user number (matter.Asked (request.Domain verb.Restart)) anew text = AnswersRestart before after user anew text
+AnswersMatter before after user number (matter.Asked (request.Domain whole.Restart)) anew text = AnswersRestart before after user anew text
+AnswersMatter before after user number (matter.Asked (request.Domain (whole.Why node))) anew text =
+    AnswersWhy before user number node text × AllStay before after × (anew ≡ false)
 AnswersMatter before after user number (matter.Wrong w) anew text = AnswersWrong before after user number w text × (anew ≡ false)
 AnswersMatter before after user number matter.OperatorRestart anew text = AnswersOperator before after user number anew text
 

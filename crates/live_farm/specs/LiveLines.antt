@@ -1,10 +1,12 @@
--- A line of a farm that stays up: a line of a script, `USER rest` or `USER restart`; or one of the operator, who begins with `!`: `!words`, `!users`,
--- `!restart USER` or `!stop`.
-use Rattle.std.specs.Prelude.{◌≡◌, ◌==◌, ◌⊎◌, ℕ, Bool, true, false, List, [], ◌∷◌, ⊤}
+-- A line of a farm that stays up: a line of a script, `USER rest`, `USER restart`, `USER why` or `USER why NODE`; or one of the operator, who begins
+-- with `!`: `!words`, `!users`, `!restart USER` or `!stop`.
+use Rattle.std.specs.Prelude.{◌≡◌, ◌==◌, ◌⊎◌, ℕ, Bool, true, false, List, [], ◌∷◌, Some, None, ⊤}
 use Rattle.script_lines.specs.declared.fault.LineFault.{LineFault}
 use Rattle.script_lines.specs.declared.fault.LineFault.TheVariants as fault
-use Rattle.script_lines.specs.Words.{words_in}
-use Rattle.script_lines.specs.Lines.{BeginsWith, IsUserName, IsRequest, IsRestFault}
+use Rattle.script_lines.specs.Words.{words_in, IsDecimal}
+use Rattle.script_lines.specs.Lines.{BeginsWith, IsUserName, IsPlaceNumber, IsRequest, IsRestFault}
+use Rattle.live_farm.specs.declared.asked.WholeRequest.{WholeRequest}
+use Rattle.live_farm.specs.declared.asked.WholeRequest.TheVariants as whole
 use Rattle.live_farm.specs.declared.asked.LiveRequest.{LiveRequest}
 use Rattle.live_farm.specs.declared.asked.LiveRequest.TheVariants as request
 use Rattle.live_farm.specs.declared.asked.LiveLine.{LiveLine}
@@ -14,6 +16,7 @@ use Rattle.live_farm.specs.declared.asked.OperatorRequest.TheVariants as operato
 use Rattle.live_farm.specs.declared.fault.LiveFault.{LiveFault}
 use Rattle.live_farm.specs.declared.fault.LiveFault.TheVariants as live_fault
 use Rattle.live_farm.specs.declared.verbs.DomainVerb.{DomainVerb}
+use Rattle.live_farm.specs.declared.verbs.DomainVerb.TheVariants as domain
 use Rattle.live_farm.specs.declared.verbs.OperatorVerb.{OperatorVerb}
 use Rattle.live_farm.specs.declared.verbs.OperatorVerb.TheVariants as verb
 use Rattle.live_farm.specs.LiveVerbs.{domain_verb_name, operator_verb_name}
@@ -29,22 +32,39 @@ is_operators (byte ∷ line) = byte == 33
 abbrev pub IsOfDomain : List (List ℕ) → DomainVerb → List (List ℕ) → Type 0
 IsOfDomain rest verb arguments = rest ≡ domain_verb_name verb ∷ arguments
 
+-- such a verb with the words after it asks this
+abbrev pub DomainAsks : DomainVerb → List (List ℕ) → WholeRequest → Type 0
+DomainAsks domain.Rest [] whole.Rest = ⊤
+DomainAsks domain.Restart [] whole.Restart = ⊤
+DomainAsks domain.Why [] (whole.Why None) = ⊤
+DomainAsks domain.Why (number ∷ []) (whole.Why (Some node)) = IsDecimal number node
+DomainAsks verb arguments asked = ⊥
+
+-- such a verb has as many words after it as it takes, and one that it takes is the number of a node
+abbrev pub HasDomainArguments : DomainVerb → List (List ℕ) → Type 0
+HasDomainArguments domain.Rest [] = ⊤
+HasDomainArguments domain.Restart [] = ⊤
+HasDomainArguments domain.Why [] = ⊤
+HasDomainArguments domain.Why (number ∷ []) = IsPlaceNumber number
+HasDomainArguments verb arguments = ⊥
+
 -- the words behind a user's name ask this
 abbrev pub AsksLive : List (List ℕ) → LiveRequest → Type 0
 AsksLive rest (request.Script command) = IsRequest rest command
-AsksLive rest (request.Domain verb) = IsOfDomain rest verb []
+AsksLive rest (request.Domain asked) = (verb : DomainVerb) × (arguments : List (List ℕ)) × IsOfDomain rest verb arguments × DomainAsks verb arguments asked
 
 -- the words of a user's line ask this
 abbrev pub IsUserLine : List (List ℕ) → List (List ℕ) → LiveLine → Type 0
 IsUserLine names words (live.User user asked) = (rest : List (List ℕ)) × BeginsWith names words user rest × AsksLive rest asked
 IsUserLine names words (live.Operator asked) = ⊥
 
--- what follows a user's name is wrong: as in a script, or there is a word after one that asks something of the domain as a whole
+-- what follows a user's name is wrong: as in a script, or what follows a word that asks something of the domain as a whole
 abbrev pub IsLiveRestFault : List (List ℕ) → LineFault → Type 0
 IsLiveRestFault rest fault.User = ⊥
 IsLiveRestFault rest fault.Verb = IsRestFault rest fault.Verb × ((verb : DomainVerb) (arguments : List (List ℕ)) → ¬ IsOfDomain rest verb arguments)
 IsLiveRestFault rest fault.Args =
-    IsRestFault rest fault.Args ⊎ ((verb : DomainVerb) × (argument : List ℕ) × (more : List (List ℕ)) × IsOfDomain rest verb (argument ∷ more))
+    IsRestFault rest fault.Args
+    ⊎ ((verb : DomainVerb) × (arguments : List (List ℕ)) × IsOfDomain rest verb arguments × (¬ HasDomainArguments verb arguments))
 IsLiveRestFault rest fault.Hex = IsRestFault rest fault.Hex
 
 -- why the words of a user's line ask nothing

@@ -9,6 +9,7 @@ use Rattle.live_farm.specs.declared.verbs.OperatorVerb.TheVariants as operator
 abbrev pub domain_verb_name : DomainVerb → List ℕ
 domain_verb_name domain.Rest = codes "rest"
 domain_verb_name domain.Restart = codes "restart"
+domain_verb_name domain.Why = codes "why"
 
 -- the word by which the operator asks something
 abbrev pub operator_verb_name : OperatorVerb → List ℕ

@@ -1,16 +1,18 @@
 //! What is answered to the users of a domain.
 ghost use Rattle.std.specs.Prelude.{◌≡◌, ◌<◌, true, false, length, map, IfOk, string_bytes};
 ghost use Rattle.farm_service.specs.Restarts.{begun_anew};
-ghost use Rattle.live_farm.specs.Groups.{AnswersLine, AnswersRest, AnswersRestart, AnswersOperator, AnswersLetter};
+ghost use Rattle.live_farm.specs.Groups.{AnswersLine, AnswersRest, AnswersRestart, AnswersWhy, AnswersOperator, AnswersLetter};
 
-use crate::asked::LiveRequest;
+use crate::asked::{LiveRequest, WholeRequest};
+use crate::causes::told_of;
 use crate::group::DomainUsers;
 use crate::letter::{Letter, Matter};
 use crate::texts::{
-    LiveAnswer, Why, error_answer, operator_restart_answer, rest_answer, restart_answer,
+    LiveAnswer, Why, error_answer, no_node_answer, operator_restart_answer, rest_answer,
+    restart_answer, why_answer,
 };
-use crate::verbs::DomainVerb;
 use domain_core::{NoMemory, Refusal};
+use farm_causes::FollowFault;
 use line_answers::{answer_line, settle};
 use script_lines::{Command, LineFault};
 use std::alloc::Global;
@@ -123,6 +125,32 @@ impl DomainUsers<'_> {
         restart_answer(alloc, name, is_done)
     }
 
+    // Tells why the nodes of the domain, or one of them, do no more than they do. The domain is asked nothing.
+    fn answer_why<R: Wait>(
+        &self,
+        rt: &R,
+        alloc: Global,
+        user: usize,
+        number: u64,
+        node: Option<u8>,
+    ) -> Result<LiveAnswer, NoMemory>
+        requires { user < length self.now.sessions.items }
+        ensures why { IfOk result (λ a. AnswersWhy self.now user number node (string_bytes a.text)) }
+        ensures anew { IfOk result (λ a. a.begins_anew ≡ false) }
+    {
+        let name = self.name(user);
+        if let Some(node) = node
+            && !self.has_node(node)
+        {
+            return no_node_answer(alloc, name, node);
+        }
+        match told_of(rt, alloc, self.service, self.domain, node) {
+            Ok(told) => why_answer(alloc, name, told.as_str()),
+            Err(FollowFault::Memory(_)) => Err(NoMemory),
+            Err(_) => error_answer(alloc, name, number, Why::Journal),
+        }
+    }
+
     // Begins the domain anew for the operator, who names one of its users in the line of this number.
     fn answer_operator<R: Wait>(
         &mut self,
@@ -160,9 +188,14 @@ pub fn answer_letter<R: Wait>(
     let user = usize::from(letter.user);
     match &letter.matter {
         Matter::Asked(LiveRequest::Script(command)) => group.answer(rt, alloc, user, command),
-        Matter::Asked(LiveRequest::Domain(DomainVerb::Rest)) => group.answer_rest(rt, alloc, user),
-        Matter::Asked(LiveRequest::Domain(DomainVerb::Restart)) => {
+        Matter::Asked(LiveRequest::Domain(WholeRequest::Rest)) => {
+            group.answer_rest(rt, alloc, user)
+        }
+        Matter::Asked(LiveRequest::Domain(WholeRequest::Restart)) => {
             group.answer_restart(rt, alloc, user)
+        }
+        Matter::Asked(LiveRequest::Domain(WholeRequest::Why { node })) => {
+            group.answer_why(rt, alloc, user, letter.number, *node)
         }
         Matter::Wrong(why) => error_answer(alloc, group.name(user), letter.number, *why),
         Matter::OperatorRestart => group.answer_operator(rt, alloc, user, letter.number),

@@ -1,7 +1,17 @@
 //! What a line asks.
 
-use crate::verbs::DomainVerb;
 use script_lines::Command;
+
+/// What a user asks of his domain as a whole.
+#[derive(Clone, Copy, Debug, PartialEq, Eq)]
+pub enum WholeRequest {
+    /// Whether it is at rest.
+    Rest,
+    /// That it begins anew.
+    Restart,
+    /// Why its nodes do no more than they do, or the one of this number.
+    Why { node: Option<u8> },
+}
 
 /// What a user's line asks.
 #[derive(Debug, Drop)]
@@ -9,7 +19,7 @@ pub enum LiveRequest {
     /// What the same line of a script asks.
     Script(Command),
     /// Something of his domain as a whole.
-    Domain(DomainVerb),
+    Domain(WholeRequest),
 }
 
 /// What an operator's line asks.

@@ -1,5 +1,5 @@
 //! The users of one domain.
-ghost use Rattle.std.specs.Prelude.{◌≡◌, ◌<◌, ◌++◌, ◌∷◌, [], length, map, Some, slice_get, OnOk, vec_len};
+ghost use Rattle.std.specs.Prelude.{◌≡◌, ◌<◌, ◌≤◌, ◌++◌, ◌∷◌, [], false, length, map, Some, slice_get, IfSome, OnOk, vec_len};
 
 use domain_core::NoMemory;
 use farm_service::{Service, Session, UserPass};
@@ -55,6 +55,14 @@ impl<'a> DomainUsers<'a> {
         ensures { slice_get self.now.names.items user ≡ Some result }
     {
         self.names[user]
+    }
+
+    /// Whether the domain has a node of this number.
+    pub fn has_node(&self, node: u8) -> bool
+        ensures { result ≡ false → IfSome (slice_get self.now.service.now.plan self.now.domain) (λ d. length d.nodes ≤ node) }
+    {
+        let plan = self.service.plan();
+        self.domain < plan.domains() && node < plan.nodes(self.domain)
     }
 
     /// Ends all sessions, and adds their passes.

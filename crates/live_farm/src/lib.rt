@@ -3,6 +3,7 @@
 
 mod answering;
 mod asked;
+mod causes;
 mod command_line;
 mod crew;
 mod desk;
@@ -23,7 +24,7 @@ mod texts;
 mod threads;
 mod verbs;
 
-pub use asked::{LiveLine, LiveRequest, OperatorRequest};
+pub use asked::{LiveLine, LiveRequest, OperatorRequest, WholeRequest};
 pub use command_line::{LiveSettings, RecordSettings, live_settings};
 pub use crew::{Crew, UserNumber};
 pub use desk::Desk;

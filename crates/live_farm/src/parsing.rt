@@ -1,14 +1,15 @@
 //! Reading a line.
 ghost use Rattle.std.specs.Prelude.{◌≡◌, ◌∷◌, [], ℕ, List, map, IfOk, IfErr};
 ghost use Rattle.script_lines.specs.declared.fault.LineFault.{LineFault as SpecLineFault};
+ghost use Rattle.script_lines.specs.declared.fault.LineFault.TheVariants.{Args};
 ghost use Rattle.script_lines.specs.declared.fault.Unread.TheVariants.{Faulty};
-ghost use Rattle.live_farm.specs.LiveLines.{is_operators, AsksLive, IsLiveRestFault, IsUserLine, IsUserFault};
+ghost use Rattle.live_farm.specs.LiveLines.{is_operators, DomainAsks, HasDomainArguments, AsksLive, IsLiveRestFault, IsUserLine, IsUserFault};
 ghost use Rattle.live_farm.specs.LiveLines.{OperatorAsks, IsOperatorArgumentFault, IsOperatorLine, IsOperatorFault, IsLiveLine, IsLiveFault};
 
-use crate::asked::{LiveLine, LiveRequest, OperatorRequest};
+use crate::asked::{LiveLine, LiveRequest, OperatorRequest, WholeRequest};
 use crate::fault::LiveFault;
 use crate::verbs::{DomainVerb, OperatorVerb};
-use script_lines::{LineFault, LineWords, Unread, parse_request, user_named};
+use script_lines::{LineFault, LineWords, Unread, parse_place, parse_request, user_named};
 use std::alloc::Global;
 
 /// Whether a line is the operator's: it begins with `!`.
@@ -18,6 +19,47 @@ pub fn is_operators(line: &[u8]) -> bool
     match line {
         [] => false,
         [first, ..] => *first == b'!',
+    }
+}
+
+// What a verb asks of the domain as a whole with no word after it.
+fn of_all(verb: DomainVerb) -> WholeRequest
+    ensures { DomainAsks verb [] result }
+{
+    match verb {
+        DomainVerb::Rest => WholeRequest::Rest,
+        DomainVerb::Restart => WholeRequest::Restart,
+        DomainVerb::Why => WholeRequest::Why { node: None },
+    }
+}
+
+// What it asks with a word after it.
+fn of_one(verb: DomainVerb, word: &[u8]) -> Result<WholeRequest, Unread>
+    ensures asked { IfOk result (DomainAsks verb (word.now ∷ [])) }
+    ensures fault { IfErr result (λ u. (u ≡ Faulty Args) × (¬ HasDomainArguments verb (word.now ∷ []))) }
+{
+    match verb {
+        DomainVerb::Rest | DomainVerb::Restart => Err(Unread::Faulty(LineFault::Args)),
+        DomainVerb::Why => {
+            let node = parse_place(word)?;
+            Ok(WholeRequest::Why { node: Some(node) })
+        }
+    }
+}
+
+// What it asks with the words after it.
+fn parse_domain_arguments(
+    verb: DomainVerb,
+    mut words: LineWords<'_>,
+) -> Result<WholeRequest, Unread>
+    ensures asked { IfOk result (DomainAsks verb words.entry) }
+    ensures fault { IfErr result (λ u. (u ≡ Faulty Args) × (¬ HasDomainArguments verb words.entry)) }
+{
+    let first = words.take();
+    match (first, words.take()) {
+        (None, _) => Ok(of_all(verb)),
+        (Some(word), None) => of_one(verb, word),
+        (Some(_), Some(_)) => Err(Unread::Faulty(LineFault::Args)),
     }
 }
 
@@ -33,10 +75,7 @@ fn parse_rest(alloc: Global, words: LineWords<'_>) -> Result<LiveRequest, Unread
     let Some(verb) = DomainVerb::of(word) else {
         return Ok(LiveRequest::Script(parse_request(alloc, words)?));
     };
-    match behind.take() {
-        None => Ok(LiveRequest::Domain(verb)),
-        Some(_) => Err(Unread::Faulty(LineFault::Args)),
-    }
+    Ok(LiveRequest::Domain(parse_domain_arguments(verb, behind)?))
 }
 
 // What a user's line asks.

@@ -8,7 +8,7 @@ use std::io;
 use std::sync::{Mutex, Wait};
 
 /// The most entries that are copied under a domain's lock at a time.
-const PIECE: usize = 1024;
+pub(crate) const PIECE: usize = 1024;
 
 /// Where the record of a domain is written.
 pub trait RecordStore: Drop {

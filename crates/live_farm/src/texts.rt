@@ -1,7 +1,10 @@
 //! The answers that a script hasn't.
-ghost use Rattle.std.specs.Prelude.{◌≡◌, ◌++◌, IfOk, true, false, codes, string_bytes, if◌then◌else◌};
+ghost use Rattle.std.specs.List.{flat_map};
+ghost use Rattle.std.specs.Prelude.{◌≡◌, ◌++◌, IfOk, OnOk, true, false, codes, string_bytes, if◌then◌else◌};
+ghost use Rattle.std.specs.Str.Lines.{lines};
 ghost use Rattle.live_farm.specs.WholeLines.{are_lines};
 ghost use Rattle.live_farm.specs.LiveTexts.{reason_word, error_text, unknown_user_text, rest_text, restart_text, operator_restart_text};
+ghost use Rattle.live_farm.specs.LiveTexts.{why_line, why_text, no_node_text};
 
 use domain_core::NoMemory;
 use script_lines::LineFault;
@@ -18,6 +21,8 @@ pub enum Why {
     Busy,
     /// It, or what was answered before it, can't be recorded.
     Record,
+    /// What the domain answered can't be done again.
+    Journal,
 }
 
 impl Why {
@@ -33,6 +38,7 @@ impl Why {
             Why::Long => "long",
             Why::Busy => "busy",
             Why::Record => "record",
+            Why::Journal => "journal",
         }
     }
 }
@@ -123,6 +129,36 @@ pub fn restart_answer(alloc: Global, name: &str, is_done: bool) -> Result<LiveAn
     let word = chosen(is_done, "ok", "operator");
     let mut answer = LiveAnswer::line(format!(in alloc; "{name} restart {word}")?)?;
     answer.begins_anew = is_done;
+    Ok(answer)
+}
+
+// Appends a line of an answer to `why` for each line of a text.
+fn push_why_lines(text: &mut String, name: &str, told: &str) -> Result<(), NoMemory>
+    ensures { OnOk result (string_bytes text.new ≡ string_bytes text.old ++ flat_map (why_line name.now) (lines told.now)) }
+{
+    for line in told.lines() {
+        write!(text, "{name} why {line}\n")?;
+    }
+    Ok(())
+}
+
+/// Why the nodes of a user's domain do no more than they do, as it is told of them.
+pub fn why_answer(alloc: Global, name: &str, told: &str) -> Result<LiveAnswer, NoMemory>
+    ensures text { IfOk result (λ a. string_bytes a.text ≡ why_text name.now told.now) }
+    ensures anew { IfOk result (λ a. a.begins_anew ≡ false) }
+{
+    let mut text = String::new(alloc);
+    push_why_lines(&mut text, name, told)?;
+    write!(text, "{name} why end")?;
+    LiveAnswer::line(text)
+}
+
+/// That a user's domain has no node of this number.
+pub fn no_node_answer(alloc: Global, name: &str, node: u8) -> Result<LiveAnswer, NoMemory>
+    ensures text { IfOk result (λ a. string_bytes a.text ≡ no_node_text name.now node) }
+    ensures anew { IfOk result (λ a. a.begins_anew ≡ false) }
+{
+    let answer = LiveAnswer::line(format!(in alloc; "{name} why {node} nosuch")?)?;
     Ok(answer)
 }
 

@@ -11,6 +11,8 @@ pub enum DomainVerb {
     Rest,
     /// That it begins anew.
     Restart,
+    /// Why its nodes do no more than they do.
+    Why,
 }
 
 impl DomainVerb {
@@ -21,6 +23,7 @@ impl DomainVerb {
         match word {
             b"rest" => Some(DomainVerb::Rest),
             b"restart" => Some(DomainVerb::Restart),
+            b"why" => Some(DomainVerb::Why),
             _ => None,
         }
     }

@@ -1,9 +1,13 @@
 //! Instructions as bytes of code.
 
-use script_text::Words;
+use crate::left_out::left_out;
+use script_text::{Wanted, WordForm, WordHint, WordPlace, WordRole, Words};
 use std::alloc::{AllocError, Global};
 use t414_assembly::{Mnemonic, mnemonic_named, operand_of, spell};
 use t414_decode::Function;
+
+/// An instruction, as the assembler has it.
+pub const INSTRUCTION: Wanted = Wanted::Word(WordRole::Instruction, WordForm::Instruction);
 
 /// Reads an instruction as the assembler does, and puts its bytes behind others: a function and its operand, an operation,
 /// or `hex` and bytes. Whether there was one; if there was none nothing is read.
@@ -20,7 +24,7 @@ pub fn read_instruction(
     let Some(mnemonic) = mnemonic_named(words.peek()) else {
         return Ok(false);
     };
-    let _ = words.take();
+    let _ = words.take(INSTRUCTION);
     let spelling = match mnemonic {
         Mnemonic::Function(function) => spell(function, read_operand(words)),
         Mnemonic::Operation(operation) => spell(Function::Operate, operation),
@@ -29,7 +33,18 @@ pub fn read_instruction(
     Ok(true)
 }
 
+/// Notes that something else is wanted at a place, where an instruction might stand.
+pub fn reject_instruction<'a>(words: &mut Words<'a>, place: WordPlace<'a>, wanted: Wanted) {
+    let hint = match left_out(place.word()) {
+        Some(group) => Some(WordHint::LeftOut(group)),
+        None => WordHint::of(place.word(), wanted),
+    };
+    words.reject_with(place, wanted, hint);
+}
+
 fn read_operand(words: &mut Words) -> u32 {
-    let word = words.take();
-    words.or_reject(operand_of(word), 0)
+    let wanted = Wanted::Word(WordRole::Operand, WordForm::Operand);
+    let place = words.place();
+    let word = words.take(wanted);
+    words.or_reject(place, operand_of(word), 0, wanted)
 }

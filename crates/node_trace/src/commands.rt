@@ -1,9 +1,9 @@
 //! The lines of a text, each read as what it asks for.
 
-use crate::codes::read_instruction;
+use crate::codes::{INSTRUCTION, read_instruction, reject_instruction};
 use crate::settings::{NodeSettings, read_link};
 use bootstrap::{LinkNumber, Packet, is_memory_size};
-use script_text::{WordFault, Words, value_named};
+use script_text::{Wanted, WordFault, WordForm, WordRole, Words, decimal_number};
 use std::alloc::{AllocError, Global};
 
 /// What a line asks for.
@@ -120,15 +120,42 @@ enum PacketKind {
     Acknowledge,
 }
 
+const PACKET_NAMES: [&str; 2] = ["byte", "acknowledge"];
+
 const PACKET_KINDS: [(&str, PacketKind); 2] = [
     ("byte", PacketKind::Byte),
     ("acknowledge", PacketKind::Acknowledge),
 ];
 
-/// What a line asks for. `Wrong` if a word of it is wrong or missing, or one stands behind its end.
+// The names of the verbs, as they are told.
+const VERB_NAMES: [&str; 20] = [
+    "node",
+    "open",
+    "set",
+    "reset",
+    "clear",
+    "try",
+    "step",
+    "run",
+    "deliver",
+    "take",
+    "send",
+    "boot",
+    "receive",
+    "peek",
+    "poke",
+    "look",
+    "quiet",
+    "registers",
+    "word",
+    "decode",
+];
+
+/// What a line asks for. `Wrong` with the first word that is wrong or missing, or that stands behind the end.
 pub fn read_command(alloc: Global, line: &str) -> Result<TraceCommand, WordFault> {
     let mut words = Words::of(line);
-    let verb = value_named(&VERBS, words.take()).ok_or(WordFault::Wrong)?;
+    let wanted = Wanted::Word(WordRole::NodeVerb, WordForm::OneOf(&VERB_NAMES));
+    let verb = words.named(&VERBS, TraceVerb::Look, wanted);
     let command = read_behind(alloc, verb, &mut words)?;
     words.finish(command)
 }
@@ -151,11 +178,11 @@ fn read_behind(
         TraceVerb::Look => TraceCommand::Ask(Query::Look),
         TraceVerb::Quiet => TraceCommand::Ask(Query::Quiet),
         TraceVerb::Registers => TraceCommand::Ask(Query::Registers),
-        TraceVerb::Word => TraceCommand::Ask(Query::Word(words.hexadecimal())),
-        TraceVerb::Step => TraceCommand::Step(read_steps(words)),
+        TraceVerb::Word => TraceCommand::Ask(Query::Word(words.hexadecimal(WordRole::Address))),
+        TraceVerb::Step => TraceCommand::Step(read_steps_or_one(words)),
         TraceVerb::Take => TraceCommand::Take(read_link(words)),
-        TraceVerb::Peek => TraceCommand::Peek(words.hexadecimal()),
-        TraceVerb::Run => TraceCommand::NodeChange(NodeChange::Run(words.decimal(u64::MAX))),
+        TraceVerb::Peek => TraceCommand::Peek(words.hexadecimal(WordRole::Address)),
+        TraceVerb::Run => TraceCommand::NodeChange(NodeChange::Run(read_steps(words))),
         TraceVerb::Deliver => TraceCommand::NodeChange(NodeChange::Deliver(
             read_link(words),
             read_packet(words),
@@ -172,8 +199,8 @@ fn read_behind(
         )),
         TraceVerb::Receive => TraceCommand::NodeChange(NodeChange::Receive(read_link(words))),
         TraceVerb::Poke => TraceCommand::NodeChange(NodeChange::Poke(
-            words.hexadecimal(),
-            words.hexadecimal(),
+            words.hexadecimal(WordRole::Address),
+            words.hexadecimal(WordRole::Word),
         )),
     })
 }
@@ -183,18 +210,26 @@ fn read_size(words: &mut Words) -> usize {
     let [b'0'..=b'9', ..] = words.peek().as_bytes() else {
         return 4096;
     };
-    let size = words.decimal(65_536) as usize;
+    let (least, most) = (2048, 65_536);
+    let wanted = Wanted::Word(
+        WordRole::MemorySize,
+        WordForm::MultipleOfFour { least, most },
+    );
+    let place = words.place();
+    let size = decimal_number(words.take(wanted)).filter(|size| *size <= most);
+    let size = words.or_reject(place, size, least, wanted) as usize;
     if !is_memory_size(size) {
-        words.reject();
+        words.reject(place, wanted);
     }
     size
 }
 
 // Instructions, one at least, and what the node has besides.
 fn read_trial(alloc: Global, words: &mut Words) -> Result<NodeSettings, AllocError> {
+    let place = words.place();
     let settings = NodeSettings::read(alloc, words, true)?;
     if settings.code.is_empty() {
-        words.reject();
+        words.reject_with(place, INSTRUCTION, None);
     }
     Ok(settings)
 }
@@ -203,7 +238,12 @@ fn read_trial(alloc: Global, words: &mut Words) -> Result<NodeSettings, AllocErr
 fn read_code(alloc: Global, words: &mut Words) -> Result<Vec<u8>, AllocError> {
     let mut code = Vec::new(alloc);
     for _ in 0..words.count() {
+        if words.is_empty() {
+            break;
+        }
         if !read_instruction(alloc, words, &mut code)? {
+            let place = words.place();
+            reject_instruction(words, place, INSTRUCTION);
             break;
         }
     }
@@ -211,16 +251,21 @@ fn read_code(alloc: Global, words: &mut Words) -> Result<Vec<u8>, AllocError> {
 }
 
 fn read_steps(words: &mut Words) -> u64 {
+    words.decimal(WordRole::Steps, u64::MAX)
+}
+
+fn read_steps_or_one(words: &mut Words) -> u64 {
     if words.is_empty() {
         1
     } else {
-        words.decimal(u64::MAX)
+        read_steps(words)
     }
 }
 
 fn read_packet(words: &mut Words) -> Packet {
-    match words.named(&PACKET_KINDS, PacketKind::Acknowledge) {
-        PacketKind::Byte => Packet::Byte(words.byte()),
+    let wanted = Wanted::Word(WordRole::Packet, WordForm::OneOf(&PACKET_NAMES));
+    match words.named(&PACKET_KINDS, PacketKind::Acknowledge, wanted) {
+        PacketKind::Byte => Packet::Byte(words.byte(WordForm::TwoDigits)),
         PacketKind::Acknowledge => Packet::Ack,
     }
 }

@@ -116,10 +116,7 @@ fn make_change(
         NodeChange::Boot(link, code) => match boot_message(alloc, code.as_slice()) {
             Ok(message) => send(node, *link, message.as_slice()),
             Err(BootFault::NoMemory) => return Err(NoMemory),
-            Err(fault) => {
-                text.push("refused ");
-                text.push_decimal(u64::from(fault.number()));
-            }
+            Err(fault) => write_refused(text, fault, code.len()),
         },
         NodeChange::Receive(link) => match receive(node, *link) {
             Some(byte) => text.push_byte(byte),
@@ -128,6 +125,17 @@ fn make_change(
         NodeChange::Poke(address, word) => poke(node, *address, *word),
     }
     Ok(())
+}
+
+// Writes that a boot doesn't take so many bytes of code.
+fn write_refused(text: &mut TextWriter, fault: BootFault, count: usize) {
+    text.push("refused ");
+    text.push_decimal(u64::from(fault.number()));
+    text.push(": a boot takes 2 to 255 bytes of code, and this has ");
+    text.push_decimal(count as u64);
+    if let BootFault::TooLong = fault {
+        text.push(" (`lab assemble --pokes` prints the lines of a script that load more)");
+    }
 }
 
 // Does Steps up to one that would not be recorded, and writes how many, and what the last answered.

@@ -1,9 +1,9 @@
 //! What a line puts into a node: registers, flags, words of memory, code, and what stands at links.
 
-use crate::codes::read_instruction;
+use crate::codes::{read_instruction, reject_instruction};
 use bootstrap::{Cpu, Fault, LinkNumber, Links, Memory, Node, link_of};
 use link_channels::Link;
-use script_text::Words;
+use script_text::{Wanted, WordForm, WordHint, WordRole, Words, value_named};
 use std::alloc::{AllocError, Global};
 
 /// One thing that is put into a node.
@@ -101,7 +101,7 @@ impl NodeSettings {
             } else if words.take_if("link") {
                 link = Some(read_link(words));
             } else {
-                read.settings.push(read_setting(link, words))?;
+                read.settings.push(read_setting(link, is_code, words))?;
             }
         }
         Ok(read)
@@ -194,7 +194,7 @@ fn put_link_flag(link: &mut Link, flag: LinkFlag, value: bool) {
 
 /// The number of a link, 0 to 3.
 pub fn read_link(words: &mut Words) -> LinkNumber {
-    link_of(words.decimal(3) as u8)
+    link_of(words.decimal(WordRole::Link, 3) as u8)
 }
 
 // What the name of a setting stands for.
@@ -254,16 +254,87 @@ const FIELDS: [(&str, SettingField); 22] = [
     ("output", SettingField::AtLink(LinkField::Output)),
 ];
 
+// The states of a node, as they are told.
+const NODE_STATES: [&str; 15] = [
+    "Iptr",
+    "W",
+    "A",
+    "B",
+    "C",
+    "O",
+    "Front",
+    "Back",
+    "Error",
+    "HaltOnError",
+    "running",
+    "bytes",
+    "word",
+    "code",
+    "link",
+];
+
+// The same, and those of a link.
+const ALL_STATES: [&str; 24] = [
+    "Iptr",
+    "W",
+    "A",
+    "B",
+    "C",
+    "O",
+    "Front",
+    "Back",
+    "Error",
+    "HaltOnError",
+    "running",
+    "bytes",
+    "word",
+    "code",
+    "link",
+    "sends",
+    "holds",
+    "overruns",
+    "acknowledges",
+    "awaits",
+    "acknowledged",
+    "watched",
+    "input",
+    "output",
+];
+
+// What may stand where a setting is read.
+fn wanted_setting(has_link: bool, is_code: bool) -> Wanted {
+    let names: &'static [&'static str] = if has_link { &ALL_STATES } else { &NODE_STATES };
+    if is_code {
+        Wanted::Word(WordRole::InstructionOrState, WordForm::InstructionOr(names))
+    } else {
+        Wanted::Word(WordRole::State, WordForm::OneOf(names))
+    }
+}
+
 // One setting. A field of a link is wrong before a link is named.
-fn read_setting(link: Option<LinkNumber>, words: &mut Words) -> Setting {
-    match words.named(&FIELDS, SettingField::Bytes) {
-        SettingField::Register(register) => Setting::Register(register, words.hexadecimal()),
-        SettingField::Flag(flag) => Setting::Flag(flag, words.flag()),
-        SettingField::Bytes => Setting::Bytes(read_count(words)),
-        SettingField::Word => Setting::Word(words.hexadecimal(), words.hexadecimal()),
-        SettingField::AtLink(field) => {
-            let number = words.or_reject(link, LinkNumber::Zero);
+fn read_setting(link: Option<LinkNumber>, is_code: bool, words: &mut Words) -> Setting {
+    let wanted = wanted_setting(link.is_some(), is_code);
+    let place = words.place();
+    match value_named(&FIELDS, words.take(wanted)) {
+        Some(SettingField::Register(register)) => {
+            Setting::Register(register, words.hexadecimal(WordRole::Word))
+        }
+        Some(SettingField::Flag(flag)) => Setting::Flag(flag, words.flag(WordRole::Flag)),
+        Some(SettingField::Bytes) => Setting::Bytes(read_count(words)),
+        Some(SettingField::Word) => Setting::Word(
+            words.hexadecimal(WordRole::Address),
+            words.hexadecimal(WordRole::Word),
+        ),
+        Some(SettingField::AtLink(field)) => {
+            if link.is_none() {
+                words.reject_with(place, wanted, Some(WordHint::LinkFirst));
+            }
+            let number = link.unwrap_or(LinkNumber::Zero);
             Setting::AtLink(number, read_link_setting(field, words))
+        }
+        None => {
+            reject_instruction(words, place, wanted);
+            Setting::Bytes(0)
         }
     }
 }
@@ -273,15 +344,19 @@ fn read_link_setting(field: LinkField, words: &mut Words) -> LinkSetting {
         LinkField::Sends => LinkSetting::Sends(read_byte_or_none(words)),
         LinkField::Holds => LinkSetting::Holds(read_byte_or_none(words)),
         LinkField::Overruns => LinkSetting::Overruns(read_count(words)),
-        LinkField::Flag(flag) => LinkSetting::Flag(flag, words.flag()),
-        LinkField::Input => LinkSetting::Input(words.hexadecimal(), read_count(words)),
-        LinkField::Output => LinkSetting::Output(words.hexadecimal(), read_count(words)),
+        LinkField::Flag(flag) => LinkSetting::Flag(flag, words.flag(WordRole::Flag)),
+        LinkField::Input => LinkSetting::Input(read_address(words), read_count(words)),
+        LinkField::Output => LinkSetting::Output(read_address(words), read_count(words)),
     }
+}
+
+fn read_address(words: &mut Words) -> u32 {
+    words.hexadecimal(WordRole::Address)
 }
 
 // A decimal count below 2^32.
 fn read_count(words: &mut Words) -> u32 {
-    words.decimal(u64::from(u32::MAX)) as u32
+    words.decimal(WordRole::Count, u64::from(u32::MAX)) as u32
 }
 
 // A byte, or `-` for none.
@@ -289,6 +364,6 @@ fn read_byte_or_none(words: &mut Words) -> Option<u8> {
     if words.take_if("-") {
         None
     } else {
-        Some(words.byte())
+        Some(words.byte(WordForm::TwoDigitsOrNone))
     }
 }

@@ -3,16 +3,21 @@
 use crate::commands::{TraceCommand, read_command};
 use crate::performing::{open_running, or_dash, perform};
 use bootstrap::Node;
-use script_text::{Answered, NumberedLineFault, Question, TextWriter, read_questions};
+use script_text::{Answered, NumberedLineFault, Question, TextWriter, WordFault, read_questions};
 use std::alloc::{AllocError, Global};
 
 /// The answers to the lines of a text, in their order.
 ///
-/// `Wrong` if a line is wrong, and then none is done: all are read before. `Memory` if an allocation fails.
+/// `Wrong` with the first line that is wrong, and then none is done: all are read before. `Memory` if an allocation fails.
 pub fn trace(alloc: Global, text: &[u8]) -> Result<Vec<Answered<'_>>, NumberedLineFault> {
     let questions = read_questions(alloc, text, 0)?;
     let commands = read_commands(alloc, questions.as_slice())?;
     Ok(answer_all(alloc, questions.as_slice(), commands.as_slice())?)
+}
+
+/// Reads a line, and does nothing. `Wrong` with the first word that is wrong or missing, or that stands behind the end.
+pub fn read_trace_line(alloc: Global, line: &str) -> Result<(), WordFault> {
+    read_command(alloc, line).map(|_| ())
 }
 
 // What each line asks for.

@@ -12,7 +12,7 @@ use hex::FromHexError;
 use std::alloc::Global;
 
 /// The number of a host or node that decimal digits spell, at most 255.
-pub(crate) fn parse_place(word: &[u8]) -> Result<u8, Unread>
+pub fn parse_place(word: &[u8]) -> Result<u8, Unread>
     ensures number { IfOk result (IsDecimal word.now) }
     ensures fault { IfErr result (λ u. (u ≡ Faulty Args) × ¬ IsPlaceNumber word.now) }
 {

@@ -2,5 +2,6 @@
 pub mod Hexadecimal
 pub mod Lines
 -- what only helps contracts
+pub mod Columns
 pub mod Numbers
 pub mod Rows

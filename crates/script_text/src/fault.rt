@@ -1,5 +1,6 @@
 //! Why a line can't be done.
 
+use crate::mistake::{WordMistake, WrongLine};
 use std::alloc::AllocError;
 use thiserror::Error;
 
@@ -7,8 +8,8 @@ use thiserror::Error;
 #[derive(Clone, Copy, Debug, PartialEq, Eq, Error)]
 pub enum WordFault {
     /// A word is wrong or missing, or one stands behind the last.
-    #[error("a word is wrong")]
-    Wrong,
+    #[error("{0}")]
+    Wrong(WordMistake),
     #[error("memory")]
     Memory(#[from(alloc)] AllocError),
 }
@@ -17,7 +18,7 @@ impl WordFault {
     /// The same fault, of the line of this number.
     pub fn at(self, line: u64) -> NumberedLineFault {
         match self {
-            WordFault::Wrong => NumberedLineFault::Wrong(line),
+            WordFault::Wrong(mistake) => NumberedLineFault::Wrong(WrongLine { line, mistake }),
             WordFault::Memory(error) => NumberedLineFault::Memory(error),
         }
     }
@@ -26,9 +27,9 @@ impl WordFault {
 /// Why the lines of a text can't be done.
 #[derive(Clone, Copy, Debug, PartialEq, Eq, Error)]
 pub enum NumberedLineFault {
-    /// The line of this number, from 1, is wrong.
-    #[error("line {0}")]
-    Wrong(u64),
+    /// A line is wrong.
+    #[error("{0}")]
+    Wrong(WrongLine),
     #[error("memory")]
     Memory(#[from(alloc)] AllocError),
 }

@@ -4,6 +4,8 @@ ghost use Rattle.script_text.specs.Lines.{from_line, IsLine};
 
 use crate::fault::NumberedLineFault;
 use crate::lines::split_line;
+use crate::mistake::{MetText, WordMistake, WrongLine, column_at};
+use crate::wanted::Wanted;
 use std::alloc::{AllocError, Global};
 
 /// A line of a text, without its end.
@@ -16,13 +18,27 @@ pub struct NumberedLine<'a> {
 }
 
 impl<'a> NumberedLine<'a> {
-    /// The line as a text; `Wrong` if it isn't UTF-8.
+    /// The line as a text; `Wrong` with the first byte that isn't UTF-8, if one isn't.
     pub fn as_str(self) -> Result<&'a str, NumberedLineFault>
         ensures { IfOk result (λ text. text.now ≡ self.entry.text.now) }
     {
         match std::str::from_utf8(self.text) {
             Ok(text) => Ok(text),
-            Err(_) => Err(NumberedLineFault::Wrong(self.number)),
+            Err(error) => Err(NumberedLineFault::Wrong(self.not_utf8(error.valid_up_to()))),
+        }
+    }
+
+    // The byte at this place isn't UTF-8.
+    fn not_utf8(self, place: usize) -> WrongLine {
+        let byte = self.text.get(place).copied().unwrap_or(0);
+        WrongLine {
+            line: self.number,
+            mistake: WordMistake {
+                column: column_at(self.text, place),
+                met: MetText::Byte(byte),
+                wanted: Wanted::Utf8,
+                hint: None,
+            },
         }
     }
 }

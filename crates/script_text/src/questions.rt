@@ -72,7 +72,7 @@ fn next_expected(expected: &[u8]) -> Option<(u8, &[u8])>
 /// follows the first ` = ` of a line is the answer that it expects. The text stands behind so many lines of a whole one, in
 /// which its lines are counted.
 ///
-/// `Wrong` if a line isn't UTF-8.
+/// `Wrong` if a line isn't UTF-8, with the first byte that isn't.
 pub fn read_questions<'a>(
     alloc: Global,
     text: &'a [u8],

@@ -20,8 +20,8 @@ some_bytes (b ∷ bs) h = omega arith
 
 pub tight_one : (s : Statement) → IsTight 1 s
 tight_one (Instruction f (Number n)) = (λ _. refl, λ others off h. some_bytes others h)
-tight_one (Instruction f (Label p)) = λ _. refl
-tight_one (Instruction f (Difference p q)) = λ _. refl
+tight_one (Instruction f (Label p n)) = λ _. refl
+tight_one (Instruction f (Difference p q n)) = λ _. refl
 tight_one (Byte b) = tt
 tight_one (Word o) = tt
 tight_one (Align n) = tt

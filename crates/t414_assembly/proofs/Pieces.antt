@@ -15,8 +15,8 @@ use Rattle.t414_assembly.proofs.Gaps.{gap_lt, gap_reaches}
 
 tight_prefix : (room : ℕ) (f : Function) (o : Operand) → IsTight room (Instruction f o) → continues f ≡ true → room ≡ 1
 tight_prefix room f (Number n) tight on = tight.0 on
-tight_prefix room f (Label p) tight on = tight on
-tight_prefix room f (Difference p q) tight on = tight on
+tight_prefix room f (Label p m) tight on = tight on
+tight_prefix room f (Difference p q m) tight on = tight on
 
 abbrev number_in : Operand → ℕ
 number_in (Number n) = n
@@ -33,8 +33,8 @@ number_short address next room f (Number m) short means shortest tight n is off 
     let less : room ≤ length short = no_pads short room f m (means off) (λ others h. tight.1 others off h) in
     subst (λ k. IsShortest (replicate (room - length short) 0x20 ++ short) f k) same
     (subst (λ bytes. IsShortest bytes f m) (sym (not_padded room short less)) (shortest off))
-number_short address next room f (Label p) short means shortest tight n is off = cc
-number_short address next room f (Difference p q) short means shortest tight n is off = cc
+number_short address next room f (Label p m) short means shortest tight n is off = cc
+number_short address next room f (Difference p q m) short means shortest tight n is off = cc
 
 prefix_byte : (room nibble : ℕ) (f : Function) (short : List ℕ) → room ≡ 1 → IsByteOf f nibble short → IsByteOf f nibble (replicate (room - length short) 0x20 ++ short)
 prefix_byte room nibble f short one is =
@@ -52,8 +52,8 @@ number_usual address next room f (Number m) short means prefix usual_is tight n 
       | false ↦ λ off. no_pads short room f m (means off) (λ others h. tight.1 others off h)
     ]) refl in
     not_padded room short less ∙ usual_is ∙ ap (usual f) same
-number_usual address next room f (Label p) short means prefix usual_is tight n is = cc
-number_usual address next room f (Difference p q) short means prefix usual_is tight n is = cc
+number_usual address next room f (Label p m) short means prefix usual_is tight n is = cc
+number_usual address next room f (Difference p q m) short means prefix usual_is tight n is = cc
 
 pub instruction_piece : (address : ℕ → ℕ) (next room : ℕ) (f : Function) (o : Operand) (short : List ℕ)
     → (continues f ≡ false → Means short f (operand_of address next f o)) → (continues f ≡ false → IsShortest short f (operand_of address next f o))

@@ -26,15 +26,19 @@ address_of origin starts place = origin + slice_index starts place
 abbrev pub less : ℕ → ℕ → ℕ
 less a b = (a + (2 ^ 32 - b)) % 2 ^ 32
 
+-- a number and another, as a word
+abbrev pub plus : ℕ → ℕ → ℕ
+plus a b = (a + b) % 2 ^ 32
+
 -- the word that an operand says, of the addresses of places
 abbrev pub value_of : (ℕ → ℕ) → Operand → ℕ
 value_of address (Number n) = n
-value_of address (Label place) = address place
-value_of address (Difference a b) = less (address a) (address b)
+value_of address (Label place n) = plus (address place) n
+value_of address (Difference a b n) = plus (less (address a) (address b)) n
 
--- the operand of an instruction before a place: a branch takes a label as its distance from that place
+-- the operand of an instruction before a place: a branch takes a label, with the number on it, as its distance from that place
 abbrev pub operand_of : (ℕ → ℕ) → ℕ → Function → Operand → ℕ
-operand_of address next function (Label place) = if is_relative function then less (address place) (address next) else address place
+operand_of address next function (Label place n) = if is_relative function then less (plus (address place) n) (address next) else plus (address place) n
 operand_of address next function operand = value_of address operand
 
 -- an instruction in bytes that mean it: the shortest ones, behind so many pfix 0, which change nothing

@@ -3,7 +3,7 @@ ghost use Rattle.std.specs.Prelude.{◌≤◌, IfOk, length};
 ghost use Rattle.t414_assembly.specs.Program.{IsImage};
 
 use crate::cursor::Cursor;
-use crate::fault::{Expected, Mismatch, Position, TextFault};
+use crate::fault::{Expected, TextFault, fault_before, fault_in};
 use crate::layout::{Image, LayoutFault, lay_out};
 use crate::parsing::Reader;
 use crate::statement::Statement;
@@ -36,8 +36,8 @@ impl Assembly {
 
 /// Assembles a text, whose first byte stands at `origin`.
 ///
-/// A fault says where something else was expected: first what isn't written as it should be, then labels that aren't
-/// defined, then code that is too long.
+/// A fault says where something else was expected: first what isn't written as it should be, then names that aren't
+/// defined and labels that stand where no label can, then code that is too long.
 pub fn assemble(alloc: Global, origin: u32, text: &[u8]) -> Result<Assembly, TextFault>
     requires { origin ≤ 0xffff_0000 }
     ensures { IfOk result (λ made. IsImage origin made.statements.items made.image.starts.items (length made.statements.items) made.image.bytes.items) }
@@ -51,7 +51,7 @@ pub fn assemble(alloc: Global, origin: u32, text: &[u8]) -> Result<Assembly, Tex
             image,
         }),
         Err(LayoutFault::TooLong(place)) => {
-            Err(too_long(source.as_slice(), lines.as_slice(), place))
+            Err(too_long(alloc, source.as_slice(), lines.as_slice(), place))
         }
         Err(LayoutFault::NoMemory) => Err(TextFault::Memory(AllocError)),
     }
@@ -79,35 +79,23 @@ fn read_lines<'a>(
     for line in source {
         lines.push(reader.count())?;
         if line.as_str().is_err() {
-            return Err(fault_before(*line, line.text.len(), Expected::Text));
+            return Err(fault_before(alloc, *line, line.text.len(), Expected::Text));
         }
-        if let Some(Mismatch { expected, left }) = reader.read_line(line.text) {
-            return Err(fault_before(*line, left, expected));
+        if let Some(mismatch) = reader.read_line(*line) {
+            return Err(fault_in(alloc, *line, mismatch));
         }
     }
     lines.push(reader.count())?;
     Ok(lines)
 }
 
-/// A fault before the last `left` bytes of a line.
-pub fn fault_before(line: NumberedLine<'_>, left: usize, expected: Expected) -> TextFault {
-    let before = line.text.len().saturating_sub(left);
-    let characters = line
-        .text
-        .iter()
-        .take(before)
-        .filter(|byte| **byte & 0xc0 != 0x80);
-    TextFault::Wrong(
-        Position {
-            line: line.number,
-            column: (characters.count() as u64).saturating_add(1),
-        },
-        expected,
-    )
-}
-
 // The statement of a place, as what is too much.
-fn too_long(source: &[NumberedLine<'_>], lines: &[usize], place: usize) -> TextFault {
+fn too_long(
+    alloc: Global,
+    source: &[NumberedLine<'_>],
+    lines: &[usize],
+    place: usize,
+) -> TextFault {
     let number = lines.iter().filter(|count| **count <= place).count();
     let line = match source.get(number.saturating_sub(1)) {
         Some(line) => *line,
@@ -118,5 +106,5 @@ fn too_long(source: &[NumberedLine<'_>], lines: &[usize], place: usize) -> TextF
     };
     let mut cursor = Cursor::of(line.text);
     cursor.skip_blanks();
-    fault_before(line, cursor.left(), Expected::Length)
+    fault_before(alloc, line, cursor.left(), Expected::Length)
 }

@@ -1,6 +1,7 @@
 //! A line that is read from its head: names, numbers and characters.
 
 use crate::fault::{Expected, Mismatch};
+use crate::hints::Hint;
 use script_text::{decimal_number, hexadecimal_word};
 
 /// What is left of a line. Once something else is expected than what stands there nothing is left, and `mismatch` tells
@@ -8,7 +9,7 @@ use script_text::{decimal_number, hexadecimal_word};
 #[derive(Clone, Copy)]
 pub struct Cursor<'a> {
     rest: &'a [u8],
-    mismatch: Option<Mismatch>,
+    mismatch: Option<Mismatch<'a>>,
 }
 
 impl<'a> Cursor<'a> {
@@ -21,7 +22,7 @@ impl<'a> Cursor<'a> {
     }
 
     /// What was expected in place of what stands in the line.
-    pub fn mismatch(&self) -> Option<Mismatch> {
+    pub fn mismatch(&self) -> Option<Mismatch<'a>> {
         self.mismatch
     }
 
@@ -37,8 +38,17 @@ impl<'a> Cursor<'a> {
 
     /// Something else is expected before the last `left` bytes of the line.
     pub fn refuse_before(&mut self, expected: Expected, left: usize) {
+        self.refuse_with(expected, left, None);
+    }
+
+    /// Something else is expected before the last `left` bytes of the line, and this helps.
+    pub fn refuse_with(&mut self, expected: Expected, left: usize, hint: Option<Hint<'a>>) {
         if self.mismatch.is_none() {
-            self.mismatch = Some(Mismatch { expected, left });
+            self.mismatch = Some(Mismatch {
+                expected,
+                left,
+                hint,
+            });
         }
         self.rest = &[];
     }
@@ -94,48 +104,31 @@ impl<'a> Cursor<'a> {
 
     /// The name that stands here, empty if there is none: a letter or `_`, and then letters, digits, `_` and `.`.
     pub fn take_name(&mut self) -> &'a str {
-        match self.rest.first() {
-            Some(b'a'..=b'z' | b'A'..=b'Z' | b'_') => self.take_text(name_length(self.rest)),
-            _ => "",
-        }
+        self.take_text(name_length(self.rest))
     }
 
-    /// A decimal number from -2147483648 to 4294967295, or one to eight hexadecimal digits behind `#`, or a character
-    /// between `'`, as a word.
-    pub fn take_word(&mut self) -> u32 {
-        word_of(self.take_number())
-    }
-
-    fn take_number(&mut self) -> i64 {
+    /// A number of which the minus, if it has one, was taken: a decimal number, one to eight hexadecimal digits behind
+    /// `#`, or a character between `'`.
+    pub fn take_number(&mut self, is_negative: bool) -> u32 {
         if self.take_if(b'#') {
-            i64::from(self.take_hexadecimal())
+            self.take_hexadecimal()
         } else if self.take_if(b'\'') {
-            i64::from(self.take_quoted())
-        } else if self.take_if(b'-') {
-            self.take_decimal(0x8000_0000).saturating_neg()
+            u32::from(self.take_quoted())
+        } else if is_negative {
+            self.take_decimal(0x8000_0000)
         } else {
             self.take_decimal(0xffff_ffff)
         }
     }
 
-    /// A number between two others, both included, as a word; `expected` is expected in place of any other.
-    pub fn take_word_within(&mut self, least: i64, most: i64, expected: Expected) -> u32 {
+    fn take_decimal(&mut self, most: u64) -> u32 {
         let left = self.left();
-        let mut attempt = *self;
-        let number = attempt.take_number();
-        if attempt.mismatch.is_some() || number < least || most < number {
-            self.refuse_before(expected, left);
-            return 0;
+        if self.rest.starts_with(b"0x") || self.rest.starts_with(b"0X") {
+            self.refuse(Expected::Number);
         }
-        *self = attempt;
-        word_of(number)
-    }
-
-    fn take_decimal(&mut self, most: u64) -> i64 {
-        let left = self.left();
         let digits = self.take_text(digits_length(self.rest));
         match decimal_number(digits) {
-            Some(number) if number <= most => i64::try_from(number).unwrap_or(0),
+            Some(number) if number <= most => u32::try_from(number).unwrap_or(0),
             _ => {
                 self.refuse_before(Expected::Number, left);
                 0
@@ -216,10 +209,15 @@ impl<'a> Cursor<'a> {
     }
 }
 
-fn name_length(text: &[u8]) -> usize {
-    text.iter()
-        .position(|byte| !(byte.is_ascii_alphanumeric() || matches!(*byte, b'_' | b'.')))
-        .unwrap_or(text.len())
+/// How many bytes the name has with which a text begins, 0 if it begins with none.
+pub fn name_length(text: &[u8]) -> usize {
+    match text {
+        [b'a'..=b'z' | b'A'..=b'Z' | b'_', ..] => text
+            .iter()
+            .position(|byte| !(byte.is_ascii_alphanumeric() || matches!(*byte, b'_' | b'.')))
+            .unwrap_or(text.len()),
+        _ => 0,
+    }
 }
 
 fn digits_length(text: &[u8]) -> usize {
@@ -234,14 +232,15 @@ fn hexadecimal_length(text: &[u8]) -> usize {
         .unwrap_or(text.len())
 }
 
-// A number modulo 2^32.
-fn word_of(number: i64) -> u32 {
-    u32::try_from(number.rem_euclid(0x1_0000_0000)).unwrap_or(0)
-}
-
 /// The operand that a word spells, as the assembler reads it; `None` if it is no number.
 pub fn operand_of(word: &str) -> Option<u32> {
     let mut cursor = Cursor::of(word.as_bytes());
-    let operand = cursor.take_word();
+    let is_negative = cursor.take_if(b'-');
+    let number = cursor.take_number(is_negative);
+    let operand = if is_negative {
+        number.wrapping_neg()
+    } else {
+        number
+    };
     (cursor.mismatch.is_none() && cursor.rest.is_empty()).then_some(operand)
 }

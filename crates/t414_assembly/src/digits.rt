@@ -1,7 +1,7 @@
 //! Bytes that a text spells by hexadecimal digits, and code as text.
-use crate::assembling::{assemble, fault_before};
+use crate::assembling::assemble;
 use crate::disassembly::disassemble;
-use crate::fault::{Expected, TextFault};
+use crate::fault::{Expected, TextFault, fault_before};
 use crate::loading::BOOTED;
 use crate::printing::{bytes_as_text, instructions_as_text};
 use crate::writing::MOST_CODE;
@@ -18,7 +18,7 @@ pub fn bytes_of_digits(alloc: Global, text: &[u8]) -> Result<Vec<u8>, TextFault>
         text: &[],
     };
     for line in &numbered_lines(alloc, text)? {
-        push_digits(&mut digits, *line)?;
+        push_digits(alloc, &mut digits, *line)?;
         last = *line;
     }
     if digits.is_empty() {
@@ -26,22 +26,26 @@ pub fn bytes_of_digits(alloc: Global, text: &[u8]) -> Result<Vec<u8>, TextFault>
     }
     bytes_of(alloc, digits.as_str()).map_err(|fault| match fault {
         HexFault::NoMemory => TextFault::Memory(AllocError),
-        HexFault::NotHex => fault_before(last, 0, Expected::Digits),
+        HexFault::NotHex => fault_before(alloc, last, 0, Expected::Digits),
     })
 }
 
 // Puts the digits of a line behind others.
-fn push_digits(digits: &mut String, line: NumberedLine<'_>) -> Result<(), TextFault> {
+fn push_digits(
+    alloc: Global,
+    digits: &mut String,
+    line: NumberedLine<'_>,
+) -> Result<(), TextFault> {
     for (place, byte) in line.text.iter().enumerate() {
         if matches!(*byte, b' ' | b'\t') {
             continue;
         }
         let left = line.text.len().saturating_sub(place);
         if !byte.is_ascii_hexdigit() {
-            return Err(fault_before(line, left, Expected::Digits));
+            return Err(fault_before(alloc, line, left, Expected::Digits));
         }
         if digits.len() >= 2 * MOST_CODE as usize {
-            return Err(fault_before(line, left, Expected::Length));
+            return Err(fault_before(alloc, line, left, Expected::Length));
         }
         digits.push(char::from(*byte))?;
     }

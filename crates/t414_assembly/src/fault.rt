@@ -1,8 +1,14 @@
 //! What is wrong with a text.
 
-use std::alloc::AllocError;
+use crate::cursor::name_length;
+use crate::hints::{Hint, hint_of};
+use script_text::NumberedLine;
+use std::alloc::{AllocError, Global};
 use std::fmt;
 use thiserror::Error;
+
+// The most bytes of a word that a fault shows.
+const MOST_SHOWN: usize = 40;
 
 /// What was expected in place of what stands in a text. The texts begin with the numbers of the faults.
 #[derive(Clone, Copy, Debug, PartialEq, Eq)]
@@ -16,14 +22,19 @@ pub enum Expected {
     Byte,
     Character,
     Quote,
-    Label,
+    Term,
     End,
-    NewLabel,
-    KnownLabel,
+    NewName,
+    KnownName,
     Alignment,
     Space,
     Length,
     Digits,
+    NoAddress,
+    OneLabel,
+    Name,
+    Equals,
+    KnownNumber,
 }
 
 impl Expected {
@@ -32,8 +43,8 @@ impl Expected {
         match self {
             Expected::Text => "fault 1: expected a line in UTF-8",
             Expected::Statement =>
-                "fault 2: expected a label, an instruction, byte, word, align or space",
-            Expected::Operand => "fault 3: expected a number, a character or a label",
+                "fault 2: expected a label, an instruction, byte, word, align, space, def or local",
+            Expected::Operand => "fault 3: expected a number, a character or a name",
             Expected::Number => "fault 4: expected a number from -2147483648 to 4294967295",
             Expected::Hexadecimal => "fault 5: expected one to eight hexadecimal digits",
             Expected::Nibble => "fault 6: expected a number from 0 to 15",
@@ -42,14 +53,21 @@ impl Expected {
             Expected::Character =>
                 "fault 8: expected a character of ASCII, or * and one of n c t s ' \" * or # with two hexadecimal digits",
             Expected::Quote => "fault 9: expected a closing quote",
-            Expected::Label => "fault 10: expected a label",
+            Expected::Term => "fault 10: expected a number, a character or a name behind + or -",
             Expected::End => "fault 11: expected the end of the line",
-            Expected::NewLabel => "fault 12: expected a label that isn't defined yet",
-            Expected::KnownLabel => "fault 13: expected a label that is defined",
+            Expected::NewName => "fault 12: expected a name that isn't defined yet",
+            Expected::KnownName => "fault 13: expected a name that is defined",
             Expected::Alignment => "fault 14: expected a power of two from 1 to 256",
             Expected::Space => "fault 15: expected a number from 0 to 65464",
             Expected::Length => "fault 16: expected code of at most 65464 bytes",
             Expected::Digits => "fault 17: expected hexadecimal digits, two for each byte",
+            Expected::NoAddress => "fault 18: expected a number or a difference of labels",
+            Expected::OneLabel =>
+                "fault 19: expected a sum of at most one label that is added and one that is subtracted from it",
+            Expected::Name => "fault 20: expected a name",
+            Expected::Equals => "fault 21: expected an equals sign and a number",
+            Expected::KnownNumber =>
+                "fault 22: expected a number, a character, or a name that def or local defines above",
         }
     }
 }
@@ -70,17 +88,158 @@ pub struct Position {
 
 /// Something else is expected before the last `left` bytes of a line.
 #[derive(Clone, Copy)]
-pub struct Mismatch {
+pub struct Mismatch<'a> {
     pub expected: Expected,
     pub left: usize,
+    /// What helps, if what stands there doesn't show it.
+    pub hint: Option<Hint<'a>>,
 }
 
 /// Why a text is no program, or no bytes.
-#[derive(Clone, Copy, Debug, PartialEq, Eq, Error)]
+#[derive(Debug, Drop, Error)]
 pub enum TextFault {
     /// Something else was expected at a place.
-    #[error("{0}: {1}")]
-    Wrong(Position, Expected),
+    #[error("{position}: {expected}{details}")]
+    Wrong {
+        position: Position,
+        expected: Expected,
+        /// What stands there, and what helps: what follows in the sentence, or nothing.
+        details: String,
+    },
     #[error("out of memory")]
     Memory(#[from(alloc)] AllocError),
+}
+
+// What stands where something else was expected.
+#[derive(Clone, Copy)]
+enum Met<'a> {
+    End,
+    Comment,
+    Quoted,
+    Word(&'a str),
+    Bytes,
+}
+
+impl<'a> fmt::Display for Met<'a> {
+    fn fmt<W: fmt::Write>(&self, f: &mut fmt::Formatter<W>) -> fmt::Result {
+        match *self {
+            Met::End => f.write_str("the end of the line"),
+            Met::Comment => f.write_str("a comment"),
+            Met::Quoted => f.write_str("a string"),
+            Met::Word(word) => write!(f, "{word:?}"),
+            Met::Bytes => f.write_str("bytes that aren't UTF-8"),
+        }
+    }
+}
+
+/// A fault of a line.
+pub fn fault_in(alloc: Global, line: NumberedLine<'_>, mismatch: Mismatch<'_>) -> TextFault {
+    let Mismatch {
+        expected,
+        left,
+        hint,
+    } = mismatch;
+    let before = line.text.len().saturating_sub(left);
+    let rest = line.text.get(before..).unwrap_or(&[]);
+    match details_of(alloc, expected, rest, hint) {
+        Ok(details) => TextFault::Wrong {
+            position: Position {
+                line: line.number,
+                column: column_behind(line.text.get(..before).unwrap_or(line.text)),
+            },
+            expected,
+            details,
+        },
+        Err(error) => TextFault::Memory(error),
+    }
+}
+
+/// A fault before the last `left` bytes of a line, without a hint of its own.
+pub fn fault_before(
+    alloc: Global,
+    line: NumberedLine<'_>,
+    left: usize,
+    expected: Expected,
+) -> TextFault {
+    fault_in(
+        alloc,
+        line,
+        Mismatch {
+            expected,
+            left,
+            hint: None,
+        },
+    )
+}
+
+// The number of the character behind these.
+fn column_behind(text: &[u8]) -> u64 {
+    let characters = text.iter().filter(|byte| **byte & 0xc0 != 0x80);
+    (characters.count() as u64).saturating_add(1)
+}
+
+// What follows the text of what was expected.
+fn details_of(
+    alloc: Global,
+    expected: Expected,
+    rest: &[u8],
+    hint: Option<Hint<'_>>,
+) -> Result<String, AllocError> {
+    if matches!(expected, Expected::Text | Expected::Length) {
+        return Ok(String::new(alloc));
+    }
+    let is_in_quotes = matches!(expected, Expected::Character | Expected::Quote);
+    let rest = if is_in_quotes {
+        rest
+    } else {
+        without_blanks(rest)
+    };
+    let word = first_word(rest);
+    let met = met_in(rest, word, is_in_quotes);
+    match hint_of(expected, rest, word).or(hint) {
+        Some(hint) => format!(in alloc; ", not {met}. {hint}"),
+        None => format!(in alloc; ", not {met}"),
+    }
+}
+
+// A text without the blanks and tabs at its head.
+fn without_blanks(text: &[u8]) -> &[u8] {
+    let end = text.iter().position(|byte| !matches!(*byte, b' ' | b'\t'));
+    text.get(end.unwrap_or(text.len())..).unwrap_or(&[])
+}
+
+// What the rest of a line begins with.
+fn met_in<'a>(rest: &[u8], word: &'a str, is_in_quotes: bool) -> Met<'a> {
+    if rest.is_empty() {
+        Met::End
+    } else if word.is_empty() {
+        Met::Bytes
+    } else if rest.starts_with(b"--") && !is_in_quotes {
+        Met::Comment
+    } else if rest.starts_with(b"\"") && !is_in_quotes {
+        Met::Quoted
+    } else {
+        Met::Word(word)
+    }
+}
+
+// The name with which a text begins, or else its first character and what follows that up to a blank, a comma or a quote;
+// not all of a very long word, and nothing of what isn't UTF-8.
+fn first_word(text: &[u8]) -> &str {
+    let name = name_length(text);
+    let end = if name > 0 {
+        name.min(MOST_SHOWN)
+    } else {
+        text.iter()
+            .enumerate()
+            .position(|(place, byte)| place > 0 && ends_word(place, *byte))
+            .unwrap_or(text.len())
+    };
+    std::str::from_utf8(text.get(..end).unwrap_or(text)).unwrap_or("")
+}
+
+// Whether a byte that stands behind so many of a word isn't shown with them.
+fn ends_word(place: usize, byte: u8) -> bool {
+    matches!(byte, b' ' | b'\t' | b',' | b'\'' | b'"')
+        || (place >= MOST_SHOWN && byte & 0xc0 != 0x80)
 }

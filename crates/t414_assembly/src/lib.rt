@@ -7,6 +7,7 @@ mod cursor;
 mod digits;
 mod disassembly;
 mod fault;
+mod hints;
 mod laws;
 mod layout;
 mod loading;
@@ -16,6 +17,7 @@ mod printing;
 mod shortest;
 mod spelling;
 mod statement;
+mod sums;
 mod writing;
 
 pub use assembling::{Assembly, assemble};

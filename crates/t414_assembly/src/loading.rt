@@ -20,7 +20,7 @@ pub fn loader(alloc: Global, length: u32) -> Result<Vec<u8>, LayoutFault> {
     let place = 3;
     let statements = [
         Statement::Instruction(Function::AdjustWorkspace, Operand::Number(words)),
-        Statement::Instruction(Function::Jump, Operand::Label(place)),
+        Statement::Instruction(Function::Jump, Operand::Label(place, 0)),
         Statement::Align(8),
     ];
     Ok(lay_out(alloc, BOOTED, &statements)?.bytes)

@@ -92,6 +92,66 @@ const OPERATIONS: [(&str, u32); 74] = [
     ("testhalterr", 0x59),
 ];
 
+// What stands on a line besides instructions.
+const OTHERS: [&str; 6] = ["byte", "word", "align", "space", "def", "local"];
+
+// The names of operations that the processor leaves out, of the T414 and of later transputers, but for those that begin
+// with `fp`.
+//
+// Source: Transputer instruction set handbook, operations.
+const OMISSIONS: [(&str, Omission); 31] = [
+    ("ldtimer", Omission::Timer),
+    ("tin", Omission::Timer),
+    ("talt", Omission::Timer),
+    ("taltwt", Omission::Timer),
+    ("enbt", Omission::Timer),
+    ("dist", Omission::Timer),
+    ("unpacksn", Omission::Float),
+    ("postnormsn", Omission::Float),
+    ("roundsn", Omission::Float),
+    ("ldinf", Omission::Float),
+    ("cflerr", Omission::Float),
+    ("fmul", Omission::Other),
+    ("wcnt", Omission::Other),
+    ("testhardchan", Omission::Other),
+    ("testlds", Omission::Other),
+    ("testlde", Omission::Other),
+    ("testldd", Omission::Other),
+    ("teststs", Omission::Other),
+    ("testste", Omission::Other),
+    ("teststd", Omission::Other),
+    ("dup", Omission::Other),
+    ("wsubdb", Omission::Other),
+    ("bitcnt", Omission::Other),
+    ("bitrevword", Omission::Other),
+    ("bitrevnbits", Omission::Other),
+    ("crcword", Omission::Other),
+    ("crcbyte", Omission::Other),
+    ("move2dinit", Omission::Other),
+    ("move2dall", Omission::Other),
+    ("move2dnonzero", Omission::Other),
+    ("move2dzero", Omission::Other),
+];
+
+/// Of what kind an operation is that the processor leaves out.
+#[derive(Clone, Copy)]
+pub enum Omission {
+    Timer,
+    Float,
+    Other,
+}
+
+impl Omission {
+    /// What is said of it.
+    pub fn text(self) -> &'static str {
+        match self {
+            Omission::Timer => "The farm's processors have no timers",
+            Omission::Float => "The farm's processors have no floating point",
+            Omission::Other => "The farm's processors leave this operation out",
+        }
+    }
+}
+
 /// What the name of an instruction stands for.
 #[derive(Clone, Copy)]
 pub enum Mnemonic {
@@ -120,4 +180,28 @@ pub fn mnemonic_named(name: &str) -> Option<Mnemonic> {
         Some(nibble) => Some(Mnemonic::Function(decode((nibble as u8) << 4).0)),
         None => value_named(&OPERATIONS, name).map(Mnemonic::Operation),
     }
+}
+
+/// Of what kind an operation is that the processor leaves out, if the name in either case is one of those.
+pub fn omission_named(name: &str) -> Option<Omission> {
+    if name.starts_with("fp") || name.starts_with("FP") {
+        return Some(Omission::Float);
+    }
+    OMISSIONS
+        .iter()
+        .find(|entry| entry.0.eq_ignore_ascii_case(name))
+        .map(|entry| entry.1)
+}
+
+/// The name that begins a statement and differs from this one in case, if there is one.
+pub fn name_in_lower_case(name: &str) -> Option<&'static str> {
+    let function = FUNCTIONS.iter().find(|it| it.eq_ignore_ascii_case(name));
+    let other = OTHERS.iter().find(|it| it.eq_ignore_ascii_case(name));
+    let operation = OPERATIONS
+        .iter()
+        .find(|entry| entry.0.eq_ignore_ascii_case(name));
+    function
+        .or(other)
+        .copied()
+        .or(operation.map(|entry| entry.0))
 }

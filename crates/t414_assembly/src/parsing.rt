@@ -1,19 +1,34 @@
-//! A text as statements, with its labels as places.
+//! A text as statements, with its labels as places and its other names as numbers.
 
 use crate::codes::is_prefix;
 use crate::cursor::Cursor;
 use crate::fault::{Expected, Mismatch};
+use crate::hints::Hint;
 use crate::mnemonics::{Mnemonic, mnemonic_named};
 use crate::statement::{Operand, Statement};
+use crate::sums::{LabelTerm, Sum};
 use crate::writing::MOST_CODE;
+use script_text::NumberedLine;
 use std::alloc::{AllocError, Global};
 use t414_decode::Function;
 
-/// A label and its place.
+// The word of the workspace that the first `local` names. At word 0 `outbyte` and `outword` keep what they send, and an
+// alternative its branch.
+const FIRST_LOCAL: u32 = 1;
+
+/// A name, the line that defines it, and what it stands for.
 #[derive(Clone, Copy)]
 pub struct Definition<'a> {
     name: &'a str,
-    place: usize,
+    line: u64,
+    value: Named,
+}
+
+/// What a name stands for.
+#[derive(Clone, Copy)]
+enum Named {
+    Place(usize),
+    Number(u32),
 }
 
 /// What a list of data has.
@@ -23,28 +38,32 @@ enum Unit {
     Word,
 }
 
-/// What is read of a text. The labels are gathered first, when a label in an operand may still be unknown; then the
-/// text is read once more.
+/// What is read of a text. Names are gathered first, when a name in an operand may still be unknown; then the text is
+/// read once more.
 #[derive(Drop)]
 pub struct Reader<'a> {
     definitions: Vec<Definition<'a>>,
     gathers: bool,
+    line: u64,
+    next_local: u32,
     statements: Vec<Statement>,
     has_memory: bool,
 }
 
 impl<'a> Reader<'a> {
-    /// A reader that gathers labels.
+    /// A reader that gathers names.
     pub fn new(alloc: Global) -> Reader<'a> {
         Reader {
             definitions: Vec::new(alloc),
             gathers: true,
+            line: 0,
+            next_local: FIRST_LOCAL,
             statements: Vec::new(alloc),
             has_memory: true,
         }
     }
 
-    /// Begins again, with the labels that were gathered.
+    /// Begins again, with the names that were gathered.
     pub fn begin_again(&mut self) {
         self.gathers = false;
         self.statements.clear();
@@ -55,7 +74,7 @@ impl<'a> Reader<'a> {
         self.statements.len()
     }
 
-    /// The statements that have been read; an error if there was no memory for one, or for a label.
+    /// The statements that have been read; an error if there was no memory for one, or for a name.
     pub fn into_statements(self) -> Result<Vec<Statement>, AllocError> {
         if self.has_memory {
             Ok(self.statements)
@@ -64,14 +83,16 @@ impl<'a> Reader<'a> {
         }
     }
 
-    /// Reads a line: a label, if one is defined there, and a statement or several, if they stand there.
-    pub fn read_line(&mut self, line: &'a [u8]) -> Option<Mismatch> {
-        let mut cursor = Cursor::of(line);
+    /// Reads a line: a label, if one is defined there, and a statement or several, or other names, if they stand there.
+    pub fn read_line(&mut self, line: NumberedLine<'a>) -> Option<Mismatch<'a>> {
+        self.line = line.number;
+        let mut cursor = Cursor::of(line.text);
         cursor.skip_blanks();
         let start = cursor;
         let name = cursor.take_name();
         if !name.is_empty() && cursor.take_if(b':') {
-            self.define(name, start.left(), &mut cursor);
+            let place = Named::Place(self.statements.len());
+            self.define(name, place, start.left(), &mut cursor);
         } else {
             cursor = start;
         }
@@ -84,27 +105,36 @@ impl<'a> Reader<'a> {
         cursor.mismatch()
     }
 
-    // Defines a label at the place of the next statement; it stood before the last `left` bytes of its line.
-    fn define(&mut self, name: &'a str, left: usize, cursor: &mut Cursor<'a>) {
+    // Defines a name, which stood before the last `left` bytes of its line.
+    fn define(&mut self, name: &'a str, value: Named, left: usize, cursor: &mut Cursor<'a>) {
         if !self.gathers {
             return;
         }
-        if self.place_of(name).is_some() {
-            cursor.refuse_before(Expected::NewLabel, left);
+        if let Some(first) = self.definition_of(name) {
+            let hint = Hint::DefinedIn(first.line);
+            cursor.refuse_with(Expected::NewName, left, Some(hint));
         }
-        let place = self.statements.len();
-        self.has_memory &= self.definitions.push(Definition { name, place }).is_ok();
+        let line = self.line;
+        let definition = Definition { name, line, value };
+        self.has_memory &= self.definitions.push(definition).is_ok();
     }
 
-    // The place of a label.
-    fn place_of(&self, name: &str) -> Option<usize> {
+    fn definition_of(&self, name: &str) -> Option<Definition<'a>> {
         self.definitions
             .iter()
             .find(|definition| definition.name == name)
-            .map(|definition| definition.place)
+            .copied()
     }
 
-    // Reads one statement or a list.
+    // A name that is defined and differs from this one in case.
+    fn name_in_other_case(&self, name: &str) -> Option<&'a str> {
+        self.definitions
+            .iter()
+            .find(|definition| definition.name.eq_ignore_ascii_case(name))
+            .map(|definition| definition.name)
+    }
+
+    // Reads one statement, a list or definitions.
     fn read_statement(&mut self, cursor: &mut Cursor<'a>) {
         let left = cursor.left();
         let name = cursor.take_name();
@@ -114,11 +144,11 @@ impl<'a> Reader<'a> {
             "word" => self.read_list(cursor, Unit::Word),
             "align" => self.read_alignment(cursor),
             "space" => self.read_space(cursor),
+            "def" => self.read_definition(cursor),
+            "local" => self.read_locals(cursor),
             _ => match mnemonic_named(name) {
                 Some(Mnemonic::Function(function)) => self.read_instruction(function, cursor),
-                Some(Mnemonic::Operation(code)) => {
-                    self.add(Statement::Instruction(Function::Operate, Operand::Number(code)));
-                }
+                Some(Mnemonic::Operation(code)) => self.read_operation(name, code, cursor),
                 None => cursor.refuse_before(Expected::Statement, left),
             },
         }
@@ -128,51 +158,160 @@ impl<'a> Reader<'a> {
         self.has_memory &= self.statements.push(statement).is_ok();
     }
 
+    fn read_operation(&mut self, name: &'a str, code: u32, cursor: &mut Cursor<'a>) {
+        if !cursor.is_at_end() {
+            let left = cursor.left();
+            cursor.refuse_with(Expected::End, left, Some(Hint::NoOperand(name)));
+        }
+        self.add(Statement::Instruction(Function::Operate, Operand::Number(code)));
+    }
+
     fn read_instruction(&mut self, function: Function, cursor: &mut Cursor<'a>) {
         let operand = if is_prefix(function) {
-            Operand::Number(cursor.take_word_within(0, 15, Expected::Nibble))
+            Operand::Number(self.read_number(cursor, 0, 15, Expected::Nibble))
         } else {
-            self.read_operand(cursor)
+            self.read_operand(cursor, takes_address(function))
         };
         self.add(Statement::Instruction(function, operand));
     }
 
-    // A number, a character, a label or a difference of labels.
-    fn read_operand(&self, cursor: &mut Cursor<'a>) -> Operand {
-        match cursor.first() {
-            Some(b'0'..=b'9' | b'-' | b'#' | b'\'') if !cursor.is_at_comment() => {
-                Operand::Number(cursor.take_word())
-            }
-            Some(b'a'..=b'z' | b'A'..=b'Z' | b'_') => self.read_labels(cursor),
-            _ => {
-                cursor.refuse(Expected::Operand);
-                Operand::Number(0)
-            }
+    // A sum of numbers, characters and names, which may be an address only if that makes sense.
+    fn read_operand(&self, cursor: &mut Cursor<'a>, takes_address: bool) -> Operand {
+        let sum = self.read_sum(cursor, Expected::Operand);
+        if self.gathers {
+            return Operand::Number(0);
         }
+        if let Some(label) = sum.misplaced() {
+            cursor.refuse_before(Expected::OneLabel, label.left);
+        }
+        match sum.address() {
+            Some(label) if !takes_address => {
+                let hint = Hint::Address(label.name);
+                cursor.refuse_with(Expected::NoAddress, label.left, Some(hint));
+            }
+            _ => {}
+        }
+        sum.operand()
     }
 
-    fn read_labels(&self, cursor: &mut Cursor<'a>) -> Operand {
-        let place = self.read_label(cursor);
-        if cursor.is_at_end() || !cursor.take_if(b'-') {
-            return Operand::Label(place);
+    // The number of a sum without labels, from `below` below 0 to `most`; else `expected` is expected.
+    fn read_number(
+        &self,
+        cursor: &mut Cursor<'a>,
+        below: u32,
+        most: u32,
+        expected: Expected,
+    ) -> u32 {
+        let left = cursor.left();
+        let sum = self.read_constant(cursor, expected);
+        if sum.number().wrapping_add(below) > most.saturating_add(below) {
+            refuse_value(cursor, sum, expected, left);
         }
+        sum.number()
+    }
+
+    // A sum without labels. While names are gathered one with names is 1, which is right wherever a number stands.
+    fn read_constant(&self, cursor: &mut Cursor<'a>, expected: Expected) -> Sum<'a> {
+        let sum = self.read_sum(cursor, expected);
+        if self.gathers && sum.has_names() {
+            return Sum::of(1);
+        }
+        refuse_label(cursor, sum, expected);
+        sum
+    }
+
+    // Terms with + and - between them; `expected` is expected if there is none.
+    fn read_sum(&self, cursor: &mut Cursor<'a>, expected: Expected) -> Sum<'a> {
+        let mut sum = Sum::of(0);
+        self.read_term(cursor, &mut sum, false, expected);
+        for _ in 0..=cursor.left() {
+            if cursor.is_at_end() {
+                break;
+            }
+            let is_subtracted = cursor.take_if(b'-');
+            if !is_subtracted && !cursor.take_if(b'+') {
+                break;
+            }
+            cursor.skip_blanks();
+            self.read_term(cursor, &mut sum, is_subtracted, Expected::Term);
+        }
+        sum
+    }
+
+    // A number, a character or a name, with a minus of its own before it or without.
+    fn read_term(
+        &self,
+        cursor: &mut Cursor<'a>,
+        sum: &mut Sum<'a>,
+        is_subtracted: bool,
+        expected: Expected,
+    ) {
+        let is_negative = !cursor.is_at_comment() && cursor.take_if(b'-');
         cursor.skip_blanks();
-        Operand::Difference(place, self.read_label(cursor))
+        let is_subtracted = is_subtracted != is_negative;
+        match cursor.first() {
+            Some(b'0'..=b'9' | b'#' | b'\'') => {
+                sum.put_number(cursor.take_number(is_negative), is_subtracted);
+            }
+            Some(b'a'..=b'z' | b'A'..=b'Z' | b'_') => {
+                self.read_named(cursor, sum, is_subtracted);
+            }
+            _ if is_negative => cursor.refuse(Expected::Number),
+            _ => cursor.refuse(expected),
+        }
     }
 
-    fn read_label(&self, cursor: &mut Cursor<'a>) -> usize {
+    // A name in a sum. Any name may still be unknown while names are gathered.
+    fn read_named(&self, cursor: &mut Cursor<'a>, sum: &mut Sum<'a>, is_subtracted: bool) {
+        let left = cursor.left();
+        let name = cursor.take_name();
+        match self.definition_of(name).map(|definition| definition.value) {
+            Some(Named::Number(number)) => sum.put_named(number, is_subtracted),
+            Some(Named::Place(place)) => {
+                sum.put_label(LabelTerm { name, place, left }, is_subtracted);
+            }
+            None if self.gathers => sum.put_unknown(left),
+            None => {
+                let hint = self
+                    .name_in_other_case(name)
+                    .map(|other| Hint::OtherCase(other));
+                cursor.refuse_with(Expected::KnownName, left, hint);
+            }
+        }
+    }
+
+    // A name for the number of a sum of numbers and of names that are defined above.
+    fn read_definition(&mut self, cursor: &mut Cursor<'a>) {
         let left = cursor.left();
         let name = cursor.take_name();
         if name.is_empty() {
-            cursor.refuse(Expected::Label);
+            cursor.refuse(Expected::Name);
         }
-        match self.place_of(name) {
-            Some(place) => place,
-            None => {
-                if !self.gathers {
-                    cursor.refuse_before(Expected::KnownLabel, left);
-                }
-                0
+        cursor.skip_blanks();
+        if !cursor.take_if(b'=') {
+            cursor.refuse(Expected::Equals);
+        }
+        cursor.skip_blanks();
+        let sum = self.read_sum(cursor, Expected::KnownNumber);
+        if let Some(left) = sum.unknown() {
+            cursor.refuse_before(Expected::KnownNumber, left);
+        }
+        refuse_label(cursor, sum, Expected::KnownNumber);
+        self.define(name, Named::Number(sum.number()), left, cursor);
+    }
+
+    // Names for the next words of the workspace.
+    fn read_locals(&mut self, cursor: &mut Cursor<'a>) {
+        for _ in 0..=cursor.left() {
+            let left = cursor.left();
+            let name = cursor.take_name();
+            if name.is_empty() {
+                cursor.refuse(Expected::Name);
+            }
+            self.define(name, Named::Number(self.next_local), left, cursor);
+            self.next_local = self.next_local.saturating_add(1);
+            if cursor.is_at_end() {
+                break;
             }
         }
     }
@@ -196,9 +335,9 @@ impl<'a> Reader<'a> {
     // A word, or a byte as a signed or an unsigned number.
     fn read_value(&mut self, cursor: &mut Cursor<'a>, unit: Unit) {
         let statement = match unit {
-            Unit::Word => Statement::Word(self.read_operand(cursor)),
+            Unit::Word => Statement::Word(self.read_operand(cursor, true)),
             Unit::Byte => {
-                let value = cursor.take_word_within(-128, 255, Expected::Byte);
+                let value = self.read_number(cursor, 128, 255, Expected::Byte);
                 Statement::Byte((value % 0x100) as u8)
             }
         };
@@ -226,15 +365,37 @@ impl<'a> Reader<'a> {
             return;
         }
         let left = cursor.left();
-        let size = cursor.take_word_within(1, 256, Expected::Alignment);
-        if !size.is_power_of_two() {
-            cursor.refuse_before(Expected::Alignment, left);
+        let sum = self.read_constant(cursor, Expected::Alignment);
+        let size = sum.number();
+        if size > 256 || !size.is_power_of_two() {
+            refuse_value(cursor, sum, Expected::Alignment, left);
         }
         self.add(Statement::Align(size));
     }
 
     fn read_space(&mut self, cursor: &mut Cursor<'a>) {
-        let count = cursor.take_word_within(0, i64::from(MOST_CODE), Expected::Space);
+        let count = self.read_number(cursor, 0, MOST_CODE, Expected::Space);
         self.add(Statement::Space(count));
     }
+}
+
+// Whether an address makes sense as the operand of a function: as a number that is loaded, or as a distance.
+fn takes_address(function: Function) -> bool {
+    matches!(
+        function,
+        Function::Jump | Function::ConditionalJump | Function::Call | Function::LoadConstant
+    )
+}
+
+// A label, if the sum has one, stands in place of what is expected.
+fn refuse_label(cursor: &mut Cursor<'_>, sum: Sum<'_>, expected: Expected) {
+    if let Some(label) = sum.label() {
+        cursor.refuse_with(expected, label.left, Some(Hint::Unplaced));
+    }
+}
+
+// A sum before the last `left` bytes of the line has another value than is expected.
+fn refuse_value(cursor: &mut Cursor<'_>, sum: Sum<'_>, expected: Expected, left: usize) {
+    let hint = sum.is_composed().then_some(Hint::Value(sum.number()));
+    cursor.refuse_with(expected, left, hint);
 }

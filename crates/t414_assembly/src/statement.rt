@@ -2,17 +2,17 @@
 
 use t414_decode::Function;
 
-/// What a word or the operand of an instruction is.
+/// What a word or the operand of an instruction is. Each has a number, which is added modulo 2^32.
 ///
 /// A place is the number of the statement before which it stands; the place behind the last statement is their number.
 #[derive(Clone, Copy)]
 pub enum Operand {
     /// A word of 32 bits.
     Number(u32),
-    /// The address of a place; in j, cj and call its distance from the next instruction.
-    Label(usize),
-    /// The address of the first place less that of the second.
-    Difference(usize, usize),
+    /// The address of a place, and a number of bytes on; in j, cj and call the distance there from the next instruction.
+    Label(usize, u32),
+    /// The address of the first place less that of the second, and a number.
+    Difference(usize, usize, u32),
 }
 
 /// What stands in a program.

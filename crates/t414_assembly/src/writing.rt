@@ -1,7 +1,7 @@
 //! The bytes of one statement, if it is known where all places are.
 ghost use Rattle.std.specs.Prelude.{◌≡◌, ◌<◌, ◌≤◌, ◌+◌, ◌-◌, ◌++◌, ℕ, length, max, slice_index, IfOk, OnOk, IfSome, None, replicate};
 ghost use Rattle.t414_assembly.specs.Spelled.{spelled};
-ghost use Rattle.t414_assembly.specs.Program.{is_relative, less, address_of, value_of, operand_of};
+ghost use Rattle.t414_assembly.specs.Program.{is_relative, plus, less, address_of, value_of, operand_of};
 ghost use Rattle.t414_assembly.specs.Layout.{gap, size_of, IsTight, PutsPiece};
 
 use crate::shortest::spell;
@@ -57,9 +57,11 @@ fn value_at(origin: u32, starts: &[u32], operand: Operand) -> u32
 {
     match operand {
         Operand::Number(number) => number,
-        Operand::Label(place) => address_at(origin, starts, place),
-        Operand::Difference(place, base) => {
-            address_at(origin, starts, place).wrapping_sub(address_at(origin, starts, base))
+        Operand::Label(place, number) => address_at(origin, starts, place).wrapping_add(number),
+        Operand::Difference(place, base, number) => {
+            let to = address_at(origin, starts, place);
+            let from = address_at(origin, starts, base);
+            to.wrapping_sub(from).wrapping_add(number)
         }
     }
 }
@@ -70,11 +72,12 @@ fn operand_at(origin: u32, starts: &[u32], next: usize, function: Function, oper
     requires most { (k : ℕ) → slice_index starts.now k ≤ 65464 }
     ensures { result ≡ operand_of (address_of origin starts.now) next function operand }
 {
+    let value = value_at(origin, starts, operand);
     match (function, operand) {
-        (Function::Jump | Function::ConditionalJump | Function::Call, Operand::Label(place)) => {
-            address_at(origin, starts, place).wrapping_sub(address_at(origin, starts, next))
+        (Function::Jump | Function::ConditionalJump | Function::Call, Operand::Label(_, _)) => {
+            value.wrapping_sub(address_at(origin, starts, next))
         }
-        _ => value_at(origin, starts, operand),
+        _ => value,
     }
 }
 

@@ -1,0 +1,130 @@
+//! Why the nodes of a domain do no more than they do: what it answered is done again on a domain apart.
+ghost use Rattle.std.specs.Prelude.{IfOk};
+ghost use Rattle.farm_causes.specs.Following.{IsReached};
+
+use crate::record::PIECE;
+use domain_core::{Entry, Mark, NoMemory};
+use farm_causes::laws::moments_go_on;
+use farm_causes::{FollowFault, Follower, explain_moment};
+use farm_service::Service;
+use std::alloc::Global;
+use std::sync::Wait;
+
+/// How many Steps are done again for an answer. Each entry of a journal counts as so many more.
+const MOST_AGAIN: u64 = 1 << 28;
+
+const ENTRY_COUNTS: u64 = 64;
+
+// A domain that follows the journal of one of a service.
+#[derive(Drop)]
+struct Shadow {
+    follower: Follower,
+    // How far the journal was copied.
+    mark: Mark,
+    // Reserved, for a piece of it.
+    room: Vec<Entry>,
+    // What may still be done again.
+    left: u64,
+}
+
+impl Shadow {
+    // Follows the next piece of the journal, until so many events are recorded; whether more may follow.
+    fn follow_piece<R: Wait>(
+        &mut self,
+        rt: &R,
+        service: &Service,
+        domain: u8,
+        end: u64,
+    ) -> Result<bool, FollowFault>
+        requires { IsReached service.now.plan domain self.old.follower }
+        ensures { IfOk result (λ _. IsReached service.now.plan domain self.new.follower) }
+    {
+        // A moment that goes on is one after more calls.
+        moments_go_on();
+        let before = self.follower.recorded();
+        let most = end.min(before.saturating_add(self.left));
+        if before >= most {
+            return Ok(false);
+        }
+        self.room.clear();
+        let Ok(mark) = service.copy_gained(rt, domain, self.mark, &mut self.room) else {
+            return Ok(false);
+        };
+        if self.room.is_empty() {
+            return Ok(false);
+        }
+        self.mark = mark;
+        self.follower.follow_entries(self.room.as_slice(), most)?;
+        let done = self.follower.recorded().saturating_sub(before);
+        let entries = (self.room.len() as u64).saturating_mul(ENTRY_COUNTS);
+        self.left = self.left.saturating_sub(done).saturating_sub(entries);
+        Ok(true)
+    }
+}
+
+// The domain of this number of a service's plan, led from its opening up to so many events, or as far as is done again at once.
+fn follow_journal<R: Wait>(
+    rt: &R,
+    alloc: Global,
+    service: &Service,
+    domain: u8,
+    end: u64,
+) -> Result<Follower, FollowFault>
+    ensures { IfOk result (λ f. IsReached service.now.plan domain f) }
+{
+    if domain >= service.plan().domains() {
+        return Err(FollowFault::NoSuch);
+    }
+    let mut shadow = Shadow {
+        follower: Follower::open(alloc, service.plan(), domain)?,
+        mark: Mark::start(),
+        room: Vec::with_capacity(alloc, PIECE)?,
+        left: MOST_AGAIN,
+    };
+    // Each piece counts, so there are fewer.
+    for _piece in 0..MOST_AGAIN {
+        if !shadow.follow_piece(rt, service, domain, end)? {
+            break;
+        }
+    }
+    let Shadow { follower, .. } = shadow;
+    Ok(follower)
+}
+
+// What is told of a moment up to which so many events were recorded, when so many were.
+fn tell(
+    alloc: Global,
+    follower: &Follower,
+    recorded: u64,
+    node: Option<u8>,
+) -> Result<String, NoMemory> {
+    let done = follower.recorded();
+    let causes = explain_moment(alloc, follower, node)?;
+    if done < recorded {
+        format!(in alloc;
+            "after {done} of {recorded} events: more aren't done again at once\n{causes}"
+        )
+    } else {
+        format!(in alloc; "after {done} events\n{causes}")
+    }
+}
+
+/// Says why the nodes of a domain, or one of them, do no more than they do. The domain is asked nothing: what it answered up to now
+/// is copied in pieces, each under its lock, and done again on a domain apart.
+///
+/// # Errors
+///
+/// `NoSuch` if the plan has no such domain; why what was copied can't be done again, which no run comes to; `Memory`.
+pub(crate) fn told_of<R: Wait>(
+    rt: &R,
+    alloc: Global,
+    service: &Service,
+    domain: u8,
+    node: Option<u8>,
+) -> Result<String, FollowFault> {
+    let Ok(status) = service.status(rt, domain) else {
+        return Err(FollowFault::NoSuch);
+    };
+    let follower = follow_journal(rt, alloc, service, domain, status.recorded)?;
+    Ok(tell(alloc, &follower, status.recorded, node)?)
+}

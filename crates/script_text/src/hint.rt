@@ -1,0 +1,191 @@
+//! What helps where a word is wrong.
+
+use crate::wanted::{Wanted, WordForm, WordRole};
+use std::fmt;
+
+/// What helps where a word is wrong.
+#[derive(Clone, Copy, Debug, PartialEq, Eq)]
+pub enum WordHint {
+    /// Words stand between single blanks, and a tab is none.
+    Tab,
+    /// Words stand between single blanks.
+    Blank,
+    /// Only one carriage return at the end of a line is left out.
+    CarriageReturn,
+    Semicolon,
+    /// The answer that a line expects stands behind ` = `.
+    Answer,
+    /// `0x` or `#` stands before digits.
+    Prefix,
+    /// `0x` stands in place of `#`.
+    NumberSign,
+    Sign,
+    /// A byte has two digits.
+    OddDigits,
+    /// The same letters, small and capital, are this name.
+    Capitals(&'static str),
+    /// Names of instructions have no capitals.
+    SmallLetters,
+    /// A line begins with a domain's number.
+    DomainFirst,
+    /// The word is a command of a script for `farm`.
+    ScriptCommand,
+    /// Only the farm asks for so many Steps in a line.
+    FewerTimes,
+    /// A state of a link stands behind `link` and its number.
+    LinkFirst,
+    /// A remark stands on a line of its own.
+    Remark,
+    /// The word is an operation of these, which this processor leaves out.
+    LeftOut(OperationGroup),
+}
+
+/// Operations that this processor leaves out.
+#[derive(Clone, Copy, Debug, PartialEq, Eq)]
+pub enum OperationGroup {
+    Timers,
+    FloatingSupport,
+    FractionalMultiply,
+    WordCount,
+    FloatingPoint,
+    LaterTransputers,
+}
+
+impl fmt::Display for OperationGroup {
+    fn fmt<W: fmt::Write>(&self, f: &mut fmt::Formatter<W>) -> fmt::Result {
+        f.write_str(match self {
+            OperationGroup::Timers => "the timers",
+            OperationGroup::FloatingSupport => "the support of floating point",
+            OperationGroup::FractionalMultiply => "the fractional multiply",
+            OperationGroup::WordCount => "wcnt",
+            OperationGroup::FloatingPoint => "the floating point of the T800",
+            OperationGroup::LaterTransputers => "what only later transputers have",
+        })
+    }
+}
+
+impl WordHint {
+    // What is said of it.
+    fn text(self) -> &'static str {
+        match self {
+            WordHint::Tab => "a tab stands there, and words stand between single blanks",
+            WordHint::Blank => "words stand between single blanks",
+            WordHint::CarriageReturn =>
+                "a carriage return stands there, and only one at the end of a line is left out",
+            WordHint::Semicolon => "each line asks one thing, and no semicolon ends it",
+            WordHint::Answer =>
+                "the answer that a line expects stands behind =, with a blank on both sides of it",
+            WordHint::Prefix => "write the digits alone, without 0x or #",
+            WordHint::NumberSign => "hexadecimal digits stand behind #, as in #2a",
+            WordHint::Sign => "write the digits alone, without a sign",
+            WordHint::OddDigits => "each byte has two digits, as 05",
+            WordHint::Capitals(_) => "small and capital letters differ",
+            WordHint::SmallLetters => "names of instructions are in small letters",
+            WordHint::DomainFirst =>
+                "a line begins with a domain's number in the plan, from 0, and not with a verb or a user's name",
+            WordHint::ScriptCommand =>
+                "it is a command of a script for farm, and here writes, read and single events do the same",
+            WordHint::FewerTimes => "only Steps of one node by the farm may be asked more often",
+            WordHint::LinkFirst => "a state of a link stands behind link and the link's number",
+            WordHint::Remark => "a remark stands on a line of its own, which begins with #",
+            WordHint::LeftOut(_) => "this processor leaves out",
+        }
+    }
+}
+
+impl fmt::Display for WordHint {
+    fn fmt<W: fmt::Write>(&self, f: &mut fmt::Formatter<W>) -> fmt::Result {
+        f.write_str(self.text())?;
+        match self {
+            WordHint::Capitals(name) => write!(f, ": write {name}"),
+            WordHint::LeftOut(group) => write!(f, " {group}"),
+            _ => Ok(()),
+        }
+    }
+}
+
+impl WordHint {
+    /// What helps where this word stands in place of what is wanted.
+    pub fn of(word: &str, wanted: Wanted) -> Option<WordHint> {
+        if word.is_empty() {
+            return Some(WordHint::Blank);
+        }
+        hint_of_character(word).or(match wanted {
+            Wanted::Word(role, form) => hint_of_form(word, form).or(hint_of_role(word, role)),
+            Wanted::End if word.starts_with("#") => Some(WordHint::Remark),
+            Wanted::End | Wanted::Utf8 => None,
+        })
+    }
+}
+
+// What helps where a character stands in a word that stands in none.
+fn hint_of_character(word: &str) -> Option<WordHint> {
+    if word.contains("\t") {
+        Some(WordHint::Tab)
+    } else if word.contains("\r") {
+        Some(WordHint::CarriageReturn)
+    } else if word.contains(";") {
+        Some(WordHint::Semicolon)
+    } else if word.contains("=") {
+        Some(WordHint::Answer)
+    } else {
+        None
+    }
+}
+
+fn hint_of_form(word: &str, form: WordForm) -> Option<WordHint> {
+    match form {
+        WordForm::OneOf(names) | WordForm::InstructionOr(names) => names
+            .iter()
+            .find(|name| name.eq_ignore_ascii_case(word))
+            .map(|name| WordHint::Capitals(*name)),
+        WordForm::Asker | WordForm::Instruction | WordForm::Once => None,
+        form => hint_of_digits(word.as_bytes(), form),
+    }
+}
+
+// What helps where a number should stand.
+fn hint_of_digits(word: &[u8], form: WordForm) -> Option<WordHint> {
+    if let WordForm::Operand = form {
+        return word.starts_with(b"0x").then_some(WordHint::NumberSign);
+    }
+    match word {
+        [b'0', b'x' | b'X', ..] | [b'#', ..] => Some(WordHint::Prefix),
+        [b'-' | b'+', ..] => Some(WordHint::Sign),
+        _ => match form {
+            WordForm::TwoDigits | WordForm::DigitPairs | WordForm::TwoDigitsOrNone
+                if word.len() % 2 == 1 && word.iter().all(|byte| byte.is_ascii_hexdigit()) => {
+                Some(WordHint::OddDigits)
+            }
+            _ => None,
+        },
+    }
+}
+
+fn hint_of_role(word: &str, role: WordRole) -> Option<WordHint> {
+    match role {
+        WordRole::Domain => hint_of_begin(word),
+        WordRole::DomainVerb => match word {
+            "boot" | "poke" | "peek" | "collect" => Some(WordHint::ScriptCommand),
+            _ => None,
+        },
+        WordRole::Instruction | WordRole::InstructionOrState => {
+            let has_capital = word.as_bytes().iter().any(|byte| byte.is_ascii_uppercase());
+            has_capital.then_some(WordHint::SmallLetters)
+        }
+        _ => None,
+    }
+}
+
+// What helps where a line should begin with a domain's number.
+fn hint_of_begin(word: &str) -> Option<WordHint> {
+    let is_of_letters = word
+        .as_bytes()
+        .iter()
+        .any(|byte| byte.is_ascii_alphabetic());
+    ["words", "reopen"]
+        .iter()
+        .find(|name| name.eq_ignore_ascii_case(word))
+        .map(|name| WordHint::Capitals(*name))
+        .or(is_of_letters.then_some(WordHint::DomainFirst))
+}

@@ -1,0 +1,182 @@
+//! What a line should have at a place.
+
+use std::fmt;
+
+/// What a word of a line is for.
+#[derive(Clone, Copy, Debug, PartialEq, Eq)]
+pub enum WordRole {
+    /// The first word of a line that asks a domain.
+    Domain,
+    User,
+    Host,
+    Node,
+    Port,
+    Output,
+    Ticket,
+    Link,
+    /// What is asked of a domain.
+    DomainVerb,
+    /// What is asked of a node alone.
+    NodeVerb,
+    /// How often a line is asked.
+    Times,
+    Steps,
+    Quantum,
+    Rounds,
+    Byte,
+    Bytes,
+    Address,
+    /// A word of memory or of a register.
+    Word,
+    Count,
+    Flag,
+    MemorySize,
+    /// What a line puts into a node.
+    State,
+    Instruction,
+    InstructionOrState,
+    Operand,
+    Packet,
+    /// What is replaced in a plan, or by what.
+    Change,
+    /// What a change replaces.
+    Replaced,
+    /// What reads a row.
+    Subcommand,
+}
+
+impl fmt::Display for WordRole {
+    fn fmt<W: fmt::Write>(&self, f: &mut fmt::Formatter<W>) -> fmt::Result {
+        f.write_str(match self {
+            WordRole::Domain => "a domain's number",
+            WordRole::User => "the user who asks",
+            WordRole::Host => "a host's number",
+            WordRole::Node => "a node's number",
+            WordRole::Port => "a port's number",
+            WordRole::Output => "an output's number",
+            WordRole::Ticket => "a ticket's number",
+            WordRole::Link => "a link's number",
+            WordRole::DomainVerb => "a verb of a domain",
+            WordRole::NodeVerb => "a verb of a node",
+            WordRole::Times => "a number of times",
+            WordRole::Steps => "a number of Steps",
+            WordRole::Quantum => "a quantum of Steps",
+            WordRole::Rounds => "a number of rounds",
+            WordRole::Byte => "a byte",
+            WordRole::Bytes => "bytes",
+            WordRole::Address => "an address",
+            WordRole::Word => "a word",
+            WordRole::Count => "a count",
+            WordRole::Flag => "a flag",
+            WordRole::MemorySize => "a size of memory",
+            WordRole::State => "a state",
+            WordRole::Instruction => "an instruction",
+            WordRole::InstructionOrState => "an instruction or a state",
+            WordRole::Operand => "an operand",
+            WordRole::Packet => "a packet",
+            WordRole::Change => "a line of a change",
+            WordRole::Replaced => "what is replaced",
+            WordRole::Subcommand => "a subcommand",
+        })
+    }
+}
+
+/// How a word is written.
+#[derive(Clone, Copy, Debug, PartialEq, Eq)]
+pub enum WordForm {
+    /// As one of these.
+    OneOf(&'static [&'static str]),
+    /// In decimal digits, as a number of this range.
+    Decimal { least: u64, most: u64 },
+    /// As a decimal multiple of 4 of this range.
+    MultipleOfFour { least: u64, most: u64 },
+    /// In one to eight hexadecimal digits.
+    Hexadecimal,
+    /// In two hexadecimal digits.
+    TwoDigits,
+    /// In two hexadecimal digits for each byte.
+    DigitPairs,
+    /// As two hexadecimal digits, or `-`.
+    TwoDigitsOrNone,
+    /// As `@farm`, or as `@` and a number.
+    Asker,
+    /// As it stands just once in a plan.
+    Once,
+    /// As an operand of the assembler.
+    Operand,
+    /// As an instruction of the assembler.
+    Instruction,
+    /// As an instruction of the assembler, or as one of these.
+    InstructionOr(&'static [&'static str]),
+}
+
+/// What the forms of an instruction are.
+const INSTRUCTIONS: &str =
+    "an operation as add, a function and its operand as ldc 5, or hex and bytes";
+
+impl fmt::Display for WordForm {
+    fn fmt<W: fmt::Write>(&self, f: &mut fmt::Formatter<W>) -> fmt::Result {
+        match self {
+            WordForm::OneOf(names) => write_names(f, names),
+            WordForm::Decimal { least, most } => write!(f, "decimal digits, {least} to {most}"),
+            WordForm::MultipleOfFour { least, most } => {
+                write!(f, "decimal digits, a multiple of 4 from {least} to {most}")
+            }
+            WordForm::Hexadecimal => f.write_str("one to eight hexadecimal digits"),
+            WordForm::TwoDigits => f.write_str("two hexadecimal digits"),
+            WordForm::DigitPairs => f.write_str("two hexadecimal digits for each byte"),
+            WordForm::TwoDigitsOrNone => f.write_str("two hexadecimal digits, or - for none"),
+            WordForm::Asker => f.write_str("@farm, or @ and a number, 0 to 255"),
+            WordForm::Once => f.write_str("a text that stands just once in the plan"),
+            WordForm::Operand => f.write_str(
+                "a decimal number from -2147483648 to 4294967295, or # and one to eight hexadecimal digits",
+            ),
+            WordForm::Instruction => f.write_str(INSTRUCTIONS),
+            WordForm::InstructionOr(names) => {
+                write!(f, "{INSTRUCTIONS}, or ")?;
+                write_names(f, names)
+            }
+        }
+    }
+}
+
+// Names with commas between them, and `or` before the last.
+fn write_names<W: fmt::Write>(f: &mut fmt::Formatter<W>, names: &[&str]) -> fmt::Result {
+    let Some((last, others)) = names.split_last() else {
+        return Ok(());
+    };
+    for (place, name) in others.iter().enumerate() {
+        f.write_str(if place == 0 { "" } else { ", " })?;
+        f.write_str(name)?;
+    }
+    f.write_str(if others.is_empty() { "" } else { " or " })?;
+    f.write_str(last)
+}
+
+/// What a line should have at a place.
+#[derive(Clone, Copy, Debug, PartialEq, Eq)]
+pub enum Wanted {
+    /// A word for something, in its form.
+    Word(WordRole, WordForm),
+    /// The end of the line.
+    End,
+    /// Bytes of UTF-8.
+    Utf8,
+}
+
+impl Wanted {
+    /// A decimal number of this range.
+    pub fn decimal(role: WordRole, least: u64, most: u64) -> Wanted {
+        Wanted::Word(role, WordForm::Decimal { least, most })
+    }
+}
+
+impl fmt::Display for Wanted {
+    fn fmt<W: fmt::Write>(&self, f: &mut fmt::Formatter<W>) -> fmt::Result {
+        match self {
+            Wanted::Word(role, form) => write!(f, "{role} should be: {form}"),
+            Wanted::End => f.write_str("the line should end"),
+            Wanted::Utf8 => f.write_str("a character in UTF-8 should be"),
+        }
+    }
+}

@@ -1,0 +1,130 @@
+//! What helps to mend a fault of a text.
+
+use crate::fault::Expected;
+use crate::mnemonics::{Omission, name_in_lower_case, omission_named};
+use std::fmt;
+
+/// What helps to mend a fault.
+#[derive(Clone, Copy)]
+pub enum Hint<'a> {
+    /// How a comment begins.
+    Comment,
+    /// How hexadecimal digits are written: these.
+    Hexadecimal(&'a str),
+    /// What an operand can do.
+    Sums,
+    /// An instruction as it is written.
+    LowerCase(&'static str),
+    /// An operation that the processor leaves out.
+    Omitted(Omission),
+    /// An operation that takes no operand.
+    NoOperand(&'a str),
+    /// Where the colon of a label stands.
+    Colon,
+    /// How many labels a line has.
+    OneLabel,
+    /// How a number gets a name.
+    Naming,
+    /// What stands between names.
+    Blanks,
+    /// The value of a sum.
+    Value(u32),
+    /// The line that defines a name.
+    DefinedIn(u64),
+    /// A name that differs only in case.
+    OtherCase(&'a str),
+    /// What can be done with this label.
+    Address(&'a str),
+    /// That a label is no number yet.
+    Unplaced,
+}
+
+impl<'a> fmt::Display for Hint<'a> {
+    fn fmt<W: fmt::Write>(&self, f: &mut fmt::Formatter<W>) -> fmt::Result {
+        match *self {
+            Hint::Comment => f.write_str("A comment begins with --"),
+            Hint::Hexadecimal(digits) => write!(f, "Hexadecimal digits stand behind #: #{digits}"),
+            Hint::Sums => f.write_str("Operands have + and - alone, and no parentheses"),
+            Hint::LowerCase(name) => write!(f, "It is written in lower case: {name}"),
+            Hint::Omitted(omission) => f.write_str(omission.text()),
+            Hint::NoOperand(name) => write!(f, "{name} takes no operand"),
+            Hint::Colon => f.write_str("The colon of a label stands right behind its name"),
+            Hint::OneLabel => f.write_str("A line defines one label at most"),
+            Hint::Naming => f.write_str("A number gets a name by def"),
+            Hint::Blanks => f.write_str("Names of local stand between blanks"),
+            Hint::Value(word) => {
+                let value = word.cast_signed();
+                write!(f, "The value is {value}")
+            }
+            Hint::DefinedIn(line) => write!(f, "Line {line} defines it"),
+            Hint::OtherCase(name) => write!(f, "{name} is defined, and case counts"),
+            Hint::Address(name) => write!(
+                f,
+                "It is a label: ldc {name} gives its address, and local names words of the workspace"
+            ),
+            Hint::Unplaced => f.write_str("It is a label, whose address isn't known yet"),
+        }
+    }
+}
+
+/// What the rest of a line shows where something else was expected, and the word that it begins with.
+pub fn hint_of<'a>(expected: Expected, rest: &[u8], word: &'a str) -> Option<Hint<'a>> {
+    match expected {
+        Expected::Statement => statement_hint(rest, word),
+        Expected::Number => hexadecimal_hint(word),
+        Expected::Operand | Expected::Term | Expected::KnownNumber => operand_hint(word),
+        Expected::End => end_hint(word),
+        Expected::Name if word == "," => Some(Hint::Blanks),
+        _ => None,
+    }
+}
+
+fn statement_hint<'a>(rest: &[u8], word: &'a str) -> Option<Hint<'a>> {
+    if begins_other_comment(word) || word.starts_with("#") {
+        return Some(Hint::Comment);
+    }
+    if let Some(omission) = omission_named(word) {
+        return Some(Hint::Omitted(omission));
+    }
+    if let Some(name) = name_in_lower_case(word) {
+        return Some(Hint::LowerCase(name));
+    }
+    let behind = rest.get(word.len()..).unwrap_or(&[]);
+    match (behind.first(), first_visible(behind)) {
+        (Some(b':'), _) => Some(Hint::OneLabel),
+        (_, Some(b':')) => Some(Hint::Colon),
+        (_, Some(b'=')) => Some(Hint::Naming),
+        _ => None,
+    }
+}
+
+// The first byte that is no blank and no tab.
+fn first_visible(text: &[u8]) -> Option<u8> {
+    text.iter()
+        .find(|byte| !matches!(**byte, b' ' | b'\t'))
+        .copied()
+}
+
+fn hexadecimal_hint(word: &str) -> Option<Hint<'_>> {
+    let digits = word.strip_prefix("0x").or(word.strip_prefix("0X"))?;
+    Some(Hint::Hexadecimal(digits))
+}
+
+fn operand_hint(word: &str) -> Option<Hint<'_>> {
+    word.starts_with("(").then_some(Hint::Sums)
+}
+
+fn end_hint(word: &str) -> Option<Hint<'_>> {
+    if begins_other_comment(word) || word == "#" {
+        Some(Hint::Comment)
+    } else if word.starts_with("*") || word.starts_with("/") || word.starts_with("(") {
+        Some(Hint::Sums)
+    } else {
+        None
+    }
+}
+
+// Whether a word begins a comment in other assemblers.
+fn begins_other_comment(word: &str) -> bool {
+    word.starts_with(";") || word.starts_with("//") || word.starts_with("/*")
+}
