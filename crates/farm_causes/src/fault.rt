@@ -1,13 +1,13 @@
 //! Why nothing is said of a record.
 
 use domain_core::Refusal;
+use line_words::{NumberedLineFault, WordFault, WordMistake, WrongLine};
 use plan_checker::PlanFault;
-use script_text::{NumberedLineFault, WordFault, WordMistake, WrongLine};
 use std::alloc::{AllocError, AllocFailed};
 use thiserror::Error;
 
 /// Why a line of a record isn't done.
-#[derive(Clone, Copy, Debug, PartialEq, Eq, Error)]
+#[derive(Clone, Copy, Debug, Error)]
 pub enum FollowFault {
     /// It asks no single event of domain 0.
     #[error("a record has lines as `0 write 0 05 @0 = written` and `3 times 0 step 0 @farm = 3 ran`")]
@@ -54,7 +54,7 @@ impl From<Refusal> for FollowFault {
 }
 
 /// Why nothing is said of a text.
-#[derive(Clone, Copy, Debug, PartialEq, Eq, Error)]
+#[derive(Clone, Copy, Debug, Error)]
 pub enum WhyFault {
     /// It has no line behind a plan.
     #[error("it is no record: a record is a plan, a line ---, and the events of its domain, as `live --record` writes it")]

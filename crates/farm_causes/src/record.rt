@@ -3,8 +3,9 @@ ghost use Rattle.std.specs.Prelude.{◌≡◌, length, IfOk};
 
 use crate::fault::WhyFault;
 use crate::line::{RecordedLine, read_line};
+use line_words::{NumberedLine, numbered_lines};
 use plan_checker::{AcceptedPlan, check, read_plan};
-use script_text::{NumberedLine, divide, is_passed_over, numbered_lines};
+use script_text::{divide, is_passed_over};
 use std::alloc::Global;
 
 /// What divides the plan from the events.

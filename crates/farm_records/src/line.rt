@@ -3,7 +3,7 @@
 use crate::fault::RedoFault;
 use domain_core::{By, Event};
 use farm_replay::{RepeatedRequest, Request, read_request};
-use script_text::WordFault;
+use line_words::WordFault;
 use std::alloc::Global;
 
 /// What stands between a call and its answer.

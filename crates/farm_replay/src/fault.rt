@@ -1,12 +1,12 @@
 //! Why a text isn't replayed.
 
+use line_words::{NumberedLineFault, WrongLine};
 use plan_checker::PlanFault;
-use script_text::{NumberedLineFault, WrongLine};
 use std::alloc::AllocError;
 use thiserror::Error;
 
 /// Why a text isn't replayed. None of its lines is then.
-#[derive(Clone, Copy, Debug, PartialEq, Eq, Error)]
+#[derive(Clone, Copy, Debug, Error)]
 pub enum ReplayFault {
     /// The plan that begins at this line is refused.
     #[error("plan: {number}: {fault}, in the plan that begins at line {line} (`lab plan` says where)", number = .fault.number())]

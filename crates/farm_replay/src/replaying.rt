@@ -12,8 +12,9 @@ use crate::request::RepeatedRequest;
 use crossbar::{PORTS, Word};
 use domain_core::NoMemory;
 use farm_core::laws::runs_add_up;
+use line_words::{Answered, NumberedLineFault, Question, read_questions};
 use plan_checker::{AcceptedPlan, PlanFault, check, read_plan};
-use script_text::{Answered, NumberedLineFault, Question, divide, read_questions};
+use script_text::divide;
 use std::alloc::Global;
 
 /// What divides one farm of a text from the next.

@@ -1,7 +1,8 @@
 //! Texts as code, and code as text.
 
 use crate::failure::LabFailure;
-use script_text::{Answered, Question, TextWriter, read_questions};
+use line_words::{Answered, Question, read_questions};
+use script_text::TextWriter;
 use std::alloc::{AllocError, Global};
 use t414_assembly::{
     Assembly, BOOTED, Image, LOADED, MOST_CODE, assemble, bytes_of_digits, code_as_text,

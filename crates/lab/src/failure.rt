@@ -2,9 +2,10 @@
 
 use farm_causes::WhyFault;
 use farm_replay::ReplayFault;
+use line_words::{NumberedLineFault, WrongLine};
 use node_trace::BootFault;
 use plan_views::PlanRefusal;
-use script_text::{NumberedLineFault, ReadFault, WrongLine, write_whole};
+use script_text::{ReadFault, write_whole};
 use std::alloc::{AllocError, AllocFailed, Global};
 use std::fmt;
 use std::io::{self, Write};

@@ -2,11 +2,11 @@
 
 use crate::failure::LabFailure;
 use farm_replay::read_request;
-use node_trace::read_trace_line;
-use script_text::{
+use line_words::{
     Answered, Question, Wanted, WordFault, WordForm, WordMistake, WordRole, WrongLine,
     read_questions,
 };
+use node_trace::read_trace_line;
 use std::alloc::Global;
 
 /// Reads each row of a text: `replay` or `trace`, a blank, and a line as that subcommand reads it. The answer is the mistake

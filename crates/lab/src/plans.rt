@@ -1,10 +1,11 @@
 //! Plans that stand in files, each with what the checker is to answer.
 
-use plan_views::{PlanRefusal, accepted};
-use script_text::{
-    Answered, NumberedLineFault, Question, TextWriter, Wanted, WordForm, WordMistake, WordRole,
-    WrongLine, numbered_lines,
+use line_words::{
+    Answered, NumberedLineFault, Question, Wanted, WordForm, WordMistake, WordRole, WrongLine,
+    numbered_lines,
 };
+use plan_views::{PlanRefusal, accepted};
+use script_text::TextWriter;
 use std::alloc::{AllocError, Global};
 
 /// What stands before a text that is replaced.

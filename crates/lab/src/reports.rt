@@ -4,9 +4,10 @@ use crate::assembly::{print_assembled, print_disassembled};
 use crate::command_line::{BootOptions, Reading};
 use crate::failure::LabFailure;
 use farm_replay::{Replayed, replay};
+use line_words::Answered;
 use node_trace::{BootTrace, trace, trace_boot};
 use plan_views::{accepted, draw, draw_network, table_of};
-use script_text::{Answered, TextWriter, divide};
+use script_text::{TextWriter, divide};
 use std::alloc::{AllocError, Global};
 
 /// A text for standard output, and the status of the process.

@@ -6,8 +6,9 @@ use crate::mistakes::try_lines;
 use crate::plans::try_plans;
 use crate::reports::Report;
 use farm_replay::{Replayed, replay};
+use line_words::Answered;
 use node_trace::trace;
-use script_text::{Answered, TextWriter};
+use script_text::TextWriter;
 use std::alloc::Global;
 use std::fs;
 

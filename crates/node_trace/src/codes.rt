@@ -1,7 +1,7 @@
 //! Instructions as bytes of code.
 
 use crate::left_out::left_out;
-use script_text::{Wanted, WordForm, WordHint, WordPlace, WordRole, Words};
+use line_words::{Wanted, WordForm, WordHint, WordPlace, WordRole, Words};
 use std::alloc::{AllocError, Global};
 use t414_assembly::{Mnemonic, mnemonic_named, operand_of, spell};
 use t414_decode::Function;

@@ -1,6 +1,7 @@
 //! The operations of the handbook that this processor leaves out.
 
-use script_text::{OperationGroup, value_named};
+use line_words::OperationGroup;
+use script_text::value_named;
 
 // The names of operations that are left out, and what they belong to.
 //

@@ -23,4 +23,4 @@ pub use crate::boot::{BootTrace, trace_boot};
 pub use crate::hosts::LinkInput;
 pub use crate::tracing::{read_trace_line, trace};
 pub use bootstrap::{BootFault, LinkNumber, link_of};
-pub use script_text::NumberedLineFault;
+pub use line_words::NumberedLineFault;

@@ -2,8 +2,9 @@
 
 use crate::codes::{read_instruction, reject_instruction};
 use bootstrap::{Cpu, Fault, LinkNumber, Links, Memory, Node, link_of};
+use line_words::{Wanted, WordForm, WordHint, WordRole, Words};
 use link_channels::Link;
-use script_text::{Wanted, WordForm, WordHint, WordRole, Words, value_named};
+use script_text::value_named;
 use std::alloc::{AllocError, Global};
 
 /// One thing that is put into a node.

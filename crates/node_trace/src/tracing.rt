@@ -3,7 +3,8 @@
 use crate::commands::{TraceCommand, read_command};
 use crate::performing::{open_running, or_dash, perform};
 use bootstrap::Node;
-use script_text::{Answered, NumberedLineFault, Question, TextWriter, WordFault, read_questions};
+use line_words::{Answered, NumberedLineFault, Question, WordFault, read_questions};
+use script_text::TextWriter;
 use std::alloc::{AllocError, Global};
 
 /// The answers to the lines of a text, in their order.

@@ -2,6 +2,4 @@
 pub mod Hexadecimal
 pub mod Lines
 -- what only helps contracts
-pub mod Columns
 pub mod Numbers
-pub mod Rows

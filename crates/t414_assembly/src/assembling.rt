@@ -7,7 +7,7 @@ use crate::fault::{Expected, TextFault, fault_before, fault_in};
 use crate::layout::{Image, LayoutFault, lay_out};
 use crate::parsing::Reader;
 use crate::statement::Statement;
-use script_text::{NumberedLine, numbered_lines};
+use line_words::{NumberedLine, numbered_lines};
 use std::alloc::{AllocError, Global};
 
 /// A program that was read from a text, and its bytes.

@@ -2,7 +2,7 @@
 
 use crate::cursor::name_length;
 use crate::hints::{Hint, hint_of};
-use script_text::NumberedLine;
+use line_words::NumberedLine;
 use std::alloc::{AllocError, Global};
 use std::fmt;
 use thiserror::Error;

@@ -4,7 +4,8 @@ use crate::assembling::Assembly;
 use crate::disassembly::Instruction;
 use crate::loading::LOADED;
 use crate::mnemonics::{function_name, operation_name};
-use script_text::{TextWriter, numbered_lines};
+use line_words::numbered_lines;
+use script_text::TextWriter;
 use std::alloc::{AllocError, Global};
 use t414_decode::Function;
 

@@ -3,9 +3,9 @@ ghost use Rattle.std.specs.Prelude.{◌≡◌, ◌+◌, ℕ, [], IfOk, IfSome, l
 ghost use Rattle.script_text.specs.Lines.{from_line, IsLine};
 
 use crate::fault::NumberedLineFault;
-use crate::lines::split_line;
 use crate::mistake::{MetText, WordMistake, WrongLine, column_at};
 use crate::wanted::Wanted;
+use script_text::split_line;
 use std::alloc::{AllocError, Global};
 
 /// A line of a text, without its end.

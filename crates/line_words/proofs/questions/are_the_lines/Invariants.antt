@@ -1,6 +1,6 @@
 use Rattle.std.proofs.Common.{◌≡◌, ◌↔◌, length}
-use Rattle.script_text.specs.Rows.{expected_lines}
-use Rattle.script_text.proofs.questions.are_the_lines.Given as goal
+use Rattle.line_words.specs.Rows.{expected_lines}
+use Rattle.line_words.proofs.questions.are_the_lines.Given as goal
 
 abbrev pub invariant-loop-next : goal.invariant-loop-next
 invariant-loop-next l = (l.answer ≡ expected_lines l.expected) ↔ (l.rest ≡ expected_lines l.unmatched)

@@ -5,7 +5,7 @@ use std::alloc::AllocError;
 use thiserror::Error;
 
 /// Why the words of a line ask nothing.
-#[derive(Clone, Copy, Debug, PartialEq, Eq, Error)]
+#[derive(Clone, Copy, Debug, Error)]
 pub enum WordFault {
     /// A word is wrong or missing, or one stands behind the last.
     #[error("{0}")]
@@ -25,7 +25,7 @@ impl WordFault {
 }
 
 /// Why the lines of a text can't be done.
-#[derive(Clone, Copy, Debug, PartialEq, Eq, Error)]
+#[derive(Clone, Copy, Debug, Error)]
 pub enum NumberedLineFault {
     /// A line is wrong.
     #[error("{0}")]

@@ -1,6 +1,6 @@
 //! Where and how a line is wrong.
 ghost use Rattle.std.specs.Prelude.{◌≡◌};
-ghost use Rattle.script_text.specs.Columns.{begins_character, column_of};
+ghost use Rattle.line_words.specs.Columns.{begins_character, column_of};
 
 use crate::hint::WordHint;
 use crate::wanted::Wanted;
@@ -11,7 +11,7 @@ use thiserror::Error;
 const SHOWN: usize = 24;
 
 /// The beginning of a word.
-#[derive(Clone, Copy, Debug, PartialEq, Eq)]
+#[derive(Clone, Copy)]
 pub struct ShownWord {
     letters: [char; SHOWN],
     count: usize,
@@ -50,7 +50,7 @@ impl fmt::Display for ShownWord {
 }
 
 /// What stands where something else is wanted.
-#[derive(Clone, Copy, Debug, PartialEq, Eq)]
+#[derive(Clone, Copy)]
 pub enum MetText {
     Word(ShownWord),
     /// A blank beside another, at the beginning or at the end.
@@ -73,7 +73,7 @@ impl fmt::Display for MetText {
 }
 
 /// A word of a line that is wrong, or is missing or too much.
-#[derive(Clone, Copy, Debug, PartialEq, Eq)]
+#[derive(Clone, Copy)]
 pub struct WordMistake {
     /// Its first character in the line, from 1.
     pub column: u64,
@@ -99,6 +99,13 @@ impl WordMistake {
     }
 }
 
+/// As it is told.
+impl fmt::Debug for WordMistake {
+    fn fmt<W: fmt::Write>(&self, f: &mut fmt::Formatter<W>) -> fmt::Result {
+        fmt::Display::fmt(self, f)
+    }
+}
+
 impl fmt::Display for WordMistake {
     fn fmt<W: fmt::Write>(&self, f: &mut fmt::Formatter<W>) -> fmt::Result {
         let (column, met, wanted) = (self.column, self.met, self.wanted);
@@ -111,7 +118,7 @@ impl fmt::Display for WordMistake {
 }
 
 /// A line with its mistake.
-#[derive(Clone, Copy, Debug, PartialEq, Eq, Error)]
+#[derive(Clone, Copy, Debug, Error)]
 #[error("line {line}, {mistake}")]
 pub struct WrongLine {
     /// The number of the line in its text, from 1.

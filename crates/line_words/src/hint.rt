@@ -4,7 +4,7 @@ use crate::wanted::{Wanted, WordForm, WordRole};
 use std::fmt;
 
 /// What helps where a word is wrong.
-#[derive(Clone, Copy, Debug, PartialEq, Eq)]
+#[derive(Clone, Copy)]
 pub enum WordHint {
     /// Words stand between single blanks, and a tab is none.
     Tab,
@@ -41,7 +41,7 @@ pub enum WordHint {
 }
 
 /// Operations that this processor leaves out.
-#[derive(Clone, Copy, Debug, PartialEq, Eq)]
+#[derive(Clone, Copy)]
 pub enum OperationGroup {
     Timers,
     FloatingSupport,

@@ -1,10 +1,10 @@
 //! Lines that ask something, and the answers that a text expects of them.
 ghost use Rattle.std.specs.Prelude.{◌≡◌, ◌<◌, ◌∷◌, ◌↔◌, [], IsTrue, None, IfSome, MatchOption, length, string_bytes};
-ghost use Rattle.script_text.specs.Rows.{expected_lines};
+ghost use Rattle.line_words.specs.Rows.{expected_lines};
 
 use crate::fault::NumberedLineFault;
-use crate::lines::is_passed_over;
 use crate::numbered::{NumberedLine, numbered_lines};
+use script_text::is_passed_over;
 use std::alloc::Global;
 
 /// A line that asks something.

@@ -3,7 +3,7 @@
 use std::fmt;
 
 /// What a word of a line is for.
-#[derive(Clone, Copy, Debug, PartialEq, Eq)]
+#[derive(Clone, Copy)]
 pub enum WordRole {
     /// The first word of a line that asks a domain.
     Domain,
@@ -82,7 +82,7 @@ impl fmt::Display for WordRole {
 }
 
 /// How a word is written.
-#[derive(Clone, Copy, Debug, PartialEq, Eq)]
+#[derive(Clone, Copy)]
 pub enum WordForm {
     /// As one of these.
     OneOf(&'static [&'static str]),
@@ -154,7 +154,7 @@ fn write_names<W: fmt::Write>(f: &mut fmt::Formatter<W>, names: &[&str]) -> fmt:
 }
 
 /// What a line should have at a place.
-#[derive(Clone, Copy, Debug, PartialEq, Eq)]
+#[derive(Clone, Copy)]
 pub enum Wanted {
     /// A word for something, in its form.
     Word(WordRole, WordForm),

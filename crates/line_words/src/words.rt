@@ -2,12 +2,10 @@
 ghost use Rattle.std.specs.Prelude.{◌≤◌};
 
 use crate::fault::WordFault;
-use crate::hexadecimal::{HexFault, bytes_of};
 use crate::hint::WordHint;
 use crate::mistake::{MetText, ShownWord, WordMistake, column_at};
-use crate::names::value_named;
-use crate::numbers::{decimal_number, hexadecimal_word};
 use crate::wanted::{Wanted, WordForm, WordRole};
+use script_text::{HexFault, bytes_of, decimal_number, hexadecimal_word, value_named};
 use std::alloc::{AllocError, Global};
 
 /// A place of a line: a word and what stands behind it, or the line's end.
