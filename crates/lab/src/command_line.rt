@@ -1,9 +1,11 @@
 //! What the words of the command line ask.
 
 use crate::assembly::AssemblyOptions;
+use crate::debugging::Debugging;
 use crate::failure::LabFailure;
 use clap::error::ErrorKind;
 use clap::{Arg, ArgAction, ArgMatches, Command, value_parser};
+use lab_debug::ProgramOf;
 use lab_film::{Span, USUAL_COUNT};
 use node_trace::{LinkInput, LinkNumber, link_of};
 use script_text::{HexFault, bytes_of, decimal_number, hexadecimal_word, value_named};
@@ -31,6 +33,8 @@ pub enum LabRequest<'a> {
     Why(&'a str, u64),
     /// To show a span of the record in a file as a page.
     Film(&'a str, Span),
+    /// To look through a record by commands.
+    Debug(Debugging<'a>),
     /// To read standard input.
     Read(Reading<'a>),
 }
@@ -78,12 +82,16 @@ enum Subcommand {
     Rows,
     Why,
     Film,
+    Debug,
 }
 
 impl Subcommand {
     // Whether it reads standard input, and no file.
     fn reads_input(self) -> bool {
-        !matches!(self, Subcommand::Rows | Subcommand::Why | Subcommand::Film)
+        !matches!(
+            self,
+            Subcommand::Rows | Subcommand::Why | Subcommand::Film | Subcommand::Debug
+        )
     }
 
     // What the help says of it.
@@ -116,6 +124,9 @@ impl Subcommand {
             Subcommand::Film => {
                 "Shows the record of a domain as a film: prints a page that a browser opens"
             }
+            Subcommand::Debug => {
+                "Goes to any moment of a domain's record, and shows it: reads commands, of which help is one"
+            }
         }
     }
 }
@@ -131,7 +142,7 @@ const OPTIONS: [&str; 7] = [
     "--pokes",
 ];
 
-const SUBCOMMANDS: [(&str, Subcommand); 9] = [
+const SUBCOMMANDS: [(&str, Subcommand); 10] = [
     ("replay", Subcommand::Replay),
     ("plan", Subcommand::Plan),
     ("draw", Subcommand::Draw),
@@ -141,6 +152,7 @@ const SUBCOMMANDS: [(&str, Subcommand); 9] = [
     ("rows", Subcommand::Rows),
     ("why", Subcommand::Why),
     ("film", Subcommand::Film),
+    ("debug", Subcommand::Debug),
 ];
 
 /// Reads the words of the command line, of which the first is the program's name.
@@ -226,6 +238,9 @@ fn with_arguments<'a>(
             .arg(record_argument(alloc))?
             .arg(from_argument(alloc))?
             .arg(count_argument(alloc)),
+        Subcommand::Debug => command
+            .arg(record_argument(alloc))?
+            .arg(program_argument(alloc)),
         Subcommand::Replay | Subcommand::Plan | Subcommand::Disassemble => Ok(command),
     }
 }
@@ -325,6 +340,15 @@ fn count_argument<'a>(alloc: Global) -> Arg<'a> {
         .value_parser(value_parser!(u64))
 }
 
+fn program_argument<'a>(alloc: Global) -> Arg<'a> {
+    Arg::new(alloc, "program")
+        .long("program")
+        .value_name("K FILE")
+        .help("Takes the labels and lines of node K from its program in this file")
+        .num_args(2)
+        .action(ArgAction::Append)
+}
+
 fn listing_argument<'a>(alloc: Global) -> Arg<'a> {
     Arg::new(alloc, "listing")
         .long("listing")
@@ -356,6 +380,7 @@ fn read_matches<'a>(alloc: Global, matches: &ArgMatches<'a>) -> Result<LabReques
         Subcommand::Rows => LabRequest::Rows(read_files(alloc, matches)?),
         Subcommand::Why => read_why(matches)?,
         Subcommand::Film => read_film(matches)?,
+        Subcommand::Debug => LabRequest::Debug(read_debugging(alloc, matches)?),
     })
 }
 
@@ -382,6 +407,34 @@ fn read_film<'a>(matches: &ArgMatches<'a>) -> Result<LabRequest<'a>, LabFailure>
         count: matches.get_one::<u64>("count").unwrap_or(USUAL_COUNT),
     };
     Ok(LabRequest::Film(record, span))
+}
+
+fn read_debugging<'a>(
+    alloc: Global,
+    matches: &ArgMatches<'a>,
+) -> Result<Debugging<'a>, LabFailure> {
+    let mut programs = Vec::new(alloc);
+    for words in matches.get_strs("program").unwrap_or(&[]).chunks(2) {
+        match words {
+            [node, file] => programs.push(program_of(node, file)?)?,
+            _ => return Err(LabFailure::Program),
+        }
+    }
+    Ok(Debugging {
+        record: matches.get_str("record").ok_or(LabFailure::Subcommand)?,
+        programs,
+    })
+}
+
+// The program of a node, by the number of the node and the file.
+fn program_of<'a>(node: &str, file: &'a str) -> Result<ProgramOf<'a>, LabFailure> {
+    match decimal_number(node) {
+        Some(number) if number < 256 => Ok(ProgramOf {
+            node: number as u8,
+            file,
+        }),
+        _ => Err(LabFailure::Program),
+    }
 }
 
 fn read_files<'a>(alloc: Global, matches: &ArgMatches<'a>) -> Result<Vec<&'a str>, AllocError> {
