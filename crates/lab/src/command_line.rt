@@ -31,6 +31,8 @@ pub enum LabRequest<'a> {
     Why(&'a str, u64),
     /// To show a span of the record in a file as a page.
     Film(&'a str, Span),
+    /// To spell out the lines that help of the script in a file, or on standard input.
+    Expand(Option<&'a str>),
     /// To read standard input.
     Read(Reading<'a>),
 }
@@ -78,12 +80,16 @@ enum Subcommand {
     Rows,
     Why,
     Film,
+    Expand,
 }
 
 impl Subcommand {
     // Whether it reads standard input, and no file.
     fn reads_input(self) -> bool {
-        !matches!(self, Subcommand::Rows | Subcommand::Why | Subcommand::Film)
+        !matches!(
+            self,
+            Subcommand::Rows | Subcommand::Why | Subcommand::Film | Subcommand::Expand
+        )
     }
 
     // What the help says of it.
@@ -116,6 +122,9 @@ impl Subcommand {
             Subcommand::Film => {
                 "Shows the record of a domain as a film: prints a page that a browser opens"
             }
+            Subcommand::Expand => {
+                "Spells out the lines of a script that help: reads a plan, a line ---, and a script"
+            }
         }
     }
 }
@@ -131,7 +140,7 @@ const OPTIONS: [&str; 7] = [
     "--pokes",
 ];
 
-const SUBCOMMANDS: [(&str, Subcommand); 9] = [
+const SUBCOMMANDS: [(&str, Subcommand); 10] = [
     ("replay", Subcommand::Replay),
     ("plan", Subcommand::Plan),
     ("draw", Subcommand::Draw),
@@ -141,6 +150,7 @@ const SUBCOMMANDS: [(&str, Subcommand); 9] = [
     ("rows", Subcommand::Rows),
     ("why", Subcommand::Why),
     ("film", Subcommand::Film),
+    ("expand", Subcommand::Expand),
 ];
 
 /// Reads the words of the command line, of which the first is the program's name.
@@ -226,6 +236,7 @@ fn with_arguments<'a>(
             .arg(record_argument(alloc))?
             .arg(from_argument(alloc))?
             .arg(count_argument(alloc)),
+        Subcommand::Expand => command.arg(script_argument(alloc)),
         Subcommand::Replay | Subcommand::Plan | Subcommand::Disassemble => Ok(command),
     }
 }
@@ -296,6 +307,15 @@ fn record_argument<'a>(alloc: Global) -> Arg<'a> {
         .action(ArgAction::Set)
 }
 
+fn script_argument<'a>(alloc: Global) -> Arg<'a> {
+    Arg::new(alloc, "script")
+        .value_name("SCRIPT")
+        .help(
+            "The file of the plan and the script, in place of standard input; the files that it loads stand beside it",
+        )
+        .action(ArgAction::Set)
+}
+
 fn at_argument<'a>(alloc: Global) -> Arg<'a> {
     Arg::new(alloc, "at")
         .long("at")
@@ -356,6 +376,7 @@ fn read_matches<'a>(alloc: Global, matches: &ArgMatches<'a>) -> Result<LabReques
         Subcommand::Rows => LabRequest::Rows(read_files(alloc, matches)?),
         Subcommand::Why => read_why(matches)?,
         Subcommand::Film => read_film(matches)?,
+        Subcommand::Expand => LabRequest::Expand(matches.get_str("script")),
     })
 }
 

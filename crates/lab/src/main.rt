@@ -3,6 +3,7 @@
 
 mod assembly;
 mod command_line;
+mod expanded;
 mod failure;
 mod film;
 mod mistakes;
@@ -12,6 +13,7 @@ mod rows;
 mod why;
 
 use crate::command_line::{LabRequest, read_words};
+use crate::expanded::report_expanded;
 use crate::failure::LabFailure;
 use crate::film::report_film;
 use crate::reports::{Report, report_of};
@@ -47,6 +49,7 @@ fn report(rt: &HostRuntime) -> Result<Report, LabFailure> {
         LabRequest::Rows(files) => report_rows(rt, files.as_slice()),
         LabRequest::Why(record, most) => report_why(rt, record, most),
         LabRequest::Film(record, span) => report_film(rt, record, span),
+        LabRequest::Expand(script) => report_expanded(rt, script),
         LabRequest::Read(reading) => {
             let text = read_whole(alloc, &mut rt.reader())?;
             report_of(alloc, &reading, text.as_slice())
