@@ -4,7 +4,7 @@ use farm_causes::WhyFault;
 use farm_replay::ReplayFault;
 use line_words::{NumberedLineFault, WrongLine};
 use node_trace::BootFault;
-use plan_views::PlanRefusal;
+use plan_faults::PlanRefusal;
 use script_text::{ReadFault, write_whole};
 use std::alloc::{AllocError, AllocFailed, Global};
 use std::fmt;
