@@ -1,86 +1,15 @@
-"""Programs at a pseudo-terminal of their own: what a person types there, and what is shown. With it the trials of
-`connect` as people use it."""
-import fcntl
-import os
-import pty
-import re
-import select
-import struct
-import subprocess
-import termios
+"""The trials of `connect` as people use it, at pseudo-terminals."""
 import time
 
-from serving_trials import SECONDS, Served, wanted
 from live_lines import PLAN
+from screens import CONTROL_C, CONTROL_D, UP, Screen
+from serving_trials import Served, wanted
 from trials import TOP, built
-
-# Rows and columns, so that no line is folded.
-SIZE = (50, 200)
-UP, CONTROL_C, CONTROL_D = "\x1b[A", "\x03", "\x04"
-
-
-class Screen:
-    """A program, the keys that are pressed, and all that it has shown by now, without what moves or colours."""
-
-    def __init__(self, call, env=None):
-        self.file, other = pty.openpty()
-        fcntl.ioctl(other, termios.TIOCSWINSZ, struct.pack("HHHH", *SIZE, 0, 0))
-        # pylint: disable-next=consider-using-with,subprocess-popen-preexec-fn
-        self.process = subprocess.Popen(call, stdin=other, stdout=other, stderr=other, start_new_session=True,
-                                        env={**os.environ, "TERM": "xterm", **(env or {})},
-                                        preexec_fn=lambda: fcntl.ioctl(0, termios.TIOCSCTTY, 0))
-        os.close(other)
-        self.shown, self.seen = "", 0
-
-    def __enter__(self):
-        return self
-
-    def __exit__(self, *_):
-        if self.process.poll() is None:
-            self.process.kill()
-        self.process.wait()
-        os.close(self.file)
-
-    def press(self, keys):
-        os.write(self.file, keys.encode())
-
-    def more(self, end):
-        """Takes what is shown next; false if nothing comes by then, or no more will."""
-        if not select.select([self.file], [], [], max(0, end - time.monotonic()))[0]:
-            return False
-        try:
-            piece = os.read(self.file, 1 << 16)
-        except OSError:
-            return False
-        self.shown = re.sub(r"\x1b\[[?0-9;]*[a-zA-Z]|\x07", "", self.shown + piece.decode(errors="replace"))
-        return bool(piece)
-
-    def until(self, text, seconds=SECONDS):
-        """What is shown from where it was looked last to this text."""
-        end = time.monotonic() + seconds
-        while (at := self.shown.find(text, self.seen)) < 0:
-            if not self.more(end):
-                raise AssertionError(f"{text!r} isn't shown, but {self.shown[self.seen:]!r}")
-        begun, self.seen = self.seen, at + len(text)
-        return self.shown[begun:self.seen]
-
-    def line(self, keys, answer):
-        """Types a line, whose answer is shown, and then the prompt."""
-        self.press(keys + "\r")
-        self.until("\r\n")
-        told = self.until("> ").rpartition("\n")[0].replace("\r", "").splitlines()
-        wanted(told[-len(answer):], answer)
-
-    def end(self):
-        """What is shown until the program ends, and its status."""
-        while self.more(time.monotonic() + SECONDS):
-            pass
-        return self.shown[self.seen:].replace("\r", ""), self.process.wait(timeout=SECONDS)
 
 
 def terminal(served, name, home):
     """A terminal of this user, who is at its prompt."""
-    it = Screen([f"{TOP}/connect", served.folder, name], {"LAB": built("lab"), "HOME": home})
+    it = Screen([f"{TOP}/connect", served.folder, name], LAB=built("lab"), HOME=home)
     wanted(it.until(f"{name}> ").replace("\r", ""), f"You are {name}. help lists the verbs, Ctrl-D ends.\n{name}> ")
     return it
 

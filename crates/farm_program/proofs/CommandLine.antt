@@ -3,9 +3,11 @@ use Rattle.std.proofs.Common.{zero, suc, ◌≡◌, ◌∙◌, ◌<◌, ◌≤�
 use Rattle.std.specs.Prelude.{pos, unwrap_or, Result, Ok}
 use Rattle.std.specs.List.{All, slice_index_or}
 use Rattle.std.specs.Str.{bytes_eq}
-use Rattle.std.specs.Str.Parse.{ParsesUnsigned}
+use Rattle.std.specs.Option.{option_map_or}
+use Rattle.std.specs.Str.Parse.{ParsesBool, ParsesUnsigned}
 use Rattle.std.proofs.lemmas.List.{nil_from_length, length-map}
 use Rattle.std.proofs.lemmas.Bool.{eqb-true}
+use Rattle.std.proofs.lemmas.Slice.Eq.{bytes_eq-Decides}
 use Rattle.clap.specs.Words.{App, HasMatchesOf, Rule, Text, app_of, matches_of, one_of, rule_of, rows_of}
 use Rattle.clap.specs.Lexer.{without_minus}
 use Rattle.clap.specs.Texts.{items_of}
@@ -25,7 +27,7 @@ use Rattle.clap.specs.declared.parser.matches.ArgMatches.{ArgMatches}
 use Rattle.clap.proofs.CallerReads.{signed_reads}
 use Rattle.clap.proofs.OnLiterals.{clap_on_literals}
 use Rattle.clap.proofs.WalkLemmas.{one_text-rows}
-use Rattle.farm_program.specs.Settings.{IsSaid, farm_command, number_option}
+use Rattle.farm_program.specs.Settings.{IsSaid, ask_why, farm_command, flag_rule, number_option}
 use Rattle.farm_program.proofs.Options.{IsOption, option_reads}
 
 pub farm_is_simple : is_simple farm_command ≡ true
@@ -41,6 +43,9 @@ workers_rule = number_option (codes "workers") (codes "2") (Signed (pos 1) (pos 
 
 abbrev quantum_rule : Rule
 quantum_rule = number_option (codes "quantum") (codes "256") (Signed (pos 1) (pos 4096))
+
+abbrev explain_rule : Rule
+explain_rule = flag_rule (codes "explain")
 
 -- ---- the arguments of a command that is the program's
 
@@ -59,24 +64,29 @@ none_is : {X : Type 0} (o : Option X) → not (is_some o) ≡ true → o ≡ Non
 none_is None h = refl
 none_is (Some x) h = cc
 
--- a list of two, of which these are made
-record AreTwo {X Y : Type 0} (f : X → Y) (first second : Y) (xs : List X) : Type 0 where
+-- a list of three, of which these are made
+record AreThree {X Y : Type 0} (f : X → Y) (first second third : Y) (xs : List X) : Type 0 where
   one : X
   other : X
-  list : xs ≡ one ∷ other ∷ []
+  last : X
+  list : xs ≡ one ∷ other ∷ last ∷ []
   one_is : f one ≡ first
   other_is : f other ≡ second
+  last_is : f last ≡ third
 
-two_of : {X Y : Type 0} (f : X → Y) (first second : Y) (xs : List X) → map f xs ≡ first ∷ second ∷ [] → AreTwo f first second xs
-two_of f first second [] h = cc
-two_of f first second (x ∷ []) h = cc
-two_of f first second (x ∷ y ∷ z ∷ xs) h = cc
-two_of f first second (x ∷ y ∷ []) h = record {
+three_of : {X Y : Type 0} (f : X → Y) (first second third : Y) (xs : List X) → map f xs ≡ first ∷ second ∷ third ∷ [] → AreThree f first second third xs
+three_of f first second third [] h = cc
+three_of f first second third (x ∷ []) h = cc
+three_of f first second third (x ∷ y ∷ []) h = cc
+three_of f first second third (x ∷ y ∷ z ∷ w ∷ xs) h = cc
+three_of f first second third (x ∷ y ∷ z ∷ []) h = record {
   one = x;
   other = y;
+  last = z;
   list = refl;
   one_is = ap (λ ys. slice_index_or ys 0 first) h;
   other_is = ap (λ ys. slice_index_or ys 1 first) h;
+  last_is = ap (λ ys. slice_index_or ys 2 first) h;
 }
 
 not_is : (b : Bool) → not b ≡ true → b ≡ false
@@ -89,9 +99,9 @@ simple_parts : (a : Arg) → is_simple_arg a ≡ true
 simple_parts a simple = first_four (is_empty a.overrides.items) (is_empty a.default_vals_ifs.items) (is_empty a.groups.items) (not (is_some a.val_delim))
     (not (is_some a.terminator) && (not a.allow_hyphen_values && (not a.allow_negative_numbers && (not a.require_equals && (not a.last && not a.global))))) simple
 
--- an argument of such a rule names no group
-without_groups : (a : Arg) (name default : Text) (numbers : ValueParser) → rule_of a ≡ number_option name default numbers → a.groups.items ≡ []
-without_groups a name default numbers is = empty_is a.groups.items (simple_parts a (ap (λ (r : Rule). r.is_simple) is)).2
+-- an argument of a simple rule names no group
+without_groups : (a : Arg) (r : Rule) → rule_of a ≡ r → r.is_simple ≡ true → a.groups.items ≡ []
+without_groups a r is simple = empty_is a.groups.items (simple_parts a (ap (λ (r : Rule). r.is_simple) is ∙ simple)).2
 
 -- an argument of such a rule is an option
 is_option : (a : Arg) (name default : Text) (numbers : ValueParser) → rule_of a ≡ number_option name default numbers → IsOption a numbers
@@ -120,19 +130,25 @@ workers_own = (λ e. let bad = ap length e in absurd (omega arith), λ e. let ba
 quantum_own : IsOwnId (codes "quantum")
 quantum_own = (λ e. let bad = ap length e in absurd (omega arith), λ e. let bad = ap length e in absurd (omega arith), λ e. let bad = ap (λ t. slice_index t 1) e in absurd (omega arith))
 
--- the two ids differ, so that each stands at one place
-one_place : (a b : Arg) (k : ℕ) (d : Arg) → rule_of a ≡ workers_rule → rule_of b ≡ quantum_rule → k < 2
-    → (j : ℕ) (e : Arg) → j < 2 → bytes_eq (slice_index_or (a ∷ b ∷ []) j e).id.now (slice_index_or (a ∷ b ∷ []) k d).id.now ≡ true → j ≡ k
-one_place a b zero d workers quantum lt zero e low same = refl
-one_place a b (suc zero) d workers quantum lt (suc zero) e low same = refl
-one_place a b zero d workers quantum lt (suc zero) e low same =
+-- the three ids differ, so that each stands at one place
+one_place : (a b c : Arg) (k : ℕ) (d : Arg) → rule_of a ≡ workers_rule → rule_of b ≡ quantum_rule → rule_of c ≡ explain_rule → k < 2
+    → (j : ℕ) (e : Arg) → j < 3 → bytes_eq (slice_index_or (a ∷ b ∷ c ∷ []) j e).id.now (slice_index_or (a ∷ b ∷ c ∷ []) k d).id.now ≡ true → j ≡ k
+one_place a b c zero d workers quantum explain lt zero e low same = refl
+one_place a b c (suc zero) d workers quantum explain lt (suc zero) e low same = refl
+one_place a b c zero d workers quantum explain lt (suc zero) e low same =
     let ids : bytes_eq (codes "quantum") (codes "workers") ≡ true = rw (ap (λ (r : Rule). r.id) workers, ap (λ (r : Rule). r.id) quantum) at same in
     cc
-one_place a b (suc zero) d workers quantum lt zero e low same =
+one_place a b c zero d workers quantum explain lt (suc (suc zero)) e low same =
+    let ids : bytes_eq (codes "explain") (codes "workers") ≡ true = rw (ap (λ (r : Rule). r.id) workers, ap (λ (r : Rule). r.id) explain) at same in
+    cc
+one_place a b c (suc zero) d workers quantum explain lt zero e low same =
     let ids : bytes_eq (codes "workers") (codes "quantum") ≡ true = rw (ap (λ (r : Rule). r.id) workers, ap (λ (r : Rule). r.id) quantum) at same in
     cc
-one_place a b k d workers quantum lt (suc (suc j)) e low same = absurd (omega arith)
-one_place a b (suc (suc k)) d workers quantum lt j e low same = absurd (omega arith)
+one_place a b c (suc zero) d workers quantum explain lt (suc (suc zero)) e low same =
+    let ids : bytes_eq (codes "explain") (codes "quantum") ≡ true = rw (ap (λ (r : Rule). r.id) explain, ap (λ (r : Rule). r.id) quantum) at same in
+    cc
+one_place a b c k d workers quantum explain lt (suc (suc (suc j))) e low same = absurd (omega arith)
+one_place a b c (suc (suc k)) d workers quantum explain lt j e low same = absurd (omega arith)
 
 -- what a plain command lacks
 plain_parts : (c : Command-F Command) → has_plain_fields c ≡ true → (is_empty c.groups.items ≡ true) × (not c.has_globals ≡ true)
@@ -142,16 +158,37 @@ plain_parts c plain =
     && (not (is_some c.long_flag) && (not (is_some c.short_flag) && (is_empty c.long_flag_aliases.items && is_empty c.short_flag_aliases.items))))))) plain in
     (parts.0, parts.2)
 
-both_without_groups : (a b : Arg) → a.groups.items ≡ [] → b.groups.items ≡ [] → All (λ (x : Arg). x.groups.items ≡ []) (a ∷ b ∷ [])
-both_without_groups a b first second zero d lt = first
-both_without_groups a b first second (suc zero) d lt = second
-both_without_groups a b first second (suc (suc k)) d lt = absurd (omega arith)
+all_without_groups : (a b c : Arg) → a.groups.items ≡ [] → b.groups.items ≡ [] → c.groups.items ≡ []
+    → All (λ (x : Arg). x.groups.items ≡ []) (a ∷ b ∷ c ∷ [])
+all_without_groups a b c first second third zero d lt = first
+all_without_groups a b c first second third (suc zero) d lt = second
+all_without_groups a b c first second third (suc (suc zero)) d lt = third
+all_without_groups a b c first second third (suc (suc (suc k))) d lt = absurd (omega arith)
+
+-- a text that isn't this one
+not_equal : (text : Text) → (text ≡ codes "true" → ⊥) → not (bytes_eq text (codes "true")) ≡ true
+not_equal text other = go (bytes_eq text (codes "true")) refl
+  where
+    go : (b : Bool) → bytes_eq text (codes "true") ≡ b → not b ≡ true
+    go false is = refl
+    go true is = absurd (other ((bytes_eq-Decides text (codes "true")).0 is))
+
+-- what a getter reads of a flag's text, if it reads no text as false
+flag_of : (E : Type 0) (o : Option Text) (r : Option Bool) → (o ≡ None → r ≡ None)
+    → ((text : Text) → o ≡ Some text → ReadsOne (ParsesBool {E = E}) text r)
+    → unwrap_or r false ≡ option_map_or (λ text. bytes_eq text (codes "true")) o false
+flag_of E None r none value = ap (λ (x : Option Bool). unwrap_or x false) (none refl)
+flag_of E (Some text) None none value = sym (not_is (bytes_eq text (codes "true")) (not_equal text (value text refl).1.0))
+flag_of E (Some text) (Some true) none value = sym ((bytes_eq-Decides text (codes "true")).1 (value text refl))
+flag_of E (Some text) (Some false) none value =
+    let is : text ≡ codes "false" = value text refl in
+    rw is refl
 
 -- a number that was read of an option's text
 module _ (command : Command) (m : ArgMatches) (words : List Text) (is : app_of command ≡ farm_command) (p : IsParsedFrom command m)
     (matches : HasMatchesOf (app_of command) words m) where
-  options : AreTwo rule_of workers_rule quantum_rule (args_of command)
-  options = two_of rule_of workers_rule quantum_rule (args_of command) (ap (λ (a : App). a.top.rules) is)
+  options : AreThree rule_of workers_rule quantum_rule explain_rule (args_of command)
+  options = three_of rule_of workers_rule quantum_rule explain_rule (args_of command) (ap (λ (a : App). a.top.rules) is)
 
   plain : has_plain_fields (out-Command command) ≡ true
   plain = ap (λ (a : App). a.top.is_plain) is
@@ -164,9 +201,10 @@ module _ (command : Command) (m : ArgMatches) (words : List Text) (is : app_of c
 
   names_no_group : NamesNoGroup command
   names_no_group =
-      let workers = without_groups options.one (codes "workers") (codes "2") (Signed (pos 1) (pos 8)) options.one_is in
-      let quantum = without_groups options.other (codes "quantum") (codes "256") (Signed (pos 1) (pos 4096)) options.other_is in
-      subst (All (λ (a : Arg). a.groups.items ≡ [])) (sym options.list) (both_without_groups options.one options.other workers quantum)
+      let workers = without_groups options.one workers_rule options.one_is refl in
+      let quantum = without_groups options.other quantum_rule options.other_is refl in
+      let explain = without_groups options.last explain_rule options.last_is refl in
+      subst (All (λ (a : Arg). a.groups.items ≡ [])) (sym options.list) (all_without_groups options.one options.other options.last workers quantum explain)
 
   no_groups : groups_of p.built ≡ []
   no_groups = (p.from.same_groups names_no_group).1 ∙ empty_is (groups_of command) (plain_parts (out-Command command) plain).0
@@ -206,7 +244,7 @@ module _ (command : Command) (m : ArgMatches) (words : List Text) (is : app_of c
       let elem : slice_index_or (args_of command) 0 d ≡ xs.one = ap (λ (l : List Arg). slice_index_or l 0 d) xs.list in
       let lt : 0 < length (args_of command) = subst (λ (l : List Arg). 0 < length l) (sym xs.list) (omega arith) in
       let unique = subst (λ (l : List Arg). (j : ℕ) (e : Arg) → j < length l → bytes_eq (slice_index_or l j e).id.now (slice_index_or l 0 d).id.now ≡ true → j ≡ 0)
-      (sym xs.list) (one_place xs.one xs.other 0 d xs.one_is xs.other_is (omega arith)) in
+      (sym xs.list) (one_place xs.one xs.other xs.last 0 d xs.one_is xs.other_is xs.last_is (omega arith)) in
       said_at 0 d (codes "workers") (codes "2") 8 8 E G r fallback lt (ap rule_of elem ∙ xs.one_is) workers_own unique (omega arith) value only n is_n
 
   -- so many Steps
@@ -220,5 +258,14 @@ module _ (command : Command) (m : ArgMatches) (words : List Text) (is : app_of c
       let elem : slice_index_or (args_of command) 1 d ≡ xs.other = ap (λ (l : List Arg). slice_index_or l 1 d) xs.list in
       let lt : 1 < length (args_of command) = subst (λ (l : List Arg). 1 < length l) (sym xs.list) (omega arith) in
       let unique = subst (λ (l : List Arg). (j : ℕ) (e : Arg) → j < length l → bytes_eq (slice_index_or l j e).id.now (slice_index_or l 1 d).id.now ≡ true → j ≡ 1)
-      (sym xs.list) (one_place xs.one xs.other 1 d xs.one_is xs.other_is (omega arith)) in
+      (sym xs.list) (one_place xs.one xs.other xs.last 1 d xs.one_is xs.other_is xs.last_is (omega arith)) in
       said_at 1 d (codes "quantum") (codes "256") 4096 16 E G r fallback lt (ap rule_of elem ∙ xs.other_is) quantum_own unique (omega arith) value only n is_n
+
+  -- whether the flag is there
+  pub explain_said : (E : Type 0) (r : Option Bool) → (one_text (found_of m) (codes "explain") ≡ None → r ≡ None)
+      → ((text : List ℕ) → one_text (found_of m) (codes "explain") ≡ Some text → ReadsOne (ParsesBool {E = E}) text r)
+      → (b : Bool) → b ≡ unwrap_or r false → b ≡ ask_why words
+  explain_said E r none value b is_b =
+      let id = codes "explain" in
+      let row : one_text (found_of m) id ≡ one_of id (matches_of farm_command words) = one_text-rows (found_of m) id ∙ ap (one_of id) rows in
+      is_b ∙ (flag_of E (one_text (found_of m) id) r none value ∙ ap (λ o. option_map_or (λ text. bytes_eq text (codes "true")) o false) row)

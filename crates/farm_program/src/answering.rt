@@ -5,13 +5,14 @@ ghost use Rattle.std.specs.Io.KnownBytes.{Appends, Keeps};
 ghost use Rattle.std.specs.Str.Lines.{lines};
 ghost use Rattle.script_lines.specs.Script.{IsScript};
 ghost use Rattle.farm_program.specs.declared.failure.FarmFailure.{FarmFailure as SpecFailure};
-ghost use Rattle.farm_program.specs.Failures.{EndsBy, IsFailure, IsPlanFailure, IsScriptFailure};
+ghost use Rattle.farm_program.specs.Failures.{EndsAs, IsFailure, IsPlanFailure, IsScriptFailure};
 ghost use Rattle.farm_program.specs.Output.{IsOutput, Prints};
 ghost use Rattle.farm_program.specs.Requests.{IsAcceptedText};
 ghost use Rattle.farm_program.specs.Settings.{InRange};
 ghost use Rattle.farm_program.specs.Users.{names_in};
 
 use crate::configuration::Settings;
+use crate::explaining::end_by;
 use crate::failure::{Ending, FarmFailure};
 use crate::farm::run_script;
 use crate::users::names_of;
@@ -77,26 +78,48 @@ fn write_screens<W: Write>(output: &mut W, screens: &[String]) -> Result<(), Wri
     Ok(())
 }
 
-// The output of what is read to its end.
-fn screens_read<R: Threads + Wait + Sync, I: Read>(
+// The text that is read to its end.
+fn text_read<I: Read>(alloc: Global, input: &mut I) -> Result<Vec<u8>, FarmFailure>
+    ensures text { IfOk result (λ text. IfSome (I.remaining input.old) (λ left. text.items ≡ left)) }
+    ensures failure { IfErr result (λ failure. IfSome (I.remaining input.old) (λ text. IsFailure text failure)) }
+{
+    Ok(read_whole(alloc, input)?)
+}
+
+// Runs what a text asks, as `answer` does.
+fn answer_text<R: Threads + Wait + Sync, W: Write, E: Write>(
     rt: &R,
     alloc: Global,
     settings: Settings,
-    input: &mut I,
-) -> Result<Vec<String>, FarmFailure>
+    text: &[u8],
+    output: &mut W,
+    errors: &mut E,
+) -> Ending
     requires { InRange settings }
-    ensures output { IfOk result (λ screens. IfSome (I.remaining input.old) (λ text. IsOutput text (concat (map string_bytes screens.items)))) }
-    ensures failure { IfErr result (λ failure. IfSome (I.remaining input.old) (λ text. IsFailure text failure)) }
+    ensures printed { result.status ≡ 0 → Prints text.now (W.contents output.old) (W.contents output.new) }
+    ensures silent { result.status ≡ 0 → Keeps (E.contents errors.old) (E.contents errors.new) }
+    ensures failure { result.status ≢ 0 → (failure : SpecFailure) × EndsAs failure settings.explain result (E.contents errors.old) (E.contents errors.new)
+        × IsFailure text.now failure }
+    ensures kept { result.status ≢ 0 → result.status ≢ 6 → Keeps (W.contents output.old) (W.contents output.new) }
 {
-    let text = read_whole(alloc, input)?;
-    screens_of(rt, alloc, settings, text.as_slice())
+    match screens_of(rt, alloc, settings, text) {
+        Ok(screens) => match write_screens(output, screens.as_slice()) {
+            Ok(()) => Ending {
+                status: 0,
+                is_told: true,
+            },
+            Err(WriteFailed) => end_by(alloc, settings.explain, text, FarmFailure::Io, errors),
+        },
+        Err(failure) => end_by(alloc, settings.explain, text, failure, errors),
+    }
 }
 
 /// Reads a plan and a script to the end of the input, runs the script on a farm of the plan, and writes a line for each of its
 /// lines.
 ///
 /// The status is 0 if all is written, 3 if the plan is refused, 4 if a line of the script is, 5 for want of memory, and 6 if a
-/// stream failed. For 3 to 5 nothing goes to the output; for all but 0 a text goes to the errors.
+/// stream failed. For 3 to 5 nothing goes to the output; for all but 0 a text goes to the errors, and for 3 and 4 an explanation
+/// behind it, if the settings ask for one.
 pub fn answer<R: Threads + Wait + Sync, I: Read, W: Write, E: Write>(
     rt: &R,
     alloc: Global,
@@ -108,18 +131,12 @@ pub fn answer<R: Threads + Wait + Sync, I: Read, W: Write, E: Write>(
     requires { InRange settings }
     ensures printed { result.status ≡ 0 → IfSome (I.remaining input.old) (λ text. Prints text (W.contents output.old) (W.contents output.new)) }
     ensures silent { result.status ≡ 0 → Keeps (E.contents errors.old) (E.contents errors.new) }
-    ensures failure { result.status ≢ 0 → (failure : SpecFailure) × EndsBy failure result (E.contents errors.old) (E.contents errors.new)
+    ensures failure { result.status ≢ 0 → (failure : SpecFailure) × EndsAs failure settings.explain result (E.contents errors.old) (E.contents errors.new)
         × IfSome (I.remaining input.old) (λ text. IsFailure text failure) }
     ensures kept { result.status ≢ 0 → result.status ≢ 6 → Keeps (W.contents output.old) (W.contents output.new) }
 {
-    match screens_read(rt, alloc, settings, input) {
-        Ok(screens) => match write_screens(output, screens.as_slice()) {
-            Ok(()) => Ending {
-                status: 0,
-                is_told: true,
-            },
-            Err(WriteFailed) => FarmFailure::Io.report(errors),
-        },
-        Err(failure) => failure.report(errors),
+    match text_read(alloc, input) {
+        Ok(text) => answer_text(rt, alloc, settings, text.as_slice(), output, errors),
+        Err(failure) => end_by(alloc, settings.explain, b"", failure, errors),
     }
 }

@@ -5,6 +5,7 @@
 mod answering;
 mod command_line;
 mod configuration;
+mod explaining;
 mod failure;
 mod farm;
 mod program;

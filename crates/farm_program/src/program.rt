@@ -5,8 +5,9 @@ ghost use Rattle.std.specs.IoError.{error_kind};
 ghost use Rattle.clap.specs.Words.{kind_of};
 ghost use Rattle.farm_program.specs.declared.failure.FarmFailure.{FarmFailure as SpecFailure};
 ghost use Rattle.farm_program.specs.Endings.{EndsByKind, EndsByMemory, EndsByWords, EndsUnread, GiveSettings, RefusesWords};
-ghost use Rattle.farm_program.specs.Failures.{EndsBy, IsFailure};
+ghost use Rattle.farm_program.specs.Failures.{EndsAs, IsFailure};
 ghost use Rattle.farm_program.specs.Output.{Prints};
+ghost use Rattle.farm_program.specs.Settings.{ask_why};
 
 use crate::answering::answer;
 use crate::command_line::settings;
@@ -37,7 +38,8 @@ pub fn run<R: Threads + Wait + Sync, S: AsStr, I: Read, W: Write, E: Write>(
         → IfSome (I.remaining input.old) (λ text. Prints text (W.contents output.old) (W.contents output.new)) }
     ensures silent { result.status ≡ 0 → Keeps (E.contents errors.old) (E.contents errors.new) }
     ensures failure { GiveSettings (map S.text words.now) → result.status ≢ 0 → (failure : SpecFailure)
-        × EndsBy failure result (E.contents errors.old) (E.contents errors.new) × IfSome (I.remaining input.old) (λ text. IsFailure text failure) }
+        × EndsAs failure (ask_why (map S.text words.now)) result (E.contents errors.old) (E.contents errors.new)
+        × IfSome (I.remaining input.old) (λ text. IsFailure text failure) }
     ensures words { GiveSettings (map S.text words.now) ⊎ EndsByWords (map S.text words.now) result
         (W.contents output.old) (W.contents output.new) (E.contents errors.old) (E.contents errors.new) }
     ensures unread { GiveSettings (map S.text words.now) ⊎ (input.new ≡ input.old) }

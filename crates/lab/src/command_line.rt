@@ -35,6 +35,8 @@ pub enum LabRequest<'a> {
     Film(&'a str, Span),
     /// To look through a record by commands.
     Debug(Debugging<'a>),
+    /// To spell out the lines that help of the script in a file, or on standard input.
+    Expand(Option<&'a str>),
     /// To read standard input.
     Read(Reading<'a>),
 }
@@ -83,6 +85,7 @@ enum Subcommand {
     Why,
     Film,
     Debug,
+    Expand,
 }
 
 impl Subcommand {
@@ -90,7 +93,11 @@ impl Subcommand {
     fn reads_input(self) -> bool {
         !matches!(
             self,
-            Subcommand::Rows | Subcommand::Why | Subcommand::Film | Subcommand::Debug
+            Subcommand::Rows
+                | Subcommand::Why
+                | Subcommand::Film
+                | Subcommand::Debug
+                | Subcommand::Expand
         )
     }
 
@@ -127,6 +134,9 @@ impl Subcommand {
             Subcommand::Debug => {
                 "Goes to any moment of a domain's record, and shows it: reads commands, of which help is one"
             }
+            Subcommand::Expand => {
+                "Spells out the lines of a script that help: reads a plan, a line ---, and a script"
+            }
         }
     }
 }
@@ -142,7 +152,7 @@ const OPTIONS: [&str; 7] = [
     "--pokes",
 ];
 
-const SUBCOMMANDS: [(&str, Subcommand); 10] = [
+const SUBCOMMANDS: [(&str, Subcommand); 11] = [
     ("replay", Subcommand::Replay),
     ("plan", Subcommand::Plan),
     ("draw", Subcommand::Draw),
@@ -153,6 +163,7 @@ const SUBCOMMANDS: [(&str, Subcommand); 10] = [
     ("why", Subcommand::Why),
     ("film", Subcommand::Film),
     ("debug", Subcommand::Debug),
+    ("expand", Subcommand::Expand),
 ];
 
 /// Reads the words of the command line, of which the first is the program's name.
@@ -241,6 +252,7 @@ fn with_arguments<'a>(
         Subcommand::Debug => command
             .arg(record_argument(alloc))?
             .arg(program_argument(alloc)),
+        Subcommand::Expand => command.arg(script_argument(alloc)),
         Subcommand::Replay | Subcommand::Plan | Subcommand::Disassemble => Ok(command),
     }
 }
@@ -308,6 +320,15 @@ fn record_argument<'a>(alloc: Global) -> Arg<'a> {
         .value_name("RECORD")
         .help("The record of a domain, as live --record writes it")
         .required(true)
+        .action(ArgAction::Set)
+}
+
+fn script_argument<'a>(alloc: Global) -> Arg<'a> {
+    Arg::new(alloc, "script")
+        .value_name("SCRIPT")
+        .help(
+            "The file of the plan and the script, in place of standard input; the files that it loads stand beside it",
+        )
         .action(ArgAction::Set)
 }
 
@@ -381,6 +402,7 @@ fn read_matches<'a>(alloc: Global, matches: &ArgMatches<'a>) -> Result<LabReques
         Subcommand::Why => read_why(matches)?,
         Subcommand::Film => read_film(matches)?,
         Subcommand::Debug => LabRequest::Debug(read_debugging(alloc, matches)?),
+        Subcommand::Expand => LabRequest::Expand(matches.get_str("script")),
     })
 }
 

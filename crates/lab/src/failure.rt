@@ -5,7 +5,7 @@ use farm_replay::ReplayFault;
 use lab_debug::DebugFault;
 use line_words::{NumberedLineFault, WrongLine};
 use node_trace::BootFault;
-use plan_views::PlanRefusal;
+use plan_faults::PlanRefusal;
 use script_text::{ReadFault, write_whole};
 use std::alloc::{AllocError, AllocFailed, Global};
 use std::fmt;
@@ -45,6 +45,8 @@ pub enum LabFailure {
     Record(WhyFault),
     /// A text is no program, or no digits.
     Text(TextFault),
+    /// Lines of a script that help are wrong, with what is told of them.
+    Script(String),
     /// The last farm of a text has no domain of this number.
     Domain(u8),
     /// A boot can't take so many bytes of code.
@@ -105,6 +107,7 @@ impl fmt::Display for LabFailure {
             LabFailure::Line(wrong) => write!(f, "{wrong}\n"),
             LabFailure::Record(fault) => write!(f, "{fault}\n"),
             LabFailure::Text(fault) => write!(f, "{fault}\n"),
+            LabFailure::Script(told) => write!(f, "{told}"),
             LabFailure::Domain(domain) => write!(f, "the farm has no domain {domain}\n"),
             LabFailure::Length(count) => write_length(f, *count),
             LabFailure::Poked(count) => {
@@ -164,6 +167,7 @@ impl LabFailure {
             LabFailure::Record(_)
             | LabFailure::Line(_)
             | LabFailure::Text(_)
+            | LabFailure::Script(_)
             | LabFailure::Domain(_)
             | LabFailure::Length(_)
             | LabFailure::Poked(_) => 4,

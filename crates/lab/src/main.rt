@@ -4,6 +4,7 @@
 mod assembly;
 mod command_line;
 mod debugging;
+mod expanded;
 mod failure;
 mod film;
 mod mistakes;
@@ -14,6 +15,7 @@ mod why;
 
 use crate::command_line::{LabRequest, read_words};
 use crate::debugging::report_debugging;
+use crate::expanded::report_expanded;
 use crate::failure::LabFailure;
 use crate::film::report_film;
 use crate::reports::{Report, report_of};
@@ -50,6 +52,7 @@ fn report(rt: &HostRuntime) -> Result<Report, LabFailure> {
         LabRequest::Debug(asked) => report_debugging(rt, &asked),
         LabRequest::Why(record, most) => report_why(rt, record, most),
         LabRequest::Film(record, span) => report_film(rt, record, span),
+        LabRequest::Expand(script) => report_expanded(rt, script),
         LabRequest::Read(reading) => {
             let text = read_whole(alloc, &mut rt.reader())?;
             report_of(alloc, &reading, text.as_slice())

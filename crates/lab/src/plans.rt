@@ -4,7 +4,7 @@ use line_words::{
     Answered, NumberedLineFault, Question, Wanted, WordForm, WordMistake, WordRole, WrongLine,
     numbered_lines,
 };
-use plan_views::{PlanRefusal, accepted};
+use plan_faults::{PlanRefusal, accepted};
 use script_text::TextWriter;
 use std::alloc::{AllocError, Global};
 

@@ -6,7 +6,8 @@ use crate::failure::LabFailure;
 use farm_replay::{Replayed, replay};
 use line_words::Answered;
 use node_trace::{BootTrace, trace, trace_boot};
-use plan_views::{accepted, draw, draw_network, table_of};
+use plan_faults::accepted;
+use plan_views::{draw, draw_network, table_of};
 use script_text::{TextWriter, divide};
 use std::alloc::{AllocError, Global};
 

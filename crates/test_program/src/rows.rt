@@ -97,22 +97,27 @@ fn sink_of(alloc: Global, piece: usize, fails_at: u64, takes_none_at: u64) -> Si
     }
 }
 
-/// Refuses a body that answers 2 and 256 whatever the words say.
+/// Refuses a body that answers 2, 256 and no explanation whatever the words say.
 #[test]
 fn settings_are_fixed(rt: HostRuntime) -> Result<(), Fail> {
-    let given = settings(rt.alloc(), &["farm", "--workers", "8", "--quantum", "1"])?;
+    let given = settings(
+        rt.alloc(),
+        &["farm", "--workers", "8", "--quantum", "1", "--explain"],
+    )?;
     assert!(rt;
         given
             == Settings {
                 workers: 8,
-                quantum: 1
+                quantum: 1,
+                explain: true
             }
     );
     let none = settings(rt.alloc(), &["farm"])?;
     assert!(rt;
         none == Settings {
             workers: 2,
-            quantum: 256
+            quantum: 256,
+            explain: false
         }
     );
     for (workers, quantum) in [
@@ -320,6 +325,7 @@ ann look 0
     let given = Settings {
         workers: 2,
         quantum: STEPS,
+        explain: false,
     };
     let ended = run_script(&rt, alloc, plan, asked.as_slice(), given)?;
     let (broken, all) = match ended.closed.domains.first() {

@@ -5,8 +5,8 @@ use Rattle.plan_rules.specs.declared.fault.PlanFault.TheVariants as plan_fault
 use Rattle.plan_rules.specs.Data.{DomainData}
 use Rattle.plan_checker.specs.Document.{IsPlan, ReadsPlan}
 use Rattle.plan_rules.specs.Separate.{IsSmallestFault}
-use Rattle.plan_views.specs.declared.view.PlanRefusal.{PlanRefusal}
-use Rattle.plan_views.specs.declared.view.PlanRefusal.TheVariants.{Refused, NoMemory}
+use Rattle.plan_faults.specs.declared.refusal.PlanRefusal.{PlanRefusal}
+use Rattle.plan_faults.specs.declared.refusal.PlanRefusal.TheVariants.{Refused, NoMemory}
 
 -- the bytes are the text of a plan whose smallest fault is this
 abbrev pub HasSmallestFault : List ℕ → PlanFault → Type 0

@@ -2,8 +2,8 @@
 ghost use Rattle.std.specs.Prelude.{◌≡◌, IfOk, IfErr};
 ghost use Rattle.plan_checker.specs.Document.{IsPlan};
 ghost use Rattle.plan_rules.specs.Separate.{IsSeparate};
-ghost use Rattle.plan_views.specs.declared.view.PlanRefusal.TheVariants.{NoMemory};
-ghost use Rattle.plan_views.specs.Refusal.{IsRefusalOf};
+ghost use Rattle.plan_faults.specs.declared.refusal.PlanRefusal.TheVariants.{NoMemory};
+ghost use Rattle.plan_faults.specs.Refusal.{IsRefusalOf};
 
 use crate::breach::breach_of;
 use crate::shape::{misshapen, unread};

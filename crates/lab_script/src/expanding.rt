@@ -1,0 +1,143 @@
+//! A text for `farm` with lines that help, as one without them.
+
+use crate::form::{HelpVerb, help_line};
+use crate::spelling::spell_out;
+use line_words::{NumberedLine, NumberedLineFault, numbered_lines};
+use script_text::{TextWriter, divide, is_passed_over};
+use std::alloc::{AllocError, Global};
+
+/// A file that a line loads.
+#[derive(Drop)]
+pub struct LoadedFile<'a> {
+    /// Its name, as it stands in the line.
+    pub name: &'a str,
+    /// What stands in it, if it can be read.
+    pub text: Option<Vec<u8>>,
+}
+
+/// What a text is spelled out as.
+#[derive(Drop)]
+pub struct Expanded {
+    /// The plan, `---` and plain lines.
+    pub text: String,
+    /// A line for each line that helps and is wrong; empty if there is none.
+    pub wrong: String,
+}
+
+/// The same, while it is written.
+#[derive(Drop)]
+pub struct Expansion {
+    pub text: TextWriter,
+    pub wrong: TextWriter,
+}
+
+impl Expansion {
+    /// Appends a plain line of a user: a verb between blanks, a host, and digits, if there are some.
+    pub fn push_line(&mut self, user: &str, verb: &str, host: &str, digits: &str) {
+        self.text.push(user);
+        self.text.push(verb);
+        self.text.push(host);
+        if !digits.is_empty() {
+            self.text.push(" ");
+            self.text.push(digits);
+        }
+        self.text.push("\n");
+    }
+}
+
+/// The names of the files that the lines of a text load, in their order.
+pub fn files_named(alloc: Global, text: &[u8]) -> Result<Vec<&str>, NumberedLineFault> {
+    let mut names = Vec::new(alloc);
+    for line in &numbered_lines(alloc, divide(text, b"---").1)? {
+        if let Some(name) = file_named(*line) {
+            names.push(name)?;
+        }
+    }
+    Ok(names)
+}
+
+fn file_named(line: NumberedLine<'_>) -> Option<&str> {
+    match std::str::from_utf8(line.text) {
+        Ok(text) if !is_passed_over(line.text) => match help_line(line.number, text) {
+            Some(help) if matches!(help.verb, HelpVerb::Load) => Some(help.halves().1),
+            _ => None,
+        },
+        _ => None,
+    }
+}
+
+/// Spells out the lines of a script that help: the plan and the line `---` before it stay as they are, and so do all other
+/// lines of the script. Before what stands for a line stands the line itself as a remark.
+///
+/// `Wrong` if a line isn't UTF-8.
+pub fn expand(
+    alloc: Global,
+    text: &[u8],
+    files: &[LoadedFile<'_>],
+) -> Result<Expanded, NumberedLineFault> {
+    let (_, script) = divide(text, b"---");
+    let mut expansion = Expansion {
+        text: TextWriter::new(alloc),
+        wrong: TextWriter::new(alloc),
+    };
+    copy_lines(
+        alloc,
+        &mut expansion,
+        &text[..text.len().saturating_sub(script.len())],
+    )?;
+    expand_lines(alloc, &mut expansion, script, files)?;
+    let Expansion { text, wrong } = expansion;
+    finished(text, wrong)
+}
+
+fn finished(text: TextWriter, wrong: TextWriter) -> Result<Expanded, NumberedLineFault> {
+    let text = text.finish()?;
+    let wrong = wrong.finish()?;
+    Ok(Expanded { text, wrong })
+}
+
+fn copy_lines(
+    alloc: Global,
+    expansion: &mut Expansion,
+    plan: &[u8],
+) -> Result<(), NumberedLineFault> {
+    for line in &numbered_lines(alloc, plan)? {
+        expansion.text.push(line.as_str()?);
+        expansion.text.push("\n");
+    }
+    Ok(())
+}
+
+fn expand_lines(
+    alloc: Global,
+    expansion: &mut Expansion,
+    script: &[u8],
+    files: &[LoadedFile<'_>],
+) -> Result<(), NumberedLineFault> {
+    for line in &numbered_lines(alloc, script)? {
+        expand_line(alloc, expansion, line.number, line.as_str()?, files);
+    }
+    Ok(())
+}
+
+fn expand_line(
+    alloc: Global,
+    expansion: &mut Expansion,
+    number: u64,
+    line: &str,
+    files: &[LoadedFile<'_>],
+) {
+    let help = if is_passed_over(line.as_bytes()) {
+        None
+    } else {
+        help_line(number, line)
+    };
+    if help.is_some() {
+        expansion.text.push("# ");
+    }
+    expansion.text.push(line);
+    expansion.text.push("\n");
+    if let Some(help) = help {
+        spell_out(alloc, expansion, help, files);
+    }
+}

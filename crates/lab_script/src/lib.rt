@@ -1,0 +1,10 @@
+//! Lines that help in a script, and the plain lines for which they stand.
+#![tactic(auto)]
+
+mod bytes;
+mod expanding;
+mod form;
+mod loading;
+mod spelling;
+
+pub use expanding::{Expanded, LoadedFile, expand, files_named};

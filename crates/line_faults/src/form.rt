@@ -1,0 +1,100 @@
+//! The forms of script lines, as a person is told them.
+
+use line_words::{Wanted, WordForm, WordRole};
+use script_lines::parse_place;
+use script_text::TextWriter;
+
+/// The verbs of script lines.
+pub const VERBS: WordForm = WordForm::OneOf(&[
+    "config", "write", "boot", "poke", "peek", "collect", "reset", "look",
+]);
+
+/// What a word behind a verb stands for.
+#[derive(Clone, Copy)]
+pub enum ScriptArgument {
+    Host,
+    Node,
+    Bytes,
+    Address,
+    Word,
+}
+
+impl ScriptArgument {
+    /// What stands for it in the form of a line.
+    pub fn letters(self) -> &'static str {
+        match self {
+            ScriptArgument::Host => "HOST",
+            ScriptArgument::Node => "NODE",
+            ScriptArgument::Bytes => "HEX",
+            ScriptArgument::Address => "ADDR",
+            ScriptArgument::Word => "WORD",
+        }
+    }
+
+    /// What is said of a word that doesn't spell it, and what would be right.
+    pub fn refusal(self) -> &'static str {
+        match self {
+            ScriptArgument::Host => " is no host number: decimal digits, 0 to 255",
+            ScriptArgument::Node => " is no node number: decimal digits, 0 to 255",
+            ScriptArgument::Bytes => {
+                " spells no bytes: two hexadecimal digits for each, and at least one byte"
+            }
+            ScriptArgument::Address => " is no address: eight hexadecimal digits",
+            ScriptArgument::Word => " is no word of memory: eight hexadecimal digits",
+        }
+    }
+
+    /// What is wanted in its place, for what helps there.
+    pub fn wanted(self) -> Wanted {
+        match self {
+            ScriptArgument::Host => Wanted::decimal(WordRole::Host, 0, 255),
+            ScriptArgument::Node => Wanted::decimal(WordRole::Node, 0, 255),
+            ScriptArgument::Bytes => Wanted::Word(WordRole::Bytes, WordForm::Hexadecimal),
+            ScriptArgument::Address => Wanted::Word(WordRole::Address, WordForm::Hexadecimal),
+            ScriptArgument::Word => Wanted::Word(WordRole::Word, WordForm::Hexadecimal),
+        }
+    }
+
+    /// Whether it is written in hexadecimal digits.
+    pub fn is_hexadecimal(self) -> bool {
+        !matches!(self, ScriptArgument::Host | ScriptArgument::Node)
+    }
+
+    /// Whether a word spells it.
+    pub fn is_spelled_by(self, word: &[u8]) -> bool {
+        let is_hexadecimal = word.iter().all(|byte| byte.is_ascii_hexdigit());
+        match self {
+            ScriptArgument::Host | ScriptArgument::Node => parse_place(word).is_ok(),
+            ScriptArgument::Bytes => is_hexadecimal && !word.is_empty() && word.len() % 2 == 0,
+            ScriptArgument::Address | ScriptArgument::Word => is_hexadecimal && word.len() == 8,
+        }
+    }
+}
+
+/// What stands behind the verb of this name; nothing if it is no verb.
+pub fn arguments_of(verb: &[u8]) -> &'static [ScriptArgument] {
+    match verb {
+        b"config" => &[ScriptArgument::Bytes],
+        b"write" | b"boot" => &[ScriptArgument::Host, ScriptArgument::Bytes],
+        b"poke" => &[
+            ScriptArgument::Host,
+            ScriptArgument::Address,
+            ScriptArgument::Word,
+        ],
+        b"peek" => &[ScriptArgument::Host, ScriptArgument::Address],
+        b"collect" => &[ScriptArgument::Host],
+        b"reset" | b"look" => &[ScriptArgument::Node],
+        _ => &[],
+    }
+}
+
+/// Appends the form of a user's line with this verb.
+pub fn write_form(text: &mut TextWriter, user: &str, verb: &str) {
+    text.push(user);
+    text.push(" ");
+    text.push(verb);
+    for argument in arguments_of(verb.as_bytes()) {
+        text.push(" ");
+        text.push(argument.letters());
+    }
+}

@@ -1,0 +1,8 @@
+//! What is told of the lines of a script that are wrong: who wrote them, which word is wrong, and what should stand there.
+#![tactic(auto)]
+
+mod form;
+mod told;
+mod wrong;
+
+pub use told::tell_wrong_lines;

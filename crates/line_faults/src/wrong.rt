@@ -1,0 +1,215 @@
+//! A wrong line of a script, and what is told of it.
+
+use crate::form::{ScriptArgument, VERBS, arguments_of, write_form};
+use line_words::{MetText, NumberedLine, ShownWord, Wanted, WordForm, WordHint, WordRole};
+use script_lines::LineFault;
+use script_text::TextWriter;
+
+/// How many users' names are told.
+const MOST_NAMES: usize = 8;
+
+/// A line of a script that is wrong.
+#[derive(Clone, Copy)]
+pub struct WrongScriptLine<'a> {
+    pub line: NumberedLine<'a>,
+    pub fault: LineFault,
+}
+
+/// Appends a line that says where a script is wrong, and what would be right. `words` are those of the wrong line.
+pub fn write_wrong_line(
+    text: &mut TextWriter,
+    names: &[&str],
+    wrong: WrongScriptLine<'_>,
+    words: &[&[u8]],
+) {
+    text.push("line ");
+    text.push_decimal(wrong.line.number);
+    match wrong.fault {
+        LineFault::User => write_wrong_user(text, names, word_at(words, 0)),
+        LineFault::Verb => write_wrong_verb(text, words),
+        LineFault::Args | LineFault::Hex => write_wrong_arguments(text, words),
+    }
+    text.push("\n");
+}
+
+// The word of this place, an empty one if there is none.
+fn word_at<'a>(words: &[&'a [u8]], place: usize) -> &'a [u8] {
+    match words.get(place) {
+        Some(word) => *word,
+        None => &[],
+    }
+}
+
+// The same as a text.
+fn text_at<'a>(words: &[&'a [u8]], place: usize) -> &'a str {
+    std::str::from_utf8(word_at(words, place)).unwrap_or("")
+}
+
+fn write_wrong_user(text: &mut TextWriter, names: &[&str], word: &[u8]) {
+    text.push(": ");
+    write_met(text, word);
+    text.push(" is no user of the plan: ");
+    write_names(text, names);
+    let same = names
+        .iter()
+        .find(|name| name.as_bytes().eq_ignore_ascii_case(word));
+    match same {
+        Some(name) => {
+            text.push(" (small and capital letters differ: write ");
+            text.push(*name);
+            text.push(")");
+        }
+        None => write_hint(text, word, Wanted::Word(WordRole::User, WordForm::Asker)),
+    }
+}
+
+// The first names, and how many more there are.
+fn write_names(text: &mut TextWriter, names: &[&str]) {
+    for (place, name) in names.iter().take(MOST_NAMES).enumerate() {
+        text.push(if place == 0 { "" } else { ", " });
+        text.push(*name);
+    }
+    let more = names.len().saturating_sub(MOST_NAMES);
+    if more > 0 {
+        text.push(" and ");
+        text.push_decimal(more as u64);
+        text.push(" more");
+    }
+}
+
+fn write_wrong_verb(text: &mut TextWriter, words: &[&[u8]]) {
+    text.push(", ");
+    text.push(text_at(words, 0));
+    text.push(": ");
+    let Some(word) = words.get(1) else {
+        text.push("a verb is missing: ");
+        write_verbs(text);
+        return;
+    };
+    write_met(text, *word);
+    text.push(" is no verb: ");
+    write_verbs(text);
+    write_hint(text, *word, Wanted::Word(WordRole::NodeVerb, VERBS));
+}
+
+fn write_verbs(text: &mut TextWriter) {
+    let written = write!(text.as_mut_string(), "{VERBS}");
+    text.keep_failure(written);
+}
+
+fn write_wrong_arguments(text: &mut TextWriter, words: &[&[u8]]) {
+    let (user, verb) = (text_at(words, 0), text_at(words, 1));
+    text.push(", ");
+    text.push(user);
+    text.push(" ");
+    text.push(verb);
+    text.push(": ");
+    let wanted = arguments_of(verb.as_bytes());
+    let arguments = words.get(2..).unwrap_or(&[]);
+    if arguments.len() == wanted.len() {
+        write_wrong_argument(text, wanted, arguments);
+    } else {
+        text.push(if arguments.len() < wanted.len() {
+            "too few words: "
+        } else {
+            "too many words: "
+        });
+        write_form(text, user, verb);
+        write_hint_of_words(text, arguments);
+    }
+}
+
+// The first word behind a verb that doesn't spell what it stands for.
+fn write_wrong_argument(text: &mut TextWriter, wanted: &[ScriptArgument], arguments: &[&[u8]]) {
+    for (argument, word) in wanted.iter().zip(arguments.iter()) {
+        if !argument.is_spelled_by(*word) {
+            write_met(text, *word);
+            text.push(argument.refusal());
+            write_help(text, *argument, *word);
+            break;
+        }
+    }
+}
+
+// What helps where a word doesn't spell what it stands for.
+fn write_help(text: &mut TextWriter, argument: ScriptArgument, word: &[u8]) {
+    match hint_of(word, argument.wanted()) {
+        Some(hint) => write_in_brackets(text, hint),
+        None if argument.is_hexadecimal() => write_wrong_digit(text, word),
+        None => {}
+    }
+}
+
+// Which character of a word is no hexadecimal digit; or how many digits there are.
+fn write_wrong_digit(text: &mut TextWriter, word: &[u8]) {
+    let wrong = word.iter().position(|byte| !byte.is_ascii_hexdigit());
+    match wrong {
+        Some(place) => {
+            text.push(" (");
+            write_met(text, first_character(&word[place..]));
+            text.push(", its character ");
+            text.push_decimal((place as u64).saturating_add(1));
+            text.push(", is none)");
+        }
+        None => {
+            text.push(" (it has ");
+            text.push_decimal(word.len() as u64);
+            text.push(if word.len() == 1 {
+                " digit)"
+            } else {
+                " digits)"
+            });
+        }
+    }
+}
+
+// The first character of a word, or its first byte if that begins none.
+fn first_character(word: &[u8]) -> &[u8] {
+    let count = match word.first() {
+        Some(0xc0..=0xdf) => 2,
+        Some(0xe0..=0xef) => 3,
+        Some(0xf0..=0xf7) => 4,
+        _ => 1,
+    };
+    word.get(..count).unwrap_or(word)
+}
+
+// What stands in place of something else: a word in quotes, its beginning if it is long.
+fn write_met(text: &mut TextWriter, word: &[u8]) {
+    if word.is_empty() {
+        text.push("an empty word");
+        return;
+    }
+    let met = match std::str::from_utf8(word) {
+        Ok(word) => MetText::Word(ShownWord::of(word)),
+        Err(error) => MetText::Byte(word.get(error.valid_up_to()).copied().unwrap_or(0)),
+    };
+    let written = write!(text.as_mut_string(), "{met}");
+    text.keep_failure(written);
+}
+
+fn hint_of(word: &[u8], wanted: Wanted) -> Option<WordHint> {
+    match std::str::from_utf8(word) {
+        Ok(word) => WordHint::of(word, wanted),
+        Err(_) => None,
+    }
+}
+
+fn write_hint(text: &mut TextWriter, word: &[u8], wanted: Wanted) {
+    if let Some(hint) = hint_of(word, wanted) {
+        write_in_brackets(text, hint);
+    }
+}
+
+// What helps with the first of some words of which there are too few or too many.
+fn write_hint_of_words(text: &mut TextWriter, words: &[&[u8]]) {
+    let first = words.iter().find_map(|word| hint_of(*word, Wanted::End));
+    if let Some(hint) = first {
+        write_in_brackets(text, hint);
+    }
+}
+
+fn write_in_brackets(text: &mut TextWriter, hint: WordHint) {
+    let written = write!(text.as_mut_string(), " ({hint})");
+    text.keep_failure(written);
+}
