@@ -43,9 +43,10 @@ impl Model for Follower {
     ghost view = { λ f. f.moment };
 }
 
-// Whether an answer is what a line says that was asked so many times.
-fn is_told(alloc: Global, told: Option<&str>, times: u64, reply: Reply) -> Result<bool, NoMemory> {
-    let Some(told) = told else {
+/// Whether an answer is what a line says.
+pub fn is_told(alloc: Global, line: &RecordedLine, reply: Reply) -> Result<bool, NoMemory> {
+    let times = line.call.times;
+    let Some(told) = line.answer else {
         return Ok(true);
     };
     let mut answer = String::new(alloc);
@@ -81,6 +82,17 @@ impl Follower {
     /// What was noted on the way.
     pub fn past(&self) -> &Past {
         &self.past
+    }
+
+    /// An equal follower with memories and queues of its own. `NoMemory` where they can't be allocated.
+    pub fn copy(&self) -> Result<Follower, NoMemory>
+        ensures { IfOk result (λ f. f ≡ self.now) }
+    {
+        Ok(Follower {
+            alloc: self.alloc,
+            moment: self.moment.copy(self.alloc)?,
+            past: self.past,
+        })
     }
 
     /// A copy of the moment. `NoMemory` where it can't be allocated.
@@ -134,8 +146,8 @@ impl Follower {
         Ok(Reply::Stepped(Stepped::Ran))
     }
 
-    // Does a call as often as it was made. Only Steps stand together.
-    fn follow_call(&mut self, call: SaidCall) -> Result<Reply, FollowFault>
+    /// Does a call as often as it was made. Only Steps stand together. After an error nothing is said of the moment.
+    pub fn follow_call(&mut self, call: SaidCall) -> Result<Reply, FollowFault>
         ensures { IfOk result (λ reply. MovesOn self.old (calls_said call) self.new) }
     {
         let SaidCall { times, by, event } = call;
@@ -152,7 +164,7 @@ impl Follower {
         ensures { IfOk result (λ reply. MovesOn self.old (calls_said line.now.call) self.new) }
     {
         let reply = self.follow_call(line.call)?;
-        if is_told(self.alloc, line.answer, line.call.times, reply)? {
+        if is_told(self.alloc, line, reply)? {
             Ok(reply)
         } else {
             Err(FollowFault::Differs)

@@ -55,8 +55,8 @@ fn served(memory: &Memory, links: &Links, cpu: Cpu) -> Result<Option<Cpu>, NoMem
     })
 }
 
-// The registers with which a node's next instruction byte is done, if its next Step does one.
-fn next_registers(node: &Node) -> Result<Option<Cpu>, NoMemory> {
+/// The registers with which a node's next instruction byte is done, if its next Step does one.
+pub fn next_registers(node: &Node) -> Result<Option<Cpu>, NoMemory> {
     match node.registers() {
         Some(cpu) if cpu.running => Ok(Some(cpu)),
         Some(cpu) if cpu.queue.front != NOT_PROCESS => Ok(resumed(node.memory(), cpu)),

@@ -21,7 +21,8 @@ pub use cause::{Cause, InputWait, InsideWait, LinkWaits, OutputWait, Rendezvous}
 pub use explaining::{explain_moment, explain_record};
 pub use fault::{FollowFault, WhyFault};
 pub use finding::{cause_in, inside_waits};
-pub use following::{Follower, follow_record};
+pub use following::{Follower, follow_record, is_told};
+pub use glance::next_registers;
 pub use line::{RecordedLine, SaidCall};
 pub use passage::{Arrival, SentByte, Supply, arrival_at, sent_byte, supply_of};
 pub use past::{FaultPast, NodePast, Past, PortPast};

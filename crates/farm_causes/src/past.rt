@@ -35,7 +35,7 @@ pub struct NodePast {
 }
 
 /// What was noted on the way to a moment.
-#[derive(Drop)]
+#[derive(Clone, Copy)]
 pub struct Past {
     ports: [PortPast; 32],
     nodes: [NodePast; 8],

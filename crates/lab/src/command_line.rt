@@ -1,9 +1,11 @@
 //! What the words of the command line ask.
 
 use crate::assembly::AssemblyOptions;
+use crate::debugging::Debugging;
 use crate::failure::LabFailure;
 use clap::error::ErrorKind;
 use clap::{Arg, ArgAction, ArgMatches, Command, value_parser};
+use lab_debug::ProgramOf;
 use lab_film::{Span, USUAL_COUNT};
 use node_trace::{LinkInput, LinkNumber, link_of};
 use script_text::{HexFault, bytes_of, decimal_number, hexadecimal_word, value_named};
@@ -33,6 +35,8 @@ pub enum LabRequest<'a> {
     Film(&'a str, Span),
     /// To spell out the lines that help of the script in a file, or on standard input.
     Expand(Option<&'a str>),
+    /// To look through a record by commands.
+    Debug(Debugging<'a>),
     /// To read standard input.
     Read(Reading<'a>),
 }
@@ -81,6 +85,7 @@ enum Subcommand {
     Why,
     Film,
     Expand,
+    Debug,
 }
 
 impl Subcommand {
@@ -88,7 +93,11 @@ impl Subcommand {
     fn reads_input(self) -> bool {
         !matches!(
             self,
-            Subcommand::Rows | Subcommand::Why | Subcommand::Film | Subcommand::Expand
+            Subcommand::Rows
+                | Subcommand::Why
+                | Subcommand::Film
+                | Subcommand::Expand
+                | Subcommand::Debug
         )
     }
 
@@ -125,6 +134,9 @@ impl Subcommand {
             Subcommand::Expand => {
                 "Spells out the lines of a script that help: reads a plan, a line ---, and a script"
             }
+            Subcommand::Debug => {
+                "Goes to any moment of a domain's record, and shows it: reads commands, of which help is one"
+            }
         }
     }
 }
@@ -151,6 +163,7 @@ const SUBCOMMANDS: [(&str, Subcommand); 10] = [
     ("why", Subcommand::Why),
     ("film", Subcommand::Film),
     ("expand", Subcommand::Expand),
+    ("debug", Subcommand::Debug),
 ];
 
 /// Reads the words of the command line, of which the first is the program's name.
@@ -237,6 +250,9 @@ fn with_arguments<'a>(
             .arg(from_argument(alloc))?
             .arg(count_argument(alloc)),
         Subcommand::Expand => command.arg(script_argument(alloc)),
+        Subcommand::Debug => command
+            .arg(record_argument(alloc))?
+            .arg(program_argument(alloc)),
         Subcommand::Replay | Subcommand::Plan | Subcommand::Disassemble => Ok(command),
     }
 }
@@ -345,6 +361,15 @@ fn count_argument<'a>(alloc: Global) -> Arg<'a> {
         .value_parser(value_parser!(u64))
 }
 
+fn program_argument<'a>(alloc: Global) -> Arg<'a> {
+    Arg::new(alloc, "program")
+        .long("program")
+        .value_name("K FILE")
+        .help("Takes the labels and lines of node K from its program in this file")
+        .num_args(2)
+        .action(ArgAction::Append)
+}
+
 fn listing_argument<'a>(alloc: Global) -> Arg<'a> {
     Arg::new(alloc, "listing")
         .long("listing")
@@ -377,6 +402,7 @@ fn read_matches<'a>(alloc: Global, matches: &ArgMatches<'a>) -> Result<LabReques
         Subcommand::Why => read_why(matches)?,
         Subcommand::Film => read_film(matches)?,
         Subcommand::Expand => LabRequest::Expand(matches.get_str("script")),
+        Subcommand::Debug => LabRequest::Debug(read_debugging(alloc, matches)?),
     })
 }
 
@@ -403,6 +429,34 @@ fn read_film<'a>(matches: &ArgMatches<'a>) -> Result<LabRequest<'a>, LabFailure>
         count: matches.get_one::<u64>("count").unwrap_or(USUAL_COUNT),
     };
     Ok(LabRequest::Film(record, span))
+}
+
+fn read_debugging<'a>(
+    alloc: Global,
+    matches: &ArgMatches<'a>,
+) -> Result<Debugging<'a>, LabFailure> {
+    let mut programs = Vec::new(alloc);
+    for words in matches.get_strs("program").unwrap_or(&[]).chunks(2) {
+        match words {
+            [node, file] => programs.push(program_of(node, file)?)?,
+            _ => return Err(LabFailure::Program),
+        }
+    }
+    Ok(Debugging {
+        record: matches.get_str("record").ok_or(LabFailure::Subcommand)?,
+        programs,
+    })
+}
+
+// The program of a node, by the number of the node and the file.
+fn program_of<'a>(node: &str, file: &'a str) -> Result<ProgramOf<'a>, LabFailure> {
+    match decimal_number(node) {
+        Some(number) if number < 256 => Ok(ProgramOf {
+            node: number as u8,
+            file,
+        }),
+        _ => Err(LabFailure::Program),
+    }
 }
 
 fn read_files<'a>(alloc: Global, matches: &ArgMatches<'a>) -> Result<Vec<&'a str>, AllocError> {

@@ -2,6 +2,7 @@
 
 use farm_causes::WhyFault;
 use farm_replay::ReplayFault;
+use lab_debug::DebugFault;
 use line_words::{NumberedLineFault, WrongLine};
 use node_trace::BootFault;
 use plan_faults::PlanRefusal;
@@ -26,6 +27,8 @@ pub enum LabFailure {
     },
     /// The code of `--boot` isn't hexadecimal digits.
     Code,
+    /// What stands behind `--program` is no node and file.
+    Program,
     /// The code of `--boot` has so many bytes.
     Booted(usize),
     /// `--until` is no address.
@@ -90,6 +93,9 @@ impl fmt::Display for LabFailure {
                 f.write_str("error: ")?;
                 write_length(f, *count)
             }
+            LabFailure::Program => f.write_str(
+                "error: --program takes the number of a node, and a file\n",
+            ),
             LabFailure::Address => f.write_str(
                 "error: --until takes an address, one to eight hexadecimal digits: --until 8000004c\n",
             ),
@@ -154,7 +160,8 @@ impl LabFailure {
             | LabFailure::Code
             | LabFailure::Booted(_)
             | LabFailure::Address
-            | LabFailure::Input => 2,
+            | LabFailure::Input
+            | LabFailure::Program => 2,
             LabFailure::ReplayedPlan(_) | LabFailure::RefusedPlan(_) => 3,
             LabFailure::Record(WhyFault::Plan(_) | WhyFault::Domains(_)) => 3,
             LabFailure::Record(_)
@@ -230,6 +237,16 @@ impl From<WhyFault> for LabFailure {
         match fault {
             WhyFault::Memory(_) => LabFailure::Memory,
             fault => LabFailure::Record(fault),
+        }
+    }
+}
+
+impl From<DebugFault> for LabFailure {
+    fn from(fault: DebugFault) -> LabFailure {
+        match fault {
+            DebugFault::Record(fault) => LabFailure::Record(fault),
+            DebugFault::Memory(_) => LabFailure::Memory,
+            DebugFault::Io => LabFailure::Io,
         }
     }
 }

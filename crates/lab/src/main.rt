@@ -3,6 +3,7 @@
 
 mod assembly;
 mod command_line;
+mod debugging;
 mod expanded;
 mod failure;
 mod film;
@@ -13,6 +14,7 @@ mod rows;
 mod why;
 
 use crate::command_line::{LabRequest, read_words};
+use crate::debugging::report_debugging;
 use crate::expanded::report_expanded;
 use crate::failure::LabFailure;
 use crate::film::report_film;
@@ -47,6 +49,7 @@ fn report(rt: &HostRuntime) -> Result<Report, LabFailure> {
     match read_words(alloc, words.as_slice())? {
         LabRequest::Help(text) => Ok(Report { text, status: 0 }),
         LabRequest::Rows(files) => report_rows(rt, files.as_slice()),
+        LabRequest::Debug(asked) => report_debugging(rt, &asked),
         LabRequest::Why(record, most) => report_why(rt, record, most),
         LabRequest::Film(record, span) => report_film(rt, record, span),
         LabRequest::Expand(script) => report_expanded(rt, script),

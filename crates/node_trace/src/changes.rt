@@ -110,6 +110,13 @@ fn link_fields(link: &Link) -> [ChangedField; 9] {
     ]
 }
 
+/// Writes a blank, a name and a value for each field of a link.
+pub fn write_link_fields(text: &mut TextWriter, link: &Link) {
+    for field in &link_fields(link) {
+        write_field(text, *field);
+    }
+}
+
 // Writes the new fields whose values differ from the old.
 fn write_differing(text: &mut TextWriter, old: &[ChangedField], new: &[ChangedField]) {
     for (old, new) in old.iter().zip(new.iter()) {

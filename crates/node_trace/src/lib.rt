@@ -20,7 +20,9 @@ mod tracing;
 mod trial;
 
 pub use crate::boot::{BootTrace, trace_boot};
+pub use crate::changes::{write_all_registers, write_link_fields};
 pub use crate::hosts::LinkInput;
+pub use crate::packets::write_packet;
 pub use crate::tracing::{read_trace_line, trace};
 pub use bootstrap::{BootFault, LinkNumber, link_of};
 pub use line_words::NumberedLineFault;

@@ -10,4 +10,4 @@ mod table;
 pub use drawing::draw;
 pub use network::draw_network;
 pub use std::alloc::AllocError as NoMemory;
-pub use table::table_of;
+pub use table::{table_of, write_device};

@@ -1,0 +1,179 @@
+//! The instructions of a node, disassembled.
+
+use crate::labels::{ProgramLine, label_in};
+use bootstrap::{Memory, Node};
+use farm_causes::next_registers;
+use script_text::TextWriter;
+use std::alloc::{AllocError, Global};
+use t414_assembly::{Instruction, disassemble, is_prefix, spell, write_instruction};
+use t414_decode::decode;
+
+/// How many instructions are shown.
+const SHOWN: usize = 16;
+
+/// How many bytes are looked at: an instruction has eight at most.
+const WINDOW: u32 = 136;
+
+/// How far before the next instruction the code of a program begins.
+const BEFORE: u32 = 12;
+
+/// The most bytes of an instruction that stand beside it in a column.
+const COLUMN: usize = 4;
+
+/// The address of the byte that a node does next, if its next Step does one.
+pub fn next_address(node: &Node) -> Result<Option<u32>, AllocError> {
+    Ok(match node.registers() {
+        Some(cpu) if cpu.running => Some(cpu.instruction),
+        Some(_) if node.quiet() => None,
+        Some(_) => next_registers(node)?.map(|cpu| cpu.instruction),
+        None => None,
+    })
+}
+
+// The first byte of the instruction of which this address has a byte, if prefixes before it were done.
+fn begin_of(node: &Node, address: u32) -> u32 {
+    let mut begin = address;
+    if node
+        .registers()
+        .is_some_and(|cpu| cpu.running && cpu.operand != 0)
+    {
+        for _ in 0..7u8 {
+            let before = begin.wrapping_sub(1);
+            match node.memory().byte(before) {
+                Ok(byte) if is_prefix(decode(byte).0) => begin = before,
+                _ => break,
+            }
+        }
+    }
+    begin
+}
+
+// The line of a program at which its code is shown from, so that the next instruction is among it.
+fn line_before(lines: &[ProgramLine], address: u32) -> Option<u32> {
+    let mut found = None;
+    for line in lines {
+        let behind = address.wrapping_sub(line.address);
+        if line.length > 0 && behind <= BEFORE && found.is_none() {
+            found = Some(line.address);
+        }
+    }
+    found
+}
+
+// The bytes of memory from an address on.
+fn bytes_at(alloc: Global, memory: &Memory, address: u32) -> Result<Vec<u8>, AllocError> {
+    let mut bytes = Vec::new(alloc);
+    for place in 0..WINDOW {
+        match memory.byte(address.wrapping_add(place)) {
+            Ok(byte) => bytes.push(byte)?,
+            Err(_) => break,
+        }
+    }
+    Ok(bytes)
+}
+
+// Writes the labels that stand by themselves at an address.
+fn write_labels(lines: &[ProgramLine], address: u32, text: &mut TextWriter) {
+    for line in lines {
+        if line.length == 0
+            && line.address == address
+            && let Some(label) = label_in(line.text)
+        {
+            text.push(label);
+            text.push(":\n");
+        }
+    }
+}
+
+// Writes the line of the program that begins at an address, behind an instruction.
+fn write_source(lines: &[ProgramLine], address: u32, written: usize, text: &mut TextWriter) {
+    for line in lines {
+        if line.length > 0 && line.address == address {
+            for _ in written..20 {
+                text.push(" ");
+            }
+            text.push("  ");
+            text.push(line.text.trim());
+        }
+    }
+}
+
+// Writes an instruction and its line.
+fn write_row(
+    alloc: Global,
+    lines: &[ProgramLine],
+    address: u32,
+    instruction: Instruction,
+    bytes: &[u8],
+    text: &mut TextWriter,
+) -> Result<(), AllocError> {
+    text.push_word(address);
+    text.push("  ");
+    for byte in bytes {
+        text.push_byte(*byte);
+        text.push(" ");
+    }
+    for _ in bytes.len()..COLUMN {
+        text.push("   ");
+    }
+    let mut name = TextWriter::new(alloc);
+    write_instruction(&mut name, instruction);
+    let name = name.finish()?;
+    text.push(" ");
+    text.push(name.as_str());
+    write_source(lines, address, name.len(), text);
+    text.push("\n");
+    Ok(())
+}
+
+/// Writes instructions of a node from an address on, or around the one that it does next, which is marked.
+pub fn write_code(
+    alloc: Global,
+    node: &Node,
+    address: Option<u32>,
+    lines: &[ProgramLine],
+    text: &mut TextWriter,
+) -> Result<(), AllocError> {
+    let next = next_address(node)?;
+    let from = match (address, next) {
+        (Some(address), _) => address,
+        (None, Some(next)) => match line_before(lines, next) {
+            Some(line) => line,
+            None => begin_of(node, next),
+        },
+        (None, None) => {
+            text.push("it does no instruction next: give an address\n");
+            return Ok(());
+        }
+    };
+    let bytes = bytes_at(alloc, node.memory(), from)?;
+    if bytes.is_empty() {
+        text.push("no memory is there\n");
+    }
+    write_rows(alloc, from, next, lines, bytes.as_slice(), text)
+}
+
+// Writes the instructions that bytes at an address are.
+fn write_rows(
+    alloc: Global,
+    from: u32,
+    next: Option<u32>,
+    lines: &[ProgramLine],
+    bytes: &[u8],
+    text: &mut TextWriter,
+) -> Result<(), AllocError> {
+    let mut address = from;
+    let mut rest = bytes;
+    for instruction in disassemble(alloc, bytes)?.iter().take(SHOWN) {
+        let spelling = spell(instruction.function, instruction.operand);
+        let length = usize::from(spelling.count()).min(rest.len());
+        let (own, behind) = rest.split_at(length);
+        write_labels(lines, address, text);
+        let is_next = next.is_some_and(|next| next.wrapping_sub(address) < length as u32);
+        text.push(if is_next { "> " } else { "  " });
+        write_row(alloc, lines, address, *instruction, own, text)?;
+        address = address.wrapping_add(length as u32);
+        rest = behind;
+    }
+    Ok(())
+}

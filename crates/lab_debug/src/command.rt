@@ -1,0 +1,415 @@
+//! The commands of the debugger, as they are read.
+ghost use Rattle.std.specs.Prelude.{◌≤◌, IfOk};
+
+use script_text::{TextWriter, decimal_number, hexadecimal_word, value_named};
+
+/// An address, as it is written.
+#[derive(Clone, Copy)]
+pub enum Address<'a> {
+    Number(u32),
+    /// A label of the node's program.
+    Label(&'a str),
+}
+
+/// What is looked for in a record.
+#[derive(Clone, Copy)]
+pub enum Sought<'a> {
+    /// A node comes to the instruction at an address.
+    At { node: u8, address: Address<'a> },
+    /// A node meets a fault.
+    Fault,
+    /// A byte leaves a virtual port, or comes to it.
+    Byte(u8),
+    /// The word at an address of a node becomes another.
+    Write { node: u8, address: Address<'a> },
+    /// A packet is lost.
+    Lost,
+}
+
+/// What the debugger is told to do.
+#[derive(Clone, Copy)]
+pub enum DebugCommand<'a> {
+    /// An empty line.
+    Nothing,
+    Events {
+        from: Option<u64>,
+        count: u64,
+    },
+    Go(u64),
+    Next(u64),
+    Back(u64),
+    Until(Sought<'a>),
+    BackUntil(Sought<'a>),
+    Look,
+    Registers(u8),
+    Memory {
+        node: u8,
+        address: Address<'a>,
+        count: u64,
+    },
+    Code {
+        node: u8,
+        address: Option<Address<'a>>,
+    },
+    Queue(u8),
+    Links(u8),
+    Hosts,
+    Switch,
+    Why(Option<u8>),
+    Program {
+        node: u8,
+        file: &'a str,
+    },
+    Help,
+    Quit,
+}
+
+/// The first word of a command.
+#[derive(Clone, Copy)]
+enum FirstWord {
+    Events,
+    Go,
+    Next,
+    Back,
+    Until,
+    Look,
+    Registers,
+    Memory,
+    Code,
+    Queue,
+    Links,
+    Hosts,
+    Switch,
+    Why,
+    Program,
+    Help,
+    Quit,
+}
+
+/// What is said of a command: how it is written, and what it does.
+#[derive(Clone, Copy)]
+struct Usage {
+    written: &'static str,
+    does: &'static str,
+}
+
+const FIRST_WORDS: [(&str, FirstWord); 17] = [
+    ("events", FirstWord::Events),
+    ("go", FirstWord::Go),
+    ("next", FirstWord::Next),
+    ("back", FirstWord::Back),
+    ("until", FirstWord::Until),
+    ("look", FirstWord::Look),
+    ("registers", FirstWord::Registers),
+    ("memory", FirstWord::Memory),
+    ("code", FirstWord::Code),
+    ("queue", FirstWord::Queue),
+    ("links", FirstWord::Links),
+    ("hosts", FirstWord::Hosts),
+    ("switch", FirstWord::Switch),
+    ("why", FirstWord::Why),
+    ("program", FirstWord::Program),
+    ("help", FirstWord::Help),
+    ("quit", FirstWord::Quit),
+];
+
+/// The word behind `until`.
+#[derive(Clone, Copy)]
+enum SoughtWord {
+    Node,
+    Fault,
+    Byte,
+    Write,
+    Lost,
+}
+
+const SOUGHT_WORDS: [(&str, SoughtWord); 5] = [
+    ("node", SoughtWord::Node),
+    ("fault", SoughtWord::Fault),
+    ("byte", SoughtWord::Byte),
+    ("write", SoughtWord::Write),
+    ("lost", SoughtWord::Lost),
+];
+
+/// Why a line is no command: what is wrong with a word of it, and how the command is written.
+#[derive(Clone, Copy)]
+pub struct CommandFault<'a> {
+    // Empty if a word is missing.
+    word: &'a str,
+    wrong: &'static str,
+    written: &'static str,
+}
+
+const NO_NUMBER: &str = " is no number that fits there";
+
+const UNEXPECTED: &str = " can't stand there";
+
+impl CommandFault<'_> {
+    /// Writes which word is wrong, and what to try.
+    pub fn write(self, text: &mut TextWriter) {
+        if self.word.is_empty() {
+            text.push("a word is missing");
+        } else {
+            text.push("`");
+            text.push(self.word);
+            text.push("`");
+            text.push(self.wrong);
+        }
+        text.push(": try ");
+        text.push(self.written);
+        text.push("\n");
+    }
+}
+
+impl FirstWord {
+    // How the command is written, and what it does.
+    fn usage(self) -> Usage {
+        let (written, does) = match self {
+            FirstWord::Events => (
+                "events [FROM [COUNT]]",
+                "the lines of the record from an event on",
+            ),
+            FirstWord::Go => ("go N", "to the moment after the first N events"),
+            FirstWord::Next => ("next [N]", "N events on"),
+            FirstWord::Back => (
+                "back [N], or back until ..",
+                "N events back, or to the last moment that is so",
+            ),
+            FirstWord::Until => (
+                "until node K at ADDR, until fault, until byte PORT, until write ADDR of node K, or until lost",
+                "to the next moment that is so",
+            ),
+            FirstWord::Look => ("look", "what each node does"),
+            FirstWord::Registers => ("registers K", "the registers of node K"),
+            FirstWord::Memory => ("memory K ADDR [COUNT]", "words of its memory"),
+            FirstWord::Code => (
+                "code K [ADDR]",
+                "its instructions, with > at the one that it does next",
+            ),
+            FirstWord::Queue => (
+                "queue K",
+                "its process, and those that wait for the processor",
+            ),
+            FirstWord::Links => ("links K", "its four links"),
+            FirstWord::Hosts => ("hosts", "what the hosts send and have received"),
+            FirstWord::Switch => ("switch", "what drives each output"),
+            FirstWord::Why => ("why [K]", "why the nodes do no more than they do"),
+            FirstWord::Program => (
+                "program K FILE",
+                "takes labels and lines from the program of node K",
+            ),
+            FirstWord::Help => ("help", "this list"),
+            FirstWord::Quit => ("quit", "ends"),
+        };
+        Usage { written, does }
+    }
+}
+
+/// Writes how each command is written, and what it does.
+pub fn write_help(text: &mut TextWriter) {
+    for (_, verb) in &FIRST_WORDS {
+        let Usage { written, does } = verb.usage();
+        text.push(written);
+        text.push(": ");
+        text.push(does);
+        text.push("\n");
+    }
+    text.push("An address has hexadecimal digits, of which the first is 0 to 9, or is a label.\n");
+}
+
+/// The words of a command that are still to be read.
+#[derive(Clone, Copy)]
+struct CommandWords<'a> {
+    rest: &'a str,
+    written: &'static str,
+}
+
+impl<'a> CommandWords<'a> {
+    // The next word, if there is one. Blanks divide.
+    fn next_word(&mut self) -> Option<&'a str> {
+        let rest = self.rest.trim_start();
+        let (word, behind) = rest.split_once(' ').unwrap_or((rest, ""));
+        self.rest = behind;
+        if word.is_empty() { None } else { Some(word) }
+    }
+
+    // What is wrong with a word.
+    fn fault(&self, word: &'a str, wrong: &'static str) -> CommandFault<'a> {
+        CommandFault {
+            word,
+            wrong,
+            written: self.written,
+        }
+    }
+
+    fn word(&mut self) -> Result<&'a str, CommandFault<'a>> {
+        match self.next_word() {
+            Some(word) => Ok(word),
+            None => Err(self.fault("", "")),
+        }
+    }
+
+    // The next word has to be this one.
+    fn expect(&mut self, expected: &str) -> Result<(), CommandFault<'a>> {
+        let word = self.word()?;
+        if word == expected {
+            Ok(())
+        } else {
+            Err(self.fault(word, UNEXPECTED))
+        }
+    }
+
+    // Whether no word is left.
+    fn is_empty(&self) -> bool {
+        self.rest.trim_start().is_empty()
+    }
+
+    // A decimal number, at most so great.
+    fn number(&mut self, most: u64) -> Result<u64, CommandFault<'a>>
+        ensures { IfOk result (λ number. number ≤ most) }
+    {
+        let word = self.word()?;
+        match decimal_number(word) {
+            Some(number) if number <= most => Ok(number),
+            _ => Err(self.fault(word, NO_NUMBER)),
+        }
+    }
+
+    // A decimal number, or this one if no word is left.
+    fn number_or(&mut self, usual: u64) -> Result<u64, CommandFault<'a>> {
+        if self.is_empty() {
+            return Ok(usual);
+        }
+        self.number(u64::MAX)
+    }
+
+    // A decimal number below 256.
+    fn small(&mut self) -> Result<u8, CommandFault<'a>> {
+        Ok(self.number(255)? as u8)
+    }
+
+    fn address(&mut self) -> Result<Address<'a>, CommandFault<'a>> {
+        let word = self.word()?;
+        if !word
+            .as_bytes()
+            .first()
+            .is_some_and(|first| first.is_ascii_digit())
+        {
+            return Ok(Address::Label(word));
+        }
+        match hexadecimal_word(word) {
+            Some(number) => Ok(Address::Number(number)),
+            None => Err(self.fault(word, NO_NUMBER)),
+        }
+    }
+
+    // What stands behind `until`.
+    fn sought(&mut self) -> Result<Sought<'a>, CommandFault<'a>> {
+        self.written = FirstWord::Until.usage().written;
+        let word = self.word()?;
+        match value_named(&SOUGHT_WORDS, word) {
+            Some(SoughtWord::Fault) => Ok(Sought::Fault),
+            Some(SoughtWord::Lost) => Ok(Sought::Lost),
+            Some(SoughtWord::Byte) => Ok(Sought::Byte(self.small()?)),
+            Some(SoughtWord::Node) => self.sought_at(),
+            Some(SoughtWord::Write) => self.sought_write(),
+            None => Err(self.fault(word, UNEXPECTED)),
+        }
+    }
+
+    // What stands behind `until node`.
+    fn sought_at(&mut self) -> Result<Sought<'a>, CommandFault<'a>> {
+        let node = self.small()?;
+        self.expect("at")?;
+        let address = self.address()?;
+        Ok(Sought::At { node, address })
+    }
+
+    // What stands behind `until write`.
+    fn sought_write(&mut self) -> Result<Sought<'a>, CommandFault<'a>> {
+        let address = self.address()?;
+        self.expect("of")?;
+        self.expect("node")?;
+        let node = self.small()?;
+        Ok(Sought::Write { node, address })
+    }
+
+    // What stands behind `back`.
+    fn back(&mut self) -> Result<DebugCommand<'a>, CommandFault<'a>> {
+        let mut ahead = *self;
+        if ahead.next_word() == Some("until") {
+            self.rest = ahead.rest;
+            return Ok(DebugCommand::BackUntil(self.sought()?));
+        }
+        Ok(DebugCommand::Back(self.number_or(1)?))
+    }
+
+    fn memory(&mut self) -> Result<DebugCommand<'a>, CommandFault<'a>> {
+        Ok(DebugCommand::Memory {
+            node: self.small()?,
+            address: self.address()?,
+            count: self.number_or(16)?,
+        })
+    }
+
+    // What stands behind the first word.
+    fn command(&mut self, verb: FirstWord) -> Result<DebugCommand<'a>, CommandFault<'a>> {
+        Ok(match verb {
+            FirstWord::Events => DebugCommand::Events {
+                from: if self.is_empty() {
+                    None
+                } else {
+                    Some(self.number(u64::MAX)?)
+                },
+                count: self.number_or(10)?,
+            },
+            FirstWord::Go => DebugCommand::Go(self.number(u64::MAX)?),
+            FirstWord::Next => DebugCommand::Next(self.number_or(1)?),
+            FirstWord::Back => self.back()?,
+            FirstWord::Until => DebugCommand::Until(self.sought()?),
+            FirstWord::Look => DebugCommand::Look,
+            FirstWord::Registers => DebugCommand::Registers(self.small()?),
+            FirstWord::Memory => self.memory()?,
+            FirstWord::Code => DebugCommand::Code {
+                node: self.small()?,
+                address: if self.is_empty() {
+                    None
+                } else {
+                    Some(self.address()?)
+                },
+            },
+            FirstWord::Queue => DebugCommand::Queue(self.small()?),
+            FirstWord::Links => DebugCommand::Links(self.small()?),
+            FirstWord::Hosts => DebugCommand::Hosts,
+            FirstWord::Switch => DebugCommand::Switch,
+            FirstWord::Why if self.is_empty() => DebugCommand::Why(None),
+            FirstWord::Why => DebugCommand::Why(Some(self.small()?)),
+            FirstWord::Program => DebugCommand::Program {
+                node: self.small()?,
+                file: self.word()?,
+            },
+            FirstWord::Help => DebugCommand::Help,
+            FirstWord::Quit => DebugCommand::Quit,
+        })
+    }
+}
+
+/// The command of a line.
+pub fn read_command(line: &str) -> Result<DebugCommand<'_>, CommandFault<'_>> {
+    let mut words = CommandWords {
+        rest: line.trim(),
+        written: "help",
+    };
+    let Some(name) = words.next_word() else {
+        return Ok(DebugCommand::Nothing);
+    };
+    let Some(first) = value_named(&FIRST_WORDS, name) else {
+        return Err(words.fault(name, " is no command"));
+    };
+    words.written = first.usage().written;
+    let command = words.command(first)?;
+    match words.next_word() {
+        Some(word) => Err(words.fault(word, UNEXPECTED)),
+        None => Ok(command),
+    }
+}

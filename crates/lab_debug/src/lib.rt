@@ -1,0 +1,15 @@
+//! A debugger through time: it goes to any moment of a record, forwards and back, and shows the domain there.
+#![tactic(auto)]
+
+mod code;
+mod command;
+mod fault;
+mod labels;
+mod moving;
+mod reading;
+mod showing;
+mod talking;
+mod until;
+
+pub use fault::DebugFault;
+pub use talking::{ProgramOf, ProgramTexts, debug};

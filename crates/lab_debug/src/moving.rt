@@ -1,0 +1,332 @@
+//! What the debugger does for a command.
+
+ghost use Rattle.std.specs.Prelude.{OnOk};
+ghost use Rattle.lab_timeline.specs.Timeline.{IsMomentAt};
+
+use crate::code::write_code;
+use crate::command::{Address, DebugCommand, Sought, write_help};
+use crate::fault::DebugFault;
+use crate::labels::{Program, ProgramLine};
+use crate::showing::{
+    write_events, write_hosts, write_links, write_look, write_memory, write_place, write_queue,
+    write_registers, write_switch,
+};
+use crate::until::{Goal, seek, seek_back};
+use bootstrap::Node;
+use farm_causes::{FollowFault, WhyFault, explain_moment};
+use lab_timeline::Timeline;
+use script_text::TextWriter;
+use std::alloc::Global;
+use t414_assembly::TextFault;
+
+/// The program of a node.
+#[derive(Drop)]
+struct NodeProgram {
+    node: u8,
+    program: Program,
+}
+
+/// A record at one of its moments, and the programs of its nodes.
+#[derive(Drop)]
+pub struct Debugger<'a> {
+    alloc: Global,
+    timeline: Timeline<'a>,
+    programs: Vec<NodeProgram>,
+}
+
+/// Where it is looked.
+#[derive(Clone, Copy)]
+enum Direction {
+    On,
+    Back,
+}
+
+impl<'a> Debugger<'a> {
+    /// Reads a record, and is at its end.
+    pub fn open(alloc: Global, record: &'a [u8]) -> Result<Debugger<'a>, DebugFault> {
+        Ok(Debugger {
+            alloc,
+            timeline: Timeline::open(alloc, record)?,
+            programs: Vec::new(alloc),
+        })
+    }
+
+    /// How many events were done up to the moment that is shown.
+    pub fn recorded(&self) -> u64 {
+        self.timeline.here().recorded()
+    }
+
+    /// Writes what is said at the beginning.
+    pub fn greet(&self, text: &mut TextWriter) {
+        if self.timeline.is_cut() {
+            text.push("The last line is cut, and was left out.\n");
+        }
+        write_place(&self.timeline, text);
+    }
+
+    /// Takes labels and lines from the text of a node's program.
+    pub fn take_program(
+        &mut self,
+        node: u8,
+        source: Vec<u8>,
+        text: &mut TextWriter,
+    ) -> Result<(), DebugFault> {
+        if self.node(node, text).is_none() {
+            return Ok(());
+        }
+        match Program::read(self.alloc, source) {
+            Ok(program) => self.programs.push(NodeProgram { node, program })?,
+            Err(TextFault::Memory(error)) => return Err(DebugFault::Memory(error)),
+            Err(fault) => {
+                let written = write!(text.as_mut_string(), "{fault}\n");
+                text.keep_failure(written);
+            }
+        }
+        Ok(())
+    }
+
+    // A node, or that there is none.
+    fn node(&self, number: u8, text: &mut TextWriter) -> Option<&Node> {
+        let node = self.timeline.here().node(number);
+        if node.is_none() {
+            text.push("there is no node ");
+            text.push_decimal(u64::from(number));
+            text.push(": look lists them\n");
+        }
+        node
+    }
+
+    // The program of a node, the last that was taken.
+    fn program(&self, node: u8) -> Option<&Program> {
+        let mut found = None;
+        for it in &self.programs {
+            if it.node == node {
+                found = Some(&it.program);
+            }
+        }
+        found
+    }
+
+    // The lines of a node's program.
+    fn lines(&self, node: u8) -> Result<Vec<ProgramLine<'_>>, DebugFault> {
+        match self.program(node) {
+            Some(program) => Ok(program.lines(self.alloc)?),
+            None => Ok(Vec::new(self.alloc)),
+        }
+    }
+
+    // An address of a node, or that there is none.
+    fn address(
+        &self,
+        node: u8,
+        address: Address,
+        text: &mut TextWriter,
+    ) -> Result<Option<u32>, DebugFault> {
+        let label = match address {
+            Address::Number(number) => return Ok(Some(number)),
+            Address::Label(label) => label,
+        };
+        let found = match self.program(node) {
+            Some(program) => program.address_of(self.alloc, label)?,
+            None => None,
+        };
+        if found.is_none() {
+            text.push("no label `");
+            text.push(label);
+            text.push("` is known of node ");
+            text.push_decimal(u64::from(node));
+            text.push(": try program K FILE\n");
+        }
+        Ok(found)
+    }
+
+    // Why a record can't be done again.
+    fn fault_of(&self, fault: FollowFault) -> DebugFault {
+        let number = match self.timeline.upcoming() {
+            Some(line) => line.number,
+            None => 0,
+        };
+        DebugFault::from(WhyFault::of_line(number, fault))
+    }
+
+    // Goes to the moment after so many events.
+    fn go(&mut self, event: u64) -> Result<(), DebugFault>
+        ensures { OnOk result (IsMomentAt self.new.timeline.plan self.new.timeline.lines event self.new.timeline.here) }
+    {
+        match self.timeline.go(event) {
+            Ok(()) => Ok(()),
+            Err(fault) => Err(self.fault_of(fault)),
+        }
+    }
+
+    // Goes there, and says where that is.
+    fn go_to(&mut self, event: u64, text: &mut TextWriter) -> Result<(), DebugFault>
+        ensures { OnOk result (IsMomentAt self.new.timeline.plan self.new.timeline.lines event self.new.timeline.here) }
+    {
+        self.go(event)?;
+        write_place(&self.timeline, text);
+        Ok(())
+    }
+
+    // What is looked for, with its address as a number.
+    fn goal(&self, sought: Sought, text: &mut TextWriter) -> Result<Option<Goal>, DebugFault> {
+        Ok(match sought {
+            Sought::Fault => Some(Goal::Fault),
+            Sought::Lost => Some(Goal::Lost),
+            Sought::Byte(port) => Some(Goal::Byte(port)),
+            Sought::At { node, address } => self
+                .address_at(node, address, text)?
+                .map(|address| Goal::At { node, address }),
+            Sought::Write { node, address } => self
+                .address_at(node, address, text)?
+                .map(|address| Goal::Write {
+                    node,
+                    address: address - address % 4,
+                }),
+        })
+    }
+
+    // An address of a node that is there, or what there isn't.
+    fn address_at(
+        &self,
+        node: u8,
+        address: Address,
+        text: &mut TextWriter,
+    ) -> Result<Option<u32>, DebugFault> {
+        if self.node(node, text).is_none() {
+            return Ok(None);
+        }
+        self.address(node, address, text)
+    }
+
+    // Goes to the next or the last moment that is looked for, or stays if there is none.
+    fn go_until(
+        &mut self,
+        sought: Sought,
+        direction: Direction,
+        text: &mut TextWriter,
+    ) -> Result<(), DebugFault> {
+        let Some(goal) = self.goal(sought, text)? else {
+            return Ok(());
+        };
+        let recorded = self.recorded();
+        let is_found = match direction {
+            Direction::On => seek(&mut self.timeline, goal),
+            Direction::Back => seek_back(&mut self.timeline, goal),
+        };
+        match is_found {
+            Ok(true) => {}
+            Ok(false) => {
+                self.go(recorded)?;
+                text.push("there is no such event: ");
+            }
+            Err(fault) => return Err(self.fault_of(fault)),
+        }
+        write_place(&self.timeline, text);
+        Ok(())
+    }
+
+    // Writes words of memory.
+    fn show_memory(
+        &self,
+        node: u8,
+        address: Address,
+        count: u64,
+        text: &mut TextWriter,
+    ) -> Result<(), DebugFault> {
+        if let Some(address) = self.address_at(node, address, text)?
+            && let Some(node) = self.timeline.here().node(node)
+        {
+            write_memory(node, address, count, text);
+        }
+        Ok(())
+    }
+
+    // Writes instructions.
+    fn show_code(
+        &self,
+        number: u8,
+        address: Option<Address>,
+        text: &mut TextWriter,
+    ) -> Result<(), DebugFault> {
+        let Some(node) = self.node(number, text) else {
+            return Ok(());
+        };
+        let from = match address {
+            None => None,
+            Some(address) => match self.address(number, address, text)? {
+                None => return Ok(()),
+                found => found,
+            },
+        };
+        let lines = self.lines(number)?;
+        Ok(write_code(self.alloc, node, from, lines.as_slice(), text)?)
+    }
+
+    // Writes something of a node that is there.
+    fn show_node(&self, number: u8, what: NodeView, text: &mut TextWriter) {
+        if let Some(node) = self.node(number, text) {
+            match what {
+                NodeView::Registers => write_registers(node, text),
+                NodeView::Queue => write_queue(node, text),
+                NodeView::Links => write_links(node, text),
+            }
+        }
+    }
+
+    // Says why the nodes, or one of them, do no more than they do.
+    fn show_causes(&self, number: Option<u8>, text: &mut TextWriter) -> Result<(), DebugFault> {
+        if let Some(number) = number
+            && self.node(number, text).is_none()
+        {
+            return Ok(());
+        }
+        let told = explain_moment(self.alloc, self.timeline.here(), number)?;
+        text.push(told.as_str());
+        Ok(())
+    }
+
+    // Does a command that goes to a moment.
+    fn travel(&mut self, command: DebugCommand, text: &mut TextWriter) -> Result<(), DebugFault> {
+        let recorded = self.recorded();
+        match command {
+            DebugCommand::Go(event) => self.go_to(event, text),
+            DebugCommand::Next(count) => self.go_to(recorded.saturating_add(count), text),
+            DebugCommand::Back(count) => self.go_to(recorded.saturating_sub(count), text),
+            DebugCommand::Until(sought) => self.go_until(sought, Direction::On, text),
+            DebugCommand::BackUntil(sought) => self.go_until(sought, Direction::Back, text),
+            _ => Ok(()),
+        }
+    }
+
+    /// Does a command, and writes what it shows.
+    pub fn obey(&mut self, command: DebugCommand, text: &mut TextWriter) -> Result<(), DebugFault> {
+        match command {
+            DebugCommand::Events { from, count } => write_events(&self.timeline, from, count, text),
+            DebugCommand::Look => write_look(&self.timeline, text),
+            DebugCommand::Registers(node) => self.show_node(node, NodeView::Registers, text),
+            DebugCommand::Queue(node) => self.show_node(node, NodeView::Queue, text),
+            DebugCommand::Links(node) => self.show_node(node, NodeView::Links, text),
+            DebugCommand::Memory {
+                node,
+                address,
+                count,
+            } => self.show_memory(node, address, count, text)?,
+            DebugCommand::Code { node, address } => self.show_code(node, address, text)?,
+            DebugCommand::Hosts => write_hosts(&self.timeline, text)?,
+            DebugCommand::Switch => write_switch(&self.timeline, text)?,
+            DebugCommand::Why(node) => self.show_causes(node, text)?,
+            DebugCommand::Help => write_help(text),
+            command => self.travel(command, text)?,
+        }
+        Ok(())
+    }
+}
+
+/// What is shown of a node.
+#[derive(Clone, Copy)]
+enum NodeView {
+    Registers,
+    Queue,
+    Links,
+}

@@ -1,0 +1,181 @@
+//! Commands are read and answered.
+
+use crate::command::{DebugCommand, read_command};
+use crate::fault::DebugFault;
+use crate::moving::Debugger;
+use crate::reading::{TypedLine, next_line};
+use script_text::{TextWriter, write_whole};
+use std::alloc::{AllocError, Global};
+use std::io::{BufRead, Write};
+
+/// The program of a node, by the file that has its text.
+#[derive(Clone, Copy)]
+pub struct ProgramOf<'a> {
+    pub node: u8,
+    pub file: &'a str,
+}
+
+/// Where the texts of programs are found.
+pub trait ProgramTexts {
+    /// The text of a file, or `None` if it can't be read.
+    fn text_of(&self, file: &str) -> Result<Option<Vec<u8>>, AllocError>;
+}
+
+// Takes the program of a node from a file.
+fn take_program<T: ProgramTexts>(
+    debugger: &mut Debugger,
+    texts: &T,
+    of: ProgramOf,
+    text: &mut TextWriter,
+) -> Result<(), DebugFault> {
+    match texts.text_of(of.file)? {
+        Some(source) => debugger.take_program(of.node, source, text),
+        None => {
+            text.push("`");
+            text.push(of.file);
+            text.push("` can't be read\n");
+            Ok(())
+        }
+    }
+}
+
+// Does what a line says, and tells whether more commands are read.
+fn answer_line<T: ProgramTexts>(
+    debugger: &mut Debugger,
+    texts: &T,
+    line: &str,
+    text: &mut TextWriter,
+) -> Result<bool, DebugFault> {
+    match read_command(line) {
+        Ok(DebugCommand::Quit) => return Ok(false),
+        Ok(DebugCommand::Program { node, file }) => {
+            take_program(debugger, texts, ProgramOf { node, file }, text)?;
+        }
+        Ok(command) => debugger.obey(command, text)?,
+        Err(fault) => fault.write(text),
+    }
+    Ok(true)
+}
+
+// Does what was read says, writes the answer, and tells whether more commands are read.
+fn answer<T: ProgramTexts, W: Write>(
+    alloc: Global,
+    debugger: &mut Debugger,
+    texts: &T,
+    read: TypedLine,
+    output: &mut W,
+) -> Result<bool, DebugFault> {
+    let mut text = TextWriter::new(alloc);
+    let goes_on = match read {
+        TypedLine::End => false,
+        TypedLine::Long => {
+            text.push("a command has at most 4096 bytes\n");
+            true
+        }
+        TypedLine::Whole(bytes) => match std::str::from_utf8(bytes.as_slice()) {
+            Ok(line) => answer_line(debugger, texts, line, &mut text)?,
+            Err(_) => {
+                text.push("a command is a text in UTF-8\n");
+                true
+            }
+        },
+    };
+    write_text(text, output)?;
+    Ok(goes_on)
+}
+
+// Writes a text, so that it is seen at once.
+fn write_text<W: Write>(text: TextWriter, output: &mut W) -> Result<(), DebugFault> {
+    let text = text.finish()?;
+    write_whole(output, text.as_bytes())?;
+    Ok(output.flush()?)
+}
+
+// Writes what stands before a command: how many events were done.
+fn prompt<W: Write>(alloc: Global, debugger: &Debugger, output: &mut W) -> Result<(), DebugFault> {
+    let mut text = TextWriter::new(alloc);
+    text.push_decimal(debugger.recorded());
+    text.push("> ");
+    write_text(text, output)
+}
+
+// Opens a record, takes the programs, and says where it is.
+fn begin<'a, T: ProgramTexts, W: Write>(
+    alloc: Global,
+    record: &'a [u8],
+    programs: &[ProgramOf],
+    texts: &T,
+    output: &mut W,
+) -> Result<Debugger<'a>, DebugFault> {
+    let mut debugger = Debugger::open(alloc, record)?;
+    greet(alloc, &mut debugger, programs, texts, output)?;
+    Ok(debugger)
+}
+
+// Takes programs, and says where the debugger is.
+fn greet<T: ProgramTexts, W: Write>(
+    alloc: Global,
+    debugger: &mut Debugger,
+    programs: &[ProgramOf],
+    texts: &T,
+    output: &mut W,
+) -> Result<(), DebugFault> {
+    let mut text = TextWriter::new(alloc);
+    take_programs(debugger, programs, texts, &mut text)?;
+    debugger.greet(&mut text);
+    write_text(text, output)
+}
+
+// Takes the programs of nodes from files.
+fn take_programs<T: ProgramTexts>(
+    debugger: &mut Debugger,
+    programs: &[ProgramOf],
+    texts: &T,
+    text: &mut TextWriter,
+) -> Result<(), DebugFault> {
+    for of in programs {
+        take_program(debugger, texts, *of, text)?;
+    }
+    Ok(())
+}
+
+// Reads a command and answers it, and tells whether more commands are read. On a terminal a prompt stands before it.
+fn answer_next<R: BufRead, W: Write, T: ProgramTexts>(
+    alloc: Global,
+    debugger: &mut Debugger,
+    texts: &T,
+    input: &mut R,
+    output: &mut W,
+    is_terminal: bool,
+) -> Result<bool, DebugFault> {
+    if is_terminal {
+        prompt(alloc, debugger, output)?;
+    }
+    let read = next_line(alloc, input)?;
+    answer(alloc, debugger, texts, read, output)
+}
+
+/// Reads commands to the end of the input or to `quit`, and shows what they ask of a record. At the beginning it is at the record's
+/// end. On a terminal a prompt stands before each command.
+///
+/// # Errors
+///
+/// `Record` if the text is no record, or isn't what its domain answers; `Io` if commands can't be read or answers can't be written;
+/// `Memory`. A wrong command is answered, and ends nothing.
+pub fn debug<R: BufRead, W: Write, T: ProgramTexts>(
+    alloc: Global,
+    record: &[u8],
+    programs: &[ProgramOf],
+    texts: &T,
+    input: &mut R,
+    output: &mut W,
+    is_terminal: bool,
+) -> Result<(), DebugFault> {
+    let mut debugger = begin(alloc, record, programs, texts, output)?;
+    for _ in 0..u64::MAX {
+        if !answer_next(alloc, &mut debugger, texts, input, output, is_terminal)? {
+            break;
+        }
+    }
+    Ok(())
+}

@@ -1,0 +1,221 @@
+//! The next or the last moment at which something happened.
+
+use crate::code::next_address;
+use bootstrap::{Node, Packet};
+use domain_core::{Event, Moved};
+use farm_causes::{FollowFault, SaidCall};
+use lab_timeline::Timeline;
+use std::alloc::AllocError;
+
+/// What is looked for in a record.
+#[derive(Clone, Copy)]
+pub enum Goal {
+    /// A node comes to the instruction at an address.
+    At { node: u8, address: u32 },
+    /// A node meets a fault.
+    Fault,
+    /// A byte leaves a virtual port, or comes to it.
+    Byte(u8),
+    /// The word at an address of a node becomes another.
+    Write { node: u8, address: u32 },
+    /// A packet is lost.
+    Lost,
+}
+
+/// Which of several events that are so is taken.
+#[derive(Clone, Copy, PartialEq, Eq)]
+enum Taken {
+    First,
+    Last,
+}
+
+impl Goal {
+    // The node at which it is looked for.
+    fn node(self) -> Option<u8> {
+        match self {
+            Goal::At { node, .. } | Goal::Write { node, .. } => Some(node),
+            Goal::Fault | Goal::Byte(_) | Goal::Lost => None,
+        }
+    }
+
+    // What is seen of it in a node: where that goes on, or a word.
+    fn seen_in(self, node: &Node) -> Result<Option<u32>, AllocError> {
+        match self {
+            Goal::At { .. } => next_address(node),
+            Goal::Write { address, .. } => Ok(node.memory().word(address).ok()),
+            Goal::Fault | Goal::Byte(_) | Goal::Lost => Ok(None),
+        }
+    }
+
+    // Whether an event made it so, which was a Step of the node or not.
+    fn is_met(self, before: Option<u32>, after: Option<u32>, is_step: bool) -> bool {
+        match self {
+            Goal::At { address, .. } => after == Some(address) && (is_step || before != after),
+            Goal::Write { .. } => before != after,
+            Goal::Fault | Goal::Byte(_) | Goal::Lost => false,
+        }
+    }
+}
+
+// What is seen of a goal at the moment that is shown.
+fn seen(timeline: &Timeline, goal: Goal) -> Result<Option<u32>, AllocError> {
+    let Some(number) = goal.node() else {
+        return Ok(None);
+    };
+    match timeline.here().node(number) {
+        Some(node) => goal.seen_in(node),
+        None => Ok(None),
+    }
+}
+
+// Whether the next event is a Move that takes the byte in question.
+fn moves_byte(timeline: &mut Timeline, goal: Goal, event: Event) -> bool {
+    let (Goal::Byte(port), Event::Move(from)) = (goal, event) else {
+        return false;
+    };
+    let Some(state) = timeline.port_state(from) else {
+        return false;
+    };
+    match (state.packet, state.moved) {
+        (Some(Packet::Byte(_)), Moved::Lost) => from == port,
+        (Some(Packet::Byte(_)), Moved::Passed) => {
+            from == port || (port < 32 && state.drives >> port & 1 == 1)
+        }
+        _ => false,
+    }
+}
+
+// Whether the last event was a fault, or a loss, if that is looked for.
+fn was_noted(timeline: &Timeline, goal: Goal) -> bool {
+    let (past, event) = (timeline.here().past(), timeline.here().recorded());
+    match goal {
+        Goal::Fault => (0..8u8).any(|node| past
+            .node(node)
+            .fault
+            .is_some_and(|it| it.event == event)),
+        Goal::Lost => (0..32u8).any(|port| {
+            let lost = past.port(port);
+            lost.byte == Some(event) || lost.acknowledge == Some(event)
+        }),
+        Goal::At { .. } | Goal::Byte(_) | Goal::Write { .. } => false,
+    }
+}
+
+// Behind how many of so many Steps of a node, all of which run, a goal is met.
+fn steps_to(goal: Goal, node: &Node, most: u64, taken: Taken) -> Result<Option<u64>, AllocError> {
+    let mut copy = node.copy()?;
+    let mut before = goal.seen_in(&copy)?;
+    let mut found = None;
+    for done in 0..most {
+        let _ = copy.step();
+        let after = goal.seen_in(&copy)?;
+        if goal.is_met(before, after, true) {
+            found = Some(done + 1);
+            if taken == Taken::First {
+                break;
+            }
+        }
+        before = after;
+    }
+    Ok(found)
+}
+
+// Does one event, and tells whether it is looked for.
+fn pass_one(timeline: &mut Timeline, goal: Goal, event: Event) -> Result<bool, FollowFault> {
+    let before = seen(timeline, goal)?;
+    let is_byte = moves_byte(timeline, goal, event);
+    let next = timeline.here().recorded().saturating_add(1);
+    timeline.go(next)?;
+    let after = seen(timeline, goal)?;
+    let is_step = match event {
+        Event::Step(node) => goal.node() == Some(node),
+        _ => false,
+    };
+    Ok(is_byte || goal.is_met(before, after, is_step) || was_noted(timeline, goal))
+}
+
+// Does Steps that stand together, up to the first that is looked for, if that is the one that is taken. Which one it is.
+fn pass_steps(
+    timeline: &mut Timeline,
+    goal: Goal,
+    number: u8,
+    times: u64,
+    taken: Taken,
+) -> Result<Option<u64>, FollowFault> {
+    let recorded = timeline.here().recorded();
+    let found = match timeline.here().node(number) {
+        Some(node) if goal.node() == Some(number) => steps_to(goal, node, times, taken)?,
+        _ => None,
+    };
+    let done = match (taken, found) {
+        (Taken::First, Some(found)) => found,
+        _ => times,
+    };
+    timeline.go(recorded.saturating_add(done))?;
+    Ok(found.map(|found| recorded.saturating_add(found)))
+}
+
+// Does a call, at most so many events of it. The event that is looked for, if it is among them.
+fn pass(
+    timeline: &mut Timeline,
+    goal: Goal,
+    call: SaidCall,
+    most: u64,
+    taken: Taken,
+) -> Result<Option<u64>, FollowFault> {
+    match call.event {
+        Event::Step(node) if call.times > 1 => {
+            pass_steps(timeline, goal, node, call.times.min(most), taken)
+        }
+        event => {
+            let is_met = pass_one(timeline, goal, event)?;
+            let recorded = timeline.here().recorded();
+            Ok(if is_met { Some(recorded) } else { None })
+        }
+    }
+}
+
+// Looks for a goal in the events up to this one.
+fn look_through(
+    timeline: &mut Timeline,
+    goal: Goal,
+    last: u64,
+    taken: Taken,
+) -> Result<Option<u64>, FollowFault> {
+    let mut found = None;
+    for _ in timeline.here().recorded()..last {
+        let left = last.saturating_sub(timeline.here().recorded());
+        let Some(line) = timeline.upcoming() else {
+            break;
+        };
+        if left == 0 || (found.is_some() && taken == Taken::First) {
+            break;
+        }
+        found = pass(timeline, goal, line.call, left, taken)?.or(found);
+    }
+    Ok(found)
+}
+
+/// Goes on to the next event that is looked for, and tells whether there is one.
+pub fn seek(timeline: &mut Timeline, goal: Goal) -> Result<bool, FollowFault> {
+    let last = timeline.events();
+    Ok(look_through(timeline, goal, last, Taken::First)?.is_some())
+}
+
+/// Goes back to the last event before the moment that is shown that is looked for, and tells whether there is one.
+pub fn seek_back(timeline: &mut Timeline, goal: Goal) -> Result<bool, FollowFault> {
+    let mut last = timeline.here().recorded().saturating_sub(1);
+    for _ in 0..last {
+        if last == 0 {
+            break;
+        }
+        let start = timeline.kept_before(last.saturating_sub(1));
+        timeline.go(start)?;
+        if let Some(found) = look_through(timeline, goal, last, Taken::Last)? {
+            timeline.go(found)?;
+            return Ok(true);
+        }
+        last = start;
+    }
+    Ok(false)
+}

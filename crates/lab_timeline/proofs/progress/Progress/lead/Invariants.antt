@@ -1,0 +1,15 @@
+use Rattle.std.proofs.Common.{◌≡◌, ◌-◌, ◌<◌, ◌≤◌, length}
+use Rattle.lab_timeline.specs.Timeline.{said_by}
+use Rattle.lab_timeline.specs.Advance.{GoesOnIn}
+use Rattle.lab_timeline.proofs.progress.Progress.lead.Given as goal
+
+-- what was done so far is of the record, up to the event; before that, nothing is left of the line
+abbrev pub invariant-loop-self : goal.invariant-loop-self
+invariant-loop-self l = record {
+  progress : GoesOnIn (said_by l.lines) l.fn.self l.self;
+  within : l.self.follower.recorded ≤ l.event;
+  stops : l.self.follower.recorded < l.event → l.self.rest.times ≡ 0;
+}
+
+abbrev pub decreases-loop-self : goal.decreases-loop-self
+decreases-loop-self l = length l.lines - l.self.next

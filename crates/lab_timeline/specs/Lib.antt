@@ -1,0 +1,3 @@
+-- what only helps contracts
+pub mod Timeline
+pub mod Advance

@@ -1,0 +1,302 @@
+//! A record at any of its moments.
+
+ghost use Rattle.std.specs.Prelude.{◌≡◌, ◌≤◌, IfOk, IfSome, OnOk, All, length};
+ghost use Rattle.domain_core.specs.MachineValue.{machine_of};
+ghost use Rattle.domain_core.specs.PortStates.{IsPortState};
+ghost use Rattle.farm_causes.specs.Following.{all_said};
+ghost use Rattle.lab_timeline.specs.Timeline.{said_by, IsMomentAt};
+ghost use Rattle.lab_timeline.specs.Advance.{IsProgress, GoesOn, KeepsOf, IsOfKept, Begins};
+
+use crate::progress::Progress;
+use domain_core::{Event, NoMemory, PortState};
+use farm_causes::{
+    FollowFault, Follower, Record, RecordedLine, SaidCall, WhyFault, is_told, read_record,
+};
+use plan_checker::AcceptedPlan;
+use std::alloc::Global;
+use std::marker::Model;
+
+/// How many moments are kept of a record, at most.
+const MOST_KEPT: u64 = 128;
+
+/// How many Steps of a line count as one event when it is asked where moments are kept.
+const STEPS_AT_ONCE: u64 = 128;
+
+/// A record, and its domain at one of its moments. Moments are kept on the way, so that each is found again soon.
+#[derive(Drop)]
+pub struct Timeline<'a> {
+    plan: AcceptedPlan,
+    lines: Vec<RecordedLine<'a>>,
+    is_cut: bool,
+    events: u64,
+    opening: Progress,
+    kept: Vec<Progress>,
+    here: Progress,
+    // Whether `here` is a moment of the record. After an error it may be none.
+    is_led: bool,
+}
+
+impl<'a> Model for Timeline<'a> {
+    ghost use Rattle.lab_timeline.specs.Timeline.{TimelineValue, said_by};
+    ghost use Rattle.lab_timeline.specs.Advance.{IsTimeline};
+
+    ghost Value = { TimelineValue };
+
+    ghost view = { λ t. record { plan = t.plan; lines = said_by t.lines.items; here = t.here.follower } };
+
+    ghost invariant = { λ t. IsTimeline t.plan (said_by t.lines.items) t.opening t.kept.items t.is_led t.here };
+}
+
+/// Moments that are kept on the way through a record.
+#[derive(Drop)]
+struct Keeping {
+    kept: Vec<Progress>,
+    // How much is done from one to the next.
+    gap: u64,
+    // How much was done since the last one.
+    since: u64,
+}
+
+// How much there is to do for a call: Steps that stand together are done fast.
+fn work_of(call: SaidCall) -> u64 {
+    (call.times / STEPS_AT_ONCE).saturating_add(1)
+}
+
+// How much is done from one kept moment to the next.
+fn gap_of(lines: &[RecordedLine]) -> u64
+    ensures { 1 ≤ result }
+{
+    let mut work: u64 = 0;
+    for line in lines {
+        work = work.saturating_add(work_of(line.call));
+    }
+    (work / MOST_KEPT).saturating_add(1)
+}
+
+impl Keeping {
+    // How many of the events that are left of a line are done before a moment is kept.
+    fn times_of(&self, rest: SaidCall) -> u64
+        ensures some { 1 ≤ rest.times → 1 ≤ result }
+        ensures within { result ≤ rest.times }
+    {
+        match rest.event {
+            Event::Step(_) => {
+                let work = self.gap.saturating_sub(self.since).max(1);
+                rest.times.min(work.saturating_mul(STEPS_AT_ONCE))
+            }
+            _ => rest.times,
+        }
+    }
+
+    // Keeps a moment if enough was done since the last.
+    fn note(&mut self, here: &Progress, work: u64) -> Result<(), NoMemory>
+        ensures { OnOk result (KeepsOf here.now self.old.kept.items self.new.kept.items) }
+    {
+        self.since = self.since.saturating_add(work);
+        if self.since >= self.gap {
+            self.since = 0;
+            self.kept.push(here.copy()?)?;
+        }
+        Ok(())
+    }
+
+    // Does a line that was begun, compares what the domain answers with what it says, and keeps moments on the way.
+    fn finish_line(
+        &mut self,
+        alloc: Global,
+        here: &mut Progress,
+        line: &RecordedLine,
+    ) -> Result<(), FollowFault>
+        ensures progress { OnOk result (GoesOn here.old here.new) }
+        ensures kept { OnOk result (KeepsOf here.old self.old.kept.items self.new.kept.items) }
+        ensures rest { OnOk result (here.new.rest.times ≡ 0) }
+        ensures next { OnOk result (here.new.next ≡ here.old.next) }
+    {
+        let mut told = None;
+        while here.rest.times > 0 {
+            let times = self.times_of(here.rest);
+            let call = SaidCall { times, ..here.rest };
+            told = Some(here.follow_some(times)?);
+            self.note(here, work_of(call))?;
+        }
+        let Some(reply) = told else {
+            return Err(FollowFault::NoEvent);
+        };
+        if is_told(alloc, line, reply)? {
+            Ok(())
+        } else {
+            Err(FollowFault::Differs)
+        }
+    }
+
+    // Does all lines of a record.
+    #[tactic(auto, using(crate::proofs::Led::all_recorded))]
+    fn do_lines(
+        &mut self,
+        alloc: Global,
+        plan: &AcceptedPlan,
+        lines: &[RecordedLine],
+    ) -> Result<Progress, WhyFault>
+        requires one { length plan.now ≡ 1 }
+        requires none { All (IsProgress plan.now (said_by lines.now)) self.old.kept.items }
+        ensures progress { IfOk result (λ here. IsProgress plan.now (said_by lines.now) here) }
+        ensures events { IfOk result (λ here. here.follower.recorded ≡ length (all_said (said_by lines.now))) }
+        ensures kept { IfOk result (λ here. All (IsProgress plan.now (said_by lines.now)) self.new.kept.items) }
+    {
+        let mut here = Progress::open(alloc, plan)?;
+        while here.next < lines.len() {
+            let line = lines[here.next];
+            here.begin_line(lines);
+            if let Err(fault) = self.finish_line(alloc, &mut here, &line) {
+                return Err(WhyFault::of_line(line.number, fault));
+            }
+        }
+        Ok(here)
+    }
+}
+
+// The kept moment nearest to an event, not behind it.
+fn nearest<'b>(opening: &'b Progress, kept: &'b [Progress], event: u64) -> &'b Progress
+    requires { opening.now.follower.recorded ≤ event }
+    ensures progress { IsOfKept opening.now kept.now result.now }
+    ensures before { result.now.follower.recorded ≤ event }
+{
+    let mut found = opening;
+    for progress in kept {
+        if progress.follower.recorded() <= event {
+            found = progress;
+        }
+    }
+    found
+}
+
+// Begins at the moment that is shown, if it was led there and isn't behind the event nor the kept one, or else at the kept one.
+fn begin(here: &mut Progress, is_led: bool, near: &Progress, event: u64) -> Result<(), NoMemory>
+    requires { near.now.follower.recorded ≤ event }
+    ensures progress { OnOk result (Begins is_led here.old near.now here.new) }
+    ensures before { OnOk result (here.new.follower.recorded ≤ event) }
+{
+    let recorded = here.follower.recorded();
+    if is_led && recorded <= event && recorded >= near.follower.recorded() {
+        return Ok(());
+    }
+    *here = near.copy()?;
+    Ok(())
+}
+
+impl<'a> Timeline<'a> {
+    /// Reads a record, does all its lines, and is at its end then. What stands behind its last line feed is left out.
+    ///
+    /// # Errors
+    ///
+    /// `NoMark` if no line `---` stands in the text; `Plan` and `Domains` if what stands before it is no plan of one domain; `Line`
+    /// with the first line that isn't one of this domain's record; `Memory`.
+    pub fn open(alloc: Global, text: &'a [u8]) -> Result<Timeline<'a>, WhyFault>
+        ensures end { IfOk result (λ t. IsMomentAt t.plan t.lines (length (all_said t.lines)) t.here) }
+    {
+        let Record {
+            plan,
+            lines,
+            is_cut,
+        } = read_record(alloc, text, u64::MAX)?;
+        let mut keeping = Keeping {
+            kept: Vec::new(alloc),
+            gap: gap_of(lines.as_slice()),
+            since: 0,
+        };
+        let opening = Progress::open(alloc, &plan)?;
+        let here = keeping.do_lines(alloc, &plan, lines.as_slice())?;
+        let Keeping { kept, .. } = keeping;
+        Ok(Timeline {
+            plan,
+            lines,
+            is_cut,
+            events: here.follower.recorded(),
+            opening,
+            kept,
+            here,
+            is_led: true,
+        })
+    }
+
+    /// The plan of the record, of one domain.
+    pub fn plan(&self) -> &AcceptedPlan
+        ensures plan { result.now ≡ self.now.plan }
+        ensures one { length result.now ≡ 1 }
+    {
+        &self.plan
+    }
+
+    /// The lines of the record.
+    pub fn lines(&self) -> &[RecordedLine<'a>]
+        ensures { said_by result.now ≡ self.now.lines }
+    {
+        self.lines.as_slice()
+    }
+
+    /// How many events the record has.
+    pub fn events(&self) -> u64 {
+        self.events
+    }
+
+    /// Whether something stood behind the last line feed of the record.
+    pub fn is_cut(&self) -> bool {
+        self.is_cut
+    }
+
+    /// The domain at the moment that is shown, and what was noted on the way to it.
+    pub fn here(&self) -> &Follower
+        ensures { result.now ≡ self.now.here }
+    {
+        &self.here.follower
+    }
+
+    /// What waits at a virtual port at the moment that is shown. `None` if there is no such port. Nothing changes.
+    pub fn port_state(&mut self, port: u8) -> Option<PortState>
+        ensures state { IfSome result (λ state. IsPortState self.old.here.machine.part (machine_of self.old.here.machine) port state) }
+        ensures unchanged { self.new ≡ self.old }
+    {
+        if port < self.here.follower.part().count() {
+            Some(self.here.follower.port_state(port))
+        } else {
+            None
+        }
+    }
+
+    /// The line that comes next, with as many events as are left of it, unless none is left.
+    pub fn upcoming(&self) -> Option<RecordedLine<'a>> {
+        let rest = self.here.rest;
+        if rest.times == 0 {
+            return self.lines.get(self.here.next).copied();
+        }
+        let mut line = self.lines.get(self.here.next.checked_sub(1)?).copied()?;
+        line.call = rest;
+        Some(line)
+    }
+
+    /// The event at which the nearest kept moment stands that isn't behind this event.
+    pub fn kept_before(&self, event: u64) -> u64
+        ensures { result ≤ event }
+    {
+        nearest(&self.opening, self.kept.as_slice(), event)
+            .follower
+            .recorded()
+    }
+
+    /// Goes to the moment after the first so many events of the record, or to its end if it has fewer. After an error nothing is
+    /// said of the moment that is shown.
+    #[tactic(auto, using(crate::proofs::Led::unled, crate::proofs::Led::led_on, crate::proofs::Led::come_to))]
+    pub fn go(&mut self, event: u64) -> Result<(), FollowFault>
+        ensures state { OnOk result (IsMomentAt self.new.plan self.new.lines event self.new.here) }
+        ensures plan { self.new.plan ≡ self.old.plan }
+        ensures lines { self.new.lines ≡ self.old.lines }
+    {
+        let near = nearest(&self.opening, self.kept.as_slice(), event);
+        let is_led = self.is_led;
+        self.is_led = false;
+        begin(&mut self.here, is_led, near, event)?;
+        self.here.lead(self.lines.as_slice(), event)?;
+        self.is_led = true;
+        Ok(())
+    }
+}
