@@ -33,10 +33,10 @@ pub enum LabRequest<'a> {
     Why(&'a str, u64),
     /// To show a span of the record in a file as a page.
     Film(&'a str, Span),
-    /// To look through a record by commands.
-    Debug(Debugging<'a>),
     /// To spell out the lines that help of the script in a file, or on standard input.
     Expand(Option<&'a str>),
+    /// To look through a record by commands.
+    Debug(Debugging<'a>),
     /// To read standard input.
     Read(Reading<'a>),
 }
@@ -84,8 +84,8 @@ enum Subcommand {
     Rows,
     Why,
     Film,
-    Debug,
     Expand,
+    Debug,
 }
 
 impl Subcommand {
@@ -96,8 +96,8 @@ impl Subcommand {
             Subcommand::Rows
                 | Subcommand::Why
                 | Subcommand::Film
-                | Subcommand::Debug
                 | Subcommand::Expand
+                | Subcommand::Debug
         )
     }
 
@@ -131,11 +131,11 @@ impl Subcommand {
             Subcommand::Film => {
                 "Shows the record of a domain as a film: prints a page that a browser opens"
             }
-            Subcommand::Debug => {
-                "Goes to any moment of a domain's record, and shows it: reads commands, of which help is one"
-            }
             Subcommand::Expand => {
                 "Spells out the lines of a script that help: reads a plan, a line ---, and a script"
+            }
+            Subcommand::Debug => {
+                "Goes to any moment of a domain's record, and shows it: reads commands, of which help is one"
             }
         }
     }
@@ -162,8 +162,8 @@ const SUBCOMMANDS: [(&str, Subcommand); 11] = [
     ("rows", Subcommand::Rows),
     ("why", Subcommand::Why),
     ("film", Subcommand::Film),
-    ("debug", Subcommand::Debug),
     ("expand", Subcommand::Expand),
+    ("debug", Subcommand::Debug),
 ];
 
 /// Reads the words of the command line, of which the first is the program's name.
@@ -249,10 +249,10 @@ fn with_arguments<'a>(
             .arg(record_argument(alloc))?
             .arg(from_argument(alloc))?
             .arg(count_argument(alloc)),
+        Subcommand::Expand => command.arg(script_argument(alloc)),
         Subcommand::Debug => command
             .arg(record_argument(alloc))?
             .arg(program_argument(alloc)),
-        Subcommand::Expand => command.arg(script_argument(alloc)),
         Subcommand::Replay | Subcommand::Plan | Subcommand::Disassemble => Ok(command),
     }
 }
@@ -401,8 +401,8 @@ fn read_matches<'a>(alloc: Global, matches: &ArgMatches<'a>) -> Result<LabReques
         Subcommand::Rows => LabRequest::Rows(read_files(alloc, matches)?),
         Subcommand::Why => read_why(matches)?,
         Subcommand::Film => read_film(matches)?,
-        Subcommand::Debug => LabRequest::Debug(read_debugging(alloc, matches)?),
         Subcommand::Expand => LabRequest::Expand(matches.get_str("script")),
+        Subcommand::Debug => LabRequest::Debug(read_debugging(alloc, matches)?),
     })
 }
 
