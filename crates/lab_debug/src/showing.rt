@@ -301,14 +301,29 @@ pub fn write_hosts(timeline: &Timeline, text: &mut TextWriter) -> Result<(), NoM
     Ok(())
 }
 
+// Whether an input drives an output.
+fn is_driven(moment: &mut Moment, input: u8, output: u8) -> bool {
+    input < moment.part().count()
+        && output < 32
+        && moment.port_state(input).drives >> output & 1 == 1
+}
+
 // The input that drives an output.
 fn input_of(moment: &mut Moment, output: u8) -> Option<u8> {
     for input in 0..moment.part().count() {
-        if output < 32 && moment.port_state(input).drives >> output & 1 == 1 {
+        if is_driven(moment, input, output) {
             return Some(input);
         }
     }
     None
+}
+
+// Whether an output that is driven is ready.
+fn readiness(moment: &mut Moment, output: u8) -> Option<bool> {
+    if output >= moment.part().count() {
+        return None;
+    }
+    Some(moment.word(output).connection()?.ready)
 }
 
 // Writes a port with the device that is joined there.
@@ -325,7 +340,7 @@ pub fn write_switch(timeline: &Timeline, text: &mut TextWriter) -> Result<(), No
     let mut moment = timeline.here().moment()?;
     let mut is_any = false;
     for output in 0..moment.part().count() {
-        let Some(connection) = moment.word(output).connection() else {
+        let Some(is_ready) = readiness(&mut moment, output) else {
             continue;
         };
         let Some(input) = input_of(&mut moment, output) else {
@@ -336,7 +351,7 @@ pub fn write_switch(timeline: &Timeline, text: &mut TextWriter) -> Result<(), No
         write_port(timeline, &moment, output, text);
         text.push(": input ");
         write_port(timeline, &moment, input, text);
-        text.push(if connection.ready {
+        text.push(if is_ready {
             ", ready\n"
         } else {
             ", not ready\n"
