@@ -33,7 +33,7 @@ pub fn report_debugging(rt: &HostRuntime, asked: &Debugging) -> Result<Report, L
     let alloc = rt.alloc();
     let record = match fs::read(rt, asked.record) {
         Ok(record) => record,
-        Err(error) => return Err(LabFailure::of_input(&error)),
+        Err(error) => return Err(LabFailure::of_input(&error).in_file(alloc, asked.record)),
     };
     let mut input = match BufReader::new(alloc, rt.reader()) {
         Ok(input) => input,
