@@ -13,7 +13,7 @@ class Kind(NamedTuple):
     example: str
 
 
-HEX = Kind(r"([0-9a-fA-F]{2})+", 0, "an even number of hexadecimal digits", "01000703")
+HEX = Kind(r"([0-9a-fA-F]{2})+", 0, "an even number of hexadecimal digits", "01000103")
 WORD = Kind(r"[0-9a-fA-F]{8}", 0, "eight hexadecimal digits", "80000100")
 HOST = Kind(r"\d+", 255, "the number of a host", "0")
 NODE = Kind(r"\d+", 255, "the number of a node", "0")
@@ -33,7 +33,7 @@ class Verb(NamedTuple):
 
 
 USERS = {
-    "config": Verb((HEX,), "config 01000703", "sends configuration bytes: here 01 joins the ports 0 and 7, 03 makes ready"),
+    "config": Verb((HEX,), "config 01000103", "sends configuration bytes: here 01 joins the ports 0 and 1, 03 makes ready"),
     "write": Verb((HOST, HEX), "write 0 68690a", "gives a host bytes to send"),
     "boot": Verb((HOST, HEX), "boot 0 b424f224f2243081ff21f5", "boots the node that is joined with the host with this code"),
     "poke": Verb((HOST, WORD, WORD), "poke 0 80000100 12345678", "stores a word in a booting node, through the host"),
@@ -44,7 +44,7 @@ USERS = {
     "why": Verb((NODE,), "why 0", "tells why a node waits, halted or runs on; why alone tells it of all nodes", 1),
     "rest": Verb((), "rest", "tells whether something goes on in your machine: quiet or busy"),
     "restart": Verb((), "restart", "makes your machine as it was opened, if it is yours alone"),
-    "join": Verb((PORT, PORT), "join 0 7", "joins two ports both ways and makes them ready: config 01000703"),
+    "join": Verb((PORT, PORT), "join 0 1", "joins two ports both ways and makes them ready: config 01000103"),
     "load": Verb((HOST, FILE), "load 0 hello.s", "assembles a program and boots it; long code is poked first"),
     "send": Verb((HOST, TEXT), "send 0 \"hello\\n\"", "gives a host the bytes of a text"),
 }
