@@ -26,6 +26,8 @@ def keys_do_what_they_say(live, _):
                           "(look)?)"])
             ann.press("look 0")
             ann.until("look 0")
+            # Python may see Ctrl-C only with the next key if it comes while the key before is still being handled
+            time.sleep(0.5)
             ann.press(CONTROL_C)
             ann.until("ann> ")
             ann.line("rest", ["rest quiet"])
