@@ -11,6 +11,7 @@ mod lists;
 mod locking;
 mod moves;
 mod opening;
+mod pace;
 mod pass;
 mod rest;
 mod restarting;

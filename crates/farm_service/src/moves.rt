@@ -1,6 +1,8 @@
 //! The Moves of a domain's ports.
-ghost use Rattle.std.specs.Prelude.{◌≡◌, ◌≢◌, ◌<◌, [], ◌∷◌, Err, IfOk, IfErr, OnErr};
+ghost use Rattle.std.specs.Prelude.{◌≡◌, ◌≢◌, ◌<◌, ◌↔◌, [], ◌∷◌, Ok, Err, IfOk, IfErr, IsTrue, OnErr};
 ghost use Rattle.domain_core.specs.Machine.{has_moved};
+ghost use Rattle.domain_core.specs.MachineValue.{machine_of};
+ghost use Rattle.domain_core.specs.Domain.{IsQuiet};
 ghost use Rattle.domain_core.specs.declared.event.Moved.{Moved as SpecMoved};
 ghost use Rattle.domain_core.specs.declared.event.Refusal.TheVariants.{NoSuch};
 ghost use Rattle.domain_core.specs.declared.event.Reply.TheVariants as reply_of;
@@ -37,4 +39,24 @@ pub(crate) fn move_ports(domain: &mut SeatedDomain) -> Result<bool, Refusal>
         went |= move_port(domain, port)?;
     }
     Ok(went)
+}
+
+/// What became of the Moves that end a round: whether a packet went, and whether no Step and no Move would be recorded then,
+/// the limit aside.
+#[derive(Clone, Copy)]
+pub(crate) struct MovesEnd {
+    pub(crate) moved: bool,
+    pub(crate) is_quiet: bool,
+}
+
+/// Ends a round: all ports of a domain move, in order, and then it is asked whether it is quiet.
+pub(crate) fn end_round(domain: &mut SeatedDomain) -> Result<MovesEnd, Refusal>
+    ensures moved { IfOk result (λ e. HaveMoved domain.old (Ok e.moved) domain.new) }
+    ensures quiet { IfOk result (λ e. IsTrue e.is_quiet ↔ IsQuiet domain.new.machine.part (machine_of domain.new.machine)) }
+    ensures refused { IfErr result (λ refusal. HaveMoved domain.old (Err refusal) domain.new) }
+    ensures no_such { result ≢ Err NoSuch }
+{
+    let moved = move_ports(domain)?;
+    let is_quiet = domain.quiet();
+    Ok(MovesEnd { moved, is_quiet })
 }

@@ -7,6 +7,7 @@
 //! - A worker whose turn had something to do looks through all tokens before it sleeps. So it needs to wake nobody.
 
 use crate::NoMemory;
+use crossbeam_utils::CachePadded;
 use std::alloc::Global;
 use std::sync::Wait;
 use std::sync::atomic::{AtomicBool, AtomicU64, AtomicUsize, Ordering};
@@ -50,9 +51,9 @@ struct LastTurn {
 /// What changed, what turns found, and how many workers there are and sleep.
 #[derive(Drop)]
 pub(crate) struct Rest {
-    domains: Vec<Changes>,
-    nodes: Vec<LastTurn>,
-    busy: AtomicUsize,
+    domains: Vec<CachePadded<Changes>>,
+    nodes: Vec<CachePadded<LastTurn>>,
+    busy: CachePadded<AtomicUsize>,
     workers: AtomicUsize,
     sleepers: AtomicUsize,
     // What workers sleep on: it counts the calls that wake them.
@@ -64,22 +65,22 @@ impl Rest {
     pub(crate) fn empty(alloc: Global) -> Result<Rest, NoMemory> {
         let mut domains = Vec::with_capacity(alloc, MOST_DOMAINS)?;
         for _domain in 0..MOST_DOMAINS {
-            domains.push(Changes {
+            domains.push(CachePadded::new(Changes {
                 all: AtomicU64::new(0),
                 calls: AtomicU64::new(0),
-            })?;
+            }))?;
         }
         let mut nodes = Vec::with_capacity(alloc, MOST_NODES)?;
         for _node in 0..MOST_NODES {
-            nodes.push(LastTurn {
+            nodes.push(CachePadded::new(LastTurn {
                 nothing_after: AtomicU64::new(NEVER),
                 is_busy: AtomicBool::new(false),
-            })?;
+            }))?;
         }
         Ok(Rest {
             domains,
             nodes,
-            busy: AtomicUsize::new(0),
+            busy: CachePadded::new(AtomicUsize::new(0)),
             workers: AtomicUsize::new(0),
             sleepers: AtomicUsize::new(0),
             bed: AtomicU64::new(0),

@@ -1,12 +1,15 @@
-//! Which bursts are to be done next, and by whom, so that no two threads do the Steps of one node at once, since all bursts
-//! but one would be stale, and so that a round of `settle` does one burst of each node, whoever does it.
+//! Which bursts are to be done next, how long, and by whom, so that no two threads do the Steps of one node at once, since all
+//! bursts but one would be stale, and so that a round of `settle` does one burst of each node, whoever does it.
 //!
-//! All of it is advice: no contract speaks of it, and a commit compares the node all the same.
+//! All of it is advice: no contract speaks of it, and a commit compares the node all the same. What is noted of one node or
+//! one domain shares no cache line with what is noted of another.
 
 use crate::NoMemory;
+use crate::pace::longer;
 use crate::rest::{MOST_DOMAINS, MOST_NODES, Rest, place_of};
-use crate::waiting::{TRIES, back_off};
+use crossbeam_utils::CachePadded;
 use std::alloc::Global;
+use std::hint::spin_loop;
 use std::sync::Wait;
 use std::sync::atomic::{AtomicBool, AtomicU64, AtomicUsize, Ordering};
 use std::thread;
@@ -22,6 +25,12 @@ const TURNS_BEFORE_SLEEP: u32 = 256;
 
 /// One of so many turns with nothing to do a worker gives its core away before.
 const TURNS_A_YIELD: u32 = 8;
+
+/// How often the end of a round looks whether a burst of no Steps is over, with a pause after each time.
+const PAUSES: u64 = 64;
+
+/// For so many Steps of a burst it looks once more. In such a time a core that steps does several times as many.
+const STEPS_A_PAUSE: u64 = 4;
 
 /// The turns since a worker had something to do.
 #[derive(Clone, Copy)]
@@ -55,19 +64,33 @@ impl Idleness {
 /// What is known of a node.
 #[derive(Drop)]
 struct NodeMarks {
-    // A thread does a burst of it.
-    is_checked_out: AtomicBool,
+    // How often it was taken and given back: odd as long as a thread does a burst of it.
+    takes: AtomicU64,
     // A round has begun, and its burst of this node hasn't.
     is_due: AtomicBool,
+    // How many Steps its last burst did.
+    steps: AtomicU64,
+    // How many quanta its last turn had while nobody settled, and how often its domain had been changed before.
+    quanta: AtomicU64,
+    changes: AtomicU64,
+}
+
+/// What is known of a domain.
+#[derive(Drop)]
+struct DomainMarks {
+    // How many settle there.
+    settlers: AtomicUsize,
+    // How many quanta the bursts of the round have.
+    quanta: AtomicU64,
 }
 
 /// The marks of each node that a plan can have, and how many threads there are for how many cores.
 #[derive(Drop)]
 pub struct Schedule {
-    nodes: Vec<NodeMarks>,
-    // How many settle in each domain, and in all.
-    settlers: Vec<AtomicUsize>,
-    settling: AtomicUsize,
+    nodes: Vec<CachePadded<NodeMarks>>,
+    domains: Vec<CachePadded<DomainMarks>>,
+    // How many settle in all.
+    settling: CachePadded<AtomicUsize>,
     // How many threads the machine runs at once, `usize::MAX` until that is known.
     cores: AtomicUsize,
     // What a worker naps on: it stays 0.
@@ -76,24 +99,77 @@ pub struct Schedule {
     rest: Rest,
 }
 
+// Stores a number, unless it is there: a store takes the cache line from others.
+fn put(place: &AtomicU64, number: u64) {
+    if place.load(Ordering::SeqCst) != number {
+        place.store(number, Ordering::SeqCst);
+    }
+}
+
+// The same of a mark.
+fn mark(place: &AtomicBool, mark: bool) {
+    if place.load(Ordering::SeqCst) != mark {
+        place.store(mark, Ordering::SeqCst);
+    }
+}
+
+// Whether a node is out that was taken and given back so many times.
+fn is_out(takes: u64) -> bool {
+    takes % 2 == 1
+}
+
+impl NodeMarks {
+    // A node that no thread has out.
+    fn none() -> NodeMarks {
+        NodeMarks {
+            takes: AtomicU64::new(0),
+            is_due: AtomicBool::new(false),
+            steps: AtomicU64::new(0),
+            quanta: AtomicU64::new(1),
+            changes: AtomicU64::new(u64::MAX),
+        }
+    }
+
+    // Counts one take more, if nobody else has counted since there were so many; whether it did.
+    fn count(&self, takes: u64) -> bool {
+        let (seqcst, more) = (Ordering::SeqCst, takes.wrapping_add(1));
+        self.takes
+            .compare_exchange(takes, more, seqcst, seqcst)
+            .is_ok()
+    }
+
+    // Waits until the node is back, but no longer than a burst of so many Steps takes; how often it was taken and given back.
+    fn wait(&self, steps: u64) -> u64 {
+        let pauses = PAUSES.saturating_add(steps / STEPS_A_PAUSE);
+        for _pause in 0..pauses {
+            let takes = self.takes.load(Ordering::SeqCst);
+            if !is_out(takes) {
+                return takes;
+            }
+            spin_loop();
+        }
+        self.takes.load(Ordering::SeqCst)
+    }
+}
+
 impl Schedule {
     /// No node is checked out or due, and nobody settles or works.
     pub fn empty(alloc: Global) -> Result<Schedule, NoMemory> {
         let mut nodes = Vec::with_capacity(alloc, MOST_NODES)?;
         for _node in 0..MOST_NODES {
-            nodes.push(NodeMarks {
-                is_checked_out: AtomicBool::new(false),
-                is_due: AtomicBool::new(false),
-            })?;
+            nodes.push(CachePadded::new(NodeMarks::none()))?;
         }
-        let mut settlers = Vec::with_capacity(alloc, MOST_DOMAINS)?;
+        let mut domains = Vec::with_capacity(alloc, MOST_DOMAINS)?;
         for _domain in 0..MOST_DOMAINS {
-            settlers.push(AtomicUsize::new(0))?;
+            domains.push(CachePadded::new(DomainMarks {
+                settlers: AtomicUsize::new(0),
+                quanta: AtomicU64::new(1),
+            }))?;
         }
         Ok(Schedule {
             nodes,
-            settlers,
-            settling: AtomicUsize::new(0),
+            domains,
+            settling: CachePadded::new(AtomicUsize::new(0)),
             cores: AtomicUsize::new(usize::MAX),
             nap: AtomicU64::new(0),
             rest: Rest::empty(alloc)?,
@@ -102,72 +178,132 @@ impl Schedule {
 
     // The marks of a node of a domain.
     fn marks(&self, token: Token) -> Option<&NodeMarks> {
-        self.nodes.get(place_of(token))
+        let marks: &NodeMarks = self.nodes.get(place_of(token))?;
+        Some(marks)
+    }
+
+    // The marks of a domain.
+    fn domain(&self, domain: u8) -> Option<&DomainMarks> {
+        let marks: &DomainMarks = self.domains.get(usize::from(domain))?;
+        Some(marks)
     }
 
     // Whether somebody settles in a domain.
     fn is_settled(&self, domain: u8) -> bool {
-        match self.settlers.get(usize::from(domain)) {
-            Some(settlers) => settlers.load(Ordering::SeqCst) != 0,
+        match self.domain(domain) {
+            Some(marks) => marks.settlers.load(Ordering::SeqCst) != 0,
             None => false,
         }
     }
 
-    /// Takes a node for a burst; whether it did. It doesn't if another thread has checked the node out, or if somebody settles in
-    /// its domain and the round has had its burst already.
-    pub fn take(&self, token: Token) -> bool {
-        let Some(marks) = self.marks(token) else {
-            return false;
-        };
+    /// Takes a node for a burst, and returns by which number it is given back. It is not taken if another thread has it out, or if
+    /// somebody settles in its domain and the round has had its burst already.
+    pub fn take(&self, token: Token) -> Option<u64> {
+        let marks = self.marks(token)?;
         if self.is_settled(token.domain) && !marks.is_due.load(Ordering::SeqCst) {
-            return false;
+            return None;
         }
-        if marks.is_checked_out.load(Ordering::SeqCst)
-            || marks.is_checked_out.swap(true, Ordering::SeqCst)
-        {
-            return false;
+        let takes = marks.takes.load(Ordering::SeqCst);
+        if is_out(takes) || !marks.count(takes) {
+            return None;
         }
-        marks.is_due.store(false, Ordering::SeqCst);
-        true
+        mark(&marks.is_due, false);
+        Some(takes.wrapping_add(1))
     }
 
-    /// Gives a node back that was taken.
-    pub fn give_back(&self, token: Token) {
+    /// Gives a node back that was taken by this number, unless it was given up.
+    pub fn give_back(&self, token: Token, take: u64) {
         if let Some(marks) = self.marks(token) {
-            marks.is_checked_out.store(false, Ordering::SeqCst);
+            marks.count(take);
         }
     }
 
-    /// Begins a round of a domain's first nodes, so many: a burst of each is due.
-    pub fn begin_round(&self, domain: u8, nodes: u8) {
+    /// How many quanta a burst of a round has, in the domain of somebody who settles.
+    pub fn round_quanta(&self, domain: u8) -> u64 {
+        match self.domain(domain) {
+            Some(marks) => marks.quanta.load(Ordering::SeqCst),
+            None => 1,
+        }
+    }
+
+    /// How many quanta the turn of a node has that was taken, which began after so many changes of its domain: as many as the
+    /// round if somebody settles there, and else twice as many as the turn before, unless the domain was changed since.
+    pub fn turn_quanta(&self, token: Token, changes: u64, quantum: u64) -> u64 {
+        if self.is_settled(token.domain) {
+            return self.round_quanta(token.domain);
+        }
+        let Some(marks) = self.marks(token) else {
+            return 1;
+        };
+        let quanta = if marks.changes.load(Ordering::SeqCst) == changes {
+            longer(marks.quanta.load(Ordering::SeqCst), quantum)
+        } else {
+            1
+        };
+        put(&marks.changes, changes);
+        put(&marks.quanta, quanta);
+        quanta
+    }
+
+    /// Notes that the journal had no room for a burst of more quanta than one: those of the round that follow have one, and
+    /// so has the node's turn.
+    pub fn shorten(&self, token: Token) {
+        if let Some(marks) = self.domain(token.domain) {
+            put(&marks.quanta, 1);
+        }
+        if let Some(marks) = self.marks(token) {
+            put(&marks.quanta, 1);
+        }
+    }
+
+    /// Notes how many Steps a node's burst did.
+    pub fn note_steps(&self, token: Token, steps: u64) {
+        if let Some(marks) = self.marks(token) {
+            put(&marks.steps, steps);
+        }
+    }
+
+    /// The most Steps that a node of a domain did in its last burst, of the domain's first nodes, so many.
+    pub fn most_steps(&self, domain: u8, nodes: u8) -> u64 {
+        let mut most = 0_u64;
         for node in 0..nodes {
             if let Some(marks) = self.marks(Token { domain, node }) {
-                marks.is_due.store(true, Ordering::SeqCst);
+                most = most.max(marks.steps.load(Ordering::SeqCst));
+            }
+        }
+        most
+    }
+
+    /// Begins a round of a domain's first nodes, so many: a burst of each is due, of so many quanta.
+    pub fn begin_round(&self, domain: u8, nodes: u8, quanta: u64) {
+        if let Some(marks) = self.domain(domain) {
+            put(&marks.quanta, quanta);
+        }
+        for node in 0..nodes {
+            if let Some(marks) = self.marks(Token { domain, node }) {
+                mark(&marks.is_due, true);
             }
         }
     }
 
-    /// Waits a moment for the commit of a node that another thread has checked out; whether its burst of this round is over then. If it
-    /// isn't, it is due no more: the caller does it.
-    pub fn await_commit(&self, token: Token) -> bool {
+    /// Waits for the commit of a node that another thread has out, about as long as a burst of so many Steps takes; whether its
+    /// burst of this round is over then. If it isn't, the node is due and out no more: the caller does it.
+    pub fn await_commit(&self, token: Token, steps: u64) -> bool {
         let Some(marks) = self.marks(token) else {
             return true;
         };
-        for tries in 0..TRIES {
-            if !marks.is_checked_out.load(Ordering::SeqCst) {
-                break;
-            }
-            back_off(tries);
-        }
-        let is_checked_out = marks.is_checked_out.load(Ordering::SeqCst);
-        let was_due = marks.is_due.swap(false, Ordering::SeqCst);
-        !is_checked_out && !was_due
+        let takes = marks.wait(steps);
+        let is_given_up = is_out(takes) && marks.count(takes);
+        let was_due = marks.is_due.load(Ordering::SeqCst)
+            && marks.is_due.swap(false, Ordering::SeqCst);
+        !is_given_up && !was_due
     }
 
     /// Somebody begins to settle in a domain.
     pub fn begin_settling(&self, domain: u8) {
-        if let Some(settlers) = self.settlers.get(usize::from(domain)) {
-            settlers.fetch_add(1, Ordering::SeqCst);
+        if let Some(marks) = self.domain(domain) {
+            put(&marks.quanta, 1);
+            marks.settlers.fetch_add(1, Ordering::SeqCst);
             self.settling.fetch_add(1, Ordering::SeqCst);
             self.rest.note_call(domain);
         }
@@ -175,8 +311,8 @@ impl Schedule {
 
     /// He has settled.
     pub fn end_settling(&self, domain: u8) {
-        if let Some(settlers) = self.settlers.get(usize::from(domain)) {
-            settlers.fetch_sub(1, Ordering::SeqCst);
+        if let Some(marks) = self.domain(domain) {
+            marks.settlers.fetch_sub(1, Ordering::SeqCst);
             self.settling.fetch_sub(1, Ordering::SeqCst);
             self.rest.note_call(domain);
         }

@@ -4,7 +4,8 @@ ghost use Rattle.std.specs.Prelude.{◌≡◌, ◌≢◌, ◌<◌, ◌≤◌, Er
 ghost use Rattle.domain_core.specs.declared.event.Refusal.TheVariants.{NoSuch};
 
 use crate::halves::{TurnEnd, Turned, begin_turn, commit_lent, end_turn};
-use crate::moves::move_ports;
+use crate::moves::{MovesEnd, end_round};
+use crate::pace::{BurstLength, Pace, RoundEnd};
 use crate::service::Service;
 use crate::session::Settled;
 use crate::worker::Gate;
@@ -12,10 +13,14 @@ use domain_core::{Refusal, Ticket};
 use std::sync::Wait;
 use token_queue::Token;
 
-// Does up to so many Steps of the ticket in a slot.
-fn burst(slot: &mut Option<Ticket>, quantum: u64) {
-    if let Some(ticket) = slot {
-        ticket.burst(quantum);
+// Does up to so many Steps of the ticket in a slot; how many it has then.
+fn burst(slot: &mut Option<Ticket>, steps: u64) -> u64 {
+    match slot {
+        Some(ticket) => {
+            ticket.burst(steps);
+            ticket.steps()
+        }
+        None => 0,
     }
 }
 
@@ -56,23 +61,40 @@ impl Service {
         }
     }
 
-    // A turn of a node that nobody else has out.
+    // A turn of a node that was taken, of up to so many Steps.
     fn turn_alone<R: Wait, G: Gate>(
         &self,
         rt: &R,
         token: Token,
         gate: &G,
         slot: &mut Option<Ticket>,
-        quantum: u64,
+        steps: u64,
     ) -> Result<TurnEnd, Refusal> {
         let checked_out = self.begin(rt, token, slot)?;
         gate.begins(rt, token);
-        if checked_out {
-            burst(slot, quantum);
-        }
+        let done = if checked_out { burst(slot, steps) } else { 0 };
+        self.schedule().note_steps(token, done);
         let ended = self.end(rt, token, checked_out, slot);
         gate.ended(rt, token, &ended.map(|ended| ended.turned));
         ended
+    }
+
+    // The same, of so many quanta. If the journal has no room for them, the turn is done once more, with one.
+    fn turn_of<R: Wait, G: Gate>(
+        &self,
+        rt: &R,
+        token: Token,
+        gate: &G,
+        slot: &mut Option<Ticket>,
+        quantum: u64,
+        quanta: u64,
+    ) -> Result<TurnEnd, Refusal> {
+        let ended = self.turn_alone(rt, token, gate, slot, quantum.saturating_mul(quanta));
+        if quanta == 1 || !matches!(ended, Err(Refusal::JournalFull)) {
+            return ended;
+        }
+        self.schedule().shorten(token);
+        self.turn_alone(rt, token, gate, slot, quantum)
     }
 
     // Notes what a turn found, which began after so many changes of its domain. A refusal for a full journal comes again
@@ -99,20 +121,47 @@ impl Service {
         token: Token,
         gate: &G,
         slot: &mut Option<Ticket>,
-        quantum: u64,
+        length: BurstLength,
     ) -> Result<bool, Refusal> {
         let changes = self.schedule().rest().changes(token.domain);
-        if self.schedule().rest().is_resting(token) || !self.schedule().take(token) {
+        if self.schedule().rest().is_resting(token) {
             return Ok(false);
         }
-        let ended = self.turn_alone(rt, token, gate, slot, quantum);
-        self.schedule().give_back(token);
+        let Some(take) = self.schedule().take(token) else {
+            return Ok(false);
+        };
+        let quanta = if length.may_grow {
+            self.schedule().turn_quanta(token, changes, length.quantum)
+        } else {
+            1
+        };
+        let ended = self.turn_of(rt, token, gate, slot, length.quantum, quanta);
+        self.schedule().give_back(token, take);
         self.note_turn(token, changes, &ended);
         Ok(ended?.is_busy())
     }
 
-    // A burst of a node outside the lock, if it has a Step to do. A stale ticket is passed over.
+    // A burst of a node outside the lock, of up to so many Steps, if it has one to do. A stale ticket is passed over.
     fn burst_alone<R: Wait>(
+        &self,
+        rt: &R,
+        token: Token,
+        slot: &mut Option<Ticket>,
+        steps: u64,
+    ) -> Result<(), Refusal>
+        ensures there { token.domain < length self.now.plan → result ≢ Err NoSuch }
+    {
+        let checked_out = self.begin(rt, token, slot)?;
+        let done = if checked_out { burst(slot, steps) } else { 0 };
+        self.schedule().note_steps(token, done);
+        if checked_out && let Some(mut seated) = self.hold(rt, token.domain) {
+            commit_lent(&mut seated, true, slot)?;
+        }
+        Ok(())
+    }
+
+    // The same, of as many quanta as the round has. If the journal has no room for them, it is done once more, with one.
+    fn burst_of_round<R: Wait>(
         &self,
         rt: &R,
         token: Token,
@@ -121,13 +170,13 @@ impl Service {
     ) -> Result<(), Refusal>
         ensures there { token.domain < length self.now.plan → result ≢ Err NoSuch }
     {
-        if self.begin(rt, token, slot)? {
-            burst(slot, quantum);
-            if let Some(mut seated) = self.hold(rt, token.domain) {
-                commit_lent(&mut seated, true, slot)?;
-            }
+        let quanta = self.schedule().round_quanta(token.domain);
+        let done = self.burst_alone(rt, token, slot, quantum.saturating_mul(quanta));
+        if quanta == 1 || !matches!(done, Err(Refusal::JournalFull)) {
+            return done;
         }
-        Ok(())
+        self.schedule().shorten(token);
+        self.burst_alone(rt, token, slot, quantum)
     }
 
     // The burst of a node in a round, if the schedule gives the node: a worker may be doing it.
@@ -140,15 +189,15 @@ impl Service {
     ) -> Result<(), Refusal>
         ensures there { token.domain < length self.now.plan → result ≢ Err NoSuch }
     {
-        if !self.schedule().take(token) {
+        let Some(take) = self.schedule().take(token) else {
             return Ok(());
-        }
-        let done = self.burst_alone(rt, token, slot, quantum);
-        self.schedule().give_back(token);
+        };
+        let done = self.burst_of_round(rt, token, slot, quantum);
+        self.schedule().give_back(token, take);
         done
     }
 
-    // Sees that the burst of a node in a round is over. A worker that keeps it checked out for long may have no core: then the
+    // Sees that the burst of a node in a round is over. A worker that keeps it out for long may have no core: then the
     // burst is done here, and the worker's is stale.
     fn finish_burst<R: Wait>(
         &self,
@@ -156,42 +205,81 @@ impl Service {
         token: Token,
         slot: &mut Option<Ticket>,
         quantum: u64,
+        quanta: u64,
     ) -> Result<(), Refusal>
         ensures there { token.domain < length self.now.plan → result ≢ Err NoSuch }
     {
-        if self.schedule().await_commit(token) {
+        let steps = quantum.saturating_mul(quanta);
+        if self.schedule().await_commit(token, steps) {
             Ok(())
         } else {
-            self.burst_alone(rt, token, slot, quantum)
+            self.burst_of_round(rt, token, slot, quantum)
         }
     }
 
-    // A burst of each node of a domain that has a Step to do, whoever does it, and then the Moves.
+    // How many quanta the bursts of a round used that could use so many: the most that one of them did, and at least one.
+    fn used(&self, domain: u8, nodes: u8, quantum: u64, quanta: u64) -> u64
+        requires quantum { 1 ≤ quantum }
+        requires quanta { 1 ≤ quanta }
+    {
+        if quanta == 1 {
+            return 1;
+        }
+        let most = self.schedule().most_steps(domain, nodes);
+        most.div_ceil(quantum).clamp(1, quanta)
+    }
+
+    // The bursts of a round, of so many quanta each, whoever does them.
+    fn bursts<R: Wait>(
+        &self,
+        rt: &R,
+        domain: u8,
+        nodes: u8,
+        slot: &mut Option<Ticket>,
+        quantum: u64,
+        quanta: u64,
+    ) -> Result<(), Refusal>
+        ensures there { domain < length self.now.plan → result ≢ Err NoSuch }
+    {
+        self.schedule().begin_round(domain, nodes, quanta);
+        for node in 0..nodes {
+            self.burst_free(rt, Token { domain, node }, slot, quantum)?;
+        }
+        for node in 0..nodes {
+            self.finish_burst(rt, Token { domain, node }, slot, quantum, quanta)?;
+        }
+        Ok(())
+    }
+
+    // A burst of each node of a domain that has a Step to do, of so many quanta, whoever does it, and then the Moves.
     pub(crate) fn round<R: Wait>(
         &self,
         rt: &R,
         domain: u8,
         slot: &mut Option<Ticket>,
         quantum: u64,
-    ) -> Result<(), Refusal>
+        quanta: u64,
+    ) -> Result<RoundEnd, Refusal>
+        requires quantum { 1 ≤ quantum }
+        requires quanta { 1 ≤ quanta }
         ensures there { domain < length self.now.plan → result ≢ Err NoSuch }
     {
         let nodes = self.nodes(domain);
-        self.schedule().begin_round(domain, nodes);
-        for node in 0..nodes {
-            self.burst_free(rt, Token { domain, node }, slot, quantum)?;
-        }
-        for node in 0..nodes {
-            self.finish_burst(rt, Token { domain, node }, slot, quantum)?;
-        }
-        match self.hold(rt, domain) {
-            Some(mut seated) => move_ports(&mut seated)?,
+        self.bursts(rt, domain, nodes, slot, quantum, quanta)?;
+        let MovesEnd { moved, is_quiet } = match self.hold(rt, domain) {
+            Some(mut seated) => end_round(&mut seated)?,
             None => return Err(Refusal::NoSuch),
         };
-        Ok(())
+        Ok(RoundEnd {
+            moved,
+            is_quiet,
+            rounds: self.used(domain, nodes, quantum, quanta),
+            was_shortened: self.schedule().round_quanta(domain) < quanta,
+        })
     }
 
-    // Whether a domain is quiet after up to so many rounds.
+    // Whether a domain is quiet after up to so many rounds of a quantum. As long as nothing moves, the bursts of a round are
+    // twice as long as those before, and it counts as several.
     pub(crate) fn settle<R: Wait>(
         &self,
         rt: &R,
@@ -199,20 +287,25 @@ impl Service {
         quantum: u64,
         rounds: u64,
     ) -> Result<Settled, Refusal>
+        requires quantum { 1 ≤ quantum }
         ensures elsewhere { length self.now.plan ≤ domain → result ≡ Err NoSuch }
         ensures there { domain < length self.now.plan → result ≢ Err NoSuch }
     {
+        if self.is_quiet(rt, domain)? {
+            return Ok(Settled::Quiet);
+        }
         let mut slot = None;
+        let mut pace = Pace::of(rounds);
         for _round in 0..rounds {
-            if self.is_quiet(rt, domain)? {
+            if pace.is_over() {
+                break;
+            }
+            let ended = self.round(rt, domain, &mut slot, quantum, pace.quanta())?;
+            if ended.is_quiet {
                 return Ok(Settled::Quiet);
             }
-            self.round(rt, domain, &mut slot, quantum)?;
+            pace = pace.after(ended, quantum);
         }
-        if self.is_quiet(rt, domain)? {
-            Ok(Settled::Quiet)
-        } else {
-            Ok(Settled::Busy)
-        }
+        Ok(Settled::Busy)
     }
 }

@@ -3,6 +3,7 @@
 ghost use Rattle.std.specs.Prelude.{◌≡◌, ◌≤◌, []};
 
 use crate::halves::Turned;
+use crate::pace::BurstLength;
 use crate::schedule::Idleness;
 use crate::service::Service;
 use domain_core::{Refusal, Ticket};
@@ -51,7 +52,7 @@ fn turn<R: Wait, G: Gate>(
     pass: &mut WorkerPass,
     gate: &G,
     slot: &mut Option<Ticket>,
-    quantum: u64,
+    length: BurstLength,
 ) -> Result<bool, Refusal>
     requires { pass.old.queue ≡ service.now.queue }
     ensures { pass.new ≡ pass.old }
@@ -59,7 +60,7 @@ fn turn<R: Wait, G: Gate>(
     match service.tokens().take(rt, pass) {
         None => Ok(false),
         Some(token) => {
-            let done = service.turn(rt, token, gate, slot, quantum);
+            let done = service.turn(rt, token, gate, slot, length);
             service.tokens().give_back(rt, pass, token);
             done
         }
@@ -82,6 +83,10 @@ fn take_turns<R: Wait, G: Gate>(
     let mut slot = None;
     let mut idleness = Idleness::none();
     let may_sleep = turns == UNTIL_STOPPED;
+    let length = BurstLength {
+        quantum,
+        may_grow: may_sleep,
+    };
     for _turn in 0..turns {
         if service.is_stopped() {
             return Worked::Stopped;
@@ -89,7 +94,7 @@ fn take_turns<R: Wait, G: Gate>(
         service
             .schedule()
             .make_way(rt, workers_before, &mut idleness, may_sleep);
-        match turn(rt, service, pass, gate, &mut slot, quantum) {
+        match turn(rt, service, pass, gate, &mut slot, length) {
             Err(Refusal::NoMemory) => return Worked::NoMemory,
             done => idleness.note(done == Ok(true)),
         }

@@ -1,0 +1,92 @@
+//! How many quanta a burst has.
+//!
+//! What a burst costs besides its Steps is the same however many they are: two holds of a lock, and copies of a node. So
+//! bursts become longer as long as nothing moves, and are of one quantum again as soon as a packet moved.
+ghost use Rattle.std.specs.Prelude.{◌≤◌};
+
+/// The most quanta of a burst.
+const MOST_QUANTA: u64 = 16;
+
+/// The most Steps of a burst.
+const MOST_STEPS: u64 = 4_096;
+
+/// How many Steps the bursts of a worker's turns have.
+#[derive(Clone, Copy)]
+pub(crate) struct BurstLength {
+    /// The Steps of one quantum.
+    pub(crate) quantum: u64,
+    /// Whether a burst may have more quanta than one.
+    pub(crate) may_grow: bool,
+}
+
+/// How many quanta come after so many, as long as nothing moves: twice as many, unless that is too long for a burst.
+pub(crate) fn longer(quanta: u64, quantum: u64) -> u64 {
+    let twice = quanta.saturating_mul(2);
+    if twice <= MOST_QUANTA && twice.saturating_mul(quantum) <= MOST_STEPS {
+        twice
+    } else {
+        quanta
+    }
+}
+
+/// What became of a round.
+#[derive(Clone, Copy)]
+pub(crate) struct RoundEnd {
+    /// Whether a packet moved after its bursts.
+    pub(crate) moved: bool,
+    /// Whether nothing is left to be done.
+    pub(crate) is_quiet: bool,
+    /// As how many rounds of one quantum it counts, at least one.
+    pub(crate) rounds: u64,
+    /// Whether the journal had no room for a burst of several quanta.
+    pub(crate) was_shortened: bool,
+}
+
+/// How the rounds of a settling go on.
+#[derive(Clone, Copy)]
+pub(crate) struct Pace {
+    // How many quanta the bursts of the next round have.
+    quanta: u64,
+    // How many rounds of one quantum are left.
+    left: u64,
+    // Whether bursts may become longer.
+    may_grow: bool,
+}
+
+impl Pace {
+    /// The pace at the beginning of so many rounds.
+    pub(crate) fn of(rounds: u64) -> Pace {
+        Pace {
+            quanta: 1,
+            left: rounds,
+            may_grow: true,
+        }
+    }
+
+    /// Whether no round is left.
+    pub(crate) fn is_over(self) -> bool {
+        self.left == 0
+    }
+
+    /// How many quanta the bursts of the next round have: no more than there are rounds left, and at least one.
+    pub(crate) fn quanta(self) -> u64
+        ensures { 1 ≤ result }
+    {
+        self.quanta.min(self.left).max(1)
+    }
+
+    /// The pace after a round that counts as so many. Bursts become no longer any more once the journal had no room for one.
+    pub(crate) fn after(self, round: RoundEnd, quantum: u64) -> Pace {
+        let may_grow = self.may_grow && !round.was_shortened;
+        let quanta = if round.moved || !may_grow {
+            1
+        } else {
+            longer(self.quanta, quantum)
+        };
+        Pace {
+            quanta,
+            left: self.left.saturating_sub(round.rounds),
+            may_grow,
+        }
+    }
+}
