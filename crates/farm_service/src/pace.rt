@@ -32,7 +32,7 @@ pub(crate) fn longer(quanta: u64, quantum: u64) -> u64 {
 /// What became of a round.
 #[derive(Clone, Copy)]
 pub(crate) struct RoundEnd {
-    /// Whether a packet moved after its bursts.
+    /// Whether a packet moved at its end.
     pub(crate) moved: bool,
     /// Whether nothing is left to be done.
     pub(crate) is_quiet: bool,
@@ -51,15 +51,18 @@ pub(crate) struct Pace {
     left: u64,
     // Whether bursts may become longer.
     may_grow: bool,
+    // How often others had changed the domain at the end of the last round.
+    changes: u64,
 }
 
 impl Pace {
-    /// The pace at the beginning of so many rounds.
-    pub(crate) fn of(rounds: u64) -> Pace {
+    /// The pace at the beginning of so many rounds, after so many changes of the domain by others.
+    pub(crate) fn of(rounds: u64, changes: u64) -> Pace {
         Pace {
             quanta: 1,
             left: rounds,
             may_grow: true,
+            changes,
         }
     }
 
@@ -75,10 +78,11 @@ impl Pace {
         self.quanta.min(self.left).max(1)
     }
 
-    /// The pace after a round that counts as so many. Bursts become no longer any more once the journal had no room for one.
-    pub(crate) fn after(self, round: RoundEnd, quantum: u64) -> Pace {
+    /// The pace after a round, and after so many changes of the domain by others. Bursts become no longer any more once the
+    /// journal had no room for one.
+    pub(crate) fn after(self, round: RoundEnd, changes: u64, quantum: u64) -> Pace {
         let may_grow = self.may_grow && !round.was_shortened;
-        let quanta = if round.moved || !may_grow {
+        let quanta = if round.moved || changes != self.changes || !may_grow {
             1
         } else {
             longer(self.quanta, quantum)
@@ -87,6 +91,7 @@ impl Pace {
             quanta,
             left: self.left.saturating_sub(round.rounds),
             may_grow,
+            changes,
         }
     }
 }

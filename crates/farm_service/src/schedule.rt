@@ -256,9 +256,11 @@ impl Schedule {
         }
     }
 
-    /// Notes how many Steps a node's burst did.
+    /// Notes how many Steps a node's burst did, if the bursts of the round have several quanta.
     pub fn note_steps(&self, token: Token, steps: u64) {
-        if let Some(marks) = self.marks(token) {
+        if self.round_quanta(token.domain) > 1
+            && let Some(marks) = self.marks(token)
+        {
             put(&marks.steps, steps);
         }
     }

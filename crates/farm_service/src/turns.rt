@@ -295,7 +295,7 @@ impl Service {
             return Ok(Settled::Quiet);
         }
         let mut slot = None;
-        let mut pace = Pace::of(rounds);
+        let mut pace = Pace::of(rounds, self.schedule().rest().changes(domain));
         for _round in 0..rounds {
             if pace.is_over() {
                 break;
@@ -304,7 +304,8 @@ impl Service {
             if ended.is_quiet {
                 return Ok(Settled::Quiet);
             }
-            pace = pace.after(ended, quantum);
+            let changes = self.schedule().rest().changes(domain);
+            pace = pace.after(ended, changes, quantum);
         }
         Ok(Settled::Busy)
     }
