@@ -85,7 +85,7 @@ pub fn live_settings<S: AsStr>(alloc: Global, words: &[S]) -> Result<LiveSetting
     let quantum = Arg::new(alloc, "quantum")
         .long("quantum")
         .value_name("N")
-        .help("How many Steps a worker does at a time, 1 to 4096")
+        .help("How many Steps a node does at a time while packets move, 1 to 4096")
         .default_value("256")
         .action(ArgAction::Set)
         .value_parser(value_parser!(u16).range(1..=4096));
