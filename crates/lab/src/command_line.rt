@@ -8,12 +8,12 @@ use clap::{Arg, ArgAction, ArgMatches, Command, value_parser};
 use lab_debug::ProgramOf;
 use lab_film::{Span, USUAL_COUNT};
 use node_trace::{LinkInput, LinkNumber, link_of};
-use script_text::{HexFault, bytes_of, decimal_number, hexadecimal_word, value_named};
+use script_text::{HexFault, bytes_of, decimal_number, value_named};
 use std::alloc::{AllocError, Global};
 use std::convert::AsStr;
 
-/// How many Steps are traced unless the words say it.
-const USUAL_STEPS: u32 = 1000;
+/// How many Steps of booted code are traced unless the words say it.
+const USUAL_STEPS: u64 = 1000;
 
 /// What stands below the help.
 const AFTER_HELP: &str = "\
@@ -37,6 +37,8 @@ pub enum LabRequest<'a> {
     Expand(Option<&'a str>),
     /// To look through a record by commands.
     Debug(Debugging<'a>),
+    /// To boot a node with code, and to trace it.
+    Boot(BootOptions<'a>),
     /// To read standard input.
     Read(Reading<'a>),
 }
@@ -50,10 +52,8 @@ pub enum Reading<'a> {
     Plan,
     /// The switch of the farm that it leaves is drawn, or the network of one of its domains.
     Draw(Option<u8>),
-    /// What it asks of a node is traced.
-    Trace,
-    /// Nothing: a node is booted with code, and traced.
-    Boot(BootOptions),
+    /// What it asks of a node is traced, if that takes no more Steps than these.
+    Trace(Option<u64>),
     /// It is assembled.
     Assemble(AssemblyOptions<'a>),
     /// It is disassembled.
@@ -62,15 +62,24 @@ pub enum Reading<'a> {
 
 /// How a node is traced that is booted with code.
 #[derive(Drop)]
-pub struct BootOptions {
+pub struct BootOptions<'a> {
     /// The code.
-    pub code: Vec<u8>,
+    pub code: BootedCode<'a>,
     /// How many Steps are traced at most.
-    pub steps: u32,
-    /// The address before whose instruction the trace stops.
-    pub until: Option<u32>,
+    pub steps: u64,
+    /// The address before whose instruction the trace stops, or a label of the program.
+    pub until: Option<&'a str>,
     /// What is sent to the program.
     pub inputs: Vec<LinkInput>,
+}
+
+/// The code with which a node is booted.
+#[derive(Drop)]
+pub enum BootedCode<'a> {
+    /// These bytes.
+    Bytes(Vec<u8>),
+    /// That of the program in a file.
+    Program(&'a str),
 }
 
 #[derive(Clone, Copy)]
@@ -142,8 +151,9 @@ impl Subcommand {
 }
 
 /// The options of the subcommands that read standard input.
-const OPTIONS: [&str; 7] = [
+const OPTIONS: [&str; 8] = [
     "--boot",
+    "--program",
     "--steps",
     "--until",
     "--input",
@@ -236,6 +246,7 @@ fn with_arguments<'a>(
     match subcommand {
         Subcommand::Trace => command
             .arg(boot_argument(alloc))?
+            .arg(booted_argument(alloc))?
             .arg(steps_argument(alloc))?
             .arg(until_argument(alloc))?
             .arg(input_argument(alloc)),
@@ -265,21 +276,32 @@ fn boot_argument<'a>(alloc: Global) -> Arg<'a> {
         .action(ArgAction::Set)
 }
 
+fn booted_argument<'a>(alloc: Global) -> Arg<'a> {
+    Arg::new(alloc, "program")
+        .long("program")
+        .value_name("FILE")
+        .help("The same with the code of the program in this file; its labels and lines are shown")
+        .action(ArgAction::Set)
+}
+
 fn steps_argument<'a>(alloc: Global) -> Arg<'a> {
     Arg::new(alloc, "steps")
         .long("steps")
         .value_name("N")
-        .help("How many Steps of booted code are traced at most")
-        .default_value("1000")
+        .help(
+            "How many Steps of booted code are traced at most, 1000 unless given; how many the lines may do in all",
+        )
         .action(ArgAction::Set)
-        .value_parser(value_parser!(u32))
+        .value_parser(value_parser!(u64))
 }
 
 fn until_argument<'a>(alloc: Global) -> Arg<'a> {
     Arg::new(alloc, "until")
         .long("until")
         .value_name("ADDRESS")
-        .help("Stops the trace of booted code before the instruction at this address")
+        .help(
+            "Stops the trace of booted code before the instruction at this address, or at this label of the program",
+        )
         .action(ArgAction::Set)
 }
 
@@ -395,7 +417,7 @@ fn read_matches<'a>(alloc: Global, matches: &ArgMatches<'a>) -> Result<LabReques
         Subcommand::Replay => LabRequest::Read(Reading::Replay),
         Subcommand::Plan => LabRequest::Read(Reading::Plan),
         Subcommand::Draw => LabRequest::Read(Reading::Draw(matches.get_one::<u8>("domain"))),
-        Subcommand::Trace => LabRequest::Read(read_trace(alloc, matches)?),
+        Subcommand::Trace => read_trace(alloc, matches)?,
         Subcommand::Assemble => LabRequest::Read(Reading::Assemble(read_options(matches))),
         Subcommand::Disassemble => LabRequest::Read(Reading::Disassemble),
         Subcommand::Rows => LabRequest::Rows(read_files(alloc, matches)?),
@@ -463,14 +485,18 @@ fn read_files<'a>(alloc: Global, matches: &ArgMatches<'a>) -> Result<Vec<&'a str
     Vec::from_slice(alloc, matches.get_strs("file").unwrap_or(&[]))
 }
 
-fn read_trace<'a>(alloc: Global, matches: &ArgMatches<'a>) -> Result<Reading<'a>, LabFailure> {
-    let Some(digits) = matches.get_str("boot") else {
-        return Ok(Reading::Trace);
+fn read_trace<'a>(alloc: Global, matches: &ArgMatches<'a>) -> Result<LabRequest<'a>, LabFailure> {
+    let steps = matches.get_one::<u64>("steps");
+    let code = match (matches.get_str("boot"), matches.get_str("program")) {
+        (None, None) => return Ok(LabRequest::Read(Reading::Trace(steps))),
+        (Some(digits), None) => BootedCode::Bytes(read_code(alloc, digits)?),
+        (None, Some(file)) => BootedCode::Program(file),
+        (Some(_), Some(_)) => return Err(LabFailure::TwoCodes),
     };
-    Ok(Reading::Boot(BootOptions {
-        code: read_code(alloc, digits)?,
-        steps: matches.get_one::<u32>("steps").unwrap_or(USUAL_STEPS),
-        until: read_until(matches)?,
+    Ok(LabRequest::Boot(BootOptions {
+        code,
+        steps: steps.unwrap_or(USUAL_STEPS),
+        until: matches.get_str("until"),
         inputs: read_inputs(alloc, matches)?,
     }))
 }
@@ -481,16 +507,6 @@ fn read_code(alloc: Global, digits: &str) -> Result<Vec<u8>, LabFailure> {
         Ok(code) => Err(LabFailure::Booted(code.len())),
         Err(HexFault::NoMemory) => Err(LabFailure::Memory),
         Err(HexFault::NotHex) => Err(LabFailure::Code),
-    }
-}
-
-fn read_until(matches: &ArgMatches) -> Result<Option<u32>, LabFailure> {
-    match matches.get_str("until") {
-        Some(word) => match hexadecimal_word(word) {
-            Some(address) => Ok(Some(address)),
-            None => Err(LabFailure::Address),
-        },
-        None => Ok(None),
     }
 }
 

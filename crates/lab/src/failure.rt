@@ -4,12 +4,13 @@ use farm_causes::WhyFault;
 use farm_replay::ReplayFault;
 use lab_debug::DebugFault;
 use line_words::{NumberedLineFault, WrongLine};
-use node_trace::BootFault;
+use node_trace::{BootFault, TraceFault};
 use plan_faults::PlanRefusal;
 use script_text::{ReadFault, write_whole};
 use std::alloc::{AllocError, AllocFailed, Global};
 use std::fmt;
 use std::io::{self, Write};
+use step_meter::StepsEnd;
 use t414_assembly::TextFault;
 
 /// Why the lab ends without its output.
@@ -31,7 +32,9 @@ pub enum LabFailure {
     Program,
     /// The code of `--boot` has so many bytes.
     Booted(usize),
-    /// `--until` is no address.
+    /// `--boot` and `--program` both stand there.
+    TwoCodes,
+    /// `--until` is no address, and no label of a program.
     Address,
     /// `--input` is no link with bytes.
     Input,
@@ -53,6 +56,8 @@ pub enum LabFailure {
     Length(usize),
     /// So many bytes of code can't be poked.
     Poked(usize),
+    /// As many Steps were done as may be.
+    Steps(StepsEnd),
     /// A file can't be read.
     Unread,
     /// What is told of a file, with its name, and the status.
@@ -96,8 +101,11 @@ impl fmt::Display for LabFailure {
             LabFailure::Program => f.write_str(
                 "error: --program takes the number of a node, and a file\n",
             ),
+            LabFailure::TwoCodes => f.write_str(
+                "error: --boot and --program each give the code: write one of them\n",
+            ),
             LabFailure::Address => f.write_str(
-                "error: --until takes an address, one to eight hexadecimal digits: --until 8000004c\n",
+                "error: --until takes an address, one to eight hexadecimal digits, or a label of --program: --until 8000004c\n",
             ),
             LabFailure::Input => f.write_str(
                 "error: --input takes a link, 0 to 3, a colon and bytes in hexadecimal digits: --input 1:0a0b\n",
@@ -116,6 +124,7 @@ impl fmt::Display for LabFailure {
                     "the code has {count} bytes, and 1 to 65456 can be poked\n"
                 )
             }
+            LabFailure::Steps(end) => write!(f, "{end}\n"),
             LabFailure::Unread => f.write_str("it can't be read\n"),
             LabFailure::OfFile { text, .. } => write!(f, "{text}"),
             LabFailure::Memory => f.write_str("memory\n"),
@@ -159,6 +168,7 @@ impl LabFailure {
             | LabFailure::FileName { .. }
             | LabFailure::Code
             | LabFailure::Booted(_)
+            | LabFailure::TwoCodes
             | LabFailure::Address
             | LabFailure::Input
             | LabFailure::Program => 2,
@@ -174,6 +184,7 @@ impl LabFailure {
             LabFailure::OfFile { status, .. } => *status,
             LabFailure::Memory => 5,
             LabFailure::Unread | LabFailure::Io => 6,
+            LabFailure::Steps(_) => 7,
         }
     }
 
@@ -228,6 +239,16 @@ impl From<ReplayFault> for LabFailure {
             ReplayFault::Line(wrong) => LabFailure::Line(wrong),
             ReplayFault::Memory(_) => LabFailure::Memory,
             fault => LabFailure::ReplayedPlan(fault),
+        }
+    }
+}
+
+impl From<TraceFault> for LabFailure {
+    fn from(fault: TraceFault) -> LabFailure {
+        match fault {
+            TraceFault::Line(wrong) => LabFailure::Line(wrong),
+            TraceFault::Steps(end) => LabFailure::Steps(end),
+            TraceFault::Memory(_) => LabFailure::Memory,
         }
     }
 }

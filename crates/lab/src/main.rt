@@ -2,17 +2,20 @@
 #![tactic(auto)]
 
 mod assembly;
+mod booting;
 mod command_line;
 mod debugging;
 mod expanded;
 mod failure;
 mod film;
+mod meter;
 mod mistakes;
 mod plans;
 mod reports;
 mod rows;
 mod why;
 
+use crate::booting::report_booted;
 use crate::command_line::{LabRequest, read_words};
 use crate::debugging::report_debugging;
 use crate::expanded::report_expanded;
@@ -48,6 +51,7 @@ fn report(rt: &HostRuntime) -> Result<Report, LabFailure> {
     let words = words_of(rt)?;
     match read_words(alloc, words.as_slice())? {
         LabRequest::Help(text) => Ok(Report { text, status: 0 }),
+        LabRequest::Boot(options) => report_booted(rt, &options),
         LabRequest::Rows(files) => report_rows(rt, files.as_slice()),
         LabRequest::Debug(asked) => report_debugging(rt, &asked),
         LabRequest::Why(record, most) => report_why(rt, record, most),
@@ -55,7 +59,7 @@ fn report(rt: &HostRuntime) -> Result<Report, LabFailure> {
         LabRequest::Expand(script) => report_expanded(rt, script),
         LabRequest::Read(reading) => {
             let text = read_whole(alloc, &mut rt.reader())?;
-            report_of(alloc, &reading, text.as_slice())
+            report_of(rt, &reading, text.as_slice())
         }
     }
 }

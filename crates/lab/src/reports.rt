@@ -1,11 +1,12 @@
 //! What goes to standard output.
 
 use crate::assembly::{print_assembled, print_disassembled};
-use crate::command_line::{BootOptions, Reading};
+use crate::command_line::Reading;
 use crate::failure::LabFailure;
+use crate::meter::TerminalMeter;
 use farm_replay::{Replayed, replay};
 use line_words::Answered;
-use node_trace::{BootTrace, trace, trace_boot};
+use node_trace::trace;
 use plan_faults::accepted;
 use plan_views::{draw, draw_network, table_of};
 use script_text::{TextWriter, divide};
@@ -19,18 +20,18 @@ pub struct Report {
 }
 
 /// What standard input comes to.
-pub fn report_of(alloc: Global, reading: &Reading, text: &[u8]) -> Result<Report, LabFailure> {
-    let text = print_reading(alloc, reading, text)?;
+pub fn report_of(rt: &HostRuntime, reading: &Reading, text: &[u8]) -> Result<Report, LabFailure> {
+    let text = print_reading(rt, reading, text)?;
     Ok(Report { text, status: 0 })
 }
 
-fn print_reading(alloc: Global, reading: &Reading, text: &[u8]) -> Result<String, LabFailure> {
+fn print_reading(rt: &HostRuntime, reading: &Reading, text: &[u8]) -> Result<String, LabFailure> {
+    let alloc = rt.alloc();
     match reading {
         Reading::Replay => print_replayed(alloc, text),
         Reading::Plan => print_plan(alloc, text),
         Reading::Draw(domain) => print_drawing(alloc, text, *domain),
-        Reading::Trace => print_traced(alloc, text),
-        Reading::Boot(options) => print_booted(alloc, options),
+        Reading::Trace(most) => print_traced(rt, *most, text),
         Reading::Assemble(options) => print_assembled(alloc, *options, text),
         Reading::Disassemble => print_disassembled(alloc, text),
     }
@@ -41,19 +42,12 @@ fn print_replayed(alloc: Global, text: &[u8]) -> Result<String, LabFailure> {
     Ok(print_answers(alloc, answers.as_slice())?)
 }
 
-fn print_traced(alloc: Global, text: &[u8]) -> Result<String, LabFailure> {
-    let answers = trace(alloc, text)?;
-    Ok(print_answers(alloc, answers.as_slice())?)
-}
-
-fn print_booted(alloc: Global, options: &BootOptions) -> Result<String, LabFailure> {
-    let trace = BootTrace {
-        code: options.code.as_slice(),
-        steps: u64::from(options.steps),
-        until: options.until,
-        inputs: options.inputs.as_slice(),
-    };
-    Ok(trace_boot(alloc, &trace)?)
+// What lines ask of a node, if it needs no more Steps for that than it may do.
+fn print_traced(rt: &HostRuntime, most: Option<u64>, text: &[u8]) -> Result<String, LabFailure> {
+    let mut meter = TerminalMeter::begin(rt, most);
+    let traced = trace(rt.alloc(), text, &mut meter);
+    meter.wipe();
+    Ok(print_answers(rt.alloc(), traced?.as_slice())?)
 }
 
 // The plan of a text as a table.

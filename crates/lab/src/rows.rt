@@ -2,6 +2,7 @@
 
 use crate::assembly::try_programs;
 use crate::failure::LabFailure;
+use crate::meter::TerminalMeter;
 use crate::mistakes::try_lines;
 use crate::plans::try_plans;
 use crate::reports::Report;
@@ -15,10 +16,21 @@ use std::fs;
 /// Compares the rows of files. Each wrong row has a line that names its file and line, what it asked, the answer and
 /// what was expected; each file has a line that counts. The status is 1 if a row is wrong or a file has none.
 pub fn report_rows(rt: &HostRuntime, files: &[&str]) -> Result<Report, LabFailure> {
+    let mut meter = TerminalMeter::begin(rt, None);
+    let report = report_files(rt, files, &mut meter);
+    meter.wipe();
+    report
+}
+
+fn report_files(
+    rt: &HostRuntime,
+    files: &[&str],
+    meter: &mut TerminalMeter,
+) -> Result<Report, LabFailure> {
     let mut text = TextWriter::new(rt.alloc());
     let mut status = 0;
     for file in files {
-        if !report_file(rt, file, &mut text)? {
+        if !report_file(rt, file, meter, &mut text)? {
             status = 1;
         }
     }
@@ -27,10 +39,15 @@ pub fn report_rows(rt: &HostRuntime, files: &[&str]) -> Result<Report, LabFailur
 }
 
 // Compares the rows of a file, and tells whether there are rows and all are right.
-fn report_file(rt: &HostRuntime, file: &str, text: &mut TextWriter) -> Result<bool, LabFailure> {
+fn report_file(
+    rt: &HostRuntime,
+    file: &str,
+    meter: &mut TerminalMeter,
+    text: &mut TextWriter,
+) -> Result<bool, LabFailure> {
     let alloc = rt.alloc();
     match fs::read(rt, file) {
-        Ok(bytes) => match answer_rows(alloc, file, bytes.as_slice()) {
+        Ok(bytes) => match answer_rows(alloc, file, bytes.as_slice(), meter) {
             Ok(answers) => Ok(compare(text, file, answers.as_slice())),
             Err(failure) => Err(failure.in_file(alloc, file)),
         },
@@ -43,6 +60,7 @@ fn answer_rows<'a>(
     alloc: Global,
     file: &str,
     text: &'a [u8],
+    meter: &mut TerminalMeter,
 ) -> Result<Vec<Answered<'a>>, LabFailure> {
     if file.ends_with(".replay") {
         let Replayed { answers, last: _ } = replay(alloc, text)?;
@@ -54,7 +72,7 @@ fn answer_rows<'a>(
     } else if file.ends_with(".mistakes") {
         try_lines(alloc, text)
     } else {
-        Ok(trace(alloc, text)?)
+        Ok(trace(alloc, text, meter)?)
     }
 }
 

@@ -1,8 +1,8 @@
 //! The instructions of a node, disassembled.
 
-use crate::labels::{ProgramLine, label_in};
 use bootstrap::{Memory, Node};
 use farm_causes::next_registers;
+use node_trace::{ProgramLine, label_in, write_source};
 use script_text::TextWriter;
 use std::alloc::{AllocError, Global};
 use t414_assembly::{Instruction, disassemble, is_prefix, spell, write_instruction};
@@ -85,28 +85,14 @@ fn write_labels(lines: &[ProgramLine], address: u32, text: &mut TextWriter) {
     }
 }
 
-// Writes the line of the program that begins at an address, behind an instruction.
-fn write_source(lines: &[ProgramLine], address: u32, written: usize, text: &mut TextWriter) {
-    for line in lines {
-        if line.length > 0 && line.address == address {
-            for _ in written..20 {
-                text.push(" ");
-            }
-            text.push("  ");
-            text.push(line.text.trim());
-        }
-    }
-}
-
-// Writes an instruction and its line.
+// Writes an instruction, its place and its line.
 fn write_row(
-    alloc: Global,
     lines: &[ProgramLine],
     address: u32,
     instruction: Instruction,
     bytes: &[u8],
     text: &mut TextWriter,
-) -> Result<(), AllocError> {
+) {
     text.push_word(address);
     text.push("  ");
     for byte in bytes {
@@ -116,14 +102,11 @@ fn write_row(
     for _ in bytes.len()..COLUMN {
         text.push("   ");
     }
-    let mut name = TextWriter::new(alloc);
-    write_instruction(&mut name, instruction);
-    let name = name.finish()?;
     text.push(" ");
-    text.push(name.as_str());
-    write_source(lines, address, name.len(), text);
+    let begin = text.as_mut_string().len();
+    write_instruction(text, instruction);
+    let _ = write_source(text, begin, lines, address, 0);
     text.push("\n");
-    Ok(())
 }
 
 /// Writes instructions of a node from an address on, or around the one that it does next, which is marked.
@@ -171,7 +154,7 @@ fn write_rows(
         write_labels(lines, address, text);
         let is_next = next.is_some_and(|next| next.wrapping_sub(address) < length as u32);
         text.push(if is_next { "> " } else { "  " });
-        write_row(alloc, lines, address, *instruction, own, text)?;
+        write_row(lines, address, *instruction, own, text);
         address = address.wrapping_add(length as u32);
         rest = behind;
     }

@@ -37,6 +37,11 @@ pub enum DebugCommand<'a> {
     },
     Go(u64),
     Next(u64),
+    /// So many events on, of which each is shown, or those alone that concern a node.
+    Trace {
+        count: u64,
+        node: Option<u8>,
+    },
     Back(u64),
     Until(Sought<'a>),
     BackUntil(Sought<'a>),
@@ -70,6 +75,7 @@ enum FirstWord {
     Events,
     Go,
     Next,
+    Trace,
     Back,
     Until,
     Look,
@@ -93,10 +99,11 @@ struct Usage {
     does: &'static str,
 }
 
-const FIRST_WORDS: [(&str, FirstWord); 17] = [
+const FIRST_WORDS: [(&str, FirstWord); 18] = [
     ("events", FirstWord::Events),
     ("go", FirstWord::Go),
     ("next", FirstWord::Next),
+    ("trace", FirstWord::Trace),
     ("back", FirstWord::Back),
     ("until", FirstWord::Until),
     ("look", FirstWord::Look),
@@ -171,6 +178,10 @@ impl FirstWord {
             ),
             FirstWord::Go => ("go N", "to the moment after the first N events"),
             FirstWord::Next => ("next [N]", "N events on"),
+            FirstWord::Trace => (
+                "trace [N [K]]",
+                "N events on, and shows what each does, or those of node K",
+            ),
             FirstWord::Back => (
                 "back [N], or back until ..",
                 "N events back, or to the last moment that is so",
@@ -344,6 +355,17 @@ impl<'a> CommandWords<'a> {
         Ok(DebugCommand::Back(self.number_or(1)?))
     }
 
+    // What stands behind `trace`.
+    fn trace(&mut self) -> Result<DebugCommand<'a>, CommandFault<'a>> {
+        let count = self.number_or(10)?;
+        let node = if self.is_empty() {
+            None
+        } else {
+            Some(self.small()?)
+        };
+        Ok(DebugCommand::Trace { count, node })
+    }
+
     fn memory(&mut self) -> Result<DebugCommand<'a>, CommandFault<'a>> {
         Ok(DebugCommand::Memory {
             node: self.small()?,
@@ -365,6 +387,7 @@ impl<'a> CommandWords<'a> {
             },
             FirstWord::Go => DebugCommand::Go(self.number(u64::MAX)?),
             FirstWord::Next => DebugCommand::Next(self.number_or(1)?),
+            FirstWord::Trace => self.trace()?,
             FirstWord::Back => self.back()?,
             FirstWord::Until => DebugCommand::Until(self.sought()?),
             FirstWord::Look => DebugCommand::Look,

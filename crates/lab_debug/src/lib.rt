@@ -4,11 +4,11 @@
 mod code;
 mod command;
 mod fault;
-mod labels;
 mod moving;
 mod reading;
 mod showing;
 mod talking;
+mod tracing;
 mod until;
 
 pub use fault::DebugFault;

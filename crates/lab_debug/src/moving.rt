@@ -6,18 +6,23 @@ ghost use Rattle.lab_timeline.specs.Timeline.{IsMomentAt};
 use crate::code::write_code;
 use crate::command::{Address, DebugCommand, Sought, write_help};
 use crate::fault::DebugFault;
-use crate::labels::{Program, ProgramLine};
 use crate::showing::{
     write_events, write_hosts, write_links, write_look, write_memory, write_place, write_queue,
-    write_registers, write_switch,
+    write_registers, write_said, write_switch,
 };
+use crate::tracing::{concerns, write_next_move, write_next_step};
 use crate::until::{Goal, seek, seek_back};
 use bootstrap::Node;
-use farm_causes::{FollowFault, WhyFault, explain_moment};
+use domain_core::Event;
+use farm_causes::{FollowFault, RecordedLine, WhyFault, explain_moment};
 use lab_timeline::Timeline;
+use node_trace::{Program, ProgramLine};
 use script_text::TextWriter;
 use std::alloc::Global;
 use t414_assembly::TextFault;
+
+/// The most events that are shown at once.
+const MOST_TRACED: u64 = 100_000;
 
 /// The program of a node.
 #[derive(Drop)]
@@ -168,6 +173,59 @@ impl<'a> Debugger<'a> {
         Ok(())
     }
 
+    // Shows what the next event does, which is one of this line, if it concerns the node.
+    fn show_next(
+        &mut self,
+        line: &RecordedLine,
+        only: Option<u8>,
+        text: &mut TextWriter,
+    ) -> Result<(), DebugFault> {
+        let event = line.call.event;
+        if let Some(number) = only
+            && !concerns(&mut self.timeline, event, number)
+        {
+            return Ok(());
+        }
+        match event {
+            Event::Step(number) => self.show_step(number, text)?,
+            Event::Move(port) => write_next_move(&mut self.timeline, port, text),
+            _ => write_said(line, text),
+        }
+        Ok(())
+    }
+
+    // Shows what the next Step of a node does.
+    fn show_step(&self, number: u8, text: &mut TextWriter) -> Result<(), DebugFault> {
+        let lines = self.lines(number)?;
+        if let Some(node) = self.timeline.here().node(number) {
+            write_next_step(node, number, lines.as_slice(), text)?;
+        }
+        Ok(())
+    }
+
+    // Goes so many events on, and shows what each does, or those alone that concern a node.
+    fn trace(
+        &mut self,
+        count: u64,
+        only: Option<u8>,
+        text: &mut TextWriter,
+    ) -> Result<(), DebugFault> {
+        if let Some(number) = only
+            && self.node(number, text).is_none()
+        {
+            return Ok(());
+        }
+        for _ in 0..count.min(MOST_TRACED) {
+            let Some(line) = self.timeline.upcoming() else {
+                break;
+            };
+            self.show_next(&line, only, text)?;
+            self.go(self.recorded().saturating_add(1))?;
+        }
+        write_place(&self.timeline, text);
+        Ok(())
+    }
+
     // What is looked for, with its address as a number.
     fn goal(&self, sought: Sought, text: &mut TextWriter) -> Result<Option<Goal>, DebugFault> {
         Ok(match sought {
@@ -292,6 +350,7 @@ impl<'a> Debugger<'a> {
         match command {
             DebugCommand::Go(event) => self.go_to(event, text),
             DebugCommand::Next(count) => self.go_to(recorded.saturating_add(count), text),
+            DebugCommand::Trace { count, node } => self.trace(count, node, text),
             DebugCommand::Back(count) => self.go_to(recorded.saturating_sub(count), text),
             DebugCommand::Until(sought) => self.go_until(sought, Direction::On, text),
             DebugCommand::BackUntil(sought) => self.go_until(sought, Direction::Back, text),

@@ -123,6 +123,13 @@ pub fn write_place(timeline: &Timeline, text: &mut TextWriter) {
     text.push("\n");
 }
 
+/// Writes one event of a line, with its answer.
+pub fn write_said(line: &RecordedLine, text: &mut TextWriter) {
+    write_call(line, text);
+    write_answer(line, text);
+    text.push("\n");
+}
+
 // Writes what one event of a line was answered.
 fn write_answer(line: &RecordedLine, text: &mut TextWriter) {
     match line.answer {

@@ -3,10 +3,15 @@
 use crate::hosts::{LinkHost, LinkInput, hosts_of};
 use crate::instruction::InstructionByte;
 use crate::packets::send;
-use crate::performing::write_step;
+use crate::performing::{ProgramColumn, write_step};
+use crate::program::{ProgramLine, width_of};
 use bootstrap::{BootFault, LinkNumber, Node, Stepped, boot_message};
 use script_text::TextWriter;
 use std::alloc::{AllocError, Global};
+use step_meter::StepMeter;
+
+/// How wide the column of a program's lines is at most.
+const MOST_WIDTH: usize = 40;
 
 /// What is traced of a node that is booted with code.
 #[derive(Clone, Copy)]
@@ -19,6 +24,8 @@ pub struct BootTrace<'a> {
     pub until: Option<u32>,
     /// What hosts at the links send to the program.
     pub inputs: &'a [LinkInput],
+    /// The lines of the program that the code is, or none.
+    pub lines: &'a [ProgramLine<'a>],
 }
 
 /// Why a trace ends.
@@ -33,23 +40,37 @@ enum TraceEnd {
 }
 
 /// Boots a node of 4,096 bytes with code by link 0, and gives a line for each Step that follows, up to so many, to the
-/// first that is idle, to a fault, or to an address: the address of the instruction, the instruction, and what changed.
+/// first that is idle, to a fault, or to an address: the address of the instruction, the instruction, and what changed. If the
+/// lines of a program are given, the nearest label and the line stand behind an instruction of it.
 ///
 /// Packets have lines of their own. A host at each link takes those that leave, acknowledges each byte, and sends the bytes
 /// of its inputs, each as soon as the one before it is acknowledged. The last lines say why the trace stops, if no Step
-/// does, and which bytes weren't taken.
-pub fn trace_boot(alloc: Global, trace: &BootTrace) -> Result<String, BootFault> {
+/// does, and which bytes weren't taken. Each Step is noted by the meter.
+///
+/// # Errors
+///
+/// `TooShort` and `TooLong` if a boot doesn't take the code; `NoMemory`.
+pub fn trace_boot<M: StepMeter>(
+    alloc: Global,
+    trace: &BootTrace,
+    meter: &mut M,
+) -> Result<String, BootFault> {
     let message = boot_message(alloc, trace.code)?;
-    trace_message(alloc, message.as_slice(), trace).map_err(|_| BootFault::NoMemory)
+    trace_message(alloc, message.as_slice(), trace, meter).map_err(|_| BootFault::NoMemory)
 }
 
 // Traces a node that a boot message boots.
-fn trace_message(alloc: Global, message: &[u8], trace: &BootTrace) -> Result<String, AllocError> {
+fn trace_message<M: StepMeter>(
+    alloc: Global,
+    message: &[u8],
+    trace: &BootTrace,
+    meter: &mut M,
+) -> Result<String, AllocError> {
     let mut node = Node::open(alloc, 4096)?;
     send(&mut node, LinkNumber::Zero, message);
     let mut hosts = hosts_of(alloc, trace.inputs)?;
     let mut text = TextWriter::new(alloc);
-    let end = write_lines(&mut node, hosts.as_mut_slice(), trace, &mut text)?;
+    let end = write_lines(&mut node, hosts.as_mut_slice(), trace, meter, &mut text)?;
     write_end(end, &mut text);
     for host in &hosts {
         host.write_rest(&mut text);
@@ -58,12 +79,14 @@ fn trace_message(alloc: Global, message: &[u8], trace: &BootTrace) -> Result<Str
 }
 
 // Writes the lines of Steps and packets.
-fn write_lines(
+fn write_lines<M: StepMeter>(
     node: &mut Node,
     hosts: &mut [LinkHost],
     trace: &BootTrace,
+    meter: &mut M,
     text: &mut TextWriter,
 ) -> Result<TraceEnd, AllocError> {
+    let source = column_of(trace.lines);
     for _ in 0..trace.steps {
         for host in hosts.iter_mut() {
             host.send_next(node, text);
@@ -72,7 +95,8 @@ fn write_lines(
         if let Some(address) = met_address(next, trace.until) {
             return Ok(TraceEnd::Before(address));
         }
-        let stepped = write_line(node, next, text)?;
+        let stepped = write_line(node, next, source, text)?;
+        meter.note(1);
         for host in hosts.iter_mut() {
             host.take_packets(node, text);
         }
@@ -91,17 +115,36 @@ fn met_address(next: Option<InstructionByte>, until: Option<u32>) -> Option<u32>
     }
 }
 
+// The lines of a program as a column.
+fn column_of<'a>(lines: &'a [ProgramLine<'a>]) -> ProgramColumn<'a> {
+    ProgramColumn {
+        lines,
+        width: width_of(lines, MOST_WIDTH),
+    }
+}
+
+/// Does one Step, and writes its line, as `trace_boot` does.
+pub fn trace_step(
+    node: &mut Node,
+    lines: &[ProgramLine],
+    text: &mut TextWriter,
+) -> Result<Stepped, AllocError> {
+    let next = InstructionByte::next(node)?;
+    write_line(node, next, column_of(lines), text)
+}
+
 // Does a Step, and writes its line.
 fn write_line(
     node: &mut Node,
     next: Option<InstructionByte>,
+    source: ProgramColumn,
     text: &mut TextWriter,
 ) -> Result<Stepped, AllocError> {
     if let Some(instruction) = next {
         text.push_word(instruction.address);
         text.push(" ");
     }
-    let stepped = write_step(node, next, text)?;
+    let stepped = write_step(node, next, source, text)?;
     text.push("\n");
     Ok(stepped)
 }

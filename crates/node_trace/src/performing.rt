@@ -2,8 +2,10 @@
 
 use crate::changes::{write_all_registers, write_changes};
 use crate::commands::{NodeChange, Query, TraceCommand};
+use crate::fault::TraceFault;
 use crate::instruction::InstructionByte;
 use crate::packets::{peek, poke, receive, send, write_packet};
+use crate::program::{ProgramLine, write_source};
 use crate::settings::NodeSettings;
 use crate::sizes::memory_size;
 use crate::snapshot::Snapshot;
@@ -12,6 +14,7 @@ use answer_text::{write_seen, write_stepped};
 use bootstrap::{BootFault, CODE_START, Cpu, Links, Memory, NoMemory, Node, Stepped, boot_message};
 use script_text::TextWriter;
 use std::alloc::Global;
+use step_meter::{StepMeter, StepsEnd};
 use t414_assembly::{Instruction, write_instruction};
 use t414_decode::{Function, accumulate, decode};
 
@@ -33,23 +36,24 @@ pub fn or_dash(alloc: Global, text: &str) -> Result<String, NoMemory> {
 }
 
 /// Does what a line asks for on a node, and writes the answer; the node as it is then.
-pub fn perform(
+pub fn perform<M: StepMeter>(
     alloc: Global,
     node: Node,
     command: &TraceCommand,
+    meter: &mut M,
     text: &mut TextWriter,
-) -> Result<Node, NoMemory> {
+) -> Result<Node, TraceFault> {
     let mut node = node;
     match command {
         TraceCommand::Node(size, settings) => {
             return Ok(put(open_running(alloc, *size)?, settings, text));
         }
-        TraceCommand::Open(size) => return Node::open(alloc, memory_size(*size)),
+        TraceCommand::Open(size) => return Ok(Node::open(alloc, memory_size(*size))?),
         TraceCommand::Set(settings) => return Ok(put(node, settings, text)),
         TraceCommand::Try(settings) => write_trial(alloc, settings, text)?,
         TraceCommand::Decode(bytes) => write_decoded(bytes.as_slice(), text),
         TraceCommand::Ask(query) => write_answer(&node, *query, text),
-        TraceCommand::Step(count) => write_steps(&mut node, *count, text)?,
+        TraceCommand::Step(count) => write_steps(&mut node, *count, meter, text)?,
         TraceCommand::Take(link) => write_packet(text, node.take(*link)),
         TraceCommand::Peek(address) => match peek(&mut node, *address) {
             Some(word) => text.push_word(word),
@@ -57,7 +61,7 @@ pub fn perform(
         },
         TraceCommand::NodeChange(change) => {
             let before = Snapshot::of(&node)?;
-            make_change(alloc, &mut node, change, text)?;
+            make_change(alloc, &mut node, change, meter, text)?;
             write_changes(text, &before, &node, 0);
         }
     }
@@ -101,21 +105,22 @@ fn write_answer(node: &Node, query: Query, text: &mut TextWriter) {
 }
 
 // Changes a node, and writes what was answered beside the changes.
-fn make_change(
+fn make_change<M: StepMeter>(
     alloc: Global,
     node: &mut Node,
     change: &NodeChange,
+    meter: &mut M,
     text: &mut TextWriter,
-) -> Result<(), NoMemory> {
+) -> Result<(), TraceFault> {
     match change {
-        NodeChange::Run(count) => run(node, *count, text),
+        NodeChange::Run(count) => run(node, *count, meter, text)?,
         NodeChange::Deliver(link, packet) => node.deliver(*link, *packet),
         NodeChange::Reset => node.reset(),
         NodeChange::Clear => node.clear(),
         NodeChange::Send(link, bytes) => send(node, *link, bytes.as_slice()),
         NodeChange::Boot(link, code) => match boot_message(alloc, code.as_slice()) {
             Ok(message) => send(node, *link, message.as_slice()),
-            Err(BootFault::NoMemory) => return Err(NoMemory),
+            Err(BootFault::NoMemory) => return Err(TraceFault::Memory(NoMemory)),
             Err(fault) => write_refused(text, fault, code.len()),
         },
         NodeChange::Receive(link) => match receive(node, *link) {
@@ -139,39 +144,87 @@ fn write_refused(text: &mut TextWriter, fault: BootFault, count: usize) {
 }
 
 // Does Steps up to one that would not be recorded, and writes how many, and what the last answered.
-fn run(node: &mut Node, count: u64, text: &mut TextWriter) {
-    let burst = node.burst(count);
-    text.push_decimal(burst.steps);
-    if let Some(last) = burst.last {
+fn run<M: StepMeter>(
+    node: &mut Node,
+    count: u64,
+    meter: &mut M,
+    text: &mut TextWriter,
+) -> Result<(), StepsEnd> {
+    let mut done: u64 = 0;
+    let mut last = None;
+    for _ in 0..count {
+        if done >= count {
+            break;
+        }
+        let some = meter.allow(count - done)?;
+        let burst = node.burst(some);
+        meter.note(burst.steps);
+        done = done.saturating_add(burst.steps);
+        last = burst.last.or(last);
+        if burst.steps < some {
+            break;
+        }
+    }
+    text.push_decimal(done);
+    if let Some(last) = last {
         text.push(" ");
         push_stepped(text, last);
     }
+    Ok(())
 }
 
 // Does Steps up to one that doesn't run, each of which has a line: its instruction, what it answered, what changed.
-fn write_steps(node: &mut Node, count: u64, text: &mut TextWriter) -> Result<(), NoMemory> {
+fn write_steps<M: StepMeter>(
+    node: &mut Node,
+    count: u64,
+    meter: &mut M,
+    text: &mut TextWriter,
+) -> Result<(), TraceFault> {
     for number in 0..count {
+        let _ = meter.allow(1)?;
+        meter.note(1);
         if number != 0 {
             text.push("\n");
         }
         let next = InstructionByte::next(node)?;
-        if write_step(node, next, text)? != Stepped::Ran {
+        if write_step(node, next, ProgramColumn::NONE, text)? != Stepped::Ran {
             break;
         }
     }
     Ok(())
 }
 
-/// Does one Step, which does this instruction byte, and writes the instruction, what it answered and what changed.
+/// The lines of a program, as a column of so many letters.
+#[derive(Clone, Copy)]
+pub struct ProgramColumn<'a> {
+    pub lines: &'a [ProgramLine<'a>],
+    pub width: usize,
+}
+
+impl ProgramColumn<'_> {
+    // No program is known.
+    const NONE: ProgramColumn<'static> = ProgramColumn {
+        lines: &[],
+        width: 0,
+    };
+}
+
+/// Does one Step, which does this instruction byte, and writes the instruction, its place and line in a program if it has
+/// one, what it answered and what changed.
 pub fn write_step(
     node: &mut Node,
     next: Option<InstructionByte>,
+    source: ProgramColumn,
     text: &mut TextWriter,
 ) -> Result<Stepped, NoMemory> {
     let before = Snapshot::of(node)?;
     let stepped = node.step();
     if let Some(instruction) = next {
+        let begin = text.as_mut_string().len();
         instruction.write(text);
+        if write_source(text, begin, source.lines, instruction.address, source.width) {
+            text.push(" ");
+        }
         text.push(" ");
     }
     push_stepped(text, stepped);

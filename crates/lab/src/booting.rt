@@ -1,0 +1,92 @@
+//! A node that is booted with code, and traced.
+
+use crate::command_line::{BootOptions, BootedCode};
+use crate::failure::LabFailure;
+use crate::meter::TerminalMeter;
+use crate::reports::Report;
+use node_trace::{BootTrace, Program, ProgramLine, trace_boot};
+use script_text::hexadecimal_word;
+use std::alloc::Global;
+use std::fs;
+
+/// Traces a node that is booted with the code of the words, or with that of the program in a file.
+pub fn report_booted(rt: &HostRuntime, options: &BootOptions) -> Result<Report, LabFailure> {
+    let text = match &options.code {
+        BootedCode::Bytes(code) => {
+            let until = address_of(options.until)?;
+            trace_code(rt, options, code.as_slice(), until, &[])?
+        }
+        BootedCode::Program(file) => trace_program(rt, options, &read_program(rt, file)?)?,
+    };
+    Ok(Report { text, status: 0 })
+}
+
+// The program in a file, if a boot takes its code.
+fn read_program(rt: &HostRuntime, file: &str) -> Result<Program, LabFailure> {
+    let alloc = rt.alloc();
+    match fs::read(rt, file) {
+        Ok(text) => match booted_program(alloc, text) {
+            Ok(program) => Ok(program),
+            Err(failure) => Err(failure.in_file(alloc, file)),
+        },
+        Err(error) => Err(LabFailure::of_input(&error).in_file(alloc, file)),
+    }
+}
+
+// The program of a text, if a boot takes its code.
+fn booted_program(alloc: Global, text: Vec<u8>) -> Result<Program, LabFailure> {
+    let program = Program::read(alloc, text)?;
+    match program.code().len() {
+        2..=255 => Ok(program),
+        length => Err(LabFailure::Length(length)),
+    }
+}
+
+fn trace_program(
+    rt: &HostRuntime,
+    options: &BootOptions,
+    program: &Program,
+) -> Result<String, LabFailure> {
+    let alloc = rt.alloc();
+    let labelled = match options.until {
+        Some(word) => program.address_of(alloc, word)?,
+        None => None,
+    };
+    let until = match labelled {
+        Some(address) => Some(address),
+        None => address_of(options.until)?,
+    };
+    let lines = program.lines(alloc)?;
+    trace_code(rt, options, program.code(), until, lines.as_slice())
+}
+
+fn trace_code(
+    rt: &HostRuntime,
+    options: &BootOptions,
+    code: &[u8],
+    until: Option<u32>,
+    lines: &[ProgramLine],
+) -> Result<String, LabFailure> {
+    let trace = BootTrace {
+        code,
+        steps: options.steps,
+        until,
+        inputs: options.inputs.as_slice(),
+        lines,
+    };
+    let mut meter = TerminalMeter::begin(rt, None);
+    let traced = trace_boot(rt.alloc(), &trace, &mut meter);
+    meter.wipe();
+    Ok(traced?)
+}
+
+// The address that a word says, if there is a word.
+fn address_of(word: Option<&str>) -> Result<Option<u32>, LabFailure> {
+    match word {
+        Some(word) => match hexadecimal_word(word) {
+            Some(address) => Ok(Some(address)),
+            None => Err(LabFailure::Address),
+        },
+        None => Ok(None),
+    }
+}

@@ -1,0 +1,89 @@
+//! What the next event of a record does: a Step, or a packet that moves.
+
+use bootstrap::Node;
+use domain_core::{Device, Event, Moved, NoMemory, device_at};
+use lab_timeline::Timeline;
+use node_trace::{ProgramLine, trace_step, write_packet};
+use plan_views::write_device;
+use script_text::TextWriter;
+
+// The device that is joined to a virtual port.
+fn device(timeline: &Timeline, port: u8) -> Option<Device> {
+    device_at(timeline.here().part(), port)
+}
+
+// Whether a port is that of a link of a node.
+fn is_of_node(timeline: &Timeline, port: u8, number: u8) -> bool {
+    matches!(device(timeline, port), Some(Device::Link { node, .. }) if node == number)
+}
+
+// Whether an output is among those of a mask.
+fn is_among(outputs: u32, output: u8) -> bool {
+    output < 32 && outputs >> output & 1 == 1
+}
+
+/// Whether the next event, which is this one, is a Step of a node, or moves a packet from a link of it or to one.
+pub fn concerns(timeline: &mut Timeline, event: Event, number: u8) -> bool {
+    match event {
+        Event::Step(node) => node == number,
+        Event::Move(port) => {
+            let outputs = match timeline.port_state(port) {
+                Some(state) => state.drives,
+                None => 0,
+            };
+            is_of_node(timeline, port, number)
+                || (0..32u8).any(|output| {
+                    is_among(outputs, output) && is_of_node(timeline, output, number)
+                })
+        }
+        _ => false,
+    }
+}
+
+/// Writes what the next Step of a node does, with its place in the lines of a program: on a copy of it.
+pub fn write_next_step(
+    node: &Node,
+    number: u8,
+    lines: &[ProgramLine],
+    text: &mut TextWriter,
+) -> Result<(), NoMemory> {
+    let mut copy = node.copy()?;
+    text.push("node ");
+    text.push_decimal(u64::from(number));
+    text.push(" ");
+    let _ = trace_step(&mut copy, lines, text)?;
+    Ok(())
+}
+
+// Writes a port, and the device that is joined there.
+fn write_port(timeline: &Timeline, port: u8, text: &mut TextWriter) {
+    text.push_decimal(u64::from(port));
+    text.push(" (");
+    write_device(text, timeline.plan(), 0, device(timeline, port));
+    text.push(")");
+}
+
+/// Writes which packet the next Move of a port takes, and where it goes.
+pub fn write_next_move(timeline: &mut Timeline, port: u8, text: &mut TextWriter) {
+    let Some(state) = timeline.port_state(port) else {
+        return;
+    };
+    text.push("port ");
+    write_port(timeline, port, text);
+    text.push(" ");
+    write_packet(text, state.packet);
+    match state.moved {
+        Moved::Passed => text.push(" goes to"),
+        Moved::Lost => text.push(" is lost"),
+        Moved::Stayed | Moved::Nothing => text.push(" stays"),
+    }
+    if state.moved == Moved::Passed {
+        for output in 0..32u8 {
+            if is_among(state.drives, output) {
+                text.push(" ");
+                write_port(timeline, output, text);
+            }
+        }
+    }
+    text.push("\n");
+}

@@ -1,0 +1,34 @@
+//! Why the lines of a text aren't answered.
+
+use line_words::{NumberedLineFault, WrongLine};
+use std::alloc::AllocError;
+use step_meter::StepsEnd;
+use thiserror::Error;
+
+/// Why the lines of a text aren't answered.
+#[derive(Clone, Copy, Debug, Error)]
+pub enum TraceFault {
+    /// A line is wrong. None was done.
+    #[error("{0}")]
+    Line(WrongLine),
+    /// As many Steps were done as may be, and a line asks for more.
+    #[error("{0}")]
+    Steps(StepsEnd),
+    #[error("memory")]
+    Memory(#[from(alloc)] AllocError),
+}
+
+impl From<NumberedLineFault> for TraceFault {
+    fn from(fault: NumberedLineFault) -> TraceFault {
+        match fault {
+            NumberedLineFault::Wrong(wrong) => TraceFault::Line(wrong),
+            NumberedLineFault::Memory(error) => TraceFault::Memory(error),
+        }
+    }
+}
+
+impl From<StepsEnd> for TraceFault {
+    fn from(end: StepsEnd) -> TraceFault {
+        TraceFault::Steps(end)
+    }
+}
