@@ -20,6 +20,7 @@ const PLACES: usize = 12;
 pub struct PlacedLabel<'a> {
     /// Its name, without the colon.
     pub name: &'a str,
+    /// The address of what follows it.
     pub address: u32,
 }
 
@@ -30,6 +31,7 @@ pub struct ProgramLine<'a> {
     pub address: u32,
     /// How many bytes it has.
     pub length: u32,
+    /// The line as it was written.
     pub text: &'a str,
     /// The nearest label, on the line or above it.
     pub label: Option<PlacedLabel<'a>>,
