@@ -1,5 +1,6 @@
--- Putting and taking, on the list that waits.
-use Rattle.std.proofs.Common.{◌≡◌, ◌≢◌, ℕ, ◌/◌, ◌^◌, ◌<◌, Bool, true, false, cond, List, [], ◌∷◌, ◌++◌, Option, Some, None, Result, Ok, Err, refl, arith, ◌∙◌, ap, sym}
+-- Putting and taking, on the list that waits, for the contracts of `Queue::put` and `Queue::take`.
+use Rattle.std.proofs.Common.{◌≡◌, ◌≢◌, ℕ, ◌/◌, ◌^◌, ◌<◌, Bool, true, false, cond, List, [], ◌∷◌, ◌++◌, Option, Some}
+use Rattle.std.proofs.Common.{None, Result, Ok, Err, refl, arith, ◌∙◌, ap, sym}
 use Rattle.std.proofs.lemmas.Bool.Decides.{nat_tests}
 use Rattle.node_memory.specs.Bytes.{word_at, with_word, word_from, word_offset, holds_word}
 use Rattle.node_memory.specs.Laws.{WordIsRead, OtherWordsStay, WriteFaultsAsRead}
@@ -20,17 +21,21 @@ last_differs m w v [] back absent linked = λ e. absent.0 (e ∙ linked)
 last_differs m w v (u ∷ us) back absent linked = last_differs m w u us back absent.1 linked.1
 
 -- the last of a linked list is a workspace
-last_is : (m : List ℕ) (v : ℕ) (vs : List ℕ) (back : ℕ) → AreWorkspaces (v ∷ vs) → IsLinked m v vs back → IsWorkspace back
+last_is : (m : List ℕ) (v : ℕ) (vs : List ℕ) (back : ℕ) → AreWorkspaces (v ∷ vs) → IsLinked m v vs back
+    → IsWorkspace back
 last_is m v [] back ws linked = rw linked ws.0
 last_is m v (u ∷ us) back ws linked = last_is m u us back ws.1.1 linked.1
 
 -- a write of the last link word lengthens the list
-linked-put : WordIsRead → OtherWordsStay → (m n : List ℕ) (v : ℕ) (vs : List ℕ) (back w : ℕ) → AreWorkspaces (v ∷ vs) → w < 2 ^ 32 → with_word m (link_of back) w ≡ Ok n → IsLinked m v vs back → IsLinked n v (vs ++ w ∷ []) w
+linked-put : WordIsRead → OtherWordsStay → (m n : List ℕ) (v : ℕ) (vs : List ℕ) (back w : ℕ) → AreWorkspaces (v ∷ vs)
+    → w < 2 ^ 32 → with_word m (link_of back) w ≡ Ok n → IsLinked m v vs back
+    → IsLinked n v (vs ++ w ∷ []) w
 linked-put read stay m n v [] back w ws fits write linked =
     (read m n (link_of v) w fits (rw (← linked) write), refl)
 linked-put read stay m n v (u ∷ us) back w ws fits write linked = (
   stay m n (link_of back) (link_of v) w
-      (apart_links back v (last_is m u us back ws.1.1 linked.1) ws.0 (λ e. last_differs m v u us back ws.1.0 linked.1 (sym e)))
+      (apart_links back v (last_is m u us back ws.1.1 linked.1) ws.0
+      (λ e. last_differs m v u us back ws.1.0 linked.1 (sym e)))
       write
       ∙ linked.0,
   linked-put read stay m n u us back w ws.1.1 fits write linked.1,
@@ -55,24 +60,30 @@ unfolding word_at
 word_at-fault m a f h = cond-fault (holds_word m a) (word_from m (word_offset a)) f h
 
 -- what comes of a put
-put_empty : (q : Queue) (m : List ℕ) (w : ℕ) → q.front ≡ not_process → after_put q m w ≡ Changed (record { front = w; back = w }) m
+put_empty : (q : Queue) (m : List ℕ) (w : ℕ) → q.front ≡ not_process
+    → after_put q m w ≡ Changed (record { front = w; back = w }) m
 unfolding after_put
 put_empty q m w e = rw e refl
 
-put_more : (q : Queue) (m : List ℕ) (w : ℕ) → q.front ≢ not_process → after_put q m w ≡ linked (with_word m (link_of q.back) w) q m (record { front = q.front; back = w })
+put_more : (q : Queue) (m : List ℕ) (w : ℕ) → q.front ≢ not_process
+    → after_put q m w ≡ linked (with_word m (link_of q.back) w) q m (record { front = q.front; back = w })
 unfolding after_put
 put_more q m w ne = grind (arith, nat_tests)
 
-linked-changed : (x : Result (List ℕ) Fault) (q r s : Queue) (m n : List ℕ) → linked x q m s ≡ Changed r n → (x ≡ Ok n) × (r ≡ s)
+linked-changed : (x : Result (List ℕ) Fault) (q r s : Queue) (m n : List ℕ) → linked x q m s ≡ Changed r n
+    → (x ≡ Ok n) × (r ≡ s)
 linked-changed (Ok k) q r s m n e = (cc, cc)
 linked-changed (Err fault) q r s m n e = cc
 
-linked-kept : (x : Result (List ℕ) Fault) (q r s : Queue) (m n : List ℕ) (f : Fault) → linked x q m s ≡ Kept f r n → x ≡ Err f
+linked-kept : (x : Result (List ℕ) Fault) (q r s : Queue) (m n : List ℕ) (f : Fault) → linked x q m s ≡ Kept f r n
+    → x ≡ Err f
 linked-kept (Ok k) q r s m n f e = cc
 linked-kept (Err fault) q r s m n f e = cc
 
 -- a put that is done found the last link word in memory, if there is one
-pub put-inside : WriteFaultsAsRead → (q r : Queue) (m n : List ℕ) (w : ℕ) → after_put q m w ≡ Changed r n → q.front ≢ not_process → word_at m (link_of q.back) ≡ Err OutsideMemory → ⊥
+pub put-inside : WriteFaultsAsRead → (q r : Queue) (m n : List ℕ) (w : ℕ) → after_put q m w ≡ Changed r n
+    → q.front ≢ not_process → word_at m (link_of q.back) ≡ Err OutsideMemory
+    → ⊥
 put-inside faults q r m n w e ne outside =
     let done = linked-changed _ _ _ _ _ _ (sym (put_more q m w ne) ∙ e) in
     let fault = (faults m (link_of q.back) w OutsideMemory).1 outside in
@@ -80,7 +91,8 @@ put-inside faults q r m n w e ne outside =
     cc
 
 -- one that is not done found it outside
-pub put-outside : WriteFaultsAsRead → (q r : Queue) (m n : List ℕ) (w : ℕ) (f : Fault) → after_put q m w ≡ Kept f r n → (f ≡ OutsideMemory) × (q.front ≢ not_process) × (word_at m (link_of q.back) ≡ Err OutsideMemory)
+pub put-outside : WriteFaultsAsRead → (q r : Queue) (m n : List ℕ) (w : ℕ) (f : Fault) → after_put q m w ≡ Kept f r n
+    → (f ≡ OutsideMemory) × (q.front ≢ not_process) × (word_at m (link_of q.back) ≡ Err OutsideMemory)
 put-outside faults q r m n w f e =
     let ne : q.front ≢ not_process = λ h. (let p = put_empty q m w h in cc) in
     let fault = linked-kept _ _ _ _ _ _ _ (sym (put_more q m w ne) ∙ e) in
@@ -89,25 +101,35 @@ put-outside faults q r m n w f e =
     (same, ne, rw (← same) unread)
 
 -- a new workspace goes to the end of the list
-pub stands-put : WordIsRead → OtherWordsStay → (ws : List ℕ) (q r : Queue) (m n : List ℕ) (w : ℕ) → after_put q m w ≡ Changed r n → Stands m q ws → IsWorkspace w → IsAbsent w ws → Stands n r (ws ++ w ∷ [])
+pub stands-put : WordIsRead → OtherWordsStay → (ws : List ℕ) (q r : Queue) (m n : List ℕ) (w : ℕ)
+    → after_put q m w ≡ Changed r n → Stands m q ws → IsWorkspace w → IsAbsent w ws
+    → Stands n r (ws ++ w ∷ [])
 stands-put read stay [] q r m n w e stands p a =
     let f = sym (put_empty q m w stands) ∙ e in
     let g : r ≡ record { front = w; back = w } = cc in
     rw g (refl, (refl, (p, (tt, tt))))
 stands-put read stay (v ∷ vs) q r m n w e stands p a =
     let f = linked-changed _ _ _ _ _ _ (sym (put_more q m w (rw stands.0 stands.1.1.0.process)) ∙ e) in
-    rw f.1 (stands.0, (linked-put read stay m n v vs q.back w stands.1.1 p.fits f.0 stands.1.0, workspaces-put (v ∷ vs) w stands.1.1 p a))
+    rw f.1 (
+      stands.0,
+      (
+        linked-put read stay m n v vs q.back w stands.1.1 p.fits f.0 stands.1.0,
+        workspaces-put (v ∷ vs) w stands.1.1 p a,
+      ),
+    )
 
 -- what comes of a take
 take_empty : (q : Queue) (m : List ℕ) → q.front ≡ not_process → after_take q m ≡ Took None q
 unfolding after_take
 take_empty q m e = rw e refl
 
-take_last : (q : Queue) (m : List ℕ) → q.front ≢ not_process → q.front ≡ q.back → after_take q m ≡ Took (Some q.front) (record { front = not_process; back = q.back })
+take_last : (q : Queue) (m : List ℕ) → q.front ≢ not_process → q.front ≡ q.back
+    → after_take q m ≡ Took (Some q.front) (record { front = not_process; back = q.back })
 unfolding after_take
 take_last q m ne e = grind (arith, nat_tests)
 
-take_more : (q : Queue) (m : List ℕ) → q.front ≢ not_process → q.front ≢ q.back → after_take q m ≡ followed (word_at m (link_of q.front)) q
+take_more : (q : Queue) (m : List ℕ) → q.front ≢ not_process → q.front ≢ q.back
+    → after_take q m ≡ followed (word_at m (link_of q.front)) q
 unfolding after_take
 take_more q m ne e = grind (arith, nat_tests)
 
@@ -120,12 +142,17 @@ followed-stayed (Ok next) q r f e = cc
 followed-stayed (Err fault) q r f e = cc
 
 -- a take that is done found the first link word in memory, if others wait behind it
-pub take-inside : (q r : Queue) (m : List ℕ) (w : Option ℕ) → after_take q m ≡ Took w r → q.front ≢ not_process → q.front ≢ q.back → word_at m (link_of q.front) ≡ Err OutsideMemory → ⊥
+pub take-inside : (q r : Queue) (m : List ℕ) (w : Option ℕ)
+    → after_take q m ≡ Took w r → q.front ≢ not_process → q.front ≢ q.back
+    → word_at m (link_of q.front) ≡ Err OutsideMemory
+    → ⊥
 take-inside q r m w e process last outside =
     followed-took _ _ _ _ (sym (take_more q m process last) ∙ e) outside
 
 -- one that is not done found it outside
-pub take-outside : (q r : Queue) (m : List ℕ) (f : Fault) → after_take q m ≡ Stayed f r → (f ≡ OutsideMemory) × (q.front ≢ not_process) × (q.front ≢ q.back) × (word_at m (link_of q.front) ≡ Err OutsideMemory)
+pub take-outside : (q r : Queue) (m : List ℕ) (f : Fault) → after_take q m ≡ Stayed f r
+    → (f ≡ OutsideMemory) × (q.front ≢ not_process) × (q.front ≢ q.back)
+    × (word_at m (link_of q.front) ≡ Err OutsideMemory)
 take-outside q r m f e =
     let process : q.front ≢ not_process = λ h. (let p = take_empty q m h in cc) in
     let last : q.front ≢ q.back = λ h. (let p = take_last q m process h in cc) in
@@ -134,7 +161,8 @@ take-outside q r m f e =
     (same, process, last, rw (← same) unread)
 
 -- the first is taken, and the others stand
-pub stands-take : (ws : List ℕ) (q : Queue) (m : List ℕ) → Stands m q ws → (r : Queue) × (after_take q m ≡ Took (first ws) r) × Stands m r (others ws)
+pub stands-take : (ws : List ℕ) (q : Queue) (m : List ℕ) → Stands m q ws
+    → (r : Queue) × (after_take q m ≡ Took (first ws) r) × Stands m r (others ws)
 stands-take [] q m stands = (q, take_empty q m stands, stands)
 stands-take (w ∷ []) q m stands = (
   record { front = not_process; back = q.back },

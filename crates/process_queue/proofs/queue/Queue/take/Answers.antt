@@ -17,7 +17,9 @@ unfolding after_take
 returns-clause-others c = λ ws s.
     let q = c.args.self.now in
     let t = stands-take ws q c.args.memory.now s in
-    let e : after_take q c.args.memory.now ≡ Took (Some q.front) (record { front = c.if-workspace-self.self; back = q.back }) = search rules in
+    let e : after_take q c.args.memory.now
+    ≡ Took (Some q.front) (record { front = c.if-workspace-self.self; back = q.back }) =
+    search rules in
     let f : t.0 ≡ record { front = c.if-workspace-self.self; back = q.back } = cc in
     rw (← f) t.2
 
@@ -34,5 +36,7 @@ pub returns-clause-outside : goal.returns-clause-outside
 unfolding after_take
 returns-clause-outside c =
     let q = c.args.self.now in
-    let e : after_take q c.args.memory.now ≡ Took (Some q.front) (record { front = c.if-workspace-self.self; back = q.back }) = search rules in
+    let e : after_take q c.args.memory.now
+    ≡ Took (Some q.front) (record { front = c.if-workspace-self.self; back = q.back }) =
+    search rules in
     (λ h. cc, λ h. absurd (take-inside q _ c.args.memory.now _ e h.0 h.1 h.2))
