@@ -1,1 +1,2 @@
+-- services of the links
 pub mod LinksWithWork

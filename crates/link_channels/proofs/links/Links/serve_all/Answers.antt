@@ -10,4 +10,5 @@ returns-then-not-self-clause-answer c =
 
 pub returns-clause-work : goal.returns-clause-work
 returns-clause-work c =
-    has_acted-serve_all c.serve_all-acted.result c.self.inside.links _ c.args.self.now _ _ _ _ c.self.view_is c.serve_all-acted.ensures.answer
+    has_acted-serve_all c.serve_all-acted.result c.self.inside.links _ c.args.self.now _ _ _ _ c.self.view_is
+    c.serve_all-acted.ensures.answer
