@@ -1,7 +1,9 @@
+-- words and the switch that they say
 pub mod Below
-mod Counting
-mod Lowering
-pub mod Numberings
-pub mod PlainRows
-pub mod Switching
 pub mod Words
+mod Counting
+pub mod Switching
+-- ports and their numbers
+pub mod Numberings
+mod Lowering
+pub mod PlainRows

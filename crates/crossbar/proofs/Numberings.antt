@@ -1,5 +1,8 @@
--- Distinct ports and their numbers.
-use Rattle.std.proofs.Common.{◌≡◌, ◌≢◌, inl, inr, ℕ, zero, suc, ◌<◌, ◌≤◌, ◌+◌, true, false, Option, Some, None, List, [], ◌∷◌, ◌++◌, length, take, drop, get_or, slice_get, slice_set, is_some, All, refl, sym, ap, ◌∙◌, subst, arith, ◌==◌, eqb, replicate, ◌-◌, append_assoc}
+-- Distinct ports and their numbers: how a numbering grows port by port and range by range, for the contracts of
+-- `Numbering` and for the law `rows_are_words_of_ports`.
+use Rattle.std.proofs.Common.{◌≡◌, ◌≢◌, inl, inr, ℕ, zero, suc, ◌<◌, ◌≤◌, ◌+◌, true, false, Option, Some, None, List}
+use Rattle.std.proofs.Common.{[], ◌∷◌, ◌++◌, length, take, drop, get_or, slice_get, slice_set, is_some, All, refl, sym}
+use Rattle.std.proofs.Common.{ap, ◌∙◌, subst, arith, ◌==◌, eqb, replicate, ◌-◌, append_assoc}
 use Rattle.std.proofs.lemmas.Bool.{cases_eq, cases_Bool, eq-eqb, eqb-true, ne_eqb}
 use Rattle.std.proofs.lemmas.Option.{same_Some, none-some}
 use Rattle.std.proofs.lemmas.List.{take_more_set, get_or_append_left}
@@ -10,7 +13,7 @@ use Rattle.std.specs.List.{IsDistinct, AllByRecursion, list_any, range_with_len}
 use Rattle.std.specs.Option.{option_map}
 use Rattle.crossbar.specs.declared.range.PortRange.{PortRange}
 use Rattle.crossbar.specs.Ranges.{IsOneToOne, IsNumbering, IsPortRange, AreRanges, ports_at, ports_in}
-use Rattle.std.proofs.lemmas.List.{take-append-drop, take_more, take_all, append-nil}
+use Rattle.std.proofs.lemmas.List.{take-append-drop, take_more, append-nil}
 use Rattle.std.proofs.lemmas.List.Elements.{All-append}
 use Rattle.std.proofs.lemmas.List.FromFn.{length-range_with_len, get_or-range_with_len}
 use Rattle.crossbar.specs.Numbers.{IsNumberTable}
@@ -29,30 +32,43 @@ some_still : (o : Option ℕ) → is_some (option_map suc o) ≡ is_some o
 some_still None = refl
 some_still (Some w) = refl
 
-pub number_in-port : (ports : List ℕ) (v port : ℕ) → IsOneToOne ports → slice_get ports v ≡ Some port → number_in ports port ≡ Some v
+-- the number of the port that stands at v is v, if no port stands twice
+pub number_in-port : (ports : List ℕ) (v port : ℕ) → IsOneToOne ports → slice_get ports v ≡ Some port
+    → number_in ports port ≡ Some v
 number_in-port [] v port one is = absurd (none-some port is)
-number_in-port (first ∷ ports) zero port one is = let t : (first == port) ≡ true = eq-eqb _ _ (same_Some _ _ is) in rw t refl
+number_in-port (first ∷ ports) zero port one is =
+    let t : (first == port) ≡ true = eq-eqb _ _ (same_Some _ _ is) in rw t refl
 number_in-port (first ∷ ports) (suc v) port one is =
-    let t : (first == port) ≡ false = ne_eqb _ _ (λ (e : first ≡ port). let same = one 0 (suc v) port (ap (λ (p : ℕ). Some p) e) is in absurd (omega arith)) in
+    let t : (first == port) ≡ false =
+    ne_eqb _ _ (λ (e : first ≡ port). let same = one 0 (suc v) port (ap (λ (p : ℕ). Some p) e) is in
+    absurd (omega arith)) in
     rw t (ap (option_map suc) (number_in-port ports v port (tail_one_to_one first ports one) is))
 
+-- a number that a port has is below the count of ports
 pub number_in-below : (ports : List ℕ) (port v : ℕ) → number_in ports port ≡ Some v → v < length ports
 number_in-below [] port v is = absurd (none-some v is)
 number_in-below (first ∷ ports) port v is =
     elim (cases_Bool (first == port)) [
       | inl same ↦ let zero_is = same_Some _ _ (rw same at is) in omega arith
-      | inr other ↦ let next = counted_on (number_in ports port) v (rw other at is) in let below = number_in-below ports port next.0 next.1 in omega (arith, next.2)
+      | inr other ↦
+          let next = counted_on (number_in ports port) v (rw other at is) in
+          let below = number_in-below ports port next.0 next.1 in
+          omega (arith, next.2)
     ]
 
-pub number_in-some : (ports : List ℕ) (port k : ℕ) → slice_get ports k ≡ Some port → is_some (number_in ports port) ≡ true
+-- a port that stands among the ports has a number
+pub number_in-some : (ports : List ℕ) (port k : ℕ) → slice_get ports k ≡ Some port
+    → is_some (number_in ports port) ≡ true
 number_in-some [] port k is = absurd (none-some port is)
-number_in-some (first ∷ ports) port zero is = let t : (first == port) ≡ true = eq-eqb _ _ (same_Some _ _ is) in rw t refl
+number_in-some (first ∷ ports) port zero is =
+    let t : (first == port) ≡ true = eq-eqb _ _ (same_Some _ _ is) in rw t refl
 number_in-some (first ∷ ports) port (suc k) is =
     elim (cases_Bool (first == port)) [
       | inl same ↦ rw same refl
       | inr other ↦ rw other (some_still (number_in ports port) ∙ number_in-some ports port k is)
     ]
 
+-- the port whose number is v stands at v
 pub number_in-get : (ports : List ℕ) (port v : ℕ) → number_in ports port ≡ Some v → slice_get ports v ≡ Some port
 number_in-get [] port v is = absurd (none-some v is)
 number_in-get (first ∷ ports) port v is =
@@ -65,20 +81,24 @@ number_in-get (first ∷ ports) port v is =
           ap (slice_get (first ∷ ports)) next.2 ∙ number_in-get ports port next.0 next.1
     ]
 
--- a port that is too great for all of them has no number
-pub number_in-past : (ports : List ℕ) (most port : ℕ) → All (λ p. p < most) ports → most ≤ port → number_in ports port ≡ None
+-- a port from a bound on has no number among ports that are all below it
+pub number_in-past : (ports : List ℕ) (most port : ℕ) → All (λ p. p < most) ports → most ≤ port
+    → number_in ports port ≡ None
 number_in-past [] most port below past = refl
 number_in-past (first ∷ ports) most port below past =
-    let t : (first == port) ≡ false = ne_eqb _ _ (λ (e : first ≡ port). let l = below 0 0 (omega arith) in absurd (omega arith)) in
+    let t : (first == port) ≡ false =
+    ne_eqb _ _ (λ (e : first ≡ port). let l = below 0 0 (omega arith) in absurd (omega arith)) in
     rw t (ap (option_map suc) (number_in-past ports most port (λ k d l. below (suc k) d (omega arith)) past))
 
 -- ---- one more port
 
-number_in-other : (ports : List ℕ) (last port : ℕ) → last ≢ port → number_in (ports ++ last ∷ []) port ≡ number_in ports port
+number_in-other : (ports : List ℕ) (last port : ℕ) → last ≢ port
+    → number_in (ports ++ last ∷ []) port ≡ number_in ports port
 number_in-other [] last port ne = let t : (last == port) ≡ false = ne_eqb _ _ ne in rw t refl
 number_in-other (first ∷ ports) last port ne = rw (number_in-other ports last port ne) refl
 
-number_in-last : (ports : List ℕ) (last : ℕ) → number_in ports last ≡ None → number_in (ports ++ last ∷ []) last ≡ Some (length ports)
+number_in-last : (ports : List ℕ) (last : ℕ) → number_in ports last ≡ None
+    → number_in (ports ++ last ∷ []) last ≡ Some (length ports)
 number_in-last [] last none = let t : (last == last) ≡ true = eq-eqb _ _ refl in rw t refl
 number_in-last (first ∷ ports) last none =
     elim (cases_Bool (first == last)) [
@@ -114,12 +134,16 @@ absent ports last one = by_number (number_in ports last) refl
         absurd (omega arith)
 
 one_to_one_front : (ports more : List ℕ) → IsOneToOne (ports ++ more) → IsOneToOne ports
-one_to_one_front ports more one v w port a b = one v w port (get_front ports more v port a) (get_front ports more w port b)
+one_to_one_front ports more one v w port a b =
+    one v w port (get_front ports more v port a) (get_front ports more w port b)
 
--- a beginning of distinct ports
+-- the first ports of a numbering are a numbering
 pub numbering_front : (ports more : List ℕ) → IsNumbering (ports ++ more) → IsNumbering ports
 numbering_front ports more h = record {
-  below = λ k d l. subst (λ (p : ℕ). p < 32) (get_or_append_left ports more d k l) (h.below k d (let e = length-append ports more in omega arith));
+  below =
+      λ k d l.
+      subst (λ (p : ℕ). p < 32) (get_or_append_left ports more d k l)
+      (h.below k d (let e = length-append ports more in omega arith));
   one_to_one = one_to_one_front ports more h.one_to_one;
 }
 
@@ -128,7 +152,8 @@ numbering_front ports more h = record {
 apart_from : (first : ℕ) (ports : List ℕ) → IsOneToOne (first ∷ ports) → AllByRecursion (λ y. eqb first y ≡ false) ports
 apart_from first [] one = tt
 apart_from first (port ∷ ports) one = (
-  ne_eqb first port (λ (e : first ≡ port). let same = one 0 1 port (ap (λ (p : ℕ). Some p) e) refl in absurd (omega arith)),
+  ne_eqb first port
+      (λ (e : first ≡ port). let same = one 0 1 port (ap (λ (p : ℕ). Some p) e) refl in absurd (omega arith)),
   apart_from first ports (λ v w p a b. skip v w p a b),
 )
   where
@@ -151,8 +176,10 @@ found_below (first ∷ ports) q below found =
       | inr other ↦ found_below ports q (λ k d l. below (suc k) d (omega arith)) (rw other at found)
     ]
 
+-- a numbering has 32 ports at most, since they are distinct and below 32
 pub at-most-32-ports : (ports : List ℕ) → IsNumbering ports → length ports ≤ 32
-at-most-32-ports ports h = length-le_from_distinct_below ports 32 (distinct ports h.one_to_one) (λ q. found_below ports q h.below)
+at-most-32-ports ports h =
+    length-le_from_distinct_below ports 32 (distinct ports h.one_to_one) (λ q. found_below ports q h.below)
 
 -- ---- a numbering kept both ways
 
@@ -173,9 +200,11 @@ nothing_yet zero port h = absurd (omega arith)
 nothing_yet (suc n) zero h = refl
 nothing_yet (suc n) (suc port) h = nothing_yet n port (omega arith)
 
+-- the empty list of ports is a numbering
 pub no_numbering : IsNumbering []
 no_numbering = record { below = λ k d l. absurd (omega arith); one_to_one = λ v w port a b. absurd (none-some port a) }
 
+-- a table of 32 places without numbers holds no port
 pub empty_table : (ports : List ℕ) → length ports ≡ 32 → IsNumberTable ports (replicate 32 None) 0
 empty_table ports room = record {
   ports_room = room;
@@ -188,19 +217,34 @@ empty_table ports room = record {
 length-first : (ports : List ℕ) (count : ℕ) → length ports ≡ 32 → count ≤ 32 → length (take count ports) ≡ count
 length-first ports count room h = length-take count ports ∙ omega arith
 
--- there is room for one more
-pub room_for : (ports : List ℕ) (numbers : List (Option ℕ)) (count port : ℕ) → IsNumberTable ports numbers count → IsNumbering (take count ports ++ port ∷ []) → count < 32
+-- a table has room for a port with which its ports are still a numbering
+pub room_for : (ports : List ℕ) (numbers : List (Option ℕ)) (count port : ℕ)
+    → IsNumberTable ports numbers count → IsNumbering (take count ports ++ port ∷ [])
+    → count < 32
 room_for ports numbers count port t h =
-    omega (arith, at-most-32-ports _ h, length-append (take count ports) (port ∷ []), length-first ports count t.ports_room t.few)
+    omega (
+      arith,
+      at-most-32-ports _ h,
+      length-append (take count ports) (port ∷ []),
+      length-first ports count t.ports_room t.few,
+    )
 
+-- a port with which the ports are still a numbering is below 32
 pub port_below : (ports : List ℕ) (port : ℕ) → IsNumbering (ports ++ port ∷ []) → port < 32
 port_below ports port h =
-    subst (λ (p : ℕ). p < 32) (get_or-append_seam ports port [] port) (h.below (length ports) port (omega (arith, length-append ports (port ∷ []))))
+    subst (λ (p : ℕ). p < 32) (get_or-append_seam ports port [] port)
+    (h.below (length ports) port (omega (arith, length-append ports (port ∷ []))))
 
-pub pushed : (ports : List ℕ) (numbers : List (Option ℕ)) (count port : ℕ) → IsNumberTable ports numbers count → IsNumbering (take count ports ++ port ∷ []) → take (count + 1) (slice_set ports count port) ≡ take count ports ++ port ∷ []
-pushed ports numbers count port t h = take_more_set ports count port (omega (arith, room_for ports numbers count port t h, t.ports_room))
+-- the first ports of the table once another is stored behind them: those from before and the other
+pub pushed : (ports : List ℕ) (numbers : List (Option ℕ)) (count port : ℕ)
+    → IsNumberTable ports numbers count → IsNumbering (take count ports ++ port ∷ [])
+    → take (count + 1) (slice_set ports count port) ≡ take count ports ++ port ∷ []
+pushed ports numbers count port t h =
+    take_more_set ports count port (omega (arith, room_for ports numbers count port t h, t.ports_room))
 
-pub table_pushed : (ports : List ℕ) (numbers : List (Option ℕ)) (count port : ℕ) → IsNumberTable ports numbers count → IsNumbering (take count ports ++ port ∷ [])
+-- a table stays one if the next port is stored, and its count as its number
+pub table_pushed : (ports : List ℕ) (numbers : List (Option ℕ)) (count port : ℕ) → IsNumberTable ports numbers count
+    → IsNumbering (take count ports ++ port ∷ [])
     → IsNumberTable (slice_set ports count port) (slice_set numbers port (Some count)) (count + 1)
 table_pushed ports numbers count port t h = record {
   ports_room = length-set ports count port ∙ t.ports_room;
@@ -212,93 +256,130 @@ table_pushed ports numbers count port t h = record {
       elim (cases_eq port q) [
         | inl e ↦
             let there : slice_get (slice_set numbers port (Some count)) q ≡ Some (Some count) =
-            ap (slice_get (slice_set numbers port (Some count))) (sym e) ∙ get_set_same numbers port (Some count) (omega (arith, t.numbers_room, port_below (take count ports) port h)) in
+            ap (slice_get (slice_set numbers port (Some count))) (sym e)
+            ∙ get_set_same numbers port (Some count)
+            (omega (arith, t.numbers_room, port_below (take count ports) port h)) in
             let number : number_in (take count ports ++ port ∷ []) q ≡ Some count =
-            ap (number_in (take count ports ++ port ∷ [])) (sym e) ∙ number_in-last (take count ports) port (absent (take count ports) port h.one_to_one)
+            ap (number_in (take count ports ++ port ∷ [])) (sym e)
+            ∙ number_in-last (take count ports) port (absent (take count ports) port h.one_to_one)
             ∙ ap (λ (n : ℕ). Some n) (length-first ports count t.ports_room t.few) in
             there ∙ ap (λ (o : Option ℕ). Some o) (sym number ∙ sym (ap (λ ps. number_in ps q) front))
         | inr ne ↦
             get_set_other numbers port q (Some count) (λ (e : q ≡ port). ne (sym e)) ∙ t.inverse q below
-            ∙ ap (λ (o : Option ℕ). Some o) (sym (number_in-other (take count ports) port q ne) ∙ sym (ap (λ ps. number_in ps q) front))
+            ∙ ap (λ (o : Option ℕ). Some o)
+            (sym (number_in-other (take count ports) port q ne) ∙ sym (ap (λ ps. number_in ps q) front))
       ];
 }
 
--- the same of a value that the ports are seen as
+-- ports that are equal to others are a numbering with more behind them, if the others are
 pub as_seen : (ports seen more : List ℕ) → ports ≡ seen → IsNumbering (seen ++ more) → IsNumbering (ports ++ more)
 as_seen ports seen more is h = subst (λ (ps : List ℕ). IsNumbering (ps ++ more)) (sym is) h
 
-pub no_number_past : (ports : List ℕ) (numbers : List (Option ℕ)) (count port : ℕ) (seen : List ℕ) → take count ports ≡ seen → IsNumberTable ports numbers count → 32 ≤ port → None ≡ number_in seen port
+-- a port from 32 on has no number
+pub no_number_past : (ports : List ℕ) (numbers : List (Option ℕ)) (count port : ℕ) (seen : List ℕ)
+    → take count ports ≡ seen → IsNumberTable ports numbers count → 32 ≤ port
+    → None ≡ number_in seen port
 no_number_past ports numbers count port seen is t past =
     sym (ap (λ ps. number_in ps port) (sym is) ∙ number_in-past (take count ports) 32 port t.numbering.below past)
 
--- a push at the places that the code computed
-pub table_pushed_at : (ports : List ℕ) (numbers : List (Option ℕ)) (count port at number : ℕ) (seen : List ℕ) → take count ports ≡ seen → at ≡ count → number ≡ port → IsNumberTable ports numbers count → IsNumbering (seen ++ port ∷ [])
-    → IsNumberTable (slice_set ports at port) (slice_set numbers number (Some count)) (count + 1) × (take (count + 1) (slice_set ports at port) ≡ seen ++ port ∷ [])
+-- if the code stores the next port, and its count as its number, the table holds one port more
+pub table_pushed_at : (ports : List ℕ) (numbers : List (Option ℕ)) (count port at number : ℕ) (seen : List ℕ)
+    → take count ports ≡ seen → at ≡ count → number ≡ port → IsNumberTable ports numbers count
+    → IsNumbering (seen ++ port ∷ [])
+    → IsNumberTable (slice_set ports at port) (slice_set numbers number (Some count)) (count + 1)
+    × (take (count + 1) (slice_set ports at port) ≡ seen ++ port ∷ [])
 table_pushed_at ports numbers count port at number seen is at_is number_is t h =
     let here = as_seen (take count ports) seen (port ∷ []) is h in (
-      subst (λ (a : ℕ). IsNumberTable (slice_set ports a port) (slice_set numbers number (Some count)) (count + 1)) (sym at_is)
-          (subst (λ (n : ℕ). IsNumberTable (slice_set ports count port) (slice_set numbers n (Some count)) (count + 1)) (sym number_is) (table_pushed ports numbers count port t here)),
-      ap (λ (a : ℕ). take (count + 1) (slice_set ports a port)) at_is ∙ pushed ports numbers count port t here ∙ ap (λ (ps : List ℕ). ps ++ port ∷ []) is,
+      subst (λ (a : ℕ). IsNumberTable (slice_set ports a port) (slice_set numbers number (Some count)) (count + 1))
+          (sym at_is)
+          (subst (λ (n : ℕ). IsNumberTable (slice_set ports count port) (slice_set numbers n (Some count)) (count + 1))
+          (sym number_is) (table_pushed ports numbers count port t here)),
+      ap (λ (a : ℕ). take (count + 1) (slice_set ports a port)) at_is ∙ pushed ports numbers count port t here
+          ∙ ap (λ (ps : List ℕ). ps ++ port ∷ []) is,
     )
 
 -- ---- the ports of a range, one by one
 
 range_more : (first i : ℕ) → range_with_len first (i + 1) ≡ range_with_len first i ++ (first + i) ∷ []
 range_more first i =
-    subst (λ (n : ℕ). range_with_len first n ≡ range_with_len first i ++ (first + i) ∷ []) (let e : suc i ≡ i + 1 = omega arith in e) (one_on first i)
+    subst (λ (n : ℕ). range_with_len first n ≡ range_with_len first i ++ (first + i) ∷ [])
+    (let e : suc i ≡ i + 1 = omega arith in e) (one_on first i)
   where
     one_on : (first i : ℕ) → range_with_len first (suc i) ≡ range_with_len first i ++ (first + i) ∷ []
     one_on first zero = ap (λ (p : ℕ). p ∷ []) (let e : first ≡ first + 0 = omega arith in e)
     one_on first (suc i) =
-        ap (λ ps. first ∷ ps) (one_on (first + 1) i) ∙ ap (λ (p : ℕ). first ∷ (range_with_len (first + 1) i ++ p ∷ [])) (let e : first + 1 + i ≡ first + suc i = omega arith in e)
+        ap (λ ps. first ∷ ps) (one_on (first + 1) i)
+        ∙ ap (λ (p : ℕ). first ∷ (range_with_len (first + 1) i ++ p ∷ []))
+        (let e : first + 1 + i ≡ first + suc i = omega arith in e)
 
-range_split : (first i j n : ℕ) → i + j ≡ n → range_with_len first n ≡ range_with_len first i ++ range_with_len (first + i) j
+range_split : (first i j n : ℕ) → i + j ≡ n
+    → range_with_len first n ≡ range_with_len first i ++ range_with_len (first + i) j
 range_split first zero j n h =
-    ap (range_with_len first) (let e : n ≡ j = omega arith in e) ∙ ap (λ (p : ℕ). range_with_len p j) (let e : first ≡ first + 0 = omega arith in e)
+    ap (range_with_len first) (let e : n ≡ j = omega arith in e)
+    ∙ ap (λ (p : ℕ). range_with_len p j) (let e : first ≡ first + 0 = omega arith in e)
 range_split first (suc i) j zero h = absurd (omega arith)
 range_split first (suc i) j (suc n) h =
     ap (λ ps. first ∷ ps) (range_split (first + 1) i j n (omega arith))
-    ∙ ap (λ (p : ℕ). first ∷ (range_with_len (first + 1) i ++ range_with_len p j)) (let e : first + 1 + i ≡ first + suc i = omega arith in e)
+    ∙ ap (λ (p : ℕ). first ∷ (range_with_len (first + 1) i ++ range_with_len p j))
+    (let e : first + 1 + i ≡ first + suc i = omega arith in e)
 
+-- before the first port of a range is appended, the ports are those from before
 pub none_yet : (ports : List ℕ) (first : ℕ) → ports ≡ ports ++ range_with_len first (first - first)
 none_yet ports first =
     let none : first - first ≡ 0 = omega arith in
     sym (append-nil ports) ∙ ap (λ (n : ℕ). ports ++ range_with_len first n) (sym none)
 
-pub all_ports : (ports now : List ℕ) (first last port : ℕ) → (first ≤ port) × (port ≤ last + 1) → last + 1 ≤ port → now ≡ ports ++ range_with_len first (port - first) → now ≡ ports ++ range_with_len first (last + 1 - first)
+-- once the last port of a range is appended, the ports are those from before and the whole range
+pub all_ports : (ports now : List ℕ) (first last port : ℕ)
+    → (first ≤ port) × (port ≤ last + 1) → last + 1 ≤ port → now ≡ ports ++ range_with_len first (port - first)
+    → now ≡ ports ++ range_with_len first (last + 1 - first)
 all_ports ports now first last port within past is =
     let (from, to) = within in
     let all : port - first ≡ last + 1 - first = omega (arith, from, to) in
     is ∙ ap (λ (n : ℕ). ports ++ range_with_len first n) all
 
-pub one_more : (ports now : List ℕ) (first n port : ℕ) → IsNumbering (ports ++ range_with_len first n) → first ≤ port → port < first + n → now ≡ ports ++ range_with_len first (port - first) → IsNumbering (now ++ port ∷ [])
+-- if the ports with a whole range are a numbering, they are one with each next port of the range
+pub one_more : (ports now : List ℕ) (first n port : ℕ)
+    → IsNumbering (ports ++ range_with_len first n) → first ≤ port → port < first + n
+    → now ≡ ports ++ range_with_len first (port - first)
+    → IsNumbering (now ++ port ∷ [])
 one_more ports now first n port h from to is =
     let i = port - first in
     let at : first + i ≡ port = omega arith in
     let split = range_split first (i + 1) (n - (i + 1)) n (omega arith) in
     let front = range_more first i ∙ ap (λ (p : ℕ). range_with_len first i ++ p ∷ []) at in
-    let whole : ports ++ range_with_len first n ≡ (ports ++ (range_with_len first i ++ port ∷ [])) ++ range_with_len (first + (i + 1)) (n - (i + 1)) =
-    ap (λ ps. ports ++ ps) (split ∙ ap (λ ps. ps ++ range_with_len (first + (i + 1)) (n - (i + 1))) front) ∙ sym (append_assoc ports _ _) in
+    let whole : ports ++ range_with_len first n
+    ≡ (ports ++ (range_with_len first i ++ port ∷ [])) ++ range_with_len (first + (i + 1)) (n - (i + 1)) =
+    ap (λ ps. ports ++ ps) (split ∙ ap (λ ps. ps ++ range_with_len (first + (i + 1)) (n - (i + 1))) front)
+    ∙ sym (append_assoc ports _ _) in
     let part = numbering_front (ports ++ (range_with_len first i ++ port ∷ [])) _ (subst IsNumbering whole h) in
     subst IsNumbering (sym (append_assoc ports _ _) ∙ ap (λ ps. ps ++ port ∷ []) (sym is)) part
 
-pub one_appended : (ports now next : List ℕ) (first port : ℕ) → first ≤ port → now ≡ ports ++ range_with_len first (port - first) → next ≡ now ++ port ∷ [] → next ≡ ports ++ range_with_len first (port + 1 - first)
+-- the ports up to the next port of the range, once it is appended
+pub one_appended : (ports now next : List ℕ) (first port : ℕ)
+    → first ≤ port → now ≡ ports ++ range_with_len first (port - first) → next ≡ now ++ port ∷ []
+    → next ≡ ports ++ range_with_len first (port + 1 - first)
 one_appended ports now next first port from is more =
     let i = port - first in
     let at : first + i ≡ port = omega arith in
     let n : i + 1 ≡ port + 1 - first = omega arith in
-    more ∙ ap (λ ps. ps ++ port ∷ []) is ∙ append_assoc ports _ _ ∙ ap (λ ps. ports ++ ps) (ap (λ (p : ℕ). range_with_len first i ++ p ∷ []) (sym at) ∙ sym (range_more first i) ∙ ap (range_with_len first) n)
+    more ∙ ap (λ ps. ps ++ port ∷ []) is ∙ append_assoc ports _ _
+    ∙ ap (λ ps. ports ++ ps)
+    (ap (λ (p : ℕ). range_with_len first i ++ p ∷ []) (sym at) ∙ sym (range_more first i) ∙ ap (range_with_len first) n)
 
 -- ---- the ports of a row of ranges, place by place
 
 ports_in-append : (ranges more : List (Option PortRange)) → ports_in (ranges ++ more) ≡ ports_in ranges ++ ports_in more
 ports_in-append [] more = refl
-ports_in-append (place ∷ ranges) more = ap (λ ps. ports_at place ++ ps) (ports_in-append ranges more) ∙ sym (append_assoc (ports_at place) (ports_in ranges) (ports_in more))
+ports_in-append (place ∷ ranges) more =
+    ap (λ ps. ports_at place ++ ps) (ports_in-append ranges more)
+    ∙ sym (append_assoc (ports_at place) (ports_in ranges) (ports_in more))
 
 below_of : (place : Option PortRange) → IsPortRange place → All (λ p. p < 32) (ports_at place)
 below_of None h k d l = absurd (omega arith)
 below_of (Some range) h k d l =
-    let inside : k < range.last + 1 - range.first = omega (arith, length-range_with_len range.first (range.last + 1 - range.first)) in
+    let inside : k < range.last + 1 - range.first =
+    omega (arith, length-range_with_len range.first (range.last + 1 - range.first)) in
     let at = get_or-range_with_len range.first (range.last + 1 - range.first) k d inside in
     let (from, to) = h in
     omega (arith, from, to)
@@ -306,24 +387,33 @@ below_of (Some range) h k d l =
 ranges_below : (ranges : List (Option PortRange)) → All IsPortRange ranges → All (λ p. p < 32) (ports_in ranges)
 ranges_below [] h = λ k d l. absurd (omega arith)
 ranges_below (place ∷ ranges) h =
-    All-append (λ p. p < 32) (ports_at place) (ports_in ranges) (below_of place (h 0 None (omega arith))) (ranges_below ranges (λ k d l. h (suc k) d (omega arith)))
+    All-append (λ p. p < 32) (ports_at place) (ports_in ranges) (below_of place (h 0 None (omega arith)))
+    (ranges_below ranges (λ k d l. h (suc k) d (omega arith)))
 
+-- the ports of ranges that may be a domain's are a numbering
 pub numbering_in : (ranges : List (Option PortRange)) → AreRanges ranges → IsNumbering (ports_in ranges)
 numbering_in ranges h = record { below = ranges_below ranges h.each; one_to_one = h.one_to_one }
 
-ports_in-more : (ranges : List (Option PortRange)) (i : ℕ) (d : Option PortRange) → i < length ranges → ports_in (take (i + 1) ranges) ≡ ports_in (take i ranges) ++ ports_at (get_or ranges i d)
-ports_in-more ranges i d l = ap ports_in (take_more ranges i d l) ∙ ports_in-append (take i ranges) (get_or ranges i d ∷ []) ∙ ap (λ ps. ports_in (take i ranges) ++ ps) (append-nil (ports_at (get_or ranges i d)))
+ports_in-more : (ranges : List (Option PortRange)) (i : ℕ) (d : Option PortRange) → i < length ranges
+    → ports_in (take (i + 1) ranges) ≡ ports_in (take i ranges) ++ ports_at (get_or ranges i d)
+ports_in-more ranges i d l =
+    ap ports_in (take_more ranges i d l) ∙ ports_in-append (take i ranges) (get_or ranges i d ∷ [])
+    ∙ ap (λ ps. ports_in (take i ranges) ++ ps) (append-nil (ports_at (get_or ranges i d)))
 
 -- the next place shares no port with those before it
-pub next_place : (ranges : List (Option PortRange)) (now : List ℕ) (i : ℕ) (d : Option PortRange) → AreRanges ranges → i < length ranges → now ≡ ports_in (take i ranges) → IsNumbering (now ++ ports_at (get_or ranges i d))
+pub next_place : (ranges : List (Option PortRange)) (now : List ℕ) (i : ℕ) (d : Option PortRange)
+    → AreRanges ranges → i < length ranges → now ≡ ports_in (take i ranges)
+    → IsNumbering (now ++ ports_at (get_or ranges i d))
 next_place ranges now i d h l is =
     let whole : ports_in ranges ≡ (now ++ ports_at (get_or ranges i d)) ++ ports_in (drop (i + 1) ranges) =
     ap ports_in (sym (take-append-drop (i + 1) ranges)) ∙ ports_in-append (take (i + 1) ranges) (drop (i + 1) ranges)
-    ∙ ap (λ ps. ps ++ ports_in (drop (i + 1) ranges)) (ports_in-more ranges i d l ∙ ap (λ ps. ps ++ ports_at (get_or ranges i d)) (sym is)) in
+    ∙ ap (λ ps. ps ++ ports_in (drop (i + 1) ranges))
+    (ports_in-more ranges i d l ∙ ap (λ ps. ps ++ ports_at (get_or ranges i d)) (sym is)) in
     numbering_front _ _ (subst IsNumbering whole (numbering_in ranges h))
 
-pub place_appended : (ranges : List (Option PortRange)) (now next : List ℕ) (i : ℕ) (d : Option PortRange) → i < length ranges → now ≡ ports_in (take i ranges) → next ≡ now ++ ports_at (get_or ranges i d) → next ≡ ports_in (take (i + 1) ranges)
-place_appended ranges now next i d l is more = more ∙ ap (λ ps. ps ++ ports_at (get_or ranges i d)) is ∙ sym (ports_in-more ranges i d l)
-
-pub all_places : (ranges : List (Option PortRange)) (now : List ℕ) (n : ℕ) → length ranges ≤ n → now ≡ ports_in (take n ranges) → now ≡ ports_in ranges
-all_places ranges now n past is = is ∙ ap ports_in (take_all n ranges past)
+-- the ports of one range more, once its ports are appended
+pub place_appended : (ranges : List (Option PortRange)) (now next : List ℕ) (i : ℕ) (d : Option PortRange)
+    → i < length ranges → now ≡ ports_in (take i ranges) → next ≡ now ++ ports_at (get_or ranges i d)
+    → next ≡ ports_in (take (i + 1) ranges)
+place_appended ranges now next i d l is more =
+    more ∙ ap (λ ps. ps ++ ports_at (get_or ranges i d)) is ∙ sym (ports_in-more ranges i d l)

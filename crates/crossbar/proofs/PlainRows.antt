@@ -1,7 +1,9 @@
--- The row of words that nobody shares.
-use Rattle.std.proofs.Common.{◌≡◌, ◌⊎◌, inl, inr, ℕ, zero, suc, ◌<◌, ◌+◌, Option, Some, None, List, [], ◌∷◌, ◌++◌, length, take, set, get_or, slice_get, slice_set, replicate, All, refl, sym, ap, ◌∙◌, subst, arith}
+-- The row of words that nobody shares, for the contracts of `PlainOutputs` and for `rows_are_words_of_ports`.
+use Rattle.std.proofs.Common.{◌≡◌, ◌⊎◌, inl, inr, ℕ, zero, suc, ◌<◌, ◌+◌, Option, Some, None, List, [], ◌∷◌, ◌++◌}
+use Rattle.std.proofs.Common.{length, take, set, get_or, slice_get, slice_set, replicate, All, refl, sym, ap, ◌∙◌}
+use Rattle.std.proofs.Common.{subst, arith}
 use Rattle.std.proofs.lemmas.Option.{slice_get-get_or, slice_get_within, get_or_from_slice_get}
-use Rattle.std.proofs.lemmas.List.{take_more_set, take_more, take_all, length-set}
+use Rattle.std.proofs.lemmas.List.{take_more_set, take_more, length-set}
 use Rattle.std.proofs.Math.Seq.{take-set-lt}
 use Rattle.std.proofs.lemmas.List.Elements.{All-set, All-replicate, filter_map-append}
 use Rattle.std.specs.List.{cons_option}
@@ -13,14 +15,17 @@ use Rattle.crossbar.specs.declared.range.PortRange.{PortRange}
 use Rattle.crossbar.specs.Switch.{cleared}
 use Rattle.crossbar.specs.Ranges.{IsNumbering, AreRanges, ports_in}
 use Rattle.crossbar.specs.Row.{AreWordsOf, IsWordOf, switch_of, connection_at, input_of, is_ready}
-use Rattle.crossbar.specs.Plain.{Row, IsPlain, IsPlainRow, words_at, outputs_of}
+use Rattle.crossbar.specs.Plain.{IsPlain, IsPlainRow, words_at}
 use Rattle.crossbar.proofs.Below.{same_switch}
 use Rattle.crossbar.proofs.Switching.{get-switch_of, contains-switch_of}
 use Rattle.crossbar.proofs.Numberings.{at-most-32-ports, numbering_in}
 
 -- ---- a write
 
-pub set_row : (ports : List ℕ) (words : List Word) (number : ℕ) (word : Word) → AreWordsOf ports words → IsWordOf ports word → AreWordsOf ports (slice_set words number word)
+-- a row stays one if a word of these ports is stored in it
+pub set_row : (ports : List ℕ) (words : List Word) (number : ℕ) (word : Word)
+    → AreWordsOf ports words → IsWordOf ports word
+    → AreWordsOf ports (slice_set words number word)
 set_row ports words number word row proper = record {
   length_is = length-set words number word ∙ row.length_is;
   few = row.few;
@@ -29,38 +34,54 @@ set_row ports words number word row proper = record {
   each = All-set (IsWordOf ports) words number word proper row.each;
 }
 
-pub front_set : (ports : List ℕ) (words : List Word) (number at : ℕ) (word : Word) → at ≡ number → number < length ports → take (length ports) (slice_set words at word) ≡ slice_set (take (length ports) words) number word
+-- storing a word below the number of ports stores it in the front part, which has as many words as there are ports
+pub front_set : (ports : List ℕ) (words : List Word) (number at : ℕ) (word : Word) → at ≡ number → number < length ports
+    → take (length ports) (slice_set words at word) ≡ slice_set (take (length ports) words) number word
 front_set ports words number at word is inside =
-    ap (λ (a : ℕ). take (length ports) (slice_set words a word)) is ∙ take-set-lt (length ports) words number word inside
+    ap (λ (a : ℕ). take (length ports) (slice_set words a word)) is
+    ∙ take-set-lt (length ports) words number word inside
 
-pub plain_set : (ports : List ℕ) (words : List Word) (number at : ℕ) (word : Word) → IsPlainRow ports words → at ≡ number → number < length ports → IsWordOf ports word → IsPlainRow ports (slice_set words at word)
+-- a plain row stays one if a word of these ports is stored in it
+pub plain_set : (ports : List ℕ) (words : List Word) (number at : ℕ) (word : Word)
+    → IsPlainRow ports words → at ≡ number → number < length ports → IsWordOf ports word
+    → IsPlainRow ports (slice_set words at word)
 plain_set ports words number at word row is inside proper = record {
   room = length-set words at word ∙ row.room;
-  row = subst (AreWordsOf ports) (sym (front_set ports words number at word is inside)) (set_row ports (take (length ports) words) number word row.row proper);
+  row =
+      subst (AreWordsOf ports) (sym (front_set ports words number at word is inside))
+      (set_row ports (take (length ports) words) number word row.row proper);
 }
 
 -- ---- the words of the ports, one by one
 
-words_more : (words : List Word) (ports : List ℕ) (n port : ℕ) (word : Word) → slice_get ports n ≡ Some port → slice_get words port ≡ Some word
+words_more : (words : List Word) (ports : List ℕ) (n port : ℕ) (word : Word) → slice_get ports n ≡ Some port
+    → slice_get words port ≡ Some word
     → words_at words (take (n + 1) ports) ≡ words_at words (take n ports) ++ word ∷ []
 words_more words ports n port word at is =
-    let more = take_more ports n port (slice_get_within ports n port at) ∙ ap (λ (p : ℕ). take n ports ++ p ∷ []) (get_or_from_slice_get ports n port port at) in
-    ap (words_at words) more ∙ filter_map-append (slice_get words) (take n ports) (port ∷ []) ∙ ap (λ o. words_at words (take n ports) ++ cons_option o []) is
+    let more =
+    take_more ports n port (slice_get_within ports n port at)
+    ∙ ap (λ (p : ℕ). take n ports ++ p ∷ []) (get_or_from_slice_get ports n port port at) in
+    ap (words_at words) more ∙ filter_map-append (slice_get words) (take n ports) (port ∷ [])
+    ∙ ap (λ o. words_at words (take n ports) ++ cons_option o []) is
 
 -- the first n words are those of the first n ports
 pub record Gathers (words : List Word) (ports : List ℕ) (own : List Word) (n : ℕ) : Type 0 where
   pub room : length own ≡ 32
   pub front : take n own ≡ words_at words (take n ports)
 
-pub gathers_none : (words : List Word) (ports : List ℕ) → length words ≡ 32 → Gathers words ports words 0
-gathers_none words ports room = record { room = room; front = refl }
-
-pub gathers_more : (words : List Word) (ranges : List (Option PortRange)) (ports : List ℕ) (own : List Word) (n at from port : ℕ) (d : Word) → Gathers words ports own n → length words ≡ 32 → AreRanges ranges → ports ≡ ports_in ranges
-    → at ≡ n → from ≡ port → slice_get ports n ≡ Some port → Gathers words ports (slice_set own at (get_or words from d)) (n + 1)
+-- once the next port's word is stored, one word more is gathered
+pub gathers_more : (words : List Word) (ranges : List (Option PortRange)) (ports : List ℕ) (own : List Word)
+    (n at from port : ℕ) (d : Word)
+    → Gathers words ports own n → length words ≡ 32 → AreRanges ranges
+    → ports ≡ ports_in ranges
+    → at ≡ n → from ≡ port → slice_get ports n ≡ Some port
+    → Gathers words ports (slice_set own at (get_or words from d)) (n + 1)
 gathers_more words ranges ports own n at from port d g room ranges_are ports_is at_is from_is is =
     let numbering : IsNumbering ports = subst IsNumbering (sym ports_is) (numbering_in ranges ranges_are) in
     let inside : n < 32 = omega (arith, at-most-32-ports ports numbering, slice_get_within ports n port is) in
-    let below : port < 32 = subst (λ (p : ℕ). p < 32) (get_or_from_slice_get ports n port port is) (numbering.below n port (slice_get_within ports n port is)) in
+    let below : port < 32 =
+    subst (λ (p : ℕ). p < 32) (get_or_from_slice_get ports n port port is)
+    (numbering.below n port (slice_get_within ports n port is)) in
     let word = get_or words from d in
     record {
       room = length-set own at word ∙ g.room;
@@ -71,50 +92,14 @@ gathers_more words ranges ports own n at from port d g room ranges_are ports_is 
           ∙ ap (λ ws. ws ++ word ∷ []) g.front ∙ sym (words_more words ports n port word is there);
     }
 
-length-words_at : (words : List Word) (ports : List ℕ) → All (λ p. p < length words) ports → length (words_at words ports) ≡ length ports
-length-words_at words [] below = refl
-length-words_at words (port ∷ ports) below =
-    let d : Word = record { bits = 0 } in
-    let there = slice_get-get_or words port d (below 0 0 (omega arith)) in
-    ap (λ o. length (cons_option o (words_at words ports))) there
-    ∙ ap suc (length-words_at words ports (λ k d l. below (suc k) d (omega arith)))
-
-plain_row : (words : List Word) (ranges : List (Option PortRange)) → length words ≡ 32 → IsPlain words ranges → AreWordsOf (ports_in ranges) (words_at words (ports_in ranges))
-plain_row words ranges room h =
-    let numbering = numbering_in ranges h.ranges_are in
-    record {
-      length_is = length-words_at words (ports_in ranges) (λ k d l. omega (arith, room, numbering.below k d l));
-      few = at-most-32-ports (ports_in ranges) numbering;
-      below = numbering.below;
-      one_to_one = numbering.one_to_one;
-      each = h.each;
-    }
-
-gathered : (words own : List Word) (ports : List ℕ) (n : ℕ) → Gathers words ports own n → n ≡ length ports → take (length ports) own ≡ words_at words ports
-gathered words own ports n g all =
-    ap (λ (k : ℕ). take k own) (sym all) ∙ g.front ∙ ap (λ (k : ℕ). words_at words (take k ports)) all ∙ ap (words_at words) (take_all (length ports) ports (omega arith))
-
--- all of them stand for the row
-pub gathers_all : (words own : List Word) (ranges : List (Option PortRange)) (ports : List ℕ) (n : ℕ) → Gathers words ports own n → n ≡ length ports → ports ≡ ports_in ranges → length words ≡ 32 → IsPlain words ranges → IsPlainRow ports own
-gathers_all words own ranges ports n g all is room h = record {
-  room = g.room;
-  row =
-      subst (AreWordsOf ports) (sym (gathered words own ports n g all))
-      (subst (λ (ps : List ℕ). AreWordsOf ps (words_at words ps)) (sym is) (plain_row words ranges room h));
-}
-
-pub gathers_row : (words own : List Word) (ranges : List (Option PortRange)) (ports : List ℕ) (n : ℕ) → Gathers words ports own n → n ≡ length ports → ports ≡ ports_in ranges
-    → (let row : Row = record { ports = ports; words = take (length ports) own } in row ≡ outputs_of words ranges)
-gathers_row words own ranges ports n g all is =
-    ap (λ (ws : List Word). let row : Row = record { ports = ports; words = ws } in row) (gathered words own ports n g all)
-    ∙ ap (λ (ps : List ℕ). let row : Row = record { ports = ps; words = words_at words ps } in row) is
-
 -- ---- words that say nothing
 
+-- the word of an output that was never set
 abbrev pub unused : Word
 unused = record { bits = 0 }
 
-unused_at : (n port : ℕ) → (slice_get (replicate n unused) port ≡ None) ⊎ (slice_get (replicate n unused) port ≡ Some unused)
+unused_at : (n port : ℕ)
+    → (slice_get (replicate n unused) port ≡ None) ⊎ (slice_get (replicate n unused) port ≡ Some unused)
 unused_at zero port = inl refl
 unused_at (suc n) zero = inr refl
 unused_at (suc n) (suc port) = unused_at n port
@@ -125,7 +110,8 @@ unused_words n (port ∷ ports) =
     let (k, rest) = unused_words n ports in
     elim (unused_at n port) [
       | inl none ↦ (k, ap (λ o. cons_option o (words_at (replicate n unused) ports)) none ∙ rest)
-      | inr some ↦ (suc k, ap (λ o. cons_option o (words_at (replicate n unused) ports)) some ∙ ap (λ ws. unused ∷ ws) rest)
+      | inr some ↦
+          (suc k, ap (λ o. cons_option o (words_at (replicate n unused) ports)) some ∙ ap (λ ws. unused ∷ ws) rest)
     ]
 
 -- a row of them can be taken, whatever the ranges
@@ -134,7 +120,8 @@ unused_is_plain ranges h = record {
   ranges_are = h;
   each =
       let (k, is) = unused_words 32 (ports_in ranges) in
-      subst (All (IsWordOf (ports_in ranges))) (sym is) (All-replicate (IsWordOf (ports_in ranges)) k unused (record { proper = refl; within = tt }));
+      subst (All (IsWordOf (ports_in ranges))) (sym is)
+      (All-replicate (IsWordOf (ports_in ranges)) k unused (record { proper = refl; within = tt }));
 }
 
 no_connection : (n q : ℕ) → connection_at (replicate n unused) q ≡ None
@@ -142,11 +129,13 @@ no_connection zero q = refl
 no_connection (suc n) zero = refl
 no_connection (suc n) (suc q) = no_connection n q
 
+-- words that were never set say the cleared switch
 pub unused_switch : (n : ℕ) → switch_of (replicate n unused) ≡ cleared
 unused_switch n =
     same_switch _ _ (λ q. get-switch_of _ q ∙ ap input_of (no_connection n q) ∙ sym (map.get-empty nat_cmp q))
     (λ q. contains-switch_of _ q ∙ ap is_ready (no_connection n q) ∙ sym (set.contains-empty nat_cmp q))
 
--- and nothing is connected in it
-pub unused_is_cleared : (ranges : List (Option PortRange)) → switch_of (words_at (replicate 32 unused) (ports_in ranges)) ≡ cleared
+-- the words of any ranges that were never set say the cleared switch
+pub unused_is_cleared : (ranges : List (Option PortRange))
+    → switch_of (words_at (replicate 32 unused) (ports_in ranges)) ≡ cleared
 unused_is_cleared ranges = let (k, is) = unused_words 32 (ports_in ranges) in ap switch_of is ∙ unused_switch k

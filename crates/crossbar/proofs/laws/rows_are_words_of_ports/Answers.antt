@@ -1,5 +1,6 @@
 use Rattle.crossbar.proofs.Numberings.{at-most-32-ports}
-use Rattle.crossbar.proofs.Switching.{switch_of-connected, switch_of-disconnected, switch_of-all_ready, switch_of-cleared}
+use Rattle.crossbar.proofs.Switching.{switch_of-connected, switch_of-disconnected, switch_of-all_ready}
+use Rattle.crossbar.proofs.Switching.{switch_of-cleared}
 use Rattle.crossbar.proofs.PlainRows.{set_row, unused_switch}
 use Rattle.crossbar.proofs.laws.rows_are_words_of_ports.Goals as goal
 
@@ -13,4 +14,10 @@ pub returns-clause-unused : goal.returns-clause-unused
 returns-clause-unused c = unused_switch
 
 pub returns-clause-switch : goal.returns-clause-switch
-returns-clause-switch c = record { connects = switch_of-connected; disconnects = switch_of-disconnected; readies = switch_of-all_ready; clears = switch_of-cleared }
+returns-clause-switch c =
+    record {
+      connects = switch_of-connected;
+      disconnects = switch_of-disconnected;
+      readies = switch_of-all_ready;
+      clears = switch_of-cleared;
+    }

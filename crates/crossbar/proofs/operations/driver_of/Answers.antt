@@ -3,4 +3,6 @@ use Rattle.crossbar.proofs.Switching.{enquired}
 use Rattle.crossbar.proofs.operations.driver_of.Goals as goal
 
 pub returns-clause-input : goal.returns-clause-input
-returns-clause-input g c = c.driver.ensures ∙ sym (enquired (g.O.Outputs.words c.args.outputs.now) c.args.output c.read.result c.read.ensures.value)
+returns-clause-input g c =
+    c.driver.ensures
+    ∙ sym (enquired (g.O.Outputs.words c.args.outputs.now) c.args.output c.read.result c.read.ensures.value)

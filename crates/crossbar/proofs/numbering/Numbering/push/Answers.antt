@@ -10,7 +10,11 @@ pub bounds-self-inside-from-2 : goal.bounds-self-inside-from-2
 bounds-self-inside-from-2 c = omega (arith, c.from-2.ensures, port_below _ c.args.port c.requires)
 
 pub invariant_of-self : goal.invariant_of-self
-invariant_of-self c = (table_pushed_at _ _ _ c.args.port _ _ _ c.self.view_is c.from.ensures c.from-2.ensures c.self.invariant c.requires).0
+invariant_of-self c =
+    (table_pushed_at _ _ _ c.args.port _ _ _ c.self.view_is c.from.ensures c.from-2.ensures c.self.invariant
+    c.requires).0
 
 pub returns : goal.returns
-returns c = (table_pushed_at _ _ _ c.args.port _ _ _ c.self.view_is c.from.ensures c.from-2.ensures c.self.invariant c.requires).1
+returns c =
+    (table_pushed_at _ _ _ c.args.port _ _ _ c.self.view_is c.from.ensures c.from-2.ensures c.self.invariant
+    c.requires).1
