@@ -7,5 +7,7 @@ pub returns-in-Enquire-clause-kept : goal.returns-in-Enquire-clause-kept
 returns-in-Enquire-clause-kept g c = record {
   same_ports = c.enquire.ensures.unchanged.same_ports;
   row = c.enquire.ensures.unchanged.row;
-  counts = subst (AllZip CountsChange (g.O.Outputs.words c.args.outputs.now)) (sym c.enquire.ensures.unchanged.same_words) (c.unchanged_words_count_nothing.ensures.unchanged _);
+  counts =
+      subst (AllZip CountsChange (g.O.Outputs.words c.args.outputs.now)) (sym c.enquire.ensures.unchanged.same_words)
+      (c.unchanged_words_count_nothing.ensures.unchanged _);
 }
