@@ -1,6 +1,8 @@
+-- lists and numbers
 pub mod ListLemmas
 pub mod RuleLemmas
 pub mod NumberLemmas
 pub mod PartLemmas
+-- ports and parts
 pub mod PortLemmas
 pub mod SeparateLemmas

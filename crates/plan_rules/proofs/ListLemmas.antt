@@ -1,5 +1,7 @@
--- Lists whose elements are related, each to the later ones.
-use Rattle.std.proofs.Common.{◌≡◌, ◌<◌, ◌≤◌, ◌+◌, ◌++◌, ℕ, suc, List, [], ◌∷◌, length, take, drop, get_or, refl, ap, sym, subst, All, AllPairs, flat_map, ◌∙◌, arith, length-append}
+-- Lists whose elements are related, each to the later ones, for
+-- the rules of a plan that compare ports, names and ranges.
+use Rattle.std.proofs.Common.{◌≡◌, ◌<◌, ◌≤◌, ◌+◌, ◌++◌, ℕ, suc, List, [], ◌∷◌, length, take, drop, get_or, refl, ap}
+use Rattle.std.proofs.Common.{sym, subst, All, AllPairs, flat_map, ◌∙◌, arith, length-append}
 use Rattle.std.proofs.lemmas.List.{take_more, append-nil, take-append-drop}
 use Rattle.std.proofs.lemmas.List.Concat.{flat_map-cons}
 use Rattle.std.proofs.lemmas.Grind.{flat_map-append}
@@ -7,93 +9,131 @@ use Rattle.std.proofs.lemmas.List.Elements.{All-push, All-append, All-head, All-
 use Rattle.std.proofs.lemmas.List.Kept.{AllPairs-cons}
 
 -- one more element that has the fact
-pub all_more : {X : Type 0} (P : X → Type 0) (xs : List X) (i : ℕ) (y : X) → i < length xs → y ≡ get_or xs i y → All P (take i xs) → P y → All P (take (i + 1) xs)
+pub all_more : {X : Type 0} (P : X → Type 0) (xs : List X) (i : ℕ) (y : X)
+    → i < length xs → y ≡ get_or xs i y → All P (take i xs) → P y
+    → All P (take (i + 1) xs)
 all_more P xs i y within at_i before here = rw (take_more xs i y within, ← at_i) (All-push P (take i xs) y before here)
 
+-- what holds of each element of two lists in a row holds of each of the first
 pub all_left : {X : Type 0} (P : X → Type 0) (xs ys : List X) → All P (xs ++ ys) → All P xs
 all_left P [] ys h = All-nil P
 all_left P (x ∷ xs) ys h = All-cons P x xs (All-head P x (xs ++ ys) h) (all_left P xs ys (All-tail P x (xs ++ ys) h))
 
+-- what holds of each element of two lists in a row holds of each of the second
 pub all_right : {X : Type 0} (P : X → Type 0) (xs ys : List X) → All P (xs ++ ys) → All P ys
 all_right P [] ys h = h
 all_right P (x ∷ xs) ys h = all_right P xs ys (All-tail P x (xs ++ ys) h)
 
 -- a fact of all elements of all lists
-pub all_lists : {D X : Type 0} (P : X → Type 0) (f : D → List X) (ds : List D) → All P (flat_map f ds) → All (λ d. All P (f d)) ds
+pub all_lists : {D X : Type 0} (P : X → Type 0) (f : D → List X) (ds : List D) → All P (flat_map f ds)
+    → All (λ d. All P (f d)) ds
 all_lists P f [] h = All-nil (λ d. All P (f d))
 all_lists P f (d ∷ ds) h =
     let h' = rw (flat_map-cons f d ds) at h in
-    All-cons (λ e. All P (f e)) d ds (all_left P (f d) (flat_map f ds) h') (all_lists P f ds (all_right P (f d) (flat_map f ds) h'))
+    All-cons (λ e. All P (f e)) d ds (all_left P (f d) (flat_map f ds) h')
+    (all_lists P f ds (all_right P (f d) (flat_map f ds) h'))
 
-pub all_joined : {D X : Type 0} (P : X → Type 0) (f : D → List X) (ds : List D) → All (λ d. All P (f d)) ds → All P (flat_map f ds)
+-- what holds of each element of each list holds of each element of all of them in a row
+pub all_joined : {D X : Type 0} (P : X → Type 0) (f : D → List X) (ds : List D) → All (λ d. All P (f d)) ds
+    → All P (flat_map f ds)
 all_joined P f [] h = All-nil P
 all_joined P f (d ∷ ds) h =
     rw (flat_map-cons f d ds)
-    (All-append P (f d) (flat_map f ds) (All-head (λ e. All P (f e)) d ds h) (all_joined P f ds (All-tail (λ e. All P (f e)) d ds h)))
+    (All-append P (f d) (flat_map f ds) (All-head (λ e. All P (f e)) d ds h)
+    (all_joined P f ds (All-tail (λ e. All P (f e)) d ds h)))
 
+-- if each element is related to the later ones, the first is to the rest
 pub pairs_head : {X : Type 0} (R : X → X → Type 0) (x : X) (xs : List X) → AllPairs R (x ∷ xs) → All (R x) xs
 pairs_head R x xs h k d less = h 0 (suc k) d (omega arith) (omega arith)
 
+-- if each element is related to the later ones, so is each of the rest
 pub pairs_tail : {X : Type 0} (R : X → X → Type 0) (x : X) (xs : List X) → AllPairs R (x ∷ xs) → AllPairs R xs
 pairs_tail R x xs h i j d less within = h (suc i) (suc j) d (omega arith) (omega arith)
 
+-- the empty list has no two elements to relate
 pub pairs_nil : {X : Type 0} (R : X → X → Type 0) → AllPairs R []
 pairs_nil R i j d less within = absurd (omega arith)
 
+-- if each element of two lists in a row is related to the later ones, so is each of the first list
 pub pairs_left : {X : Type 0} (R : X → X → Type 0) (xs ys : List X) → AllPairs R (xs ++ ys) → AllPairs R xs
 pairs_left R [] ys h = pairs_nil R
-pairs_left R (x ∷ xs) ys h = AllPairs-cons R x xs (all_left (R x) xs ys (pairs_head R x (xs ++ ys) h)) (pairs_left R xs ys (pairs_tail R x (xs ++ ys) h))
+pairs_left R (x ∷ xs) ys h =
+    AllPairs-cons R x xs (all_left (R x) xs ys (pairs_head R x (xs ++ ys) h))
+    (pairs_left R xs ys (pairs_tail R x (xs ++ ys) h))
 
+-- if each element of two lists in a row is related to the later ones, so is each of the second list
 pub pairs_right : {X : Type 0} (R : X → X → Type 0) (xs ys : List X) → AllPairs R (xs ++ ys) → AllPairs R ys
 pairs_right R [] ys h = h
 pairs_right R (x ∷ xs) ys h = pairs_right R xs ys (pairs_tail R x (xs ++ ys) h)
 
 -- each of the later elements is related to each of the earlier ones
-pub pairs_across : {X : Type 0} (R : X → X → Type 0) (xs ys : List X) → AllPairs R (xs ++ ys) → All (λ y. All (λ x. R x y) xs) ys
+pub pairs_across : {X : Type 0} (R : X → X → Type 0) (xs ys : List X) → AllPairs R (xs ++ ys)
+    → All (λ y. All (λ x. R x y) xs) ys
 pairs_across R [] ys h k d less = All-nil (λ x. R x (get_or ys k d))
 pairs_across R (x ∷ xs) ys h k d less =
-    All-cons (λ z. R z (get_or ys k d)) x xs (all_right (R x) xs ys (pairs_head R x (xs ++ ys) h) k d less) (pairs_across R xs ys (pairs_tail R x (xs ++ ys) h) k d less)
+    All-cons (λ z. R z (get_or ys k d)) x xs (all_right (R x) xs ys (pairs_head R x (xs ++ ys) h) k d less)
+    (pairs_across R xs ys (pairs_tail R x (xs ++ ys) h) k d less)
 
-pub pairs_append : {X : Type 0} (R : X → X → Type 0) (xs ys : List X) → AllPairs R xs → AllPairs R ys → All (λ y. All (λ x. R x y) xs) ys → AllPairs R (xs ++ ys)
+-- two related lists in a row are related, if each element of the first is related to each of the second
+pub pairs_append : {X : Type 0} (R : X → X → Type 0) (xs ys : List X)
+    → AllPairs R xs → AllPairs R ys → All (λ y. All (λ x. R x y) xs) ys
+    → AllPairs R (xs ++ ys)
 pairs_append R [] ys first second across = second
 pairs_append R (x ∷ xs) ys first second across =
-    AllPairs-cons R x (xs ++ ys) (All-append (R x) xs ys (pairs_head R x xs first) (λ k d less. All-head (λ z. R z (get_or ys k d)) x xs (across k d less)))
-    (pairs_append R xs ys (pairs_tail R x xs first) second (λ k d less. All-tail (λ z. R z (get_or ys k d)) x xs (across k d less)))
+    AllPairs-cons R x (xs ++ ys)
+    (All-append (R x) xs ys (pairs_head R x xs first)
+    (λ k d less. All-head (λ z. R z (get_or ys k d)) x xs (across k d less)))
+    (pairs_append R xs ys (pairs_tail R x xs first) second
+    (λ k d less. All-tail (λ z. R z (get_or ys k d)) x xs (across k d less)))
 
 -- the elements of one list are new after those of the lists before it
 abbrev pub AreNew : {D X : Type 0} → (X → X → Type 0) → (D → List X) → List D → List X → Type 0
 AreNew R f ds ys = All (λ d. All (λ y. All (λ x. R x y) (f d)) ys) ds
 
 -- the lists up to one more
-flat_map_at : {D X : Type 0} (f : D → List X) (ds : List D) (i : ℕ) (d : D) → i < length ds → d ≡ get_or ds i d → flat_map f (take (i + 1) ds) ≡ flat_map f (take i ds) ++ f d
+flat_map_at : {D X : Type 0} (f : D → List X) (ds : List D) (i : ℕ) (d : D) → i < length ds → d ≡ get_or ds i d
+    → flat_map f (take (i + 1) ds) ≡ flat_map f (take i ds) ++ f d
 flat_map_at f ds i d within at_i =
-    rw (take_more ds i d within, ← at_i, flat_map-append f (take i ds) (d ∷ []), flat_map-cons f d [], append-nil (f d)) refl
+    rw (take_more ds i d within, ← at_i, flat_map-append f (take i ds) (d ∷ []), flat_map-cons f d [], append-nil (f d))
+    refl
 
-pub lists_more : {D X : Type 0} (R : X → X → Type 0) (f : D → List X) (ds : List D) (i : ℕ) (d : D) → i < length ds → d ≡ get_or ds i d
-    → AllPairs R (flat_map f (take i ds)) → AllPairs R (f d) → AreNew R f (take i ds) (f d) → AllPairs R (flat_map f (take (i + 1) ds))
+-- if the lists of the first i items are related in a row, and the next list is and is new, so are those of i + 1
+pub lists_more : {D X : Type 0} (R : X → X → Type 0) (f : D → List X) (ds : List D) (i : ℕ) (d : D) → i < length ds
+    → d ≡ get_or ds i d
+    → AllPairs R (flat_map f (take i ds)) → AllPairs R (f d) → AreNew R f (take i ds) (f d)
+    → AllPairs R (flat_map f (take (i + 1) ds))
 lists_more R f ds i d within at_i before here new =
     rw (flat_map_at f ds i d within at_i)
-    (pairs_append R (flat_map f (take i ds)) (f d) before here (λ k e less. all_joined (λ x. R x (get_or (f d) k e)) f (take i ds) (λ j a below. new j a below k e less)))
+    (pairs_append R (flat_map f (take i ds)) (f d) before here
+    (λ k e less. all_joined (λ x. R x (get_or (f d) k e)) f (take i ds) (λ j a below. new j a below k e less)))
 
-pub lists_at : {D X : Type 0} (R : X → X → Type 0) (f : D → List X) (ds : List D) (i : ℕ) (d : D) → i < length ds → d ≡ get_or ds i d
+-- if the lists of all items are related in a row, each of them is, and is new after those before it
+pub lists_at : {D X : Type 0} (R : X → X → Type 0) (f : D → List X) (ds : List D) (i : ℕ) (d : D) → i < length ds
+    → d ≡ get_or ds i d
     → AllPairs R (flat_map f ds) → AllPairs R (f d) × AreNew R f (take i ds) (f d)
 lists_at R f ds i d within at_i all =
     let parts : flat_map f ds ≡ flat_map f (take (i + 1) ds) ++ flat_map f (drop (i + 1) ds) =
     ap (flat_map f) (sym (take-append-drop (i + 1) ds)) ∙ flat_map-append f (take (i + 1) ds) (drop (i + 1) ds) in
-    let until = pairs_left R (flat_map f (take (i + 1) ds)) (flat_map f (drop (i + 1) ds)) (subst (AllPairs R) parts all) in
+    let until =
+    pairs_left R (flat_map f (take (i + 1) ds)) (flat_map f (drop (i + 1) ds)) (subst (AllPairs R) parts all) in
     let until' = subst (AllPairs R) (flat_map_at f ds i d within at_i) until in
-    let across = pairs_across R (flat_map f (take i ds)) (f d) until' in
-    (pairs_right R (flat_map f (take i ds)) (f d) until', λ j a below k e less. all_lists (λ x. R x (get_or (f d) k e)) f (take i ds) (across k e less) j a below)
+    let across = pairs_across R (flat_map f (take i ds)) (f d) until' in (
+      pairs_right R (flat_map f (take i ds)) (f d) until',
+      λ j a below k e less. all_lists (λ x. R x (get_or (f d) k e)) f (take i ds) (across k e less) j a below,
+    )
 
 -- one more element, to which the earlier ones are related
 pub pairs_more : {X : Type 0} (R : X → X → Type 0) (xs : List X) (i : ℕ) (y : X) → i < length xs → y ≡ get_or xs i y
     → AllPairs R (take i xs) → All (λ x. R x y) (take i xs) → AllPairs R (take (i + 1) xs)
 pairs_more R xs i y within at_i before here =
     rw (take_more xs i y within, ← at_i)
-    (pairs_append R (take i xs) (y ∷ []) before (AllPairs-cons R y [] (All-nil (R y)) (pairs_nil R)) (All-cons (λ z. All (λ x. R x z) (take i xs)) y [] here (All-nil (λ z. All (λ x. R x z) (take i xs)))))
+    (pairs_append R (take i xs) (y ∷ []) before (AllPairs-cons R y [] (All-nil (R y)) (pairs_nil R))
+    (All-cons (λ z. All (λ x. R x z) (take i xs)) y [] here (All-nil (λ z. All (λ x. R x z) (take i xs)))))
 
 -- the earlier elements are related to this one
-pub pairs_at : {X : Type 0} (R : X → X → Type 0) (xs : List X) (i : ℕ) (y : X) → i < length xs → y ≡ get_or xs i y → AllPairs R xs → All (λ x. R x y) (take i xs)
+pub pairs_at : {X : Type 0} (R : X → X → Type 0) (xs : List X) (i : ℕ) (y : X)
+    → i < length xs → y ≡ get_or xs i y → AllPairs R xs
+    → All (λ x. R x y) (take i xs)
 pairs_at R xs i y within at_i all =
     let parts = subst (AllPairs R) (sym (take-append-drop (i + 1) xs)) all in
     let until = pairs_left R (take (i + 1) xs) (drop (i + 1) xs) parts in
@@ -101,7 +141,8 @@ pairs_at R xs i y within at_i all =
     All-head (λ z. All (λ x. R x z) (take i xs)) y [] (pairs_across R (take i xs) (y ∷ []) until')
 
 -- the lists up to one more are no longer than all
-pub length_until : {D X : Type 0} (f : D → List X) (ds : List D) (i : ℕ) (d : D) → i < length ds → d ≡ get_or ds i d → length (flat_map f (take i ds)) + length (f d) ≤ length (flat_map f ds)
+pub length_until : {D X : Type 0} (f : D → List X) (ds : List D) (i : ℕ) (d : D) → i < length ds → d ≡ get_or ds i d
+    → length (flat_map f (take i ds)) + length (f d) ≤ length (flat_map f ds)
 length_until f ds i d within at_i =
     let parts : flat_map f ds ≡ flat_map f (take (i + 1) ds) ++ flat_map f (drop (i + 1) ds) =
     ap (flat_map f) (sym (take-append-drop (i + 1) ds)) ∙ flat_map-append f (take (i + 1) ds) (drop (i + 1) ds) in
@@ -111,14 +152,17 @@ length_until f ds i d within at_i =
     omega (arith, e1, e2)
 
 -- the elements of each list are related
-pub lists_each : {D X : Type 0} (R : X → X → Type 0) (f : D → List X) (ds : List D) → AllPairs R (flat_map f ds) → All (λ d. AllPairs R (f d)) ds
+pub lists_each : {D X : Type 0} (R : X → X → Type 0) (f : D → List X) (ds : List D) → AllPairs R (flat_map f ds)
+    → All (λ d. AllPairs R (f d)) ds
 lists_each R f [] all = All-nil (λ d. AllPairs R (f d))
 lists_each R f (d ∷ ds) all =
     let all' = rw (flat_map-cons f d ds) at all in
-    All-cons (λ d. AllPairs R (f d)) d ds (pairs_left R (f d) (flat_map f ds) all') (lists_each R f ds (pairs_right R (f d) (flat_map f ds) all'))
+    All-cons (λ d. AllPairs R (f d)) d ds (pairs_left R (f d) (flat_map f ds) all')
+    (lists_each R f ds (pairs_right R (f d) (flat_map f ds) all'))
 
 -- the elements of each list are related to those of each later one
-pub lists_across : {D X : Type 0} (R : X → X → Type 0) (f : D → List X) (ds : List D) → AllPairs R (flat_map f ds) → AllPairs (λ d e. All (λ y. All (λ x. R x y) (f d)) (f e)) ds
+pub lists_across : {D X : Type 0} (R : X → X → Type 0) (f : D → List X) (ds : List D) → AllPairs R (flat_map f ds)
+    → AllPairs (λ d e. All (λ y. All (λ x. R x y) (f d)) (f e)) ds
 lists_across R f [] all = pairs_nil (λ d e. All (λ y. All (λ x. R x y) (f d)) (f e))
 lists_across R f (d ∷ ds) all =
     let all' = rw (flat_map-cons f d ds) at all in
@@ -126,8 +170,12 @@ lists_across R f (d ∷ ds) all =
     (all_lists (λ y. All (λ x. R x y) (f d)) f ds (pairs_across R (f d) (flat_map f ds) all'))
     (lists_across R f ds (pairs_right R (f d) (flat_map f ds) all'))
 
-pub pairs_alone : {D X : Type 0} (R : X → X → Type 0) (f : D → List X) (d : D) → AllPairs R (f d) → AllPairs R (flat_map f (d ∷ []))
+-- if the list of a single item is related, so are the lists of all items in a row
+pub pairs_alone : {D X : Type 0} (R : X → X → Type 0) (f : D → List X) (d : D) → AllPairs R (f d)
+    → AllPairs R (flat_map f (d ∷ []))
 pairs_alone R f d h = rw (flat_map-cons f d [], append-nil (f d)) h
 
-pub pairs_of_one : {D X : Type 0} (R : X → X → Type 0) (f : D → List X) (d : D) → AllPairs R (flat_map f (d ∷ [])) → AllPairs R (f d)
+-- if the lists in a row of a single item are related, so is its list
+pub pairs_of_one : {D X : Type 0} (R : X → X → Type 0) (f : D → List X) (d : D) → AllPairs R (flat_map f (d ∷ []))
+    → AllPairs R (f d)
 pairs_of_one R f d h = All-head (λ d. AllPairs R (f d)) d [] (lists_each R f (d ∷ []) h)

@@ -1,10 +1,13 @@
--- The rules in the order of their numbers.
+-- The rules in the order of their numbers: why `smallest_fault` may try them one after another.
 use Rattle.std.proofs.Common.{◌≡◌, ◌<◌, ◌+◌, ℕ, zero, suc, List, [], ◌∷◌, get_or, refl, ap, sym, subst, ◌∙◌, arith}
 use Rattle.plan_rules.specs.Data.{DomainData}
 use Rattle.plan_rules.specs.Fault.{plan_fault_number}
 use Rattle.plan_rules.specs.Separate.{Rule, IsSeparate, KeepsBelow}
 use Rattle.plan_rules.specs.declared.fault.PlanFault.{PlanFault}
-use Rattle.plan_rules.specs.declared.fault.PlanFault.TheVariants.{Text, Shape, DomainCount, Name, NameTwice, Range, SharedPort, NodeCount, Memory, Port, PortTwice, HostCount, UnwiredNode, Limit, NoMemory, RangeCount, UserCount}
+use Rattle.plan_rules.specs.declared.fault.PlanFault.TheVariants.{Text, Shape, DomainCount, Name, NameTwice, Range}
+use Rattle.plan_rules.specs.declared.fault.PlanFault.TheVariants.{SharedPort, NodeCount, Memory, Port, PortTwice}
+use Rattle.plan_rules.specs.declared.fault.PlanFault.TheVariants.{HostCount, UnwiredNode, Limit}
+use Rattle.plan_rules.specs.declared.fault.PlanFault.TheVariants.{NoMemory, RangeCount, UserCount}
 
 -- the fault of a number
 abbrev fault_of : ℕ → PlanFault
@@ -23,8 +26,10 @@ fault_of (suc (suc (suc (suc (suc (suc (suc (suc (suc (suc (suc (suc zero)))))))
 fault_of (suc (suc (suc (suc (suc (suc (suc (suc (suc (suc (suc (suc (suc zero))))))))))))) = UnwiredNode
 fault_of (suc (suc (suc (suc (suc (suc (suc (suc (suc (suc (suc (suc (suc (suc zero)))))))))))))) = Limit
 fault_of (suc (suc (suc (suc (suc (suc (suc (suc (suc (suc (suc (suc (suc (suc (suc zero))))))))))))))) = NoMemory
-fault_of (suc (suc (suc (suc (suc (suc (suc (suc (suc (suc (suc (suc (suc (suc (suc (suc zero)))))))))))))))) = RangeCount
-fault_of (suc (suc (suc (suc (suc (suc (suc (suc (suc (suc (suc (suc (suc (suc (suc (suc (suc zero))))))))))))))))) = UserCount
+fault_of (suc (suc (suc (suc (suc (suc (suc (suc (suc (suc (suc (suc (suc (suc (suc (suc zero)))))))))))))))) =
+    RangeCount
+fault_of (suc (suc (suc (suc (suc (suc (suc (suc (suc (suc (suc (suc (suc (suc (suc (suc (suc zero))))))))))))))))) =
+    UserCount
 fault_of _ = NoMemory
 
 fault_of-number : (f : PlanFault) → fault_of (plan_fault_number f) ≡ f
@@ -47,8 +52,10 @@ fault_of-number RangeCount = refl
 fault_of-number UserCount = refl
 
 -- two faults of one number have one rule
-pub same_rule : (plan : List DomainData) (a b : PlanFault) → plan_fault_number a ≡ plan_fault_number b → Rule a plan → Rule b plan
-same_rule plan a b same kept = subst (λ (f : PlanFault). Rule f plan) (sym (fault_of-number a) ∙ ap fault_of same ∙ fault_of-number b) kept
+pub same_rule : (plan : List DomainData) (a b : PlanFault) → plan_fault_number a ≡ plan_fault_number b → Rule a plan
+    → Rule b plan
+same_rule plan a b same kept =
+    subst (λ (f : PlanFault). Rule f plan) (sym (fault_of-number a) ∙ ap fault_of same ∙ fault_of-number b) kept
 
 -- the first two faults are no rules of a plan
 pub no_rule : (plan : List DomainData) → KeepsBelow plan 3
@@ -70,7 +77,7 @@ no_rule plan NoMemory h = tt
 no_rule plan RangeCount h = absurd (omega arith)
 no_rule plan UserCount h = absurd (omega arith)
 
--- the rules of all numbers
+-- a plan that keeps the rules of all numbers below 18 is separate
 pub every_rule : (plan : List DomainData) → KeepsBelow plan 18 → IsSeparate plan
 every_rule plan h Text = tt
 every_rule plan h Shape = tt
@@ -92,8 +99,11 @@ every_rule plan h UserCount = h UserCount (omega arith)
 
 -- the rules in the order of their numbers
 abbrev pub rules_in_order : List PlanFault
-rules_in_order = DomainCount ∷ Name ∷ NameTwice ∷ Range ∷ SharedPort ∷ NodeCount ∷ Memory ∷ Port ∷ PortTwice ∷ HostCount ∷ UnwiredNode ∷ Limit ∷ NoMemory ∷ RangeCount ∷ UserCount ∷ []
+rules_in_order =
+    DomainCount ∷ Name ∷ NameTwice ∷ Range ∷ SharedPort ∷ NodeCount ∷ Memory ∷ Port ∷ PortTwice ∷ HostCount
+    ∷ UnwiredNode ∷ Limit ∷ NoMemory ∷ RangeCount ∷ UserCount ∷ []
 
+-- the fault of the rule at place i has the number i + 3
 pub numbered : (i : ℕ) → i < 15 → plan_fault_number (get_or rules_in_order i Text) ≡ i + 3
 numbered zero h = refl
 numbered (suc zero) h = refl
@@ -110,4 +120,5 @@ numbered (suc (suc (suc (suc (suc (suc (suc (suc (suc (suc (suc zero))))))))))) 
 numbered (suc (suc (suc (suc (suc (suc (suc (suc (suc (suc (suc (suc zero)))))))))))) h = refl
 numbered (suc (suc (suc (suc (suc (suc (suc (suc (suc (suc (suc (suc (suc zero))))))))))))) h = refl
 numbered (suc (suc (suc (suc (suc (suc (suc (suc (suc (suc (suc (suc (suc (suc zero)))))))))))))) h = refl
-numbered (suc (suc (suc (suc (suc (suc (suc (suc (suc (suc (suc (suc (suc (suc (suc k))))))))))))))) h = absurd (omega arith)
+numbered (suc (suc (suc (suc (suc (suc (suc (suc (suc (suc (suc (suc (suc (suc (suc k))))))))))))))) h =
+    absurd (omega arith)

@@ -1,5 +1,7 @@
--- Ranges of ports.
-use Rattle.std.proofs.Common.{◌≡◌, ◌↔◌, inl, inr, ◌<◌, ◌≤◌, ◌+◌, ◌++◌, ◌∙◌, ℕ, ℤ, w64, SFits, pos, ◌≤ℤ◌, ◌<ℤ◌, ◌+ℤ◌, ◌-ℤ◌, Bool, true, false, IsTrue, List, length, take, drop, get_or, All, ap, sym, refl, [], ◌∷◌, cond, filter, ◌||◌, arith}
+-- Ranges of ports: their numbers stay within a machine's integers, for the functions that compute them.
+use Rattle.std.proofs.Common.{◌≡◌, ◌↔◌, inl, inr, ◌<◌, ◌≤◌, ◌+◌, ◌++◌, ◌∙◌, ℕ, ℤ, w64, SFits, pos, ◌≤ℤ◌, ◌<ℤ◌, ◌+ℤ◌}
+use Rattle.std.proofs.Common.{◌-ℤ◌, Bool, true, false, IsTrue, List, length, take, drop, get_or, All, ap, sym, refl, []}
+use Rattle.std.proofs.Common.{◌∷◌, cond, filter, ◌||◌, arith}
 use Rattle.std.specs.List.{list_any}
 use Rattle.std.specs.Int.{int_min, int_max}
 use lib.Signed.{lt_z}
@@ -27,7 +29,8 @@ differs_from a b c d low high is_low is_high =
       ],
     )
 
-some_at : {X : Type 0} (here : Bool) (p : X → Bool) (x : X) (xs : List X) → IsTrue (list_any p xs) ↔ (1 ≤ length (filter p xs))
+some_at : {X : Type 0} (here : Bool) (p : X → Bool) (x : X) (xs : List X)
+    → IsTrue (list_any p xs) ↔ (1 ≤ length (filter p xs))
     → IsTrue (here || list_any p xs) ↔ (1 ≤ length (cond here (x ∷ filter p xs) (filter p xs)))
 some_at true p x xs h = (λ _. omega arith, λ _. refl)
 some_at false p x xs h = h
@@ -42,11 +45,13 @@ count_of-append [] ss = omega (arith, ints)
 count_of-append (r ∷ rs) ss = let h = count_of-append rs ss in omega (arith, ints, h)
 
 -- the ports of the ranges up to one more
-pub count_more : (rs : List RangePlan) (i : ℕ) (d : RangePlan) → i < length rs → count_of (take (i + 1) rs) ≡ count_of (take i rs) +ℤ length_of (get_or rs i d)
+pub count_more : (rs : List RangePlan) (i : ℕ) (d : RangePlan) → i < length rs
+    → count_of (take (i + 1) rs) ≡ count_of (take i rs) +ℤ length_of (get_or rs i d)
 count_more rs i d within =
     let h = count_of-append (take i rs) (get_or rs i d ∷ []) in
     rw (take_more rs i d within) (omega (arith, ints, h))
 
+-- the number of ports of ranges isn't negative
 pub count_least : (rs : List RangePlan) → All IsRange rs → pos 0 ≤ℤ count_of rs
 count_least [] h = omega (arith, ints)
 count_least (r ∷ rs) h =
@@ -71,10 +76,13 @@ port_past rs i d port left within is =
     let more = count_more rs i d within in
     omega (arith, ints, more, is)
 
-pub length_least : (rs : List RangePlan) (i : ℕ) (d : RangePlan) → All IsRange rs → i < length rs → pos 1 ≤ℤ length_of (get_or rs i d)
+-- a range has one port at least
+pub length_least : (rs : List RangePlan) (i : ℕ) (d : RangePlan) → All IsRange rs → i < length rs
+    → pos 1 ≤ℤ length_of (get_or rs i d)
 length_least rs i d ranges within =
     let h = ranges i d within in
     omega (arith, ints, h.0, h.1, h.2)
 
+-- what is left of a number if a smaller one is taken away fits in 64 bits
 pub fits_less : (a b : ℤ) → SFits w64 a → pos 0 ≤ℤ b → b ≤ℤ a → SFits w64 (a -ℤ b)
 fits_less a b fits low high = grind (arith, ints)

@@ -5,5 +5,13 @@ use Rattle.plan_rules.proofs.parts.host_parts.Goals as goal
 
 pub loop-number-preserved : goal.loop-number-preserved
 loop-number-preserved c =
-    let len : 0 + length (take c.loop-number.number c.args.users.now) ≡ c.loop-number.number = omega (arith, length-take c.loop-number.number c.args.users.now) in
-    rw (take_more c.args.users.now c.loop-number.number c.index-users-number.result (omega arith), ← c.index-users-number.is, hosts_more, len, ← c.loop-number.invariant) c.in_ok-push_hosts.ensures
+    let len : 0 + length (take c.loop-number.number c.args.users.now) ≡ c.loop-number.number =
+    omega (arith, length-take c.loop-number.number c.args.users.now) in
+    rw (
+      take_more c.args.users.now c.loop-number.number c.index-users-number.result (omega arith),
+      ← c.index-users-number.is,
+      hosts_more,
+      len,
+      ← c.loop-number.invariant,
+    )
+    c.in_ok-push_hosts.ensures

@@ -8,25 +8,29 @@ pub port_at-requires : goal.port_at-requires
 port_at-requires c =
     let four : length c.args.node.now.links ≡ 4 = search rules in
     let fits : SFits w64 (get_or c.args.node.now.links 0 (pos 0)) = search rules in
-    rw (to_z-of_z w64 _ fits) (λ t. wired_at (Lies (pos 0) (pos 31)) c.args.node.now.links 0 (pos 0) c.requires.ports (omega (arith, four)) t)
+    rw (to_z-of_z w64 _ fits)
+    (λ t. wired_at (Lies (pos 0) (pos 31)) c.args.node.now.links 0 (pos 0) c.requires.ports (omega (arith, four)) t)
 
 pub port_at-requires-2 : goal.port_at-requires-2
 port_at-requires-2 c =
     let four : length c.args.node.now.links ≡ 4 = search rules in
     let fits : SFits w64 (get_or c.args.node.now.links 1 (pos 0)) = search rules in
-    rw (to_z-of_z w64 _ fits) (λ t. wired_at (Lies (pos 0) (pos 31)) c.args.node.now.links 1 (pos 0) c.requires.ports (omega (arith, four)) t)
+    rw (to_z-of_z w64 _ fits)
+    (λ t. wired_at (Lies (pos 0) (pos 31)) c.args.node.now.links 1 (pos 0) c.requires.ports (omega (arith, four)) t)
 
 pub port_at-requires-3 : goal.port_at-requires-3
 port_at-requires-3 c =
     let four : length c.args.node.now.links ≡ 4 = search rules in
     let fits : SFits w64 (get_or c.args.node.now.links 2 (pos 0)) = search rules in
-    rw (to_z-of_z w64 _ fits) (λ t. wired_at (Lies (pos 0) (pos 31)) c.args.node.now.links 2 (pos 0) c.requires.ports (omega (arith, four)) t)
+    rw (to_z-of_z w64 _ fits)
+    (λ t. wired_at (Lies (pos 0) (pos 31)) c.args.node.now.links 2 (pos 0) c.requires.ports (omega (arith, four)) t)
 
 pub port_at-requires-4 : goal.port_at-requires-4
 port_at-requires-4 c =
     let four : length c.args.node.now.links ≡ 4 = search rules in
     let fits : SFits w64 (get_or c.args.node.now.links 3 (pos 0)) = search rules in
-    rw (to_z-of_z w64 _ fits) (λ t. wired_at (Lies (pos 0) (pos 31)) c.args.node.now.links 3 (pos 0) c.requires.ports (omega (arith, four)) t)
+    rw (to_z-of_z w64 _ fits)
+    (λ t. wired_at (Lies (pos 0) (pos 31)) c.args.node.now.links 3 (pos 0) c.requires.ports (omega (arith, four)) t)
 
 pub returns : goal.returns
 returns c =

@@ -3,7 +3,8 @@ use Rattle.plan_rules.specs.contracts.plan.DomainPlan.{the_view}
 use Rattle.plan_rules.specs.Separate.{count_of}
 use Rattle.std.proofs.lemmas.Int.{to_z-of_z}
 use Rattle.plan_rules.specs.Part.{IsPart, part_of, node_part, host_parts}
-use Rattle.plan_rules.proofs.SeparateLemmas.{is_part, part_is, hosts_small, links_small, sizes_of, users_few, ranges_few, are_all_ranges, limit_of}
+use Rattle.plan_rules.proofs.SeparateLemmas.{is_part, part_is, hosts_small, links_small, sizes_of, users_few}
+use Rattle.plan_rules.proofs.SeparateLemmas.{ranges_few, are_all_ranges, limit_of}
 use Rattle.plan_rules.proofs.parts.part_of.Goals as goal
 
 pub node_parts-requires-clause-sizes : goal.node_parts-requires-clause-sizes
@@ -54,16 +55,22 @@ invariant_of-result c =
     let sep = rw (← c.domain.view_is) at c.requires in
     let fits : SFits w64 c.domain.inside.limit = search rules in
     let len : c.len.result ≡ length (the_view c.domain.inside).users = omega (arith, c.len.ensures) in
-    let made = part_is (the_view c.domain.inside) c.count_of.result _ c.len.result c.in_ok-nodes.nodes.items c.in_ok-hosts.hosts.items
+    let made =
+    part_is (the_view c.domain.inside) c.count_of.result _ c.len.result c.in_ok-nodes.nodes.items
+    c.in_ok-hosts.hosts.items
     (c.count_of.ensures ∙ ap count_of c.as_slice-3.ensures.value) (ap unsigned_abs (to_z-of_z w64 _ fits)) len
-    (c.in_ok-nodes.ensures ∙ ap (map node_part) c.as_slice.ensures.value) (c.in_ok-hosts.ensures ∙ ap (host_parts 0) c.as_slice-2.ensures.value) in
+    (c.in_ok-nodes.ensures ∙ ap (map node_part) c.as_slice.ensures.value)
+    (c.in_ok-hosts.ensures ∙ ap (host_parts 0) c.as_slice-2.ensures.value) in
     subst IsPart (sym made) (is_part (the_view c.domain.inside) sep)
 
 pub returns : goal.returns
 returns c =
     let fits : SFits w64 c.domain.inside.limit = search rules in
     let len : c.len.result ≡ length (the_view c.domain.inside).users = omega (arith, c.len.ensures) in
-    let made = part_is (the_view c.domain.inside) c.count_of.result _ c.len.result c.in_ok-nodes.nodes.items c.in_ok-hosts.hosts.items
+    let made =
+    part_is (the_view c.domain.inside) c.count_of.result _ c.len.result c.in_ok-nodes.nodes.items
+    c.in_ok-hosts.hosts.items
     (c.count_of.ensures ∙ ap count_of c.as_slice-3.ensures.value) (ap unsigned_abs (to_z-of_z w64 _ fits)) len
-    (c.in_ok-nodes.ensures ∙ ap (map node_part) c.as_slice.ensures.value) (c.in_ok-hosts.ensures ∙ ap (host_parts 0) c.as_slice-2.ensures.value) in
+    (c.in_ok-nodes.ensures ∙ ap (map node_part) c.as_slice.ensures.value)
+    (c.in_ok-hosts.ensures ∙ ap (host_parts 0) c.as_slice-2.ensures.value) in
     made ∙ ap part_of c.domain.view_is

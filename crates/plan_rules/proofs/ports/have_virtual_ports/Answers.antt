@@ -7,9 +7,16 @@ use Rattle.plan_rules.proofs.ports.have_virtual_ports.Goals as goal
 
 pub loop-domain-preserved : goal.loop-domain-preserved
 loop-domain-preserved c =
-    let kept = rw (c.as_slice-in-loop-domain.ensures.value, c.as_slice.ensures.value, c.in_ok-ports.ensures) at (c.has_virtual_ports.ensures.0 (search rules)) in
-    let kept' = subst (λ (d : DomainData). All (IsVirtualPort d.ranges) (used_ports d)) c.domain.view_is (rw (← c.domain.view_is) at kept) in
-    all_more (λ d. All (IsVirtualPort d.ranges) (used_ports d)) c.args.domains.now c.loop-domain.domain-index c.domain-item.result (omega arith) c.domain-item.is c.loop-domain.invariant kept'
+    let kept =
+    rw (c.as_slice-in-loop-domain.ensures.value, c.as_slice.ensures.value, c.in_ok-ports.ensures) at
+    (c.has_virtual_ports.ensures.0 (search rules)) in
+    let kept' =
+    subst (λ (d : DomainData). All (IsVirtualPort d.ranges) (used_ports d)) c.domain.view_is
+    (rw (← c.domain.view_is) at kept) in
+    all_more (λ d. All (IsVirtualPort d.ranges) (used_ports d)) c.args.domains.now c.loop-domain.domain-index
+    c.domain-item.result (omega arith) c.domain-item.is c.loop-domain.invariant kept'
 
 pub returns : goal.returns
-returns c = let whole = take_all c.loop-domain.domain-index c.args.domains.now (omega arith) in (λ _. rw whole at c.loop-domain.invariant, λ _. refl)
+returns c =
+    let whole = take_all c.loop-domain.domain-index c.args.domains.now (omega arith) in
+    (λ _. rw whole at c.loop-domain.invariant, λ _. refl)

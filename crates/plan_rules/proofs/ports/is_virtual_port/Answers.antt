@@ -6,12 +6,19 @@ use Rattle.plan_rules.proofs.ports.is_virtual_port.Goals as goal
 
 pub returns-then-left-length : goal.returns-then-left-length
 returns-then-left-length c =
-    let port : c.args.port ≡ count_of (take c.loop-range.range-index c.args.ranges.now) +ℤ c.loop-range.left = sym (to_z-of_z w64 _ c.ranges.port) ∙ rw c.loop-range.left-is at c.loop-range.invariant.1 in
+    let port : c.args.port ≡ count_of (take c.loop-range.range-index c.args.ranges.now) +ℤ c.loop-range.left =
+    sym (to_z-of_z w64 _ c.ranges.port) ∙ rw c.loop-range.left-is at c.loop-range.invariant.1 in
     let fits : SFits w64 c.length_of-length.result = search rules in
     let test = rw (c.loop-range.left-is, to_z-of_z w64 _ fits) at c.if-left-length.true in
     let less : c.loop-range.left <ℤ c.length_of-length.result = grind (arith, ints, test) in
-    let low : pos 0 ≤ℤ c.args.port = grind (arith, ints, c.if-port-lt0.false, to_z-of_z w64 _ c.ranges.port) in
-    (λ _. (low, port_within c.args.ranges.now c.loop-range.range-index (record { first = pos 0; last = pos 0 }) c.args.port c.loop-range.left c.requires (omega arith) port (rw c.length_of-length.ensures at less)), λ _. refl)
+    let low : pos 0 ≤ℤ c.args.port = grind (arith, ints, c.if-port-lt0.false, to_z-of_z w64 _ c.ranges.port) in (
+      λ _. (
+        low,
+        port_within c.args.ranges.now c.loop-range.range-index (record { first = pos 0; last = pos 0 }) c.args.port
+            c.loop-range.left c.requires (omega arith) port (rw c.length_of-length.ensures at less),
+      ),
+      λ _. refl,
+    )
 
 pub overflow_sub-left : goal.overflow_sub-left
 overflow_sub-left c =
@@ -19,7 +26,9 @@ overflow_sub-left c =
     let here : SFits w64 c.loop-range.left = rw (← c.loop-range.left-is) (search rules) in
     let test = rw (c.loop-range.left-is, to_z-of_z w64 _ fits) at c.if-left-length.false in
     let more : c.length_of-length.result ≤ℤ c.loop-range.left = grind (arith, ints, test) in
-    let least = length_least c.args.ranges.now c.loop-range.range-index (record { first = pos 0; last = pos 0 }) c.requires (omega arith) in
+    let least =
+    length_least c.args.ranges.now c.loop-range.range-index (record { first = pos 0; last = pos 0 }) c.requires
+    (omega arith) in
     let low : pos 0 ≤ℤ c.length_of-length.result = omega (arith, ints, least, c.length_of-length.ensures) in
     rw (c.loop-range.left-is, to_z-of_z w64 _ fits) (fits_less _ _ here low more)
 
@@ -29,10 +38,13 @@ loop-range-preserved c =
     let here : SFits w64 c.loop-range.left = rw (← c.loop-range.left-is) (search rules) in
     let test = rw (c.loop-range.left-is, to_z-of_z w64 _ fits) at c.if-left-length.false in
     let more : c.length_of-length.result ≤ℤ c.loop-range.left = grind (arith, ints, test) in
-    let least = length_least c.args.ranges.now c.loop-range.range-index (record { first = pos 0; last = pos 0 }) c.requires (omega arith) in
+    let least =
+    length_least c.args.ranges.now c.loop-range.range-index (record { first = pos 0; last = pos 0 }) c.requires
+    (omega arith) in
     let low : pos 0 ≤ℤ c.length_of-length.result = omega (arith, ints, least, c.length_of-length.ensures) in
     let next = fits_less _ _ here low more in
     rw (c.loop-range.left-is, to_z-of_z w64 _ fits, to_z-of_z w64 _ next, c.length_of-length.ensures) (
       omega (arith, ints, more, c.length_of-length.ensures),
-      port_past c.args.ranges.now c.loop-range.range-index (record { first = pos 0; last = pos 0 }) _ c.loop-range.left (omega arith) (rw c.loop-range.left-is at c.loop-range.invariant.1),
+      port_past c.args.ranges.now c.loop-range.range-index (record { first = pos 0; last = pos 0 }) _ c.loop-range.left
+          (omega arith) (rw c.loop-range.left-is at c.loop-range.invariant.1),
     )

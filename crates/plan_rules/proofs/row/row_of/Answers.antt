@@ -26,9 +26,24 @@ place_of-requires-4 c =
 pub returns-clause-row : goal.returns-clause-row
 returns-clause-row c =
     let sep = rw (← c.domain.view_is) at c.requires in
-    rw (c.place_of.ensures, c.place_of-2.ensures, c.place_of-3.ensures, c.place_of-4.ensures, c.as_slice-ranges.ensures.value) (row_places _ (ranges_few _ sep) ∙ ap four_ranges c.domain.view_is)
+    rw (
+      c.place_of.ensures,
+      c.place_of-2.ensures,
+      c.place_of-3.ensures,
+      c.place_of-4.ensures,
+      c.as_slice-ranges.ensures.value,
+    )
+    (row_places _ (ranges_few _ sep) ∙ ap four_ranges c.domain.view_is)
 
 pub returns-clause-ranges : goal.returns-clause-ranges
 returns-clause-ranges c =
     let sep = rw (← c.domain.view_is) at c.requires in
-    rw (c.place_of.ensures, c.place_of-2.ensures, c.place_of-3.ensures, c.place_of-4.ensures, c.as_slice-ranges.ensures.value, row_places _ (ranges_few _ sep)) (is_numbered _ sep).ranges
+    rw (
+      c.place_of.ensures,
+      c.place_of-2.ensures,
+      c.place_of-3.ensures,
+      c.place_of-4.ensures,
+      c.as_slice-ranges.ensures.value,
+      row_places _ (ranges_few _ sep),
+    )
+    (is_numbered _ sep).ranges

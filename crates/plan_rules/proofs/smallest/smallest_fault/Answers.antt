@@ -13,7 +13,8 @@ loop-rule-preserved c = λ other less. elim (cases_lt (plan_fault_number other) 
   | inl before ↦ c.loop-rule.invariant other before
   | inr here ↦
       let number = numbered c.loop-rule.rule-index (omega arith) in
-      same_rule c.args.domains.now (get_or rules_in_order c.loop-rule.rule-index Text) other (omega (arith, number)) (c.in_ok-keeps.ensures.0 c.if-not-branch.false)
+      same_rule c.args.domains.now (get_or rules_in_order c.loop-rule.rule-index Text) other (omega (arith, number))
+      (c.in_ok-keeps.ensures.0 c.if-not-branch.false)
 ]
 
 pub returns-then-not-branch : goal.returns-then-not-branch

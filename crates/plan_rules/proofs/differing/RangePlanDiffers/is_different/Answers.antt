@@ -13,4 +13,6 @@ returns c =
     let f6 : SFits w64 c.max.result = search rules in
     let low = simp to_z-of_z at c.max.ensures.value in
     let high = simp to_z-of_z at c.min.ensures.value in
-    rw (to_z-of_z w64 _ f5, to_z-of_z w64 _ f6) (differs_from c.args.self.now.first c.args.self.now.last c.args.other.now.first c.args.other.now.last c.max.result c.min.result low high)
+    rw (to_z-of_z w64 _ f5, to_z-of_z w64 _ f6)
+    (differs_from c.args.self.now.first c.args.self.now.last c.args.other.now.first c.args.other.now.last c.max.result
+    c.min.result low high)
