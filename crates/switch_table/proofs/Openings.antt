@@ -1,20 +1,25 @@
--- The domains of an accepted plan, as the table takes them.
-use Rattle.std.proofs.Common.{◌≡◌, ℕ, zero, suc, ◌<◌, List, [], ◌∷◌, length, Some, IfSome, slice_get, All, AllPairs, Contains, inl, inr, refl, sym, ap, ◌∙◌, subst, arith}
+-- The domains of an accepted plan, as the table takes them, for `SwitchTable::open`.
+use Rattle.std.proofs.Common.{◌≡◌, ℕ, zero, suc, ◌<◌, List, [], ◌∷◌, length, Some, IfSome, slice_get, AllPairs}
+use Rattle.std.proofs.Common.{Contains, inl, inr, refl, sym, ap, ◌∙◌, subst, arith}
 use Rattle.std.proofs.lemmas.Bool.{cases_order}
 use Rattle.std.proofs.lemmas.Option.{none-some, same_Some, get_or_from_slice_get, slice_get_within}
 use Rattle.crossbar.specs.declared.range.PortRange.{PortRange}
-use Rattle.crossbar.specs.Ranges.{ports_in, IsNumbering}
+use Rattle.crossbar.specs.Ranges.{ports_in}
 use Rattle.plan_rules.specs.Data.{DomainData}
-use Rattle.plan_rules.specs.Part.{four_ranges, physical_ports, IsNumbered, AreSeparate}
+use Rattle.plan_rules.specs.Part.{four_ranges, physical_ports, AreSeparate}
 use Rattle.switch_table.specs.Domains.{domains_of, AreDisjoint}
 use Rattle.std.specs.Prelude.{Option}
 
-mapped : (plan : List DomainData) (k : ℕ) (ports : List ℕ) → slice_get (domains_of plan) k ≡ Some ports → (d : DomainData) × (slice_get plan k ≡ Some d) × (physical_ports d ≡ ports)
+mapped : (plan : List DomainData) (k : ℕ) (ports : List ℕ) → slice_get (domains_of plan) k ≡ Some ports
+    → (d : DomainData) × (slice_get plan k ≡ Some d) × (physical_ports d ≡ ports)
 mapped [] k ports is = absurd (none-some ports is)
 mapped (d ∷ plan) zero ports is = (d, refl, same_Some _ _ is)
 mapped (d ∷ plan) (suc k) ports is = mapped plan k ports is
 
-apart : (plan : List DomainData) (m n port : ℕ) (d e : List ℕ) → AllPairs AreSeparate plan → m < n → slice_get (domains_of plan) m ≡ Some d → slice_get (domains_of plan) n ≡ Some e → Contains d port → Contains e port → ⊥
+apart : (plan : List DomainData) (m n port : ℕ) (d e : List ℕ)
+    → AllPairs AreSeparate plan → m < n → slice_get (domains_of plan) m ≡ Some d
+    → slice_get (domains_of plan) n ≡ Some e → Contains d port → Contains e port
+    → ⊥
 apart plan m n port d e h less is_d is_e in_d in_e =
     let one = mapped plan m d is_d in
     let other = mapped plan n e is_e in
@@ -25,7 +30,7 @@ apart plan m n port d e h less is_d is_e in_d in_e =
     (subst (λ (ports : List ℕ). Contains ports port) (sym (ap physical_ports first ∙ one.2)) in_d)
     (subst (λ (ports : List ℕ). Contains ports port) (sym (ap physical_ports second ∙ other.2)) in_e)
 
--- no two of them have a port in common
+-- the domains of a separate plan have no port in common, as the table takes them
 pub separate_domains : (plan : List DomainData) → AllPairs AreSeparate plan → AreDisjoint (domains_of plan)
 separate_domains plan h m n port d e is_d is_e in_d in_e =
     elim (cases_order m n) [
@@ -35,18 +40,15 @@ separate_domains plan h m n port d e is_d is_e in_d in_e =
     ]
 
 -- the numbering of a domain's ranges is its list of ports
-pub own_domain : (plan : List DomainData) (i : ℕ) (ranges : List (Option PortRange)) (numbering : List ℕ) → i < length plan → IfSome (slice_get plan i) (λ d. ranges ≡ four_ranges d) → numbering ≡ ports_in ranges → slice_get (domains_of plan) i ≡ Some numbering
+pub own_domain : (plan : List DomainData) (i : ℕ) (ranges : List (Option PortRange)) (numbering : List ℕ)
+    → i < length plan → IfSome (slice_get plan i) (λ d. ranges ≡ four_ranges d) → numbering ≡ ports_in ranges
+    → slice_get (domains_of plan) i ≡ Some numbering
 own_domain [] i ranges numbering inside row is = absurd (omega arith)
-own_domain (d ∷ plan) zero ranges numbering inside row is = ap (λ (ports : List ℕ). Some ports) (sym (is ∙ ap ports_in row))
+own_domain (d ∷ plan) zero ranges numbering inside row is =
+    ap (λ (ports : List ℕ). Some ports) (sym (is ∙ ap ports_in row))
 own_domain (d ∷ plan) (suc i) ranges numbering inside row is = own_domain plan i ranges numbering (omega arith) row is
 
--- and numbers them one to one
-pub numbered : (plan : List DomainData) (i : ℕ) (numbering : List ℕ) → All IsNumbered plan → slice_get (domains_of plan) i ≡ Some numbering → IsNumbering numbering
-numbered plan i numbering h is =
-    let own = mapped plan i numbering is in
-    let known = subst IsNumbered (get_or_from_slice_get plan i own.0 own.0 own.1) (h i own.0 (slice_get_within plan i own.0 own.1)) in
-    subst IsNumbering own.2 known.ports
-
+-- there are as many lists of ports as the plan has domains
 pub length-domains : (plan : List DomainData) → length (domains_of plan) ≡ length plan
 length-domains [] = refl
 length-domains (d ∷ plan) = ap suc (length-domains plan)

@@ -1,6 +1,9 @@
--- The words of a seat's outputs are a row.
-use Rattle.std.proofs.Common.{◌≡◌, ℕ, zero, suc, ◌<◌, List, [], ◌∷◌, map, take, replicate, length, set, Some, slice_get, slice_set, slice_index, All, Contains, get_or, refl, sym, ap, ◌∙◌, subst, arith}
-use Rattle.std.proofs.lemmas.Option.{none-some, same_Some, slice_get-get_or, slice_get-map, get_or_from_slice_get, slice_get_within}
+-- The words of a seat's outputs are a row of its domain's ports, for
+-- `take_first_domain` and for the contracts of `Outputs` that a seat meets.
+use Rattle.std.proofs.Common.{◌≡◌, ℕ, zero, suc, ◌<◌, List, [], ◌∷◌, map, take, replicate, length, set, Some, slice_get}
+use Rattle.std.proofs.Common.{slice_set, slice_index, All, Contains, get_or, refl, sym, ap, ◌∙◌, subst, arith}
+use Rattle.std.proofs.lemmas.Option.{none-some, same_Some, slice_get-get_or}
+use Rattle.std.proofs.lemmas.Option.{slice_get-map, get_or_from_slice_get, slice_get_within}
 use Rattle.std.specs.Option.{option_map}
 use Rattle.std.proofs.lemmas.List.{length-set}
 use Rattle.std.proofs.lemmas.List.Elements.{All-replicate}
@@ -21,9 +24,11 @@ map-replicate : (n : ℕ) → map word_of (replicate n 0) ≡ replicate n (word_
 map-replicate zero = refl
 map-replicate (suc n) = ap (λ ws. word_of 0 ∷ ws) (map-replicate n)
 
--- a view that has seen 0 everywhere has a word 0 for each port
+-- a view that has seen 0 everywhere has a clear word for each port
 pub clear_row : (view : View) (ports : List ℕ) → view.words ≡ replicate 32 0 → words_of view ports ≡ clear_words ports
-clear_row view ports clear = ap (λ (ws : List ℕ). map word_of (map (slice_index ws) ports)) clear ∙ ap (map word_of) (bits_of-clear 32 ports) ∙ map-replicate (length ports)
+clear_row view ports clear =
+    ap (λ (ws : List ℕ). map word_of (map (slice_index ws) ports)) clear ∙ ap (map word_of) (bits_of-clear 32 ports)
+    ∙ map-replicate (length ports)
 
 length-clear : (n : ℕ) → length (replicate n (word_of 0)) ≡ n
 length-clear zero = refl
@@ -42,8 +47,10 @@ first_held : (held : List (List ℕ)) (ports : List ℕ) → slice_get held 0 �
 first_held [] ports is = absurd (none-some ports is)
 first_held (d ∷ held) ports is = ap (λ (p : List ℕ). p ∷ []) (same_Some d ports is)
 
--- a seat that was just dealt
-pub dealt : NumberingsAreFew → (shared_words seat : TableId) (view : View) (me : Me (Unit {0}) View) (ports : List ℕ) → seat ≡ shared_words → seat.words ≡ 32 → view.words ≡ replicate 32 0 → slice_get view.held 0 ≡ Some ports → IsNumbering ports
+-- a seat that was just dealt holds its domain alone, takes no slot, and its words are a row of the domain's ports
+pub dealt : NumberingsAreFew → (shared_words seat : TableId) (view : View) (me : Me (Unit {0}) View) (ports : List ℕ)
+    → seat ≡ shared_words → seat.words ≡ 32 → view.words ≡ replicate 32 0 → slice_get view.held 0 ≡ Some ports
+    → IsNumbering ports
     → me.0 ≡ record view { held = take 1 view.held } → me.1 ≡ [] → IsSeated shared_words seat me ports
 dealt few shared_words seat view me ports here wide clear next numbering is no_slot = record {
   here = here;
@@ -51,7 +58,9 @@ dealt few shared_words seat view me ports here wide clear next numbering is no_s
   view_wide = ap (λ (v : View). length v.words) is ∙ ap length clear;
   holds_its_domain = ap (λ (v : View). v.held) is ∙ first_held view.held ports next;
   takes_no_slot = no_slot;
-  row = subst (AreWordsOf ports) (sym (clear_row me.0 ports (ap (λ (v : View). v.words) is ∙ clear))) (unused_row few ports numbering);
+  row =
+      subst (AreWordsOf ports) (sym (clear_row me.0 ports (ap (λ (v : View). v.words) is ∙ clear)))
+      (unused_row few ports numbering);
 }
 
 map-set : (xs : List ℕ) (i x : ℕ) → map word_of (set xs i x) ≡ set (map word_of xs) i (word_of x)
@@ -64,20 +73,33 @@ pub at_index : (ports : List ℕ) (number port : ℕ) → slice_get ports number
 at_index ports number port is = sym (get_or_from_slice_get ports number port 0 is)
 
 -- the word of a number is the view's word of its port
-pub word_at : (view : View) (ports : List ℕ) (number port : ℕ) → slice_get ports number ≡ Some port → slice_get (words_of view ports) number ≡ Some (word_of (slice_index view.words port))
+pub word_at : (view : View) (ports : List ℕ) (number port : ℕ) → slice_get ports number ≡ Some port
+    → slice_get (words_of view ports) number ≡ Some (word_of (slice_index view.words port))
 word_at view ports number port is =
-    slice_get-map word_of (bits_of view ports) number ∙ ap (λ o. option_map word_of o) (slice_get-map (slice_index view.words) ports number ∙ ap (λ o. option_map (slice_index view.words) o) is)
+    slice_get-map word_of (bits_of view ports) number
+    ∙ ap (λ o. option_map word_of o)
+    (slice_get-map (slice_index view.words) ports number ∙ ap (λ o. option_map (slice_index view.words) o) is)
 
 -- a store at the port changes the word of its number alone
-pub words_set : (view : View) (ports : List ℕ) (number port bits : ℕ) → AreWordsOf ports (words_of view ports) → length view.words ≡ 32 → port < 32 → slice_get ports number ≡ Some port
+pub words_set : (view : View) (ports : List ℕ) (number port bits : ℕ)
+    → AreWordsOf ports (words_of view ports) → length view.words ≡ 32 → port < 32
+    → slice_get ports number ≡ Some port
     → words_of (with_view_word view port bits) ports ≡ slice_set (words_of view ports) number (word_of bits)
 words_set view ports number port bits row wide low is =
-    ap (map word_of) (port_set view ports number port (slice_get_within ports number port is) (at_index ports number port is) bits (omega arith)
-    (λ u h same. row.one_to_one u number port (slice_get-get_or ports u 0 h ∙ ap (λ (p : ℕ). Some p) (same ∙ sym (at_index ports number port is))) is))
+    ap (map word_of)
+    (port_set view ports number port (slice_get_within ports number port is) (at_index ports number port is) bits
+    (omega arith)
+    (λ u h same.
+    row.one_to_one u number port
+    (slice_get-get_or ports u 0 h ∙ ap (λ (p : ℕ). Some p) (same ∙ sym (at_index ports number port is))) is))
     ∙ map-set (bits_of view ports) number bits
 
--- and what the seat is stays
-pub written_seat : RowTakesAWord → (shared_words seat next : TableId) (me now : Me (Unit {0}) View) (ports : List ℕ) (number port bits : ℕ) → IsSeated shared_words seat me ports → IsWordOf ports (word_of bits) → port < 32 → slice_get ports number ≡ Some port → next ≡ seat
+-- a seat that stored a word of its domain at one of its outputs is still the seat of that domain
+pub written_seat : RowTakesAWord
+    → (shared_words seat next : TableId) (me now : Me (Unit {0}) View) (ports : List ℕ) (number port bits : ℕ)
+    → IsSeated shared_words seat me ports → IsWordOf ports (word_of bits) → port < 32
+    → slice_get ports number ≡ Some port
+    → next ≡ seat
     → now ≡ (with_view_word me.0 port bits, me.1) → IsSeated shared_words next now ports
 written_seat set_row shared_words seat next me now ports number port bits s proper low is same then = record {
   here = same ∙ s.here;
@@ -87,31 +109,47 @@ written_seat set_row shared_words seat next me now ports number port bits s prop
   takes_no_slot = ap (λ (m : Me (Unit {0}) View). m.1) then ∙ s.takes_no_slot;
   row =
       subst (λ (m : Me (Unit {0}) View). AreWordsOf ports (words_of m.0 ports)) (sym then)
-      (subst (AreWordsOf ports) (sym (words_set me.0 ports number port bits s.row s.view_wide low is)) (set_row ports (words_of me.0 ports) number (word_of bits) s.row proper));
+      (subst (AreWordsOf ports) (sym (words_set me.0 ports number port bits s.row s.view_wide low is))
+      (set_row ports (words_of me.0 ports) number (word_of bits) s.row proper));
 }
 
 -- the port of a number lies below 32
-pub port_low : (ports : List ℕ) (words : List Word) (number port : ℕ) → AreWordsOf ports words → slice_get ports number ≡ Some port → port < 32
+pub port_low : (ports : List ℕ) (words : List Word) (number port : ℕ)
+    → AreWordsOf ports words → slice_get ports number ≡ Some port
+    → port < 32
 port_low ports words number port row is =
-    subst (λ (p : ℕ). p < 32) (get_or_from_slice_get ports number port port is) (row.below number port (slice_get_within ports number port is))
+    subst (λ (p : ℕ). p < 32) (get_or_from_slice_get ports number port port is)
+    (row.below number port (slice_get_within ports number port is))
 
--- it is one of the seat's own
-pub port_mine : (view : View) (ports : List ℕ) (number port : ℕ) → view.held ≡ ports ∷ [] → slice_get ports number ≡ Some port → StoresAlone view port
-port_mine view ports number port held is = port_held view ports number port (slice_get_within ports number port is) (at_index ports number port is) held
+-- the port of a number is one at which the seat alone stores
+pub port_mine : (view : View) (ports : List ℕ) (number port : ℕ)
+    → view.held ≡ ports ∷ [] → slice_get ports number ≡ Some port
+    → StoresAlone view port
+port_mine view ports number port held is =
+    port_held view ports number port (slice_get_within ports number port is) (at_index ports number port is) held
 
-pub port_in : (view : View) (ports : List ℕ) (number port : ℕ) → slice_get ports number ≡ Some port → Contains ports port
-port_in view ports number port is = port_own view ports number port (slice_get_within ports number port is) (at_index ports number port is)
+-- the port of a number is among the ports
+pub port_in : (view : View) (ports : List ℕ) (number port : ℕ) → slice_get ports number ≡ Some port
+    → Contains ports port
+port_in view ports number port is =
+    port_own view ports number port (slice_get_within ports number port is) (at_index ports number port is)
 
+-- the one domain that a seat holds is its first
 pub first_of : (view : View) (ports : List ℕ) → view.held ≡ ports ∷ [] → slice_get view.held 0 ≡ Some ports
 first_of view ports held = ap (λ (ds : List (List ℕ)). slice_get ds 0) held
 
--- what a load found is the word of the number
-pub found_word : (view : View) (ports : List ℕ) (number port at found : ℕ) (seen : SeatState) (s : SeatState) → s ≡ seen → s.view ≡ view → s.ports ≡ ports → slice_get ports number ≡ Some port → at ≡ port → found ≡ slice_index view.words at
+-- what a load at the port of a number found is the seat's word at that number
+pub found_word : (view : View) (ports : List ℕ) (number port at found : ℕ) (seen : SeatState) (s : SeatState)
+    → s ≡ seen → s.view ≡ view → s.ports ≡ ports → slice_get ports number ≡ Some port → at ≡ port
+    → found ≡ slice_index view.words at
     → slice_get (seat_words seen) number ≡ Some (word_of found)
 found_word view ports number port at found seen s same view_is ports_is is at_is found_is =
-    ap (λ (t : SeatState). slice_get (seat_words t) number) (sym same) ∙ ap (λ (p : View × List ℕ). slice_get (words_of p.0 p.1) number) (λ i. (view_is i, ports_is i))
-    ∙ word_at view ports number port is ∙ ap (λ (w : ℕ). Some (word_of w)) (ap (slice_index view.words) (sym at_is) ∙ sym found_is)
+    ap (λ (t : SeatState). slice_get (seat_words t) number) (sym same)
+    ∙ ap (λ (p : View × List ℕ). slice_get (words_of p.0 p.1) number) (λ i. (view_is i, ports_is i))
+    ∙ word_at view ports number port is
+    ∙ ap (λ (w : ℕ). Some (word_of w)) (ap (slice_index view.words) (sym at_is) ∙ sym found_is)
 
--- and nothing is connected in them
-pub cleared_seats : UnusedIsCleared → (seats : List SeatState) → All (λ s. seat_words s ≡ clear_words s.ports) seats → All (λ s. switch_of (seat_words s) ≡ cleared) seats
+-- seats whose words are clear say the cleared switch
+pub cleared_seats : UnusedIsCleared → (seats : List SeatState) → All (λ s. seat_words s ≡ clear_words s.ports) seats
+    → All (λ s. switch_of (seat_words s) ≡ cleared) seats
 cleared_seats unused seats clear k d inside = ap switch_of (clear k d inside) ∙ unused (length (get_or seats k d).ports)

@@ -12,4 +12,5 @@ split_seat-seat-requires c =
 pub invariant_of-result : goal.invariant_of-result
 invariant_of-result c =
     let e = c.split_seat-seat.ensures in
-    dealt c.rows_are_words_of_ports.ensures.few _ _ c.args.opener.now.me.0 _ c.args.numbering (search rules) (search rules) c.requires.clear c.requires.next c.requires.numbering (search rules) (search rules)
+    dealt c.rows_are_words_of_ports.ensures.few _ _ c.args.opener.now.me.0 _ c.args.numbering (search rules)
+    (search rules) c.requires.clear c.requires.next c.requires.numbering (search rules) (search rules)

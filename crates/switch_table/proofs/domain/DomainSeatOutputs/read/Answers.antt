@@ -12,10 +12,13 @@ load-bits-requires c =
     let wide : c.deref.result.now.shared.table_id.words ≡ 32 = search rules in
     let at = c.from.ensures in
     let low = port_low s.numbering _ c.args.number c.physical-port.result kept.row c.physical-port.ensures in
-    let mine : StoresAlone s.seat.me.0 c.from.result = rw at (port_mine s.seat.me.0 s.numbering c.args.number c.physical-port.result kept.holds_its_domain c.physical-port.ensures) in
+    let mine : StoresAlone s.seat.me.0 c.from.result =
+    rw at (port_mine s.seat.me.0 s.numbering c.args.number c.physical-port.result kept.holds_its_domain
+    c.physical-port.ensures) in
     (here, omega arith, reads _ _ _ _ _ mine)
 
 pub returns-clause-value : goal.returns-clause-value
 returns-clause-value c =
     let s = c.self.inside in
-    found_word s.seat.me.0 s.numbering c.args.number c.physical-port.result c.from.result c.load-bits.result _ _ c.self.view_is refl refl c.physical-port.ensures c.from.ensures c.load-bits.ensures.2.1
+    found_word s.seat.me.0 s.numbering c.args.number c.physical-port.result c.from.result c.load-bits.result _ _
+    c.self.view_is refl refl c.physical-port.ensures c.from.ensures c.load-bits.ensures.2.1
