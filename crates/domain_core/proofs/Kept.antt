@@ -1,5 +1,6 @@
--- Small entries stand for the same entries when more is seen.
-use Rattle.std.proofs.Common.{◌≡◌, ℕ, ◌+◌, ◌-◌, ◌<◌, ◌≤◌, ◌^◌, List, [], ◌∷◌, ◌++◌, length, map, refl, sym, ap, ◌∙◌, arith, slice_index_or, slice_set}
+-- Small entries stand for the same entries when more is seen, for `Entries::push_look` and `extend_last`.
+use Rattle.std.proofs.Common.{◌≡◌, ℕ, ◌+◌, ◌-◌, ◌<◌, ◌≤◌, ◌^◌, List, [], ◌∷◌, ◌++◌, length, map, refl, sym, ap, ◌∙◌}
+use Rattle.std.proofs.Common.{arith, slice_index_or, slice_set}
 use Rattle.std.specs.List.{All}
 use Rattle.std.proofs.lemmas.List.{length-map, map-append, map-set, get_or-map, get_or_append_left, get_or_push}
 use Rattle.std.proofs.lemmas.List.Elements.{All-head, All-tail}
@@ -20,38 +21,63 @@ use Rattle.domain_core.proofs.Runs.{run_has_room, run_goes_on}
 -- an entry that is kept stays the same
 still : (seen more : List Seen) (e : SmallEntry) → IsStored seen e → entry_of (seen ++ more) e ≡ entry_of seen e
 still seen more (One by asked answer) kept = refl
-still seen more (Look by asked place) kept = ap (λ (s : Seen). let e : Entry = entry.One by asked (reply.Look s) in e) (get_or_append_left seen more no_look place kept)
+still seen more (Look by asked place) kept =
+    ap (λ (s : Seen). let e : Entry = entry.One by asked (reply.Look s) in e)
+    (get_or_append_left seen more no_look place kept)
 still seen more (Run by node last count) kept = refl
 
-pub all_still : (seen more : List Seen) (small : List SmallEntry) → All (IsStored seen) small → map (entry_of (seen ++ more)) small ≡ map (entry_of seen) small
+-- small entries that are stored stand for what they stood for, whatever more is seen
+pub all_still : (seen more : List Seen) (small : List SmallEntry) → All (IsStored seen) small
+    → map (entry_of (seen ++ more)) small ≡ map (entry_of seen) small
 all_still seen more [] kept = refl
 all_still seen more (e ∷ small) kept =
-    ap (λ (first : Entry). first ∷ map (entry_of (seen ++ more)) small) (still seen more e (All-head (IsStored seen) e small kept))
-    ∙ ap (λ (rest : List Entry). entry_of seen e ∷ rest) (all_still seen more small (All-tail (IsStored seen) e small kept))
+    ap (λ (first : Entry). first ∷ map (entry_of (seen ++ more)) small)
+    (still seen more e (All-head (IsStored seen) e small kept))
+    ∙ ap (λ (rest : List Entry). entry_of seen e ∷ rest)
+    (all_still seen more small (All-tail (IsStored seen) e small kept))
 
--- a look, and what it saw
-pub look_pushed : (seen : List Seen) (small : List SmallEntry) (by : By) (asked : Event) (s : Seen) → All (IsStored seen) small
-    → map (entry_of (seen ++ s ∷ [])) (small ++ Look by asked (length seen) ∷ []) ≡ map (entry_of seen) small ++ entry.One by asked (reply.Look s) ∷ []
+-- a look that is stored behind small entries stands for an entry with what it saw, and they for what they stood for
+pub look_pushed : (seen : List Seen) (small : List SmallEntry) (by : By) (asked : Event) (s : Seen)
+    → All (IsStored seen) small
+    → map (entry_of (seen ++ s ∷ [])) (small ++ Look by asked (length seen) ∷ [])
+    ≡ map (entry_of seen) small ++ entry.One by asked (reply.Look s) ∷ []
 look_pushed seen small by asked s kept =
     map-append (entry_of (seen ++ s ∷ [])) small (Look by asked (length seen) ∷ [])
-    ∙ ap (λ (front : List Entry). front ++ entry_of (seen ++ s ∷ []) (Look by asked (length seen)) ∷ []) (all_still seen (s ∷ []) small kept)
-    ∙ ap (λ (last : Seen). map (entry_of seen) small ++ entry.One by asked (reply.Look last) ∷ []) (get_or_push seen s no_look (length seen) refl)
+    ∙ ap (λ (front : List Entry). front ++ entry_of (seen ++ s ∷ []) (Look by asked (length seen)) ∷ [])
+    (all_still seen (s ∷ []) small kept)
+    ∙ ap (λ (last : Seen). map (entry_of seen) small ++ entry.One by asked (reply.Look last) ∷ [])
+    (get_or_push seen s no_look (length seen) refl)
 
 -- a run that stands last
-at_last : (seen : List Seen) (n : ℕ) (small : List SmallEntry) (e : SmallEntry) → n ≡ length small → 0 < n → e ≡ slice_index_or small (n - 1) e
+at_last : (seen : List Seen) (n : ℕ) (small : List SmallEntry) (e : SmallEntry) → n ≡ length small → 0 < n
+    → e ≡ slice_index_or small (n - 1) e
     → entry_of seen e ≡ slice_index_or (map (entry_of seen) small) (n - 1) (entry_of seen e)
-at_last seen n small e all some is = ap (entry_of seen) is ∙ sym (get_or-map (entry_of seen) small (n - 1) e (entry_of seen e) (omega (arith, all, some)))
+at_last seen n small e all some is =
+    ap (entry_of seen) is
+    ∙ sym (get_or-map (entry_of seen) small (n - 1) e (entry_of seen e) (omega (arith, all, some)))
 
--- has room for what is to come
-pub last_run_has_room : (seen : List Seen) (n : ℕ) (small : List SmallEntry) (e : SmallEntry) (by : By) (node before count : ℕ) → n ≡ length small → 0 < n → e ≡ slice_index_or small (n - 1) e
-    → length (expanded (map (entry_of seen) small)) + count ≤ 2 ^ 40 → e ≡ Run by node Ran before → before + count ≤ 2 ^ 40
+-- a run that stands last among small entries has room for so many Steps more, if the journal has
+pub last_run_has_room : (seen : List Seen) (n : ℕ) (small : List SmallEntry) (e : SmallEntry) (by : By)
+    (node before count : ℕ)
+    → n ≡ length small → 0 < n
+    → e ≡ slice_index_or small (n - 1) e
+    → length (expanded (map (entry_of seen) small)) + count ≤ 2 ^ 40 → e ≡ Run by node Ran before
+    → before + count ≤ 2 ^ 40
 last_run_has_room seen n small e by node before count all some is few run =
-    run_has_room n (map (entry_of seen) small) (entry_of seen e) by node before count (all ∙ sym (length-map small (entry_of seen))) some (at_last seen n small e all some is) few (ap (entry_of seen) run)
+    run_has_room n (map (entry_of seen) small) (entry_of seen e) by node before count
+    (all ∙ sym (length-map small (entry_of seen))) some (at_last seen n small e all some is) few
+    (ap (entry_of seen) run)
 
--- and goes on
-pub last_run_goes_on : (seen : List Seen) (n : ℕ) (small : List SmallEntry) (e f : SmallEntry) (by : By) (node before count : ℕ) (last : Stepped) → n ≡ length small → 0 < n → e ≡ slice_index_or small (n - 1) e → 0 < count
+-- setting a longer run in the place of the last small entry puts so many Steps behind what the entries stand for
+pub last_run_goes_on : (seen : List Seen) (n : ℕ) (small : List SmallEntry) (e f : SmallEntry) (by : By)
+    (node before count : ℕ) (last : Stepped)
+    → n ≡ length small → 0 < n → e ≡ slice_index_or small (n - 1) e
+    → 0 < count
     → e ≡ Run by node Ran before → f ≡ Run by node last (before + count)
-    → expanded (map (entry_of seen) (slice_set small (n - 1) f)) ≡ expanded (map (entry_of seen) small) ++ steps by node count last
+    → expanded (map (entry_of seen) (slice_set small (n - 1) f))
+    ≡ expanded (map (entry_of seen) small) ++ steps by node count last
 last_run_goes_on seen n small e f by node before count last all some is more run grown =
     ap expanded (map-set (entry_of seen) small (n - 1) f)
-    ∙ run_goes_on n (map (entry_of seen) small) (entry_of seen e) (entry_of seen f) by node before count last (all ∙ sym (length-map small (entry_of seen))) some (at_last seen n small e all some is) more (ap (entry_of seen) run) (ap (entry_of seen) grown)
+    ∙ run_goes_on n (map (entry_of seen) small) (entry_of seen e) (entry_of seen f) by node before count last
+    (all ∙ sym (length-map small (entry_of seen))) some (at_last seen n small e all some is) more
+    (ap (entry_of seen) run) (ap (entry_of seen) grown)

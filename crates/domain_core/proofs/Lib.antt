@@ -1,24 +1,27 @@
-pub mod Commits
-pub mod CopiedEntries
+-- histories and journals
 pub mod Histories
-pub mod Joined
-pub mod Kept
-pub mod Lists
 pub mod Meant
-pub mod Outcomes
-pub mod PeekBeginning
-pub mod PeekBounds
-pub mod PeekBytes
-pub mod PeekCalls
-pub mod PeekNodes
-pub mod PeekPlaces
-pub mod PeekRounds
-pub mod PeekWhole
-pub mod Quiet
-pub mod Runs
-pub mod Sizes
-pub mod Tables
-pub mod Tickets
-pub mod Unchanged
 pub mod AnswersInHistory
+pub mod Commits
+pub mod Runs
+pub mod Kept
+pub mod CopiedEntries
+-- tickets
+pub mod Tickets
+-- devices, packets and switch words
+pub mod Joined
+pub mod Tables
 pub mod Wired
+pub mod Outcomes
+pub mod Sizes
+pub mod Lists
+pub mod Unchanged
+-- a peek of a word, from its bytes up to the whole of it
+pub mod PeekBytes
+pub mod PeekBounds
+pub mod PeekPlaces
+pub mod PeekNodes
+pub mod PeekCalls
+pub mod PeekRounds
+pub mod PeekBeginning
+pub mod PeekWhole

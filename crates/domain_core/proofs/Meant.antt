@@ -1,5 +1,6 @@
--- A domain that has answered one event more is still its journal.
-use Rattle.std.proofs.Common.{◌≡◌, ◌≢◌, ℕ, ◌+◌, ◌^◌, ◌≤◌, ◌==◌, List, [], ◌∷◌, ◌++◌, length, Bool, true, false, not, Ok, refl, sym, ap, ◌∙◌, arith, subst, if◌then◌else◌}
+-- A domain that has answered one event more is still its journal, for `Domain::apply`, `move_port` and `Moment::burst`.
+use Rattle.std.proofs.Common.{◌≡◌, ◌≢◌, ℕ, ◌+◌, ◌^◌, ◌≤◌, ◌==◌, List, [], ◌∷◌, ◌++◌, length, Bool, true, false, not, Ok}
+use Rattle.std.proofs.Common.{refl, sym, ap, ◌∙◌, arith, subst, if◌then◌else◌}
 use Rattle.std.proofs.lemmas.Bool.Decides.{nat_tests}
 use Rattle.std.proofs.lemmas.List.{set-get_or, length-append}
 use Rattle.std.specs.Prelude.{OnErr}
@@ -28,31 +29,44 @@ use Rattle.domain_core.proofs.Outcomes.{still}
 quiet_of : (recorded : Bool) → recorded ≡ false → not recorded ≡ true
 quiet_of recorded is = rw is refl
 
-idle_step : QuietStepChangesNothing → (d : DeviceStates) (number : ℕ) → is_step_recorded (node_at d number) ≡ false → with_node number (node_step (node_at d number)).0 d ≡ d
+idle_step : QuietStepChangesNothing → (d : DeviceStates) (number : ℕ) → is_step_recorded (node_at d number) ≡ false
+    → with_node number (node_step (node_at d number)).0 d ≡ d
 idle_step law d number quiet =
-    let same : (node_step (node_at d number)).0 ≡ node_at d number = law (node_at d number) (quiet_of (is_step_recorded (node_at d number)) quiet) in
-    ap (λ (n : Node). with_node number n d) same ∙ ap (λ (nodes : List Node). let e : DeviceStates = record { nodes = nodes; hosts = d.hosts } in e) (set-get_or d.nodes number (opened_node 0))
+    let same : (node_step (node_at d number)).0 ≡ node_at d number =
+    law (node_at d number) (quiet_of (is_step_recorded (node_at d number)) quiet) in
+    ap (λ (n : Node). with_node number n d) same
+    ∙ ap (λ (nodes : List Node). let e : DeviceStates = record { nodes = nodes; hosts = d.hosts } in e)
+    (set-get_or d.nodes number (opened_node 0))
 
-unrecorded : QuietStepChangesNothing → (part : PartData) (m : Machine) (event : Event) → is_recorded part m event ≡ false → (acted part m event).0 ≡ m
+unrecorded : QuietStepChangesNothing → (part : PartData) (m : Machine) (event : Event)
+    → is_recorded part m event ≡ false
+    → (acted part m event).0 ≡ m
 unrecorded law part m (Config byte) other = absurd cc
 unrecorded law part m (Write host byte) other = absurd cc
 unrecorded law part m (Read host) other = absurd cc
 unrecorded law part m (Reset node) other = absurd cc
 unrecorded law part m (Look node) other = refl
-unrecorded law part m (Step node) other = ap (λ (d : DeviceStates). with_devices d m) (idle_step law m.devices node other)
-unrecorded law part m (Move port) other = ap (λ (d : DeviceStates). with_devices d m) (still part m.switch m.devices port other)
+unrecorded law part m (Step node) other =
+    ap (λ (d : DeviceStates). with_devices d m) (idle_step law m.devices node other)
+unrecorded law part m (Move port) other =
+    ap (λ (d : DeviceStates). with_devices d m) (still part m.switch m.devices port other)
 
 -- ---- an event that is there, below the limit
 
 differ : (m n : ℕ) → m ≢ n → (m == n) ≡ false
 differ m n other = grind (arith, nat_tests)
 
-pub next_told : (part : PartData) (s : State) (call : Call) → is_there part call ≡ true → s.recorded ≢ part.limit → next part s call ≡ (answered part s call.event, Ok (acted part s.machine call.event).1)
+-- a call that is there for its caller, while the journal has room, is answered as the machine acts on its event
+pub next_told : (part : PartData) (s : State) (call : Call) → is_there part call ≡ true → s.recorded ≢ part.limit
+    → next part s call ≡ (answered part s call.event, Ok (acted part s.machine call.event).1)
 next_told part s call there below = rw (there, differ s.recorded part.limit below) refl
 
-pub same_history : {P Q : PartData} {h k : List AnsweredCall} {s t : State} → P ≡ Q → h ≡ k → s ≡ t → IsHistory P h s → IsHistory Q k t
+-- a history is one too of an equal part, as an equal list and with an equal state
+pub same_history : {P Q : PartData} {h k : List AnsweredCall} {s t : State} → P ≡ Q → h ≡ k → s ≡ t → IsHistory P h s
+    → IsHistory Q k t
 same_history {P} {Q} {h} {k} {s} {t} parts histories states of =
-    subst (λ (x : State). IsHistory Q k x) states (subst (λ (x : List AnsweredCall). IsHistory Q x s) histories (subst (λ (x : PartData). IsHistory x h s) parts of))
+    subst (λ (x : State). IsHistory Q k x) states
+    (subst (λ (x : List AnsweredCall). IsHistory Q x s) histories (subst (λ (x : PartData). IsHistory x h s) parts of))
 
 counted : (recorded : Bool) (n m : ℕ) → recorded ≡ true → m ≡ n + 1 → (if recorded then n + 1 else n) ≡ m
 counted recorded n m is more = rw (is, more) refl
@@ -74,19 +88,25 @@ told_recorded d call m reply entries there below machine replies recorded gains 
     let s : State = state_of d in
     let P : PartData = d.machine.part in
     let one : AnsweredCall = record { call = call; reply = reply } in
-    let told : next P s call ≡ (answered P s call.event, Ok (acted P s.machine call.event).1) = next_told P s call there below in
-    let long : length (expanded entries) ≡ s.recorded + 1 = ap length gains ∙ length-append (expanded d.journal) (one ∷ []) in
-    let number : (answered P s call.event).recorded ≡ length (expanded entries) = counted (is_recorded P s.machine call.event) s.recorded (length (expanded entries)) recorded long in
+    let told : next P s call ≡ (answered P s call.event, Ok (acted P s.machine call.event).1) =
+    next_told P s call there below in
+    let long : length (expanded entries) ≡ s.recorded + 1 =
+    ap length gains ∙ length-append (expanded d.journal) (one ∷ []) in
+    let number : (answered P s call.event).recorded ≡ length (expanded entries) =
+    counted (is_recorded P s.machine call.event) s.recorded (length (expanded entries)) recorded long in
     record {
       answer = ap (λ (p : State × Answer). p.1) told ∙ ap (λ (r : Reply). let a : Answer = Ok r in a) (sym replies);
       state =
           ap (λ (p : State × Answer). p.0) told
-          ∙ ap (λ (x : Machine). let y : State = record { machine = x; recorded = (answered P s call.event).recorded } in y) (sym machine)
+          ∙ ap (λ (x : Machine).
+          let y : State = record { machine = x; recorded = (answered P s call.event).recorded } in
+          y)
+          (sym machine)
           ∙ ap (λ (n : ℕ). let y : State = record { machine = machine_of m; recorded = n } in y) number;
       long = long;
     }
 
--- an event that is recorded
+-- a domain that answered a call and recorded it is what its journal says, if it was before
 pub meant_recorded : (d : DomainValue) (call : Call) (m : MachineValue) (reply : Reply) (entries : List Entry)
     → IsMeant d → is_there d.machine.part call ≡ true → length (expanded d.journal) ≢ d.machine.part.limit
     → machine_of m ≡ (acted d.machine.part (machine_of d.machine) call.event).0
@@ -99,18 +119,23 @@ meant_recorded d call m reply entries meant there below machine replies part rec
     let s : State = state_of d in
     let P : PartData = d.machine.part in
     let one : AnsweredCall = record { call = call; reply = reply } in
-    let told : Told d call m reply entries = told_recorded d call m reply entries there below machine replies recorded gains in
-    let history : IsHistory P (expanded d.journal ++ one ∷ []) (next P s call).0 = longer P (expanded d.journal) s call reply meant.history told.answer in
+    let told : Told d call m reply entries =
+    told_recorded d call m reply entries there below machine replies recorded gains in
+    let history : IsHistory P (expanded d.journal ++ one ∷ []) (next P s call).0 =
+    longer P (expanded d.journal) s call reply meant.history told.answer in
     record {
       history = same_history (sym part) (sym gains) told.state history;
-      within_limit = within (length (expanded d.journal)) (length (expanded entries)) d.machine.part.limit m.part.limit meant.within_limit below told.long (ap (λ (x : PartData). x.limit) part);
+      within_limit =
+          within (length (expanded d.journal)) (length (expanded entries)) d.machine.part.limit m.part.limit
+          meant.within_limit below told.long (ap (λ (x : PartData). x.limit) part);
       limit = subst (λ (x : PartData). x.limit ≤ 2 ^ 40) (sym part) meant.limit;
     }
   where
-    within : (before now limit same : ℕ) → before ≤ limit → before ≢ limit → now ≡ before + 1 → same ≡ limit → now ≤ same
+    within : (before now limit same : ℕ) → before ≤ limit → before ≢ limit → now ≡ before + 1 → same ≡ limit
+        → now ≤ same
     within before now limit same few other more is = omega (arith, few, other, more, is)
 
--- and it is answered as that farm answers it
+-- such a domain has answered the call as the private farm does, and become what that becomes
 pub called_recorded : (d : DomainValue) (call : Call) (m : MachineValue) (reply : Reply) (entries : List Entry)
     → is_there d.machine.part call ≡ true → length (expanded d.journal) ≢ d.machine.part.limit
     → machine_of m ≡ (acted d.machine.part (machine_of d.machine) call.event).0
@@ -123,7 +148,8 @@ called_recorded d call m reply entries there below machine replies recorded gain
     let s : State = state_of d in
     let P : PartData = d.machine.part in
     let one : AnsweredCall = record { call = call; reply = reply } in
-    let told : Told d call m reply entries = told_recorded d call m reply entries there below machine replies recorded gains in
+    let told : Told d call m reply entries =
+    told_recorded d call m reply entries there below machine replies recorded gains in
     let said : Answer = Ok reply in
     let gain : gained P s call said ≡ one ∷ [] = rw recorded refl in
     record {
@@ -134,8 +160,9 @@ called_recorded d call m reply entries there below machine replies recorded gain
       counts = counts;
     }
 
--- one that is not
-pub meant_unrecorded : QuietStepChangesNothing → (d : DomainValue) (event : Event) (m : MachineValue) (entries : List Entry)
+-- a domain that answered an event and didn't record it is what its journal says, if it was before
+pub meant_unrecorded : QuietStepChangesNothing
+    → (d : DomainValue) (event : Event) (m : MachineValue) (entries : List Entry)
     → IsMeant d
     → machine_of m ≡ (acted d.machine.part (machine_of d.machine) event).0
     → m.part ≡ d.machine.part
@@ -143,13 +170,19 @@ pub meant_unrecorded : QuietStepChangesNothing → (d : DomainValue) (event : Ev
     → entries ≡ d.journal
     → IsMeant (record { machine = m; journal = entries })
 meant_unrecorded law d event m entries meant machine part recorded same =
-    let still : machine_of m ≡ machine_of d.machine = machine ∙ unrecorded law d.machine.part (machine_of d.machine) event recorded in
+    let still : machine_of m ≡ machine_of d.machine =
+    machine ∙ unrecorded law d.machine.part (machine_of d.machine) event recorded in
     let state : state_of (record { machine = m; journal = entries }) ≡ state_of d =
     ap (λ (x : Machine). let y : State = record { machine = x; recorded = length (expanded entries) } in y) still
-    ∙ ap (λ (l : List Entry). let y : State = record { machine = machine_of d.machine; recorded = length (expanded l) } in y) same in
+    ∙ ap (λ (l : List Entry).
+    let y : State = record { machine = machine_of d.machine; recorded = length (expanded l) } in
+    y)
+    same in
     record {
       history = same_history (sym part) (ap expanded (sym same)) (sym state) meant.history;
-      within_limit = within_part (length (expanded entries)) (length (expanded d.journal)) d.machine.part.limit m.part.limit (ap (λ (l : List Entry). length (expanded l)) same) meant.within_limit (ap (λ (x : PartData). x.limit) part);
+      within_limit =
+          within_part (length (expanded entries)) (length (expanded d.journal)) d.machine.part.limit m.part.limit
+          (ap (λ (l : List Entry). length (expanded l)) same) meant.within_limit (ap (λ (x : PartData). x.limit) part);
       limit = subst (λ (x : PartData). x.limit ≤ 2 ^ 40) (sym part) meant.limit;
     }
   where

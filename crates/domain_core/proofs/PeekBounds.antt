@@ -1,5 +1,7 @@
--- A port that is driven is one of the part's, and so is the node of a link that stands at a port.
-use Rattle.std.proofs.Common.{◌≡◌, ℕ, ◌+◌, ◌<◌, ◌≤◌, ◌==◌, Bool, true, false, List, [], ◌∷◌, length, Option, Some, None, if◌then◌else◌, subst, arith}
+-- A port that is driven is one of the part's, and so is the node
+-- of a link that stands at a port, for the Moves of a peek.
+use Rattle.std.proofs.Common.{◌≡◌, ℕ, ◌+◌, ◌<◌, ◌≤◌, ◌==◌, Bool, true, false, List, [], ◌∷◌, length, Option, Some, None}
+use Rattle.std.proofs.Common.{if◌then◌else◌, subst, arith}
 use Rattle.std.specs.List.{All, range_with_len}
 use Rattle.std.proofs.lemmas.List.Elements.{All-filter}
 use Rattle.std.proofs.lemmas.List.FromFn.{get_or-range_with_len, length-range_with_len}
@@ -22,9 +24,11 @@ range-below count k d lt =
     omega arith
 
 -- an output that a port drives alone is below the count
-pub driven-below : (part : PartData) (s : Switch) (port output : ℕ) → driven part s port ≡ output ∷ [] → output < part.count
+pub driven-below : (part : PartData) (s : Switch) (port output : ℕ) → driven part s port ≡ output ∷ []
+    → output < part.count
 driven-below part s port output e =
-    let all : All (λ q. q < part.count) (driven part s port) = All-filter (drives s port) (λ q. q < part.count) (range_with_len 0 part.count) (range-below part.count) in
+    let all : All (λ q. q < part.count) (driven part s port) =
+    All-filter (drives s port) (λ q. q < part.count) (range_with_len 0 part.count) (range-below part.count) in
     let one : All (λ q. q < part.count) (output ∷ []) = subst (λ (xs : List ℕ). All (λ q. q < part.count) xs) e all in
     one 0 0 (omega arith)
 
@@ -34,7 +38,8 @@ Below bound None = Unit {0}
 Below bound (Some (Host number)) = Unit {0}
 Below bound (Some (Link number link)) = number < bound
 
-below-if : (bound : ℕ) (b : Bool) (x y : Option Device) → Below bound x → Below bound y → Below bound (if b then x else y)
+below-if : (bound : ℕ) (b : Bool) (x y : Option Device) → Below bound x → Below bound y
+    → Below bound (if b then x else y)
 below-if bound true x y f g = f
 below-if bound false x y f g = g
 
@@ -42,20 +47,26 @@ below-else : (bound : ℕ) (x y : Option Device) → Below bound x → Below bou
 below-else bound None y f g = g
 below-else bound (Some device) y f g = f
 
-below-wired : (bound : ℕ) (wired : Option ℕ) (port : ℕ) (x y : Option Device) → Below bound x → Below bound y → Below bound (is_wired_to wired port x y)
+below-wired : (bound : ℕ) (wired : Option ℕ) (port : ℕ) (x y : Option Device) → Below bound x → Below bound y
+    → Below bound (is_wired_to wired port x y)
 below-wired bound None port x y f g = g
 below-wired bound (Some w) port x y f g = below-if bound (w == port) x y f g
 
 hosts-below : (bound number : ℕ) (hosts : List HostPart) (port : ℕ) → Below bound (host_at_port number hosts port)
 hosts-below bound number [] port = tt
-hosts-below bound number (h ∷ hosts) port = below-if bound (h.port == port) (Some (Host number)) (host_at_port (number + 1) hosts port) tt (hosts-below bound (number + 1) hosts port)
+hosts-below bound number (h ∷ hosts) port =
+    below-if bound (h.port == port) (Some (Host number)) (host_at_port (number + 1) hosts port) tt
+    (hosts-below bound (number + 1) hosts port)
 
-links-below : (bound number : ℕ) (links : List (Option ℕ)) (port : ℕ) → number < bound → Below bound (link_of_four number links port)
+links-below : (bound number : ℕ) (links : List (Option ℕ)) (port : ℕ) → number < bound
+    → Below bound (link_of_four number links port)
 links-below bound number (a ∷ b ∷ c ∷ d ∷ []) port lt =
-    below-wired bound a port _ _ lt (below-wired bound b port _ _ lt (below-wired bound c port _ _ lt (below-wired bound d port _ _ lt tt)))
+    below-wired bound a port _ _ lt
+    (below-wired bound b port _ _ lt (below-wired bound c port _ _ lt (below-wired bound d port _ _ lt tt)))
 links-below bound number links port lt = tt
 
-nodes-below : (bound number : ℕ) (nodes : List NodePart) (port : ℕ) → number + length nodes ≤ bound → Below bound (link_at_port number nodes port)
+nodes-below : (bound number : ℕ) (nodes : List NodePart) (port : ℕ) → number + length nodes ≤ bound
+    → Below bound (link_at_port number nodes port)
 nodes-below bound number [] port le = tt
 nodes-below bound number (n ∷ nodes) port le =
     below-else bound (link_of_four number n.links port) (link_at_port (number + 1) nodes port)
@@ -63,7 +74,8 @@ nodes-below bound number (n ∷ nodes) port le =
     (nodes-below bound (number + 1) nodes port (omega arith))
 
 -- the node of a link that stands at a port is one of the part's
-pub node-below : (part : PartData) (port node : ℕ) (link : LinkNumber) → device_at part port ≡ Some (Link node link) → node < length part.nodes
+pub node-below : (part : PartData) (port node : ℕ) (link : LinkNumber) → device_at part port ≡ Some (Link node link)
+    → node < length part.nodes
 node-below part port node link e =
     subst (Below (length part.nodes)) e
     (below-else (length part.nodes) (host_at_port 0 part.hosts port) (link_at_port 0 part.nodes port)

@@ -1,5 +1,6 @@
 -- One round of a peek: three events by which a byte goes one way and its acknowledge the other.
-use Rattle.std.proofs.Common.{◌≡◌, ℕ, ◌+◌, ◌<◌, ◌≤◌, Bool, true, false, List, [], ◌∷◌, ◌++◌, Option, Some, None, refl, ◌∙◌, ap, arith}
+use Rattle.std.proofs.Common.{◌≡◌, ℕ, ◌+◌, ◌<◌, ◌≤◌, Bool, true, false, List, [], ◌∷◌, ◌++◌, Option, Some, None, refl}
+use Rattle.std.proofs.Common.{◌∙◌, ap, arith}
 use Rattle.os_link.specs.declared.end.LinkEnd.{LinkEnd}
 use Rattle.os_link.specs.declared.latch.Packet.{Packet}
 use Rattle.os_link.specs.declared.latch.Packet.TheVariants.{Byte, Ack}
@@ -13,16 +14,20 @@ use Rattle.domain_core.specs.Hosts.{HostState, delivered, packet_left, sending_o
 use Rattle.domain_core.specs.PrivateFarm.{State, Answer, Call, next}
 use Rattle.domain_core.specs.Peek.{packet_passed, node_ran}
 use Rattle.domain_core.proofs.PeekCalls.{Leads, leads-none, leads-first}
-use Rattle.domain_core.proofs.PeekNodes.{end_of, listening, resting, posting, holding, acknowledged, with_end, end-there, got-end, sent-end}
+use Rattle.domain_core.proofs.PeekNodes.{end_of, listening, resting, posting, holding, acknowledged, with_end}
+use Rattle.domain_core.proofs.PeekNodes.{end-there, got-end, sent-end}
 use Rattle.domain_core.proofs.PeekPlaces.{Peeking, standing, asked, host-moves, link-moves, node-steps}
 
+-- a host by its parts
 abbrev pub host_of : List ℕ → List ℕ → LinkEnd → HostState
 host_of sending received e = record { sending = sending; received = received; end = e }
 
 -- a host whose front byte is posted, and one that awaits nothing
 abbrev pub host_posting : ℕ → List ℕ → List ℕ → ℕ → Bool → HostState
-host_posting byte rest received overruns heard = host_of (byte ∷ rest) received (end_of (Some byte) false None overruns true heard)
+host_posting byte rest received overruns heard =
+    host_of (byte ∷ rest) received (end_of (Some byte) false None overruns true heard)
 
+-- a host with nothing posted that awaits nothing
 abbrev pub host_resting : List ℕ → List ℕ → ℕ → HostState
 host_resting sending received overruns = host_of sending received (resting overruns)
 
@@ -32,52 +37,76 @@ reached p count h e state n = standing p count h (with_end p.route.link e state 
 
 -- the calls of a round, and their answers
 abbrev pub calls_there : Peeking → List Call
-calls_there p = asked p.by (Move p.route.host_port) ∷ asked p.by (Step p.route.node) ∷ asked p.by (Move p.route.link_port) ∷ []
+calls_there p =
+    asked p.by (Move p.route.host_port) ∷ asked p.by (Step p.route.node) ∷ asked p.by (Move p.route.link_port) ∷ []
 
+-- the calls of a round in which the node sends
 abbrev pub calls_back : Peeking → List Call
-calls_back p = asked p.by (Move p.route.link_port) ∷ asked p.by (Move p.route.host_port) ∷ asked p.by (Step p.route.node) ∷ []
+calls_back p =
+    asked p.by (Move p.route.link_port) ∷ asked p.by (Move p.route.host_port) ∷ asked p.by (Step p.route.node) ∷ []
 
+-- the answers to the calls of a round in which the host sends
 abbrev pub answers_there : List Answer
 answers_there = packet_passed ∷ node_ran ∷ packet_passed ∷ []
 
+-- the answers to the calls of a round in which the node sends
 abbrev pub answers_back : List Answer
 answers_back = packet_passed ∷ packet_passed ∷ node_ran ∷ []
 
 -- a Move of the host
-host-sends : (p : Peeking) (count : ℕ) (h : HostState) (e : LinkEnd) (state : doing.NodeState) (n : Node) (packet : Packet) → count < 27 → next_of h.end.latch ≡ Some packet
-    → next p.part (reached p count h e state n) (asked p.by (Move p.route.host_port)) ≡ (reached p (count + 1) (packet_left h) (arrived packet e) state n, packet_passed)
+host-sends : (p : Peeking) (count : ℕ) (h : HostState) (e : LinkEnd) (state : doing.NodeState) (n : Node)
+    (packet : Packet)
+    → count < 27
+    → next_of h.end.latch ≡ Some packet
+    → next p.part (reached p count h e state n) (asked p.by (Move p.route.host_port))
+    ≡ (reached p (count + 1) (packet_left h) (arrived packet e) state n, packet_passed)
 host-sends p count h e state n packet lt waits =
     host-moves p count h (with_end p.route.link e state n) packet lt waits
-    ∙ ap (λ (m : Node). (standing p (count + 1) (packet_left h) m, packet_passed)) (got-end p.route.link e state n packet)
+    ∙ ap (λ (m : Node). (standing p (count + 1) (packet_left h) m, packet_passed))
+    (got-end p.route.link e state n packet)
 
 -- a Move of the link
-link-sends : (p : Peeking) (count : ℕ) (h : HostState) (e : LinkEnd) (state : doing.NodeState) (n : Node) (packet : Packet) → count < 27 → next_of e.latch ≡ Some packet
-    → next p.part (reached p count h e state n) (asked p.by (Move p.route.link_port)) ≡ (reached p (count + 1) (delivered packet h) (record e { latch = without_next e.latch }) state n, packet_passed)
+link-sends : (p : Peeking) (count : ℕ) (h : HostState) (e : LinkEnd) (state : doing.NodeState) (n : Node)
+    (packet : Packet)
+    → count < 27
+    → next_of e.latch ≡ Some packet
+    → next p.part (reached p count h e state n) (asked p.by (Move p.route.link_port))
+    ≡ (reached p (count + 1) (delivered packet h) (record e { latch = without_next e.latch }) state n, packet_passed)
 link-sends p count h e state n packet lt waits =
-    link-moves p count h (with_end p.route.link e state n) packet lt (ap (λ (x : LinkEnd). next_of x.latch) (end-there p.route.link e state n) ∙ waits)
-    ∙ ap (λ (m : Node). (standing p (count + 1) (delivered packet h) m, packet_passed)) (sent-end p.route.link e state n)
+    link-moves p count h (with_end p.route.link e state n) packet lt
+    (ap (λ (x : LinkEnd). next_of x.latch) (end-there p.route.link e state n) ∙ waits)
+    ∙ ap (λ (m : Node). (standing p (count + 1) (delivered packet h) m, packet_passed))
+    (sent-end p.route.link e state n)
 
 -- a byte of the message: the node takes it, and the host posts the next, if there is one
-pub round-there : (p : Peeking) (count byte : ℕ) (rest received : List ℕ) (overruns lost : ℕ) (heard : Bool) (latched : Option ℕ) (awaits known later : Bool) (before after : doing.NodeState) (n : Node)
+pub round-there : (p : Peeking) (count byte : ℕ) (rest received : List ℕ) (overruns lost : ℕ) (heard : Bool)
+    (latched : Option ℕ) (awaits known later : Bool) (before after : doing.NodeState) (n : Node)
     → count + 3 ≤ 27 → has_halted before ≡ false
-    → node_step (with_end p.route.link (holding byte lost known) before n) ≡ (with_end p.route.link (end_of latched true None lost awaits later) after n, Ran)
-    → Leads p.part (reached p count (host_posting byte rest received overruns heard) (listening lost known) before n) (calls_there p) answers_there
-    (reached p (count + 1 + 1 + 1) (sending_on (host_resting rest received overruns)) (end_of latched false None lost awaits later) after n)
+    → node_step (with_end p.route.link (holding byte lost known) before n)
+    ≡ (with_end p.route.link (end_of latched true None lost awaits later) after n, Ran)
+    → Leads p.part (reached p count (host_posting byte rest received overruns heard) (listening lost known) before n)
+    (calls_there p) answers_there
+    (reached p (count + 1 + 1 + 1) (sending_on (host_resting rest received overruns))
+    (end_of latched false None lost awaits later) after n)
 round-there p count byte rest received overruns lost heard latched awaits known later before after n room goes steps =
     let sent : HostState = host_of (byte ∷ rest) received (end_of None false None overruns true heard) in
     leads-first p.part _ _ _ _ _ _ _
-    (host-sends p count (host_posting byte rest received overruns heard) (listening lost known) before n (Byte byte) (omega arith) refl)
+    (host-sends p count (host_posting byte rest received overruns heard) (listening lost known) before n (Byte byte)
+    (omega arith) refl)
     (leads-first p.part _ _ _ _ _ _ _
-    (node-steps p (count + 1) sent (with_end p.route.link (holding byte lost known) before n) (with_end p.route.link (end_of latched true None lost awaits later) after n) (omega arith) steps goes)
+    (node-steps p (count + 1) sent (with_end p.route.link (holding byte lost known) before n)
+    (with_end p.route.link (end_of latched true None lost awaits later) after n) (omega arith) steps goes)
     (leads-first p.part _ _ _ _ _ _ _
     (link-sends p (count + 1 + 1) sent (end_of latched true None lost awaits later) after n Ack (omega arith) refl)
     (leads-none p.part _)))
 
 -- a byte of the word: the host takes it, and the node hears the acknowledge
-pub round-back : (p : Peeking) (count byte : ℕ) (received : List ℕ) (overruns lost : ℕ) (e : LinkEnd) (before after : doing.NodeState) (n : Node)
+pub round-back : (p : Peeking) (count byte : ℕ) (received : List ℕ) (overruns lost : ℕ) (e : LinkEnd)
+    (before after : doing.NodeState) (n : Node)
     → count + 3 ≤ 27 → has_halted before ≡ false → is_full received ≡ false
     → node_step (with_end p.route.link (acknowledged lost) before n) ≡ (with_end p.route.link e after n, Ran)
-    → Leads p.part (reached p count (host_resting [] received overruns) (posting byte lost) before n) (calls_back p) answers_back
+    → Leads p.part (reached p count (host_resting [] received overruns) (posting byte lost) before n) (calls_back p)
+    answers_back
     (reached p (count + 1 + 1 + 1) (host_resting [] (received ++ byte ∷ []) overruns) e after n)
 round-back p count byte received overruns lost e before after n room goes space steps =
     let got : HostState = host_of [] (received ++ byte ∷ []) (end_of None true None overruns false false) in
@@ -89,5 +118,6 @@ round-back p count byte received overruns lost e before after n room goes space 
     (leads-first p.part _ _ _ _ _ _ _
     (host-sends p (count + 1) got sent before n Ack (omega arith) refl)
     (leads-first p.part _ _ _ _ _ _ _
-    (node-steps p (count + 1 + 1) (host_resting [] (received ++ byte ∷ []) overruns) (with_end p.route.link (acknowledged lost) before n) (with_end p.route.link e after n) (omega arith) steps goes)
+    (node-steps p (count + 1 + 1) (host_resting [] (received ++ byte ∷ []) overruns)
+    (with_end p.route.link (acknowledged lost) before n) (with_end p.route.link e after n) (omega arith) steps goes)
     (leads-none p.part _)))

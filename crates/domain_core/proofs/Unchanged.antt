@@ -1,4 +1,5 @@
--- Switch words that stay.
+-- Switch words that stay, for `Domain::apply`, `Domain::move_port`
+-- and `RunningMachine::act`, if the event leaves the switch.
 use Rattle.std.proofs.Common.{List, refl}
 use Rattle.std.specs.List.{AllZip}
 use Rattle.crossbar.specs.declared.word.Word.{Word}
@@ -7,10 +8,10 @@ use Rattle.crossbar.specs.Word.{CountsChange}
 use Rattle.virtual_switch.specs.Each.{KeepsPorts}
 use Rattle.virtual_switch.specs.SwitchValue.{SwitchValue}
 
--- words that stay keep their counts
+-- words that stay count no change
 pub counts_itself : UnchangedCountsNothing → (words : List Word) → AllZip CountsChange words words
 counts_itself unchanged words = unchanged words
 
--- and a switch that stays its ports too
+-- a switch that stays keeps its ports, and its words count no change
 pub keeps_itself : UnchangedCountsNothing → (s : SwitchValue) → KeepsPorts s s
 keeps_itself unchanged s = record { ports = refl; counts = unchanged s.words }

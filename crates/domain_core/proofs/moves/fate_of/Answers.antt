@@ -11,7 +11,9 @@ loop-output-preserved g c =
     let before : List ℕ = marked_in c.args.outputs (range_with_len 0 c.loop-output.output) in
     let more : List ℕ = before ++ marked_in c.args.outputs (c.loop-output.output ∷ []) in (
       c.fate_with-fate.ensures.unchanged ∙ c.loop-output.invariant.0,
-      c.fate_with-fate.ensures.answer before (c.loop-output.invariant.1 ∙ ap (λ (s : SwitchValue). outcome (private_of s) before) (sym c.loop-output.invariant.0))
+      c.fate_with-fate.ensures.answer before
+          (c.loop-output.invariant.1
+          ∙ ap (λ (s : SwitchValue). outcome (private_of s) before) (sym c.loop-output.invariant.0))
           ∙ ap (λ (s : SwitchValue). outcome (private_of s) more) c.loop-output.invariant.0
           ∙ ap (outcome (private_of c.args.switch.now)) (sym (marked_more c.args.outputs c.loop-output.output)),
     )

@@ -7,4 +7,5 @@ use Rattle.domain_core.proofs.moves.fate_of.Given as goal
 
 abbrev pub invariant-loop-output : goal.invariant-loop-output
 invariant-loop-output g l =
-    (l.switch ≡ l.fn.switch) × (fate_answer l.fate ≡ outcome (private_of l.fn.switch) (marked_in l.outputs (range_with_len 0 l.output)))
+    (l.switch ≡ l.fn.switch)
+    × (fate_answer l.fate ≡ outcome (private_of l.fn.switch) (marked_in l.outputs (range_with_len 0 l.output)))

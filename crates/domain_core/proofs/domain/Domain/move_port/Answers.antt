@@ -16,9 +16,12 @@ invariant_of-self-then-has_moved g c =
     let call : Call = record { by = Farm; event = Move c.args.port } in
     let reply : Reply = reply_of.Moved c.answer-moved.result in
     let one : AnsweredCall = record { call = call; reply = reply } in
-    let gains : expanded c.push_answer.new.self.entries ≡ expanded c.self.inside.journal ++ one ∷ [] = c.push_answer.ensures ∙ ap (λ l. expanded l ++ one ∷ []) (c.reserve.ensures.unchanged ∙ c.journal.view_is) in
-    let counted : length (expanded c.push_answer.new.self.entries) ≡ length (expanded c.self.inside.journal) + 1 = ap length gains ∙ length-append (expanded c.self.inside.journal) (one ∷ []) in (
-      meant_recorded d call c.follow.new.self reply c.push_answer.new.self.entries c.self.invariant.0 (search rules) (search rules) (search rules) (search rules) (search rules) (search rules) gains,
+    let gains : expanded c.push_answer.new.self.entries ≡ expanded c.self.inside.journal ++ one ∷ [] =
+    c.push_answer.ensures ∙ ap (λ l. expanded l ++ one ∷ []) (c.reserve.ensures.unchanged ∙ c.journal.view_is) in
+    let counted : length (expanded c.push_answer.new.self.entries) ≡ length (expanded c.self.inside.journal) + 1 =
+    ap length gains ∙ length-append (expanded c.self.inside.journal) (one ∷ []) in (
+      meant_recorded d call c.follow.new.self reply c.push_answer.new.self.entries c.self.invariant.0 (search rules)
+          (search rules) (search rules) (search rules) (search rules) (search rules) gains,
       ap (λ n. n + 1) c.self.invariant.1 ∙ sym counted,
     )
 
@@ -28,6 +31,10 @@ returns-in_ok-reserve-clause-called g c =
     let call : Call = record { by = Farm; event = Move c.args.port } in
     let reply : Reply = reply_of.Moved c.answer-moved.result in
     let one : AnsweredCall = record { call = call; reply = reply } in
-    let gains : expanded c.push_answer.new.self.entries ≡ expanded c.self.inside.journal ++ one ∷ [] = c.push_answer.ensures ∙ ap (λ l. expanded l ++ one ∷ []) (c.reserve.ensures.unchanged ∙ c.journal.view_is) in
-    subst (λ (o : DomainValue). IsCalled call (Ok reply) o (record { machine = c.follow.new.self; journal = c.push_answer.new.self.entries })) c.self.view_is
-    (called_recorded d call c.follow.new.self reply c.push_answer.new.self.entries (search rules) (search rules) (search rules) (search rules) (search rules) gains (search rules))
+    let gains : expanded c.push_answer.new.self.entries ≡ expanded c.self.inside.journal ++ one ∷ [] =
+    c.push_answer.ensures ∙ ap (λ l. expanded l ++ one ∷ []) (c.reserve.ensures.unchanged ∙ c.journal.view_is) in
+    subst (λ (o : DomainValue).
+    IsCalled call (Ok reply) o (record { machine = c.follow.new.self; journal = c.push_answer.new.self.entries }))
+    c.self.view_is
+    (called_recorded d call c.follow.new.self reply c.push_answer.new.self.entries (search rules) (search rules)
+    (search rules) (search rules) (search rules) gains (search rules))

@@ -19,8 +19,12 @@ loop-index-preserved c =
       | in-Some-behind+else-len-capacity w ↦
           let left = c.behind.ensures ∙ ap (λ o. expanded (option_to_list o)) w.in-Some-behind.is in record {
             copies = rw (w.reached-is, w.room-is, w.push_reserved.ensures.items)
-                (copies_more journal c.args.mark c.loop-index.reached c.args.room.now.items c.loop-index.room.items i c.loop-index.events w.count.result entry w.in-Some-behind.rest v.copies v.next within at w.count.ensures left);
-            next = ap (λ r. events_from r journal) w.reached-is ∙ entry_done i journal entry w.count.result at w.count.ensures;
+                (copies_more journal c.args.mark c.loop-index.reached c.args.room.now.items c.loop-index.room.items i
+                c.loop-index.events w.count.result entry w.in-Some-behind.rest v.copies v.next within at w.count.ensures
+                left);
+            next =
+                ap (λ r. events_from r journal) w.reached-is
+                ∙ entry_done i journal entry w.count.result at w.count.ensures;
             begun = let b = v.begun in omega arith;
             filled = let f = v.filled in let l = ap vec_len w.room-is ∙ w.push_reserved.ensures.len in omega arith;
             capacity = ap vec_capacity w.room-is ∙ w.push_reserved.ensures.capacity ∙ v.capacity;
@@ -28,7 +32,9 @@ loop-index-preserved c =
           }
       | in_default-behind w ↦ record {
         copies = rw (w.reached-is, w.room-is) v.copies;
-        next = ap (λ r. events_from r journal) w.reached-is ∙ v.next ∙ nothing_more journal i c.loop-index.events entry at (c.behind.ensures ∙ (search rules));
+        next =
+            ap (λ r. events_from r journal) w.reached-is ∙ v.next
+            ∙ nothing_more journal i c.loop-index.events entry at (c.behind.ensures ∙ (search rules));
         begun = let b = v.begun in omega arith;
         filled = let f = v.filled in let l = ap vec_len w.room-is in omega arith;
         capacity = ap vec_capacity w.room-is ∙ v.capacity;
@@ -38,4 +44,6 @@ loop-index-preserved c =
 
 pub returns-clause-all : goal.returns-clause-all
 returns-clause-all c = λ few.
-    c.loop-index.invariant.next ∙ none_behind c.loop-index.index c.loop-index.events c.args.self.now (let e = c.len-index-end.ensures in let t = c.loop-index-test.false in omega arith)
+    c.loop-index.invariant.next
+    ∙ none_behind c.loop-index.index c.loop-index.events c.args.self.now
+    (let e = c.len-index-end.ensures in let t = c.loop-index-test.false in omega arith)

@@ -9,11 +9,17 @@ use Rattle.domain_core.proofs.machine.RunningMachine.clear.Goals as goal
 
 pub invariant_of-self : goal.invariant_of-self
 invariant_of-self g c =
-    let v : MachineValue = record { part = c.self.inside.part; switch = c.self.inside.switch; devices = c.self.inside.devices } in
-    (still_of_part v c.clear.new.self c.clear-2.new.self c.self.invariant.0 (ap length c.clear.ensures.kept.ports) (large_by v.devices (reopened v.devices) c.clear-2.new.self c.clear-2.ensures (large_reopened v.devices)), c.self.invariant.1)
+    let v : MachineValue =
+    record { part = c.self.inside.part; switch = c.self.inside.switch; devices = c.self.inside.devices } in (
+      still_of_part v c.clear.new.self c.clear-2.new.self c.self.invariant.0 (ap length c.clear.ensures.kept.ports)
+          (large_by v.devices (reopened v.devices) c.clear-2.new.self c.clear-2.ensures (large_reopened v.devices)),
+      c.self.invariant.1,
+    )
 
 pub returns-clause-state : goal.returns-clause-state
 returns-clause-state g c =
-    let v : MachineValue = record { part = c.self.inside.part; switch = c.self.inside.switch; devices = c.self.inside.devices } in
-    machine_by (private_of c.clear.new.self) cleared c.clear.new.self.rest [] c.clear-2.new.self (opened_devices v.part) c.clear.ensures.switch c.clear.ensures.rest (c.clear-2.ensures ∙ reopened_opened v c.self.invariant.0)
+    let v : MachineValue =
+    record { part = c.self.inside.part; switch = c.self.inside.switch; devices = c.self.inside.devices } in
+    machine_by (private_of c.clear.new.self) cleared c.clear.new.self.rest [] c.clear-2.new.self (opened_devices v.part)
+    c.clear.ensures.switch c.clear.ensures.rest (c.clear-2.ensures ∙ reopened_opened v c.self.invariant.0)
     ∙ ap (λ (w : MachineValue). fresh_machine w.part) c.self.view_is

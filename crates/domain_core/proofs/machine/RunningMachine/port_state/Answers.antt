@@ -5,5 +5,7 @@ use Rattle.domain_core.proofs.machine.RunningMachine.port_state.Goals as goal
 
 pub waiting-packet-requires : goal.waiting-packet-requires
 waiting-packet-requires g c =
-    let v : MachineValue = record { part = c.self.inside.part; switch = c.self.inside.switch; devices = c.self.inside.devices } in
-    holds_at v c.self.inside.table c.args.port c.in-Some.device c.self.invariant.0 c.self.invariant.1 (search rules) (search rules)
+    let v : MachineValue =
+    record { part = c.self.inside.part; switch = c.self.inside.switch; devices = c.self.inside.devices } in
+    holds_at v c.self.inside.table c.args.port c.in-Some.device c.self.invariant.0 c.self.invariant.1 (search rules)
+    (search rules)

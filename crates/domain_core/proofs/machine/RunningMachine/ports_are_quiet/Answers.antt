@@ -8,6 +8,7 @@ pub returns-then-not-port_is_quiet-clause-quiet : goal.returns-then-not-port_is_
 returns-then-not-port_is_quiet-clause-quiet g c = (
   λ t. absurd (search rules),
   λ all. absurd (
-      let quiet : is_recorded c.loop-port.self.part (machine_of c.loop-port.self) (Move c.loop-port.port) ≡ false = search (rules, all c.loop-port.port) in
+      let quiet : is_recorded c.loop-port.self.part (machine_of c.loop-port.self) (Move c.loop-port.port) ≡ false =
+      search (rules, all c.loop-port.port) in
       search (rules, quiet)),
 )

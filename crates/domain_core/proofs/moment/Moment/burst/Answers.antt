@@ -23,12 +23,30 @@ returns-clause-steps c history of =
     let now : MomentValue = record { machine = c.self.inside.machine; recorded = c.self.inside.recorded } in
     let start : Node = node_at now.machine.devices c.args.node in
     let k : ℕ = c.burst-burst.result.steps in
-    let there : c.args.node < length now.machine.devices.nodes = slice_get_within now.machine.devices.nodes c.args.node c.in-Some._home.now (search rules) in
-    let at : slice_get now.machine.devices.nodes c.args.node ≡ Some start = slice_get-get_or now.machine.devices.nodes c.args.node (opened_node 0) there in
-    let known : is_there now.machine.part (record { by = Farm; event = Step c.args.node }) ≡ true = grind (arith, nat_tests) in
-    let room : now.recorded + k ≤ now.machine.part.limit = omega (arith, c.self.invariant, c.burst-burst.ensures.burst.most, c.limit.ensures.limit, ap (λ (p : PartData). p.limit) c.part.ensures, c.at_most.ensures) in
-    let before : IsHistory now.machine.part history (state_at now) = subst (λ (m : MomentValue). IsHistory m.machine.part history (state_at m)) (sym c.self.view_is) of in
-    let long = history_steps c.recorded_step_ran.ensures.ran now.machine.part history (state_at now) c.args.node k start known at before room c.burst-burst.ensures.burst.steps.recorded in
-    let state : stepped_on (state_at now) c.args.node start k ≡ state_at (record { machine = c.burst-burst.new.self; recorded = now.recorded + k }) =
-    ap (λ (v : MachineValue). let s : State = record { machine = machine_of v; recorded = now.recorded + k } in s) (sym c.burst-burst.ensures.state) in
-    same_history (ap (λ (m : MomentValue). m.machine.part) c.self.view_is) (ap (λ (o : Option Stepped). history ++ steps_told c.args.node k o) (sym c.burst-burst.ensures.burst.last)) state long
+    let there : c.args.node < length now.machine.devices.nodes =
+    slice_get_within now.machine.devices.nodes c.args.node c.in-Some._home.now (search rules) in
+    let at : slice_get now.machine.devices.nodes c.args.node ≡ Some start =
+    slice_get-get_or now.machine.devices.nodes c.args.node (opened_node 0) there in
+    let known : is_there now.machine.part (record { by = Farm; event = Step c.args.node }) ≡ true =
+    grind (arith, nat_tests) in
+    let room : now.recorded + k ≤ now.machine.part.limit =
+    omega (
+      arith,
+      c.self.invariant,
+      c.burst-burst.ensures.burst.most,
+      c.limit.ensures.limit,
+      ap (λ (p : PartData). p.limit) c.part.ensures,
+      c.at_most.ensures,
+    ) in
+    let before : IsHistory now.machine.part history (state_at now) =
+    subst (λ (m : MomentValue). IsHistory m.machine.part history (state_at m)) (sym c.self.view_is) of in
+    let long =
+    history_steps c.recorded_step_ran.ensures.ran now.machine.part history (state_at now) c.args.node k start known at
+    before room c.burst-burst.ensures.burst.steps.recorded in
+    let state : stepped_on (state_at now) c.args.node start k
+    ≡ state_at (record { machine = c.burst-burst.new.self; recorded = now.recorded + k }) =
+    ap (λ (v : MachineValue). let s : State = record { machine = machine_of v; recorded = now.recorded + k } in s)
+    (sym c.burst-burst.ensures.state) in
+    same_history (ap (λ (m : MomentValue). m.machine.part) c.self.view_is)
+    (ap (λ (o : Option Stepped). history ++ steps_told c.args.node k o) (sym c.burst-burst.ensures.burst.last)) state
+    long
