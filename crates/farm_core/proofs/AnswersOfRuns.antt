@@ -1,5 +1,7 @@
--- What the callers of a run are told, call by call.
-use Rattle.std.proofs.Common.{◌≡◌, inl, inr, ℕ, suc, ◌+◌, ◌<◌, None, Ok, Err, List, [], ◌∷◌, ◌++◌, length, get_or, drop, slice_get, All, refl, sym, ap, ◌∙◌, subst, add-one, drop-cons, append_assoc}
+-- What the callers of a run are told, call by call, for the clauses
+-- `whole`, `elsewhere` and `one_each` of `run` and for `answers_to`.
+use Rattle.std.proofs.Common.{◌≡◌, inl, inr, ℕ, suc, ◌+◌, ◌<◌, None, Ok, Err, List, [], ◌∷◌, ◌++◌, length, get_or, drop}
+use Rattle.std.proofs.Common.{slice_get, All, refl, sym, ap, ◌∙◌, subst, add-one, drop-cons, append_assoc}
 use Rattle.std.proofs.lemmas.Bool.{cases_eq}
 use Rattle.std.specs.List.{zip}
 use Rattle.std.proofs.lemmas.List.{length-map}
@@ -22,67 +24,83 @@ use Rattle.farm_core.proofs.Runs.{own-here, own-there, told_pairs, told_domains,
 
 -- ---- call by call
 
--- what was told so far, and what a whole farm made of the domains will tell of the calls that are left, are all that is told
-pub record IsToldSoFar (plan : List Place) (told : List Answer) (left all : List (ℕ × Call)) (domains : List DomainValue) : Type 0 where
+-- what was told so far, and then what a whole farm made of the domains tells of the calls left, is all that is told
+pub record IsToldSoFar (plan : List Place) (told : List Answer) (left all : List (ℕ × Call))
+    (domains : List DomainValue) : Type 0 where
   pub farm : Farm
   pub places : places_in domains ≡ plan
   pub made : IsMadeOf plan farm (states_in domains)
   pub told_is : told ++ caller_answers_from plan farm left ≡ caller_answers plan all
 
-pub told_nothing : (plan : List Place) (calls : List (ℕ × Call)) (domains : List DomainValue) → places_in domains ≡ plan → IsMadeOf plan (whole_opening plan) (states_in domains)
+-- before the first call nothing was told, and the whole farm will tell all of it
+pub told_nothing : (plan : List Place) (calls : List (ℕ × Call)) (domains : List DomainValue) → places_in domains ≡ plan
+    → IsMadeOf plan (whole_opening plan) (states_in domains)
     → IsToldSoFar plan [] calls calls domains
-told_nothing plan calls domains places made = record { farm = whole_opening plan; places = places; made = made; told_is = refl }
+told_nothing plan calls domains places made =
+    record { farm = whole_opening plan; places = places; made = made; told_is = refl }
 
--- an answer that isn't NoMemory
+-- what holds unless memory was refused holds of an answer that isn't NoMemory
 pub but_for_memory : (told : Answer) {P : Type 0} → (told ≡ Err NoMemory → ⊥) → UnlessNoMemory told P → P
 but_for_memory (Ok reply) not p = p
 but_for_memory (Err NoSuch) not p = p
 but_for_memory (Err JournalFull) not p = p
 but_for_memory (Err NoMemory) not p = absurd (not refl)
 
-pub told_one_more : (plan : List Place) (told : List Answer) (domain : ℕ) (call : Call) (left all : List (ℕ × Call)) (domains later : List DomainValue) (answer : Answer)
-    → IsToldSoFar plan told ((domain, call) ∷ left) all domains → IsCallOfEachWhole domain call answer domains later → places_in later ≡ places_in domains
+-- a call's answer is the next of those that the whole farm tells
+pub told_one_more : (plan : List Place) (told : List Answer) (domain : ℕ) (call : Call) (left all : List (ℕ × Call))
+    (domains later : List DomainValue) (answer : Answer)
+    → IsToldSoFar plan told ((domain, call) ∷ left) all domains → IsCallOfEachWhole domain call answer domains later
+    → places_in later ≡ places_in domains
     → IsToldSoFar plan (told ++ answer ∷ []) left all later
 told_one_more plan told domain call left all domains later answer so is places =
     let one = is so.farm (subst (λ p. IsMadeOf p so.farm (states_in domains)) (sym so.places) so.made) in
     let after = (whole_next plan so.farm (domain, call)).0 in
     let same : places_in later ≡ plan = places ∙ so.places in
     let says : answer ≡ lowered_for (slice_get plan domain) (whole_next plan so.farm (domain, call)).1 =
-    subst (λ p. answer ≡ lowered_for (slice_get p domain) (whole_next p so.farm (domain, call)).1) so.places one.answer in
+    subst (λ p. answer ≡ lowered_for (slice_get p domain) (whole_next p so.farm (domain, call)).1) so.places
+    one.answer in
     let made : IsMadeOf plan after (states_in later) =
-    subst (λ p. IsMadeOf p after (states_in later)) same (subst (λ p. IsMadeOf (places_in later) (whole_next p so.farm (domain, call)).0 (states_in later)) so.places one.made) in
+    subst (λ p. IsMadeOf p after (states_in later)) same
+    (subst (λ p. IsMadeOf (places_in later) (whole_next p so.farm (domain, call)).0 (states_in later)) so.places
+    one.made) in
     record {
       farm = after;
       places = same;
       made = made;
-      told_is = append_assoc told (answer ∷ []) (caller_answers_from plan after left) ∙ ap (λ a. told ++ a ∷ caller_answers_from plan after left) says ∙ so.told_is;
+      told_is =
+          append_assoc told (answer ∷ []) (caller_answers_from plan after left)
+          ∙ ap (λ a. told ++ a ∷ caller_answers_from plan after left) says ∙ so.told_is;
     }
 
--- the same at an index of the calls that were asked
-pub told_next : (plan : List Place) (told : List Answer) (asked : List (ℕ × By × Event)) (index : ℕ) (d : ℕ × By × Event) (domains later : List DomainValue) (answer : Answer) → index < length asked
+-- the answer to the call at an index is the next of those that the whole farm tells
+pub told_next : (plan : List Place) (told : List Answer) (asked : List (ℕ × By × Event)) (index : ℕ)
+    (d : ℕ × By × Event) (domains later : List DomainValue) (answer : Answer)
+    → index < length asked
     → IsToldSoFar plan told (calls_asked (drop index asked)) (calls_asked asked) domains
-    → IsCallOfEachWhole (get_or asked index d).0 (record { by = (get_or asked index d).1; event = (get_or asked index d).2 }) answer domains later → places_in later ≡ places_in domains
+    → IsCallOfEachWhole (get_or asked index d).0
+    (record { by = (get_or asked index d).1; event = (get_or asked index d).2 }) answer domains later
+    → places_in later ≡ places_in domains
     → IsToldSoFar plan (told ++ answer ∷ []) (calls_asked (drop (index + 1) asked)) (calls_asked asked) later
 told_next plan told asked index d domains later answer within so is places =
     let x = get_or asked index d in
     let left : drop index asked ≡ x ∷ drop (index + 1) asked = rw add-one (drop-cons asked index d within) in
-    told_one_more plan told x.0 (record { by = x.1; event = x.2 }) (calls_asked (drop (index + 1) asked)) (calls_asked asked) domains later answer
-    (subst (λ (rest : List (ℕ × By × Event)). IsToldSoFar plan told (calls_asked rest) (calls_asked asked) domains) left so) is places
-
-pub told_all : (plan : List Place) (told : List Answer) (left all : List (ℕ × Call)) (domains : List DomainValue) → left ≡ [] → IsToldSoFar plan told left all domains → told ≡ caller_answers plan all
-told_all plan told left all domains none so = sym (append_none told) ∙ sym (ap (λ calls. told ++ caller_answers_from plan so.farm calls) none) ∙ so.told_is
-  where
-    append_none : (xs : List Answer) → xs ++ [] ≡ xs
-    append_none [] = refl
-    append_none (x ∷ xs) = ap (λ ys. x ∷ ys) (append_none xs)
+    told_one_more plan told x.0 (record { by = x.1; event = x.2 }) (calls_asked (drop (index + 1) asked))
+    (calls_asked asked) domains later answer
+    (subst (λ (rest : List (ℕ × By × Event)). IsToldSoFar plan told (calls_asked rest) (calls_asked asked) domains)
+    left so)
+    is
+    places
 
 -- ---- one answer for each call
 
-length_answers : (plan : List Place) (farm : Farm) (calls : List (ℕ × Call)) → length (caller_answers_from plan farm calls) ≡ length calls
+length_answers : (plan : List Place) (farm : Farm) (calls : List (ℕ × Call))
+    → length (caller_answers_from plan farm calls) ≡ length calls
 length_answers plan farm [] = refl
 length_answers plan farm (call ∷ calls) = ap suc (length_answers plan (whole_next plan farm call).0 calls)
 
-pub one_answer_each : (plan : List Place) (asked : List (ℕ × By × Event)) → length (caller_answers plan (calls_asked asked)) ≡ length asked
+-- there are as many answers as calls
+pub one_answer_each : (plan : List Place) (asked : List (ℕ × By × Event))
+    → length (caller_answers plan (calls_asked asked)) ≡ length asked
 one_answer_each plan asked = length_answers plan (whole_opening plan) (calls_asked asked) ∙ length-map asked _
 
 -- ---- calls of no domain
@@ -90,7 +108,8 @@ one_answer_each plan asked = length_answers plan (whole_opening plan) (calls_ask
 abbrev IsNoSuch : Answer → Type 0
 IsNoSuch answer = answer ≡ Err NoSuch
 
-none_elsewhere : (plan : List Place) (farm : Farm) (calls : List (ℕ × Call)) (domain : ℕ) → slice_get plan domain ≡ None → All IsNoSuch (own domain (told_pairs plan (physical_answers plan farm calls)))
+none_elsewhere : (plan : List Place) (farm : Farm) (calls : List (ℕ × Call)) (domain : ℕ) → slice_get plan domain ≡ None
+    → All IsNoSuch (own domain (told_pairs plan (physical_answers plan farm calls)))
 none_elsewhere plan farm [] domain none = All-nil IsNoSuch
 none_elsewhere plan farm (call ∷ calls) domain none =
     let answer = lowered_for (slice_get plan call.0) (whole_next plan farm call).1 in
@@ -101,15 +120,21 @@ none_elsewhere plan farm (call ∷ calls) domain none =
       | inl same ↦
           let no_place : slice_get plan call.0 ≡ None = ap (slice_get plan) same ∙ none in
           let told : answer ≡ Err NoSuch =
-          ap (λ found. lowered_for found (whole_next plan farm call).1) no_place ∙ ap (λ (r : Farm × Answer). r.1) (no_domain_no_change plan farm call.0 call.1 no_place) in
-          subst (All IsNoSuch) (sym (own-here domain head rest same)) (All-cons IsNoSuch answer (own domain rest) told later)
+          ap (λ found. lowered_for found (whole_next plan farm call).1) no_place
+          ∙ ap (λ (r : Farm × Answer). r.1) (no_domain_no_change plan farm call.0 call.1 no_place) in
+          subst (All IsNoSuch) (sym (own-here domain head rest same))
+          (All-cons IsNoSuch answer (own domain rest) told later)
       | inr ne ↦ subst (All IsNoSuch) (sym (own-there domain head rest ne)) later
     ]
 
-pub nobody_elsewhere : (plan : List DomainData) (calls : List (ℕ × Call)) → NobodyElsewhere plan calls (caller_answers (places_of plan) calls)
+-- a call of a domain that the plan doesn't have is told that there is none
+pub nobody_elsewhere : (plan : List DomainData) (calls : List (ℕ × Call))
+    → NobodyElsewhere plan calls (caller_answers (places_of plan) calls)
 nobody_elsewhere plan calls domain none =
     let places = places_of plan in
     let heard = physical_answers places (whole_opening places) calls in
     let is : answers_among domain calls (caller_answers places calls) ≡ own domain (told_pairs places heard) =
-    (λ i. own domain (zip (sym (told_domains places (whole_opening places) calls) i) (sym (told_answers places heard) i))) ∙ ap (own domain) (zip-parts (told_pairs places heard)) in
+    (λ i.
+    own domain (zip (sym (told_domains places (whole_opening places) calls) i) (sym (told_answers places heard) i)))
+    ∙ ap (own domain) (zip-parts (told_pairs places heard)) in
     subst (All IsNoSuch) (sym is) (none_elsewhere places (whole_opening places) calls domain none)

@@ -1,14 +1,18 @@
+-- one call in the whole farm, from the switch up
 pub mod OneOutputSet
 pub mod Messages
 pub mod Packets
 pub mod Steps
+-- runs, and farms made of domains
 pub mod Runs
 pub mod MadeOfDomains
 pub mod Merging
-pub mod Separation
-pub mod Plain
-pub mod Opened
-pub mod AnswersOfRuns
-pub mod Owners
 pub mod Wholes
+-- plans
+pub mod Separation
 pub mod Plans
+pub mod Opened
+-- the contracts of a farm without threads, and of a run
+pub mod Plain
+pub mod Owners
+pub mod AnswersOfRuns

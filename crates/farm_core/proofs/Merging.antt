@@ -1,17 +1,21 @@
--- A merge of the domains' journals is a run of the whole farm.
-use Rattle.std.proofs.Common.{◌≡◌, inl, inr, ℕ, ◌<◌, ◌≤◌, List, [], ◌∷◌, Option, Some, None, Ok, length, slice_get, map, option_map, All, refl, sym, ap, ◌∙◌, arith, subst}
+-- A merge of the domains' journals is a run of the whole farm, for the law `each_merge_is_a_run`.
+use Rattle.std.proofs.Common.{◌≡◌, inl, inr, ℕ, ◌<◌, ◌≤◌, List, [], ◌∷◌, Option, Some, None, Ok, length, slice_get, map}
+use Rattle.std.proofs.Common.{option_map, All, refl, sym, ap, ◌∙◌, arith, subst}
 use Rattle.std.proofs.lemmas.Bool.{cases_eq}
 use Rattle.std.proofs.lemmas.List.{length-map}
-use Rattle.std.proofs.lemmas.Option.{slice_get_within, slice_get_past, slice_get_cases, none-some, same_Some, slice_get-map, get_or_from_slice_get}
+use Rattle.std.proofs.lemmas.Option.{slice_get_within, slice_get_past, slice_get_cases, none-some, same_Some}
+use Rattle.std.proofs.lemmas.Option.{slice_get-map, get_or_from_slice_get}
 use Rattle.domain_core.specs.PrivateFarm.{State, Call, Answer, answers, after, opening}
 use Rattle.domain_core.specs.Domain.{DomainValue, state_of, IsMeant}
 use Rattle.domain_core.specs.Journal.{AnsweredCall, IsHistory, calls_of, replies_of}
 use Rattle.farm_core.specs.Places.{Place, AreSeparatePlaces}
 use Rattle.farm_core.specs.Whole.{physical_answers, whole_opening}
 use Rattle.farm_core.specs.Projection.{own}
-use Rattle.farm_core.specs.Merges.{journal_at, IsMerge, calls_in, replies_in, AreHistories, EachMergeIsARun, own_place, own_journal, EachMergeOfDomainsIsARun}
+use Rattle.farm_core.specs.Merges.{journal_at, IsMerge, calls_in, replies_in, AreHistories, EachMergeIsARun, own_place}
+use Rattle.farm_core.specs.Merges.{own_journal, EachMergeOfDomainsIsARun}
 use Rattle.farm_core.proofs.MadeOfDomains.{tidy_after, tidy_opening}
-use Rattle.farm_core.proofs.Runs.{own-here, own-there, own-map, told_pairs, own_told, told_domains, told_answers, each_domain_is_private}
+use Rattle.farm_core.proofs.Runs.{own-here, own-there, own-map, told_pairs, own_told}
+use Rattle.farm_core.proofs.Runs.{told_domains, told_answers, each_domain_is_private}
 use Rattle.crossbar.specs.Laws.{SwitchLaws}
 
 -- ---- a list is known by the order of its domains and by each domain's own
@@ -22,14 +26,18 @@ same-head e = cc
 same-tail : {X : Type 0} {a b : X} {xs ys : List X} → a ∷ xs ≡ b ∷ ys → xs ≡ ys
 same-tail e = cc
 
-own-tails : {X : Type 0} (d : ℕ) (x y : ℕ × X) (xs ys : List (ℕ × X)) → x.0 ≡ y.0 → own d (x ∷ xs) ≡ own d (y ∷ ys) → own d xs ≡ own d ys
+own-tails : {X : Type 0} (d : ℕ) (x y : ℕ × X) (xs ys : List (ℕ × X)) → x.0 ≡ y.0 → own d (x ∷ xs) ≡ own d (y ∷ ys)
+    → own d xs ≡ own d ys
 own-tails d x y xs ys heads same =
     elim (cases_eq x.0 d) [
       | inl here ↦ same-tail (sym (own-here d x xs here) ∙ same ∙ own-here d y ys (sym heads ∙ here))
       | inr ne ↦ sym (own-there d x xs ne) ∙ same ∙ own-there d y ys (λ e. ne (heads ∙ e))
     ]
 
-pub same-list : {X : Type 0} (xs ys : List (ℕ × X)) → map (λ x. x.0) xs ≡ map (λ y. y.0) ys → ((d : ℕ) → own d xs ≡ own d ys) → xs ≡ ys
+-- two lists with the same numbers in the same order and, number by number, the same values are equal
+pub same-list : {X : Type 0} (xs ys : List (ℕ × X))
+    → map (λ x. x.0) xs ≡ map (λ y. y.0) ys → ((d : ℕ) → own d xs ≡ own d ys)
+    → xs ≡ ys
 same-list [] [] domains each = refl
 same-list [] (y ∷ ys) domains each = let e = ap length domains in absurd (omega arith)
 same-list (x ∷ xs) [] domains each = let e = ap length domains in absurd (omega arith)
@@ -56,10 +64,12 @@ call_domains (x ∷ merge) = ap (λ rest. x.0 ∷ rest) (call_domains merge)
 
 stored_replies : (merge : List (ℕ × AnsweredCall)) → map (λ t. t.1) (stored merge) ≡ replies_in merge
 stored_replies [] = refl
-stored_replies (x ∷ merge) = ap (λ (rest : List Answer). (let a : Answer = Ok x.1.reply in a) ∷ rest) (stored_replies merge)
+stored_replies (x ∷ merge) =
+    ap (λ (rest : List Answer). (let a : Answer = Ok x.1.reply in a) ∷ rest) (stored_replies merge)
 
 -- ---- what is there at each domain's number
 
+-- below the length of a list something stands
 pub there_is : {X : Type 0} (xs : List X) (i : ℕ) → i < length xs → (x : X) × (slice_get xs i ≡ Some x)
 there_is xs i inside =
     elim (slice_get_cases xs i).1 [
@@ -67,35 +77,47 @@ there_is xs i inside =
       | inr past ↦ absurd (omega (arith, past.0))
     ]
 
-none_own : (d : ℕ) (xs : List (ℕ × Call)) (ys : List (ℕ × Answer)) → map (λ x. x.0) xs ≡ map (λ y. y.0) ys → own d xs ≡ [] → own d ys ≡ []
+none_own : (d : ℕ) (xs : List (ℕ × Call)) (ys : List (ℕ × Answer))
+    → map (λ x. x.0) xs ≡ map (λ y. y.0) ys → own d xs ≡ []
+    → own d ys ≡ []
 none_own d [] [] domains none = refl
 none_own d [] (y ∷ ys) domains none = let e = ap length domains in absurd (omega arith)
 none_own d (x ∷ xs) [] domains none = refl
 none_own d (x ∷ xs) (y ∷ ys) domains none =
     elim (cases_eq x.0 d) [
       | inl here ↦ let e = ap length (sym (own-here d x xs here) ∙ none) in absurd (omega arith)
-      | inr ne ↦ own-there d y ys (λ e. ne (same-head domains ∙ e)) ∙ none_own d xs ys (same-tail domains) (sym (own-there d x xs ne) ∙ none)
+      | inr ne ↦
+          own-there d y ys (λ e. ne (same-head domains ∙ e))
+          ∙ none_own d xs ys (same-tail domains) (sym (own-there d x xs ne) ∙ none)
     ]
 
 -- the history of a domain that is there
-history : (plan : List Place) (journals : List (List AnsweredCall)) (states : List State) (domain : ℕ) (place : Place) → AreHistories plan journals states → slice_get plan domain ≡ Some place
-    → (journal : List AnsweredCall) × (s : State) × (slice_get journals domain ≡ Some journal) × (slice_get states domain ≡ Some s) × IsHistory place.part journal s
+history : (plan : List Place) (journals : List (List AnsweredCall)) (states : List State) (domain : ℕ) (place : Place)
+    → AreHistories plan journals states
+    → slice_get plan domain ≡ Some place
+    → (journal : List AnsweredCall) × (s : State) × (slice_get journals domain ≡ Some journal)
+    × (slice_get states domain ≡ Some s) × IsHistory place.part journal s
 history plan journals states domain place are there =
     let inside = slice_get_within plan domain place there in
     let journal = there_is journals domain (omega (arith, inside, are.journal_each)) in
     let s = there_is states domain (omega (arith, inside, are.state_each)) in
     (journal.0, s.0, journal.1, s.1, are.each domain place journal.0 s.0 there journal.1 s.1)
 
-own_replies : SwitchLaws → (plan : List Place) (journals : List (List AnsweredCall)) (states : List State) (merge : List (ℕ × AnsweredCall)) (domain : ℕ) (found : Option Place) → slice_get plan domain ≡ found
+own_replies : SwitchLaws
+    → (plan : List Place) (journals : List (List AnsweredCall)) (states : List State) (merge : List (ℕ × AnsweredCall))
+    (domain : ℕ) (found : Option Place)
+    → slice_get plan domain ≡ found
     → AreSeparatePlaces plan → AreHistories plan journals states → IsMerge journals merge
-    → own domain (told_pairs plan (physical_answers plan (whole_opening plan) (calls_in merge))) ≡ own domain (stored merge)
+    → own domain (told_pairs plan (physical_answers plan (whole_opening plan) (calls_in merge)))
+    ≡ own domain (stored merge)
 own_replies laws plan journals states merge domain None at separate are is =
     let out : length plan ≤ domain =
     elim (slice_get_cases plan domain).1 [
       | inl some ↦ let e = sym at ∙ some.2 in absurd (none-some some.0 e)
       | inr past ↦ past.0
     ] in
-    let none : own domain merge ≡ [] = is domain ∙ ap journal_at (slice_get_past journals domain (omega (arith, out, are.journal_each))) in
+    let none : own domain merge ≡ [] =
+    is domain ∙ ap journal_at (slice_get_past journals domain (omega (arith, out, are.journal_each))) in
     let asked : own domain (calls_in merge) ≡ [] = own_calls domain merge ∙ ap calls_of none in
     none_own domain (calls_in merge) _ (sym (told_domains plan (whole_opening plan) (calls_in merge))) asked
     ∙ sym (own_stored domain merge ∙ ap replies_of none)
@@ -106,13 +128,16 @@ own_replies laws plan journals states merge domain (Some place) at separate are 
     ∙ ap (answers place.part (opening place.part)) (own_calls domain merge ∙ ap calls_of has)
     ∙ h.4.replies ∙ sym (own_stored domain merge ∙ ap replies_of has)
 
+-- every merge of histories of separate places is a run of the whole farm
 pub each_merge_is_a_run : SwitchLaws → EachMergeIsARun
 each_merge_is_a_run laws plan journals states merge separate are is = record {
   replies =
       let heard = physical_answers plan (whole_opening plan) (calls_in merge) in
       sym (told_answers plan heard)
       ∙ ap (map (λ t. t.1))
-      (same-list (told_pairs plan heard) (stored merge) (told_domains plan (whole_opening plan) (calls_in merge) ∙ call_domains merge) (λ d. own_replies laws plan journals states merge d (slice_get plan d) refl separate are is))
+      (same-list (told_pairs plan heard) (stored merge)
+      (told_domains plan (whole_opening plan) (calls_in merge) ∙ call_domains merge)
+      (λ d. own_replies laws plan journals states merge d (slice_get plan d) refl separate are is))
       ∙ stored_replies merge;
   ends =
       let tidy = tidy_after laws plan (whole_opening plan) (calls_in merge) separate (tidy_opening plan) in
@@ -132,15 +157,20 @@ each_merge_is_a_run laws plan journals states merge separate are is = record {
 -- ---- of domains, each with its journal
 
 -- what stands at a place of a list that was made of another
-made_of : {X Y : Type 0} (make : X → Y) (found : Option X) (y : Y) → option_map make found ≡ Some y → (x : X) × (found ≡ Some x) × (make x ≡ y)
+made_of : {X Y : Type 0} (make : X → Y) (found : Option X) (y : Y) → option_map make found ≡ Some y
+    → (x : X) × (found ≡ Some x) × (make x ≡ y)
 made_of make None y is = absurd (none-some y is)
 made_of make (Some x) y is = (x, refl, same_Some _ _ is)
 
-pub domain_of : {Y : Type 0} (make : DomainValue → Y) (domains : List DomainValue) (number : ℕ) (y : Y) → slice_get (map make domains) number ≡ Some y
+-- a value that is made of each domain is made of one that stands at its number
+pub domain_of : {Y : Type 0} (make : DomainValue → Y) (domains : List DomainValue) (number : ℕ) (y : Y)
+    → slice_get (map make domains) number ≡ Some y
     → (d : DomainValue) × (slice_get domains number ≡ Some d) × (make d ≡ y)
-domain_of make domains number y at = made_of make (slice_get domains number) y (sym (slice_get-map make domains number) ∙ at)
+domain_of make domains number y at =
+    made_of make (slice_get domains number) y (sym (slice_get-map make domains number) ∙ at)
 
-are_histories : (domains : List DomainValue) → All IsMeant domains → AreHistories (map own_place domains) (map own_journal domains) (map state_of domains)
+are_histories : (domains : List DomainValue) → All IsMeant domains
+    → AreHistories (map own_place domains) (map own_journal domains) (map state_of domains)
 are_histories domains meant = record {
   journal_each = length-map domains own_journal ∙ sym (length-map domains own_place);
   state_each = length-map domains state_of ∙ sym (length-map domains own_place);
@@ -150,10 +180,16 @@ are_histories domains meant = record {
       let t = domain_of state_of domains number s state_at in
       let same_j : own_journal d.0 ≡ journal = ap own_journal (same_Some _ _ (sym d.1 ∙ j.1)) ∙ j.2 in
       let same_s : state_of d.0 ≡ s = ap state_of (same_Some _ _ (sym d.1 ∙ t.1)) ∙ t.2 in
-      let is : IsMeant d.0 = subst IsMeant (get_or_from_slice_get domains number d.0 d.0 d.1) (meant number d.0 (slice_get_within domains number d.0 d.1)) in
-      subst (λ (p : Place). IsHistory p.part journal s) d.2 (subst (λ x. IsHistory d.0.machine.part journal x) same_s (subst (λ h. IsHistory d.0.machine.part h (state_of d.0)) same_j is.history));
+      let is : IsMeant d.0 =
+      subst IsMeant (get_or_from_slice_get domains number d.0 d.0 d.1)
+      (meant number d.0 (slice_get_within domains number d.0 d.1)) in
+      subst (λ (p : Place). IsHistory p.part journal s) d.2
+      (subst (λ x. IsHistory d.0.machine.part journal x) same_s
+      (subst (λ h. IsHistory d.0.machine.part h (state_of d.0)) same_j is.history));
 }
 
+-- every merge of the journals of separate domains is a run, which ends made of what the domains are
 pub each_merge_of_domains_is_a_run : SwitchLaws → EachMergeOfDomainsIsARun
 each_merge_of_domains_is_a_run laws domains merge separate meant is =
-    each_merge_is_a_run laws (map own_place domains) (map own_journal domains) (map state_of domains) merge separate (are_histories domains meant) is
+    each_merge_is_a_run laws (map own_place domains) (map own_journal domains) (map state_of domains) merge separate
+    (are_histories domains meant) is

@@ -1,5 +1,7 @@
--- The domains of a plan as they are opened, one after another.
-use Rattle.std.proofs.Common.{◌≡◌, ℕ, zero, suc, ◌+◌, ◌<◌, Option, Some, None, refl, arith, replicate, List, [], ◌∷◌, ◌++◌, length, get_or, take, slice_get, IfSome, Result, Ok, Err, IfOk, All, sym, ap, ◌∙◌, subst}
+-- The domains of a plan as they are opened, one after another, for `PlainFarm::open`, `open_domains` and `open_domain`.
+use Rattle.std.proofs.Common.{◌≡◌, ℕ, zero, suc, ◌+◌, ◌<◌, Option, Some, None, refl, arith, replicate, List, [], ◌∷◌}
+use Rattle.std.proofs.Common.{◌++◌, length, get_or, take, slice_get, IfSome, Result, Ok, Err, IfOk, All, sym}
+use Rattle.std.proofs.Common.{ap, ◌∙◌, subst}
 use Rattle.std.proofs.lemmas.Option.{slice_get-get_or, slice_get_past, same_Some, none-some}
 use Rattle.std.specs.List.{cons_option}
 use Rattle.crossbar.specs.declared.word.Word.{Word}
@@ -29,18 +31,26 @@ replicated zero k x w at = absurd (none-some w (sym (slice_get_past {X = Word} [
 replicated (suc n) zero x w at = sym (same_Some _ _ at)
 replicated (suc n) (suc k) x w at = replicated n k x w at
 
-one_more_word : (x : Word) (found : Option Word) (rest : List Word) → ((w : Word) → found ≡ Some w → w ≡ x) → All (λ w. w ≡ x) rest → All (λ w. w ≡ x) (cons_option found rest)
+one_more_word : (x : Word) (found : Option Word) (rest : List Word)
+    → ((w : Word) → found ≡ Some w → w ≡ x) → All (λ w. w ≡ x) rest
+    → All (λ w. w ≡ x) (cons_option found rest)
 one_more_word x None rest is all = all
 one_more_word x (Some w) rest is all = All-cons (λ v. v ≡ x) w rest (is w refl) all
 
+-- the words of ports in a row of equal words are all that word
 pub words_of_a_row : (n : ℕ) (x : Word) (ports : List ℕ) → All (λ w. w ≡ x) (words_at (replicate n x) ports)
 words_of_a_row n x [] = All-nil (λ w. w ≡ x)
-words_of_a_row n x (port ∷ ports) = one_more_word x (slice_get (replicate n x) port) (words_at (replicate n x) ports) (λ w at. replicated n port x w at) (words_of_a_row n x ports)
+words_of_a_row n x (port ∷ ports) =
+    one_more_word x (slice_get (replicate n x) port) (words_at (replicate n x) ports) (λ w at. replicated n port x w at)
+    (words_of_a_row n x ports)
 
-pub opened_unused : {E : Type 0} (r : Result DomainValue E) (n : ℕ) (row : Row) (ranges : List (Option PortRange)) → row ≡ outputs_of (replicate n (record { bits = 0 })) ranges
+-- a domain whose words are those of a row that was never set has unused words
+pub opened_unused : {E : Type 0} (r : Result DomainValue E) (n : ℕ) (row : Row) (ranges : List (Option PortRange))
+    → row ≡ outputs_of (replicate n (record { bits = 0 })) ranges
     → IfOk r (λ d. d.machine.switch.words ≡ row.words) → IfOk r IsUnused
 opened_unused (Ok d) n row ranges is same =
-    subst (λ (words : List Word). All (λ w. w ≡ record { bits = 0 }) words) (sym (same ∙ ap (λ (r : Row). r.words) is)) (words_of_a_row n (record { bits = 0 }) (ports_in ranges))
+    subst (λ (words : List Word). All (λ w. w ≡ record { bits = 0 }) words) (sym (same ∙ ap (λ (r : Row). r.words) is))
+    (words_of_a_row n (record { bits = 0 }) (ports_in ranges))
 opened_unused (Err e) n row ranges is same = tt
 
 -- ---- domain after domain
@@ -52,26 +62,40 @@ pub record AreOpened (plan : List DomainData) (domains : List DomainValue) : Typ
   pub journals : All (λ d. d.journal ≡ []) domains
   pub words : All IsUnused domains
 
-one_more : (plan : List DomainData) (of : DomainData) (domains : List DomainValue) (d : DomainValue) → AreOpened plan domains → own_place d ≡ place_of of → state_of d ≡ opening (part_of of) → d.journal ≡ []
+one_more : (plan : List DomainData) (of : DomainData) (domains : List DomainValue) (d : DomainValue)
+    → AreOpened plan domains → own_place d ≡ place_of of → state_of d ≡ opening (part_of of)
+    → d.journal ≡ []
     → IsUnused d → AreOpened (plan ++ of ∷ []) (domains ++ d ∷ [])
 one_more plan of domains d before place state journal unused = record {
-  places = map-append own_place domains (d ∷ []) ∙ (λ i. before.places i ++ place i ∷ []) ∙ sym (map-append place_of plan (of ∷ []));
+  places =
+      map-append own_place domains (d ∷ []) ∙ (λ i. before.places i ++ place i ∷ [])
+      ∙ sym (map-append place_of plan (of ∷ []));
   states =
       map-append state_of domains (d ∷ []) ∙ (λ i. before.states i ++ state i ∷ [])
-      ∙ sym (ap openings (map-append place_of plan (of ∷ [])) ∙ map-append (λ (place : Place). opening place.part) (places_of plan) (place_of of ∷ []));
+      ∙ sym (ap openings (map-append place_of plan (of ∷ []))
+      ∙ map-append (λ (place : Place). opening place.part) (places_of plan) (place_of of ∷ []));
   journals = All-push (λ (x : DomainValue). x.journal ≡ []) domains d before.journals journal;
   words = All-push IsUnused domains d before.words unused;
 }
 
-pub opened_more : (plan : List DomainData) (i : ℕ) (domains : List DomainValue) (d : DomainValue) → i < length plan → AreOpened (take i plan) domains
-    → IfSome (slice_get plan i) (λ of. own_place d ≡ place_of of) → IfSome (slice_get plan i) (λ of. state_of d ≡ opening (part_of of)) → d.journal ≡ [] → IsUnused d
+-- if the domains of the first i of a plan are opened, and the next is, those of the first i + 1 are
+pub opened_more : (plan : List DomainData) (i : ℕ) (domains : List DomainValue) (d : DomainValue) → i < length plan
+    → AreOpened (take i plan) domains
+    → IfSome (slice_get plan i) (λ of. own_place d ≡ place_of of)
+    → IfSome (slice_get plan i) (λ of. state_of d ≡ opening (part_of of)) → d.journal ≡ [] → IsUnused d
     → AreOpened (take (i + 1) plan) (domains ++ d ∷ [])
 opened_more plan i domains d within before place state journal unused =
     let x = there_is plan i within in
     let of = get_or plan i x.0 in
     let at : slice_get plan i ≡ Some of = slice_get-get_or plan i x.0 within in
     subst (λ opened. AreOpened opened (domains ++ d ∷ [])) (sym (take_more plan i x.0 within))
-    (one_more (take i plan) of domains d before (subst (λ found. IfSome found (λ o. own_place d ≡ place_of o)) at place) (subst (λ found. IfSome found (λ o. state_of d ≡ opening (part_of o))) at state) journal unused)
+    (one_more (take i plan) of domains d before (subst (λ found. IfSome found (λ o. own_place d ≡ place_of o)) at place)
+    (subst (λ found. IfSome found (λ o. state_of d ≡ opening (part_of o))) at state) journal unused)
 
-pub opened_is_whole : SwitchLaws → (plan : List DomainData) (domains : List DomainValue) → states_in domains ≡ openings (places_of plan) → IsMadeOf (places_of plan) (whole_opening (places_of plan)) (states_in domains)
-opened_is_whole laws plan domains states = subst (IsMadeOf (places_of plan) (whole_opening (places_of plan))) (sym states) (opening_is_made_of_openings laws (places_of plan))
+-- the opened domains of a plan make the whole farm as it is opened
+pub opened_is_whole : SwitchLaws → (plan : List DomainData) (domains : List DomainValue)
+    → states_in domains ≡ openings (places_of plan)
+    → IsMadeOf (places_of plan) (whole_opening (places_of plan)) (states_in domains)
+opened_is_whole laws plan domains states =
+    subst (IsMadeOf (places_of plan) (whole_opening (places_of plan))) (sym states)
+    (opening_is_made_of_openings laws (places_of plan))

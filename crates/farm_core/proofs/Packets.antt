@@ -1,5 +1,8 @@
--- A Move of a domain in the whole farm is a Move of the domain alone, and no packet comes to another domain.
-use Rattle.std.proofs.Common.{◌≡◌, ◌≢◌, inl, inr, ℕ, zero, suc, ◌<◌, ◌≤◌, ◌+◌, Bool, true, false, cond, ◌&&◌, Option, Some, None, List, [], ◌∷◌, ◌++◌, length, slice_get, map, filter, refl, sym, ap, ◌∙◌, subst, arith, ◌==◌}
+-- A Move of a domain in the whole farm is a Move of the domain alone, and no packet comes to another domain, for the
+-- call `Move` in `each_call_is_private`.
+use Rattle.std.proofs.Common.{◌≡◌, ◌≢◌, inl, inr, ℕ, zero, suc, ◌<◌, ◌≤◌, ◌+◌, Bool, true, false, cond, ◌&&◌, Option}
+use Rattle.std.proofs.Common.{Some, None, List, [], ◌∷◌, ◌++◌, length, slice_get, map, filter, refl, sym, ap, ◌∙◌}
+use Rattle.std.proofs.Common.{subst, arith, ◌==◌}
 use Rattle.std.proofs.lemmas.Bool.{cases_eq, cases_Bool, eq-eqb, ne_eqb, cond-true, cond-false}
 use Rattle.std.proofs.lemmas.Option.{same_Some, none-some, slice_get_within}
 use Rattle.std.proofs.lemmas.List.Elements.{filter-append}
@@ -17,74 +20,103 @@ use Rattle.domain_core.specs.declared.event.Moved.{Moved}
 use Rattle.domain_core.specs.declared.event.Moved.TheVariants.{Nothing, Lost, Stayed, Passed}
 use Rattle.domain_core.specs.Devices.{DeviceStates, device_at, packet_waiting, taken_from_device, arrived_at_device}
 use Rattle.domain_core.specs.Moves.{driven, are_ready, copies_arrived, outcome, moved_by, sent, moved_from, moved}
-use Rattle.farm_core.specs.Places.{Place, put_at, AreSeparatePlaces, joined_to, device_or, device_from, device_in, all_ports}
+use Rattle.farm_core.specs.Places.{Place, put_at, AreSeparatePlaces, joined_to, device_or}
+use Rattle.farm_core.specs.Places.{device_from, device_in, all_ports}
 use Rattle.farm_core.specs.Messages.{raised}
-use Rattle.farm_core.specs.Packets.{AllDevices, changed_at, driven_in, arrived_in, copied_in, moved_by_in, sent_in, moved_from_in, moved_in}
+use Rattle.farm_core.specs.Packets.{AllDevices, changed_at, driven_in, arrived_in, copied_in, moved_by_in, sent_in}
+use Rattle.farm_core.specs.Packets.{moved_from_in, moved_in}
 use Rattle.farm_core.specs.Projection.{own_switch, driver_at, ready_at}
 use Rattle.farm_core.specs.Domains.{EachDrivesItself}
-use Rattle.farm_core.proofs.OneOutputSet.{contains_at, at_contained, get-own_switch, contains-own_switch, number_in-none}
+use Rattle.farm_core.proofs.OneOutputSet.{contains_at, at_contained}
+use Rattle.farm_core.proofs.OneOutputSet.{get-own_switch, contains-own_switch, number_in-none}
 use Rattle.farm_core.proofs.Messages.{port_at, never_both}
 
 -- ---- which device is joined to a port
 
 -- no place but this one has the port
 abbrev pub IsOnlyAt : List Place → ℕ → ℕ → Type 0
-IsOnlyAt plan domain port = (e : ℕ) (place : Place) (w : ℕ) → domain ≢ e → slice_get plan e ≡ Some place → slice_get place.ports w ≡ Some port → ⊥
+IsOnlyAt plan domain port =
+    (e : ℕ) (place : Place) (w : ℕ) → domain ≢ e → slice_get plan e ≡ Some place → slice_get place.ports w ≡ Some port
+    → ⊥
 
-pub only_at : (plan : List Place) (domain : ℕ) (place : Place) (v port : ℕ) → AreSeparatePlaces plan → slice_get plan domain ≡ Some place → slice_get place.ports v ≡ Some port → IsOnlyAt plan domain port
-only_at plan domain place v port separate there at e other w ne is here = never_both place.ports other.ports v w port (separate.apart domain e place other ne there is) at here
+-- a port of one of separate places is of no other
+pub only_at : (plan : List Place) (domain : ℕ) (place : Place) (v port : ℕ)
+    → AreSeparatePlaces plan → slice_get plan domain ≡ Some place → slice_get place.ports v ≡ Some port
+    → IsOnlyAt plan domain port
+only_at plan domain place v port separate there at e other w ne is here =
+    never_both place.ports other.ports v w port (separate.apart domain e place other ne there is) at here
 
-device-nowhere : (first : ℕ) (plan : List Place) (port : ℕ) → ((e : ℕ) (place : Place) (w : ℕ) → slice_get plan e ≡ Some place → slice_get place.ports w ≡ Some port → ⊥) → device_from first plan port ≡ None
-device-nowhere first [] port out = refl
-device-nowhere first (place ∷ plan) port out = rw (number_in-none place.ports port (λ w at. out 0 place w refl at)) (device-nowhere (first + 1) plan port (λ e. out (suc e)))
-
-device-at : SwitchLaws → (first : ℕ) (plan : List Place) (d : ℕ) (place : Place) (v port number : ℕ) → slice_get plan d ≡ Some place → IsOneToOne place.ports → slice_get place.ports v ≡ Some port
-    → IsOnlyAt plan d port → number ≡ first + d → device_from first plan port ≡ joined_to number (device_at place.part v)
+device-at : SwitchLaws → (first : ℕ) (plan : List Place) (d : ℕ) (place : Place) (v port number : ℕ)
+    → slice_get plan d ≡ Some place → IsOneToOne place.ports
+    → slice_get place.ports v ≡ Some port
+    → IsOnlyAt plan d port → number ≡ first + d
+    → device_from first plan port ≡ joined_to number (device_at place.part v)
 device-at laws first [] d place v port number there one at only is = absurd (none-some place there)
 device-at laws first (head ∷ plan) zero place v port number there one at only is =
     let same : place ≡ head = sym (same_Some _ _ there) in
     let first_is : number ≡ first = omega arith in
-    ap (λ n. device_or first head n (device_from (first + 1) plan port)) (laws.number head.ports v port (subst (λ (p : Place). IsOneToOne p.ports) same one) (subst (λ (p : Place). slice_get p.ports v ≡ Some port) same at))
+    ap (λ n. device_or first head n (device_from (first + 1) plan port))
+    (laws.number head.ports v port (subst (λ (p : Place). IsOneToOne p.ports) same one)
+    (subst (λ (p : Place). slice_get p.ports v ≡ Some port) same at))
     ∙ (λ i. joined_to (sym first_is i) (device_at (sym same i).part v))
 device-at laws first (head ∷ plan) (suc d) place v port number there one at only is =
-    let out : number_in head.ports port ≡ None = number_in-none head.ports port (λ w. only 0 head w (λ e. omega arith) refl) in
+    let out : number_in head.ports port ≡ None =
+    number_in-none head.ports port (λ w. only 0 head w (λ e. omega arith) refl) in
     ap (λ n. device_or first head n (device_from (first + 1) plan port)) out
-    ∙ device-at laws (first + 1) plan d place v port number there one at (λ e other w ne. only (suc e) other w (λ same. ne (omega arith))) (omega arith)
+    ∙ device-at laws (first + 1) plan d place v port number there one at
+    (λ e other w ne. only (suc e) other w (λ same. ne (omega arith))) (omega arith)
 
-pub device_own : SwitchLaws → (plan : List Place) (domain : ℕ) (place : Place) (v port : ℕ) → AreSeparatePlaces plan → slice_get plan domain ≡ Some place → slice_get place.ports v ≡ Some port
+-- the device of the whole farm at a domain's port is the domain's at the port's number
+pub device_own : SwitchLaws → (plan : List Place) (domain : ℕ) (place : Place) (v port : ℕ) → AreSeparatePlaces plan
+    → slice_get plan domain ≡ Some place
+    → slice_get place.ports v ≡ Some port
     → device_in plan port ≡ joined_to domain (device_at place.part v)
 device_own laws plan domain place v port separate there at =
-    device-at laws 0 plan domain place v port domain there (separate.each domain place there).ports.one_to_one at (only_at plan domain place v port separate there at) (omega arith)
+    device-at laws 0 plan domain place v port domain there (separate.each domain place there).ports.one_to_one at
+    (only_at plan domain place v port separate there at) (omega arith)
 
 -- ---- which outputs a port drives
 
-filter-none : (p : ℕ → Bool) (ports : List ℕ) → ((v port : ℕ) → slice_get ports v ≡ Some port → p port ≡ false) → filter p ports ≡ []
+filter-none : (p : ℕ → Bool) (ports : List ℕ) → ((v port : ℕ) → slice_get ports v ≡ Some port → p port ≡ false)
+    → filter p ports ≡ []
 filter-none p [] none = refl
 filter-none p (port ∷ ports) none = rw (none 0 port refl) (filter-none p ports (λ v. none (suc v)))
 
-filter-nowhere : (p : ℕ → Bool) (plan : List Place) → ((e : ℕ) (place : Place) (v port : ℕ) → slice_get plan e ≡ Some place → slice_get place.ports v ≡ Some port → p port ≡ false)
+filter-nowhere : (p : ℕ → Bool) (plan : List Place)
+    → ((e : ℕ) (place : Place) (v port : ℕ) → slice_get plan e ≡ Some place → slice_get place.ports v ≡ Some port
+    → p port ≡ false)
     → filter p (all_ports plan) ≡ []
 filter-nowhere p [] none = refl
 filter-nowhere p (place ∷ plan) none =
-    filter-append p place.ports (all_ports plan) ∙ (λ i. filter-none p place.ports (λ v port. none 0 place v port refl) i ++ filter-nowhere p plan (λ e. none (suc e)) i)
+    filter-append p place.ports (all_ports plan)
+    ∙ (λ i. filter-none p place.ports (λ v port. none 0 place v port refl) i
+    ++ filter-nowhere p plan (λ e. none (suc e)) i)
 
 append-none : (xs : List ℕ) → xs ++ [] ≡ xs
 append-none [] = refl
 append-none (x ∷ xs) = ap (λ ys. x ∷ ys) (append-none xs)
 
 filter-only : (p : ℕ → Bool) (plan : List Place) (d : ℕ) (place : Place) → slice_get plan d ≡ Some place
-    → ((e : ℕ) (other : Place) (v port : ℕ) → d ≢ e → slice_get plan e ≡ Some other → slice_get other.ports v ≡ Some port → p port ≡ false) → filter p (all_ports plan) ≡ filter p place.ports
+    → ((e : ℕ) (other : Place) (v port : ℕ) → d ≢ e → slice_get plan e ≡ Some other
+    → slice_get other.ports v ≡ Some port → p port ≡ false)
+    → filter p (all_ports plan) ≡ filter p place.ports
 filter-only p [] d place there none = absurd (none-some place there)
 filter-only p (head ∷ plan) zero place there none =
     let rest = filter-nowhere p plan (λ e other v port. none (suc e) other v port (λ same. omega arith)) in
-    filter-append p head.ports (all_ports plan) ∙ ap (λ ys. filter p head.ports ++ ys) rest ∙ append-none (filter p head.ports)
+    filter-append p head.ports (all_ports plan) ∙ ap (λ ys. filter p head.ports ++ ys) rest
+    ∙ append-none (filter p head.ports)
     ∙ ap (λ (q : Place). filter p q.ports) (same_Some _ _ there)
 filter-only p (head ∷ plan) (suc d) place there none =
-    let rest = filter-only p plan d place there (λ e other v port ne. none (suc e) other v port (λ same. ne (omega arith))) in
-    filter-append p head.ports (all_ports plan) ∙ ap (λ ys. ys ++ filter p (all_ports plan)) (filter-none p head.ports (λ v port. none 0 head v port (λ same. omega arith) refl)) ∙ rest
+    let rest =
+    filter-only p plan d place there (λ e other v port ne. none (suc e) other v port (λ same. ne (omega arith))) in
+    filter-append p head.ports (all_ports plan)
+    ∙ ap (λ ys. ys ++ filter p (all_ports plan))
+    (filter-none p head.ports (λ v port. none 0 head v port (λ same. omega arith) refl))
+    ∙ rest
 
 -- the ports that pass a test are the raised numbers that pass another, where both tests agree
-filter-raised : (raise : ℕ → ℕ) (p q : ℕ → Bool) (ports : List ℕ) (start : ℕ) → ((v port : ℕ) → slice_get ports v ≡ Some port → (raise (start + v) ≡ port) × (p port ≡ q (start + v)))
+filter-raised : (raise : ℕ → ℕ) (p q : ℕ → Bool) (ports : List ℕ) (start : ℕ)
+    → ((v port : ℕ) → slice_get ports v ≡ Some port → (raise (start + v) ≡ port) × (p port ≡ q (start + v)))
     → filter p ports ≡ map raise (filter q (range_with_len start (length ports)))
 filter-raised raise p q [] start agree = refl
 filter-raised raise p q (port ∷ ports) start agree =
@@ -116,26 +148,37 @@ same-test a b c d to from =
       | inr ne ↦ ne_eqb a b ne ∙ sym (ne_eqb c d (λ e. ne (from e)))
     ]
 
-driven-alike : SwitchLaws → (ports : List ℕ) (found : Option ℕ) (w port : ℕ) → IsOneToOne ports → slice_get ports w ≡ Some port → ((input : ℕ) → found ≡ Some input → (u : ℕ) × (slice_get ports u ≡ Some input))
+driven-alike : SwitchLaws → (ports : List ℕ) (found : Option ℕ) (w port : ℕ) → IsOneToOne ports
+    → slice_get ports w ≡ Some port
+    → ((input : ℕ) → found ≡ Some input → (u : ℕ) × (slice_get ports u ≡ Some input))
     → names found port ≡ names (option_and_then (number_in ports) found) w
 driven-alike laws ports None w port one at own = refl
 driven-alike laws ports (Some input) w port one at own =
     let u = own input refl in
-    same-test input port u.0 w (λ e. one u.0 w port (u.1 ∙ ap (λ (x : ℕ). Some x) e) at) (λ e. same_Some _ _ (sym u.1 ∙ ap (slice_get ports) e ∙ at))
+    same-test input port u.0 w (λ e. one u.0 w port (u.1 ∙ ap (λ (x : ℕ). Some x) e) at)
+    (λ e. same_Some _ _ (sym u.1 ∙ ap (slice_get ports) e ∙ at))
     ∙ ap (λ n. names n w) (sym (laws.number ports u.0 input one u.1))
 
-pub driven_own : SwitchLaws → (plan : List Place) (s : Switch) (domain : ℕ) (place : Place) (w port : ℕ) → AreSeparatePlaces plan → EachDrivesItself plan s → slice_get plan domain ≡ Some place → slice_get place.ports w ≡ Some port
+-- the outputs that a domain's port drives in the whole farm are those that its number drives, raised
+pub driven_own : SwitchLaws → (plan : List Place) (s : Switch) (domain : ℕ) (place : Place) (w port : ℕ)
+    → AreSeparatePlaces plan → EachDrivesItself plan s → slice_get plan domain ≡ Some place
+    → slice_get place.ports w ≡ Some port
     → driven_in plan s port ≡ map (raised place.ports) (driven place.part (own_switch place.ports s) w)
 driven_own laws plan s domain place w port separate own there at =
     let is = separate.each domain place there in
     filter-only (drives s port) plan domain place there (λ e other v output ne here is_output.
     not-driven (fin.get s.pairs output) port (λ driven.
-    separate.apart domain e place other ne there here port (contains_at place.ports w port at) (own e other here output port (contains_at other.ports v output is_output) driven)))
-    ∙ filter-raised (raised place.ports) (drives s port) (drives (own_switch place.ports s) w) place.ports 0 (λ v output is_output.
+    separate.apart domain e place other ne there here port (contains_at place.ports w port at)
+    (own e other here output port (contains_at other.ports v output is_output) driven)))
+    ∙ filter-raised (raised place.ports) (drives s port) (drives (own_switch place.ports s) w) place.ports 0
+    (λ v output is_output.
     let from : 0 + v ≡ v = omega arith in
     let inside = slice_get_within place.ports v output is_output in (
       ap (raised place.ports) from ∙ same_Some _ _ (sym (port_at place.ports v inside) ∙ is_output),
-      driven-alike laws place.ports (fin.get s.pairs output) w port is.ports.one_to_one at (λ input driven. at_contained place.ports input (own domain place there output input (contains_at place.ports v output is_output) driven))
+      driven-alike laws place.ports (fin.get s.pairs output) w port is.ports.one_to_one at
+          (λ input driven.
+          at_contained place.ports input
+          (own domain place there output input (contains_at place.ports v output is_output) driven))
           ∙ ap (λ n. names n w) (sym (get-own_switch laws place.ports s v ∙ ap (driver_at place.ports s) is_output))
           ∙ ap (drives (own_switch place.ports s) w) (sym from),
     ))
@@ -157,24 +200,31 @@ below-filtered p a (suc n) most h =
       | inr fail ↦ rw fail rest
     ]
 
+-- an input of a part drives outputs of the part alone
 pub driven-below : (part : PartData) (s : Switch) (input : ℕ) → AreBelow part.count (driven part s input)
 driven-below part s input = below-filtered (drives s input) 0 part.count part.count (omega arith)
 
-ready_alike : SwitchLaws → (ports : List ℕ) (s : Switch) (outputs : List ℕ) → AreBelow (length ports) outputs → are_ready s (map (raised ports) outputs) ≡ are_ready (own_switch ports s) outputs
+ready_alike : SwitchLaws → (ports : List ℕ) (s : Switch) (outputs : List ℕ) → AreBelow (length ports) outputs
+    → are_ready s (map (raised ports) outputs) ≡ are_ready (own_switch ports s) outputs
 ready_alike laws ports s [] below = refl
 ready_alike laws ports s (output ∷ outputs) below =
     let head = contains-own_switch laws ports s output ∙ ap (ready_at s) (port_at ports output below.0) in
     λ i. sym head i && ready_alike laws ports s outputs below.1 i
 
-pub outcome_alike : SwitchLaws → (ports : List ℕ) (s : Switch) (outputs : List ℕ) → AreBelow (length ports) outputs → outcome s (map (raised ports) outputs) ≡ outcome (own_switch ports s) outputs
+-- what becomes of a packet at raised outputs is what becomes of it at their numbers
+pub outcome_alike : SwitchLaws → (ports : List ℕ) (s : Switch) (outputs : List ℕ) → AreBelow (length ports) outputs
+    → outcome s (map (raised ports) outputs) ≡ outcome (own_switch ports s) outputs
 outcome_alike laws ports s [] below = refl
-outcome_alike laws ports s (output ∷ outputs) below = ap (λ t. cond t Passed Stayed) (ready_alike laws ports s (output ∷ outputs) below)
+outcome_alike laws ports s (output ∷ outputs) below =
+    ap (λ t. cond t Passed Stayed) (ready_alike laws ports s (output ∷ outputs) below)
 
 -- ---- the devices of all domains
 
+-- devices that are put at a domain are the domain's
 pub put-own : {X : Type 0} (domain : ℕ) (x : X) (all : ℕ → X) → put_at domain x all domain ≡ x
 put-own domain x all = cond-true _ _ _ (eq-eqb domain domain refl)
 
+-- devices that are put at one domain leave those of another
 pub put-other : {X : Type 0} (domain : ℕ) (x : X) (all : ℕ → X) (d : ℕ) → d ≢ domain → put_at domain x all d ≡ all d
 put-other domain x all d ne = cond-false _ _ _ (ne_eqb d domain ne)
 
@@ -183,85 +233,129 @@ pub record Changes (domain : ℕ) (old new : AllDevices) (devices : DeviceStates
   pub own : new domain ≡ devices
   pub others : (d : ℕ) → d ≢ domain → new d ≡ old d
 
+-- devices that all stay are a change of one domain to what it has
 pub unchanged : (domain : ℕ) (all : AllDevices) → Changes domain all all (all domain)
 unchanged domain all = record { own = refl; others = λ d ne. refl }
 
-changes_at : (domain : ℕ) (change : DeviceStates → DeviceStates) (all : AllDevices) → Changes domain all (changed_at domain change all) (change (all domain))
-changes_at domain change all = record { own = put-own domain (change (all domain)) all; others = put-other domain (change (all domain)) all }
+changes_at : (domain : ℕ) (change : DeviceStates → DeviceStates) (all : AllDevices)
+    → Changes domain all (changed_at domain change all) (change (all domain))
+changes_at domain change all =
+    record { own = put-own domain (change (all domain)) all; others = put-other domain (change (all domain)) all }
 
 arrives_at : (domain : ℕ) (packet : Packet) (device : Option Device) (all : AllDevices)
-    → Changes domain all (arrived_in packet (joined_to domain device) all) (arrived_at_device packet device (all domain))
+    → Changes domain all (arrived_in packet (joined_to domain device) all)
+    (arrived_at_device packet device (all domain))
 arrives_at domain packet None all = unchanged domain all
 arrives_at domain packet (Some device) all = changes_at domain (arrived_at_device packet (Some device)) all
 
 -- in this plan the devices at these physical ports are those at the domain's virtual ones
 abbrev pub HasDevices : List Place → ℕ → Place → Type 0
-HasDevices plan domain place = (v : ℕ) → v < length place.ports → device_in plan (raised place.ports v) ≡ joined_to domain (device_at place.part v)
+HasDevices plan domain place =
+    (v : ℕ) → v < length place.ports → device_in plan (raised place.ports v) ≡ joined_to domain (device_at place.part v)
 
-copies_to : (plan : List Place) (domain : ℕ) (place : Place) (packet : Packet) (outputs : List ℕ) (all : AllDevices) → HasDevices plan domain place → AreBelow (length place.ports) outputs
-    → Changes domain all (copied_in plan packet (map (raised place.ports) outputs) all) (copies_arrived place.part packet outputs (all domain))
+copies_to : (plan : List Place) (domain : ℕ) (place : Place) (packet : Packet) (outputs : List ℕ) (all : AllDevices)
+    → HasDevices plan domain place
+    → AreBelow (length place.ports) outputs
+    → Changes domain all (copied_in plan packet (map (raised place.ports) outputs) all)
+    (copies_arrived place.part packet outputs (all domain))
 copies_to plan domain place packet [] all has below = unchanged domain all
 copies_to plan domain place packet (output ∷ outputs) all has below =
     let device = device_at place.part output in
     let first = arrives_at domain packet device all in
     let next = arrived_in packet (joined_to domain device) all in
     let rest = copies_to plan domain place packet outputs next has below.1 in
-    subst (λ found. Changes domain all (copied_in plan packet (map (raised place.ports) outputs) (arrived_in packet found all)) (copies_arrived place.part packet (output ∷ outputs) (all domain)))
+    subst (λ found.
+    Changes domain all (copied_in plan packet (map (raised place.ports) outputs) (arrived_in packet found all))
+    (copies_arrived place.part packet (output ∷ outputs) (all domain)))
     (sym (has output below.0)) (record {
       own = rest.own ∙ ap (copies_arrived place.part packet outputs) first.own;
       others = λ d ne. rest.others d ne ∙ first.others d ne;
     })
 
-moves_by : (m : Moved) (plan : List Place) (domain : ℕ) (place : Place) (device : Device) (packet : Packet) (outputs : List ℕ) (all : AllDevices) → HasDevices plan domain place
+moves_by : (m : Moved) (plan : List Place) (domain : ℕ) (place : Place) (device : Device) (packet : Packet)
+    (outputs : List ℕ) (all : AllDevices)
+    → HasDevices plan domain place
     → AreBelow (length place.ports) outputs
-    → Changes domain all (moved_by_in m plan (record { domain = domain; device = device }) packet (map (raised place.ports) outputs) all) (moved_by m place.part device packet outputs (all domain))
+    → Changes domain all
+    (moved_by_in m plan (record { domain = domain; device = device }) packet (map (raised place.ports) outputs) all)
+    (moved_by m place.part device packet outputs (all domain))
 moves_by Nothing plan domain place device packet outputs all has below = unchanged domain all
 moves_by Lost plan domain place device packet outputs all has below = changes_at domain (taken_from_device device) all
 moves_by Stayed plan domain place device packet outputs all has below = unchanged domain all
 moves_by Passed plan domain place device packet outputs all has below =
     let first = changes_at domain (taken_from_device device) all in
-    let rest = copies_to plan domain place packet outputs (changed_at domain (taken_from_device device) all) has below in
+    let rest =
+    copies_to plan domain place packet outputs (changed_at domain (taken_from_device device) all) has below in
     record {
       own = rest.own ∙ ap (copies_arrived place.part packet outputs) first.own;
       others = λ d ne. rest.others d ne ∙ first.others d ne;
     }
 
 -- a Move of the domain: the same answer as alone, and nothing but its own devices changed
-pub record MovesAlone (domain : ℕ) (all : AllDevices) (whole : AllDevices × Moved) (alone : DeviceStates × Moved) : Type 0 where
+pub record MovesAlone (domain : ℕ) (all : AllDevices) (whole : AllDevices × Moved)
+    (alone : DeviceStates × Moved) : Type 0 where
   pub answer : whole.1 ≡ alone.1
   pub devices : Changes domain all whole.0 alone.0
 
-sends : SwitchLaws → (plan : List Place) (s : Switch) (domain : ℕ) (place : Place) (outputs : List ℕ) (device : Device) (packet : Option Packet) (all : AllDevices) → HasDevices plan domain place
+sends : SwitchLaws
+    → (plan : List Place) (s : Switch) (domain : ℕ) (place : Place) (outputs : List ℕ) (device : Device)
+    (packet : Option Packet) (all : AllDevices)
+    → HasDevices plan domain place
     → AreBelow (length place.ports) outputs
-    → MovesAlone domain all (sent_in plan s all (map (raised place.ports) outputs) (record { domain = domain; device = device }) packet)
+    → MovesAlone domain all
+    (sent_in plan s all (map (raised place.ports) outputs) (record { domain = domain; device = device }) packet)
     (sent place.part (own_switch place.ports s) (all domain) outputs device packet)
-sends laws plan s domain place outputs device None all has below = record { answer = refl; devices = unchanged domain all }
+sends laws plan s domain place outputs device None all has below =
+    record { answer = refl; devices = unchanged domain all }
 sends laws plan s domain place outputs device (Some packet) all has below =
     let same = outcome_alike laws place.ports s outputs below in
     record {
       answer = same;
       devices =
-          subst (λ m. Changes domain all (moved_by_in m plan (record { domain = domain; device = device }) packet (map (raised place.ports) outputs) all)
-          (moved_by (outcome (own_switch place.ports s) outputs) place.part device packet outputs (all domain))) (sym same)
+          subst (λ m.
+          Changes domain all
+          (moved_by_in m plan (record { domain = domain; device = device }) packet (map (raised place.ports) outputs)
+          all)
+          (moved_by (outcome (own_switch place.ports s) outputs) place.part device packet outputs (all domain)))
+          (sym same)
           (moves_by (outcome (own_switch place.ports s) outputs) plan domain place device packet outputs all has below);
     }
 
-moves_from : SwitchLaws → (plan : List Place) (s : Switch) (domain : ℕ) (place : Place) (outputs : List ℕ) (device : Option Device) (all : AllDevices) → HasDevices plan domain place
+moves_from : SwitchLaws
+    → (plan : List Place) (s : Switch) (domain : ℕ) (place : Place) (outputs : List ℕ) (device : Option Device)
+    (all : AllDevices)
+    → HasDevices plan domain place
     → AreBelow (length place.ports) outputs
     → MovesAlone domain all (moved_from_in plan s all (map (raised place.ports) outputs) (joined_to domain device))
     (moved_from place.part (own_switch place.ports s) (all domain) outputs device)
-moves_from laws plan s domain place outputs None all has below = record { answer = refl; devices = unchanged domain all }
-moves_from laws plan s domain place outputs (Some device) all has below = sends laws plan s domain place outputs device (packet_waiting (all domain) device) all has below
+moves_from laws plan s domain place outputs None all has below =
+    record { answer = refl; devices = unchanged domain all }
+moves_from laws plan s domain place outputs (Some device) all has below =
+    sends laws plan s domain place outputs device (packet_waiting (all domain) device) all has below
 
-pub moves_alone : SwitchLaws → (plan : List Place) (s : Switch) (all : AllDevices) (domain : ℕ) (place : Place) (port : ℕ) → AreSeparatePlaces plan → EachDrivesItself plan s → slice_get plan domain ≡ Some place
-    → port < place.part.count → MovesAlone domain all (moved_in plan s all (raised place.ports port)) (moved place.part (own_switch place.ports s) (all domain) port)
+-- a Move of a domain's port has the answer that it has alone, and changes the domain's own devices alone
+pub moves_alone : SwitchLaws
+    → (plan : List Place) (s : Switch) (all : AllDevices) (domain : ℕ) (place : Place) (port : ℕ)
+    → AreSeparatePlaces plan → EachDrivesItself plan s
+    → slice_get plan domain ≡ Some place
+    → port < place.part.count
+    → MovesAlone domain all (moved_in plan s all (raised place.ports port))
+    (moved place.part (own_switch place.ports s) (all domain) port)
 moves_alone laws plan s all domain place port separate own there inside =
     let is = separate.each domain place there in
     let outputs = driven place.part (own_switch place.ports s) port in
-    let has : HasDevices plan domain place = λ v below. device_own laws plan domain place v (raised place.ports v) separate there (port_at place.ports v below) in
-    let below : AreBelow (length place.ports) outputs = subst (λ n. AreBelow n outputs) (sym is.count) (driven-below place.part (own_switch place.ports s) port) in
+    let has : HasDevices plan domain place =
+    λ v below.
+    device_own laws plan domain place v (raised place.ports v) separate there (port_at place.ports v below) in
+    let below : AreBelow (length place.ports) outputs =
+    subst (λ n. AreBelow n outputs) (sym is.count) (driven-below place.part (own_switch place.ports s) port) in
     let within : port < length place.ports = omega (arith, is.count) in
-    subst (λ driven_outputs. MovesAlone domain all (moved_from_in plan s all driven_outputs (device_in plan (raised place.ports port))) (moved place.part (own_switch place.ports s) (all domain) port))
-    (sym (driven_own laws plan s domain place port (raised place.ports port) separate own there (port_at place.ports port within)))
-    (subst (λ found. MovesAlone domain all (moved_from_in plan s all (map (raised place.ports) outputs) found) (moved place.part (own_switch place.ports s) (all domain) port))
+    subst (λ driven_outputs.
+    MovesAlone domain all (moved_from_in plan s all driven_outputs (device_in plan (raised place.ports port)))
+    (moved place.part (own_switch place.ports s) (all domain) port))
+    (sym (driven_own laws plan s domain place port (raised place.ports port) separate own there
+    (port_at place.ports port within)))
+    (subst (λ found.
+    MovesAlone domain all (moved_from_in plan s all (map (raised place.ports) outputs) found)
+    (moved place.part (own_switch place.ports s) (all domain) port))
     (sym (has port within)) (moves_from laws plan s domain place outputs (device_at place.part port) all has below))

@@ -1,5 +1,7 @@
--- The places of a plan whose domains are numbered and share no port.
-use Rattle.std.proofs.Common.{◌≡◌, inl, inr, ℕ, ◌<◌, Option, Some, None, List, slice_get, option_map, refl, sym, ◌∙◌, subst, get_or}
+-- The places of a plan whose domains are numbered and share no port, for the law `numbered_domains_are_separate` and
+-- the calls that need it of an accepted plan.
+use Rattle.std.proofs.Common.{◌≡◌, inl, inr, ℕ, ◌<◌, Option, Some, None, List, slice_get, option_map, refl, sym, ◌∙◌}
+use Rattle.std.proofs.Common.{subst, get_or}
 use Rattle.std.proofs.lemmas.Bool.{cases_order}
 use Rattle.std.proofs.lemmas.Option.{none-some, same_Some, slice_get-map, slice_get_within, get_or_from_slice_get}
 use Rattle.std.specs.List.{AllPairs}
@@ -9,24 +11,32 @@ use Rattle.farm_core.specs.Places.{Place, place_of, places_of, IsPlace, AreApart
 use Rattle.farm_core.specs.Laws.{NumberedDomainsAreSeparate}
 
 -- the domain whose place this is
-placed : (found : Option DomainData) (place : Place) → option_map place_of found ≡ Some place → (domain : DomainData) × (found ≡ Some domain) × (place_of domain ≡ place)
+placed : (found : Option DomainData) (place : Place) → option_map place_of found ≡ Some place
+    → (domain : DomainData) × (found ≡ Some domain) × (place_of domain ≡ place)
 placed None place is = absurd (none-some place is)
 placed (Some domain) place is = (domain, refl, same_Some _ _ is)
 
 domain_at : (plan : List DomainData) (number : ℕ) (place : Place) → slice_get (places_of plan) number ≡ Some place
     → (domain : DomainData) × (slice_get plan number ≡ Some domain) × (place_of domain ≡ place)
-domain_at plan number place there = placed (slice_get plan number) place (sym (slice_get-map place_of plan number) ∙ there)
+domain_at plan number place there =
+    placed (slice_get plan number) place (sym (slice_get-map place_of plan number) ∙ there)
 
-pairs_at : (plan : List DomainData) (i j : ℕ) (a b : DomainData) → AllPairs AreSeparate plan → i < j → slice_get plan i ≡ Some a → slice_get plan j ≡ Some b → AreSeparate a b
+pairs_at : (plan : List DomainData) (i j : ℕ) (a b : DomainData)
+    → AllPairs AreSeparate plan → i < j → slice_get plan i ≡ Some a → slice_get plan j ≡ Some b
+    → AreSeparate a b
 pairs_at plan i j a b pairs below at there =
     subst (λ x. AreSeparate x b) (get_or_from_slice_get plan i a a at)
-    (subst (λ y. AreSeparate (get_or plan i a) y) (get_or_from_slice_get plan j b a there) (pairs i j a below (slice_get_within plan j b there)))
+    (subst (λ y. AreSeparate (get_or plan i a) y) (get_or_from_slice_get plan j b a there)
+    (pairs i j a below (slice_get_within plan j b there)))
 
+-- the places of a plan whose domains are numbered and share no port are separate
 pub numbered_domains_are_separate : NumberedDomainsAreSeparate
 numbered_domains_are_separate plan numbered pairs = record {
   each = λ number place there.
       let d = domain_at plan number place there in
-      let is : IsNumbered d.0 = subst IsNumbered (get_or_from_slice_get plan number d.0 d.0 d.1) (numbered number d.0 (slice_get_within plan number d.0 d.1)) in
+      let is : IsNumbered d.0 =
+      subst IsNumbered (get_or_from_slice_get plan number d.0 d.0 d.1)
+      (numbered number d.0 (slice_get_within plan number d.0 d.1)) in
       subst IsPlace d.2 (record { ports = is.ports; count = is.count });
   apart = λ number other place there ne at here.
       let d = domain_at plan number place at in

@@ -1,5 +1,7 @@
--- One call in the whole farm is that call of the domain alone, and the other domains see nothing of it.
-use Rattle.std.proofs.Common.{◌≡◌, ◌≢◌, inl, inr, ℕ, ◌+◌, Bool, true, false, cond, Option, Some, None, Ok, Err, List, [], ◌∷◌, ◌++◌, slice_get, refl, sym, ap, ◌∙◌, subst, ◌==◌, if◌then◌else◌}
+-- One call in the whole farm is that call of the domain alone, and the other domains see nothing of it, for the law
+-- `each_call_is_private` and the runs of `Runs.antt`.
+use Rattle.std.proofs.Common.{◌≡◌, ◌≢◌, inl, inr, ℕ, ◌+◌, Bool, true, false, cond, Option, Some, None, Ok, Err, List}
+use Rattle.std.proofs.Common.{[], ◌∷◌, ◌++◌, slice_get, refl, sym, ap, ◌∙◌, subst, ◌==◌, if◌then◌else◌}
 use Rattle.std.proofs.lemmas.Bool.{cases_eq, ltb-true, and_parts}
 use Rattle.std.proofs.lemmas.Option.{same_Some}
 use Rattle.c004_commands.specs.Grammar.{Item, item_of}
@@ -20,7 +22,8 @@ use Rattle.domain_core.specs.Machine.{Machine, acted, is_recorded, has_moved}
 use Rattle.domain_core.specs.PrivateFarm.{State, Call, Answer, is_there, names_own, answered, next}
 use Rattle.farm_core.specs.Places.{Place, AreApart, AreSeparatePlaces, IsPlace}
 use Rattle.farm_core.specs.Messages.{configured_by_in}
-use Rattle.farm_core.specs.Whole.{Farm, machine_in, acted_on_own, acted_in, is_recorded_in, answered_in, next_in, whole_next}
+use Rattle.farm_core.specs.Whole.{Farm, machine_in, acted_on_own, acted_in, is_recorded_in}
+use Rattle.farm_core.specs.Whole.{answered_in, next_in, whole_next}
 use Rattle.farm_core.specs.Projection.{own_switch, projected, lowered_config, lowered_reply, lowered_answer}
 use Rattle.farm_core.specs.Domains.{DrivesItself, EachDrivesItself}
 use Rattle.farm_core.proofs.Messages.{Beside, own_item, own_reply, other_item, drives_item}
@@ -42,9 +45,12 @@ record ConfiguresAlone (place : Place) (s : Switch) (whole alone : Configured) :
   left : whole.rest ≡ alone.rest
   others : LeavesOthers place.ports s whole.switch
 
-configures-by : SwitchLaws → (place : Place) (s : Switch) (bytes : List ℕ) (found : Option Item) → IsPlace place → DrivesItself place.ports s
-    → ConfiguresAlone place s (configured_by_in place s bytes found) (configured_by place.part.count (own_switch place.ports s) bytes found)
-configures-by laws place s bytes None is own = record { told = refl; seen = refl; left = refl; others = same-switch place.ports s }
+configures-by : SwitchLaws → (place : Place) (s : Switch) (bytes : List ℕ) (found : Option Item) → IsPlace place
+    → DrivesItself place.ports s
+    → ConfiguresAlone place s (configured_by_in place s bytes found)
+    (configured_by place.part.count (own_switch place.ports s) bytes found)
+configures-by laws place s bytes None is own =
+    record { told = refl; seen = refl; left = refl; others = same-switch place.ports s }
 configures-by laws place s bytes (Some item) is own = record {
   told = own_reply laws place s item is.count own;
   seen = own_item laws place s item is.ports.one_to_one is.count own;
@@ -58,7 +64,8 @@ configures-by laws place s bytes (Some item) is own = record {
 -- ---- an event
 
 -- the domain sees of an event what it would see alone, and the others see nothing
-record ActsAlone (place : Place) (domain : ℕ) (old : Farm) (whole : Farm × Reply) (alone : Machine × Reply) : Type 0 where
+record ActsAlone (place : Place) (domain : ℕ) (old : Farm) (whole : Farm × Reply)
+    (alone : Machine × Reply) : Type 0 where
   told : lowered_reply place.ports whole.1 ≡ alone.1
   seen : own_switch place.ports whole.0.switch ≡ alone.0.switch
   rest : whole.0.rests domain ≡ alone.0.rest
@@ -68,8 +75,10 @@ record ActsAlone (place : Place) (domain : ℕ) (old : Farm) (whole : Farm × Re
   others : LeavesOthers place.ports old.switch whole.0.switch
 
 -- an event that touches the domain's own nodes and hosts alone
-acts-on-own : (place : Place) (farm : Farm) (domain : ℕ) (event : Event) (alone : Machine × Reply) → lowered_reply place.ports (acted_on_own place farm domain event).1 ≡ alone.1
-    → own_switch place.ports farm.switch ≡ alone.0.switch → farm.rests domain ≡ alone.0.rest → (acted place.part (machine_in farm domain) event).0.devices ≡ alone.0.devices
+acts-on-own : (place : Place) (farm : Farm) (domain : ℕ) (event : Event) (alone : Machine × Reply)
+    → lowered_reply place.ports (acted_on_own place farm domain event).1 ≡ alone.1
+    → own_switch place.ports farm.switch ≡ alone.0.switch → farm.rests domain ≡ alone.0.rest
+    → (acted place.part (machine_in farm domain) event).0.devices ≡ alone.0.devices
     → ActsAlone place domain farm (acted_on_own place farm domain event) alone
 acts-on-own place farm domain event alone told seen rest devices = record {
   told = told;
@@ -81,12 +90,17 @@ acts-on-own place farm domain event alone told seen rest devices = record {
   others = same-switch place.ports farm.switch;
 }
 
-written-alike : (ports : List ℕ) (full : Bool) → lowered_reply ports (if full then reply.Full else reply.Written) ≡ (if full then reply.Full else reply.Written)
+written-alike : (ports : List ℕ) (full : Bool)
+    → lowered_reply ports (if full then reply.Full else reply.Written) ≡ (if full then reply.Full else reply.Written)
 written-alike ports true = refl
 written-alike ports false = refl
 
-call-is-private : SwitchLaws → (plan : List Place) (farm : Farm) (domain : ℕ) (place : Place) (by : By) (event : Event) → AreSeparatePlaces plan → EachDrivesItself plan farm.switch → slice_get plan domain ≡ Some place
-    → names_own place.part by event ≡ true → ActsAlone place domain farm (acted_in plan place farm domain event) (acted place.part (projected place farm domain).machine event)
+call-is-private : SwitchLaws → (plan : List Place) (farm : Farm) (domain : ℕ) (place : Place) (by : By) (event : Event)
+    → AreSeparatePlaces plan → EachDrivesItself plan farm.switch
+    → slice_get plan domain ≡ Some place
+    → names_own place.part by event ≡ true
+    → ActsAlone place domain farm (acted_in plan place farm domain event)
+    (acted place.part (projected place farm domain).machine event)
 call-is-private laws plan farm domain place by (Config byte) separate own there named =
     let is = separate.each domain place there in
     let bytes : List ℕ = farm.rests domain ++ byte ∷ [] in
@@ -101,13 +115,20 @@ call-is-private laws plan farm domain place by (Config byte) separate own there 
       others = c.others;
     }
 call-is-private laws plan farm domain place by (Write host byte) separate own there named =
-    acts-on-own place farm domain (Write host byte) _ (written-alike place.ports (is_full (host_at (farm.devices domain) host).sending)) refl refl refl
-call-is-private laws plan farm domain place by (Read host) separate own there named = acts-on-own place farm domain (Read host) _ refl refl refl refl
-call-is-private laws plan farm domain place by (Reset node) separate own there named = acts-on-own place farm domain (Reset node) _ refl refl refl refl
-call-is-private laws plan farm domain place by (Look node) separate own there named = acts-on-own place farm domain (Look node) _ refl refl refl refl
-call-is-private laws plan farm domain place by (Step node) separate own there named = acts-on-own place farm domain (Step node) _ refl refl refl refl
+    acts-on-own place farm domain (Write host byte) _
+    (written-alike place.ports (is_full (host_at (farm.devices domain) host).sending)) refl refl refl
+call-is-private laws plan farm domain place by (Read host) separate own there named =
+    acts-on-own place farm domain (Read host) _ refl refl refl refl
+call-is-private laws plan farm domain place by (Reset node) separate own there named =
+    acts-on-own place farm domain (Reset node) _ refl refl refl refl
+call-is-private laws plan farm domain place by (Look node) separate own there named =
+    acts-on-own place farm domain (Look node) _ refl refl refl refl
+call-is-private laws plan farm domain place by (Step node) separate own there named =
+    acts-on-own place farm domain (Step node) _ refl refl refl refl
 call-is-private laws plan farm domain place by (Move port) separate own there named =
-    let m = moves_alone laws plan farm.switch farm.devices domain place port separate own there (ltb-true port place.part.count named) in
+    let m =
+    moves_alone laws plan farm.switch farm.devices domain place port separate own there
+    (ltb-true port place.part.count named) in
     record {
       told = ap (λ (r : Moved). reply.Moved r) m.answer;
       seen = refl;
@@ -118,8 +139,11 @@ call-is-private laws plan farm domain place by (Move port) separate own there na
       others = same-switch place.ports farm.switch;
     }
 
-records : SwitchLaws → (plan : List Place) (farm : Farm) (domain : ℕ) (place : Place) (by : By) (event : Event) → AreSeparatePlaces plan → EachDrivesItself plan farm.switch → slice_get plan domain ≡ Some place
-    → names_own place.part by event ≡ true → is_recorded_in plan place farm domain event ≡ is_recorded place.part (projected place farm domain).machine event
+records : SwitchLaws → (plan : List Place) (farm : Farm) (domain : ℕ) (place : Place) (by : By) (event : Event)
+    → AreSeparatePlaces plan → EachDrivesItself plan farm.switch
+    → slice_get plan domain ≡ Some place
+    → names_own place.part by event ≡ true
+    → is_recorded_in plan place farm domain event ≡ is_recorded place.part (projected place farm domain).machine event
 records laws plan farm domain place by (Config byte) separate own there named = refl
 records laws plan farm domain place by (Write host byte) separate own there named = refl
 records laws plan farm domain place by (Read host) separate own there named = refl
@@ -127,71 +151,138 @@ records laws plan farm domain place by (Reset node) separate own there named = r
 records laws plan farm domain place by (Look node) separate own there named = refl
 records laws plan farm domain place by (Step node) separate own there named = refl
 records laws plan farm domain place by (Move port) separate own there named =
-    ap has_moved (moves_alone laws plan farm.switch farm.devices domain place port separate own there (ltb-true port place.part.count named)).answer
+    ap has_moved (moves_alone laws plan farm.switch farm.devices domain place port separate own there
+    (ltb-true port place.part.count named)).answer
 
 -- ---- a call
 
 -- the domain is answered as alone and becomes what it would become alone; the others see nothing
-pub record StepsAlone (place : Place) (domain : ℕ) (old : Farm) (whole : Farm × Answer) (alone : State × Answer) : Type 0 where
+pub record StepsAlone (place : Place) (domain : ℕ) (old : Farm) (whole : Farm × Answer)
+    (alone : State × Answer) : Type 0 where
   pub answer : lowered_answer place whole.1 ≡ alone.1
   pub state : projected place whole.0 domain ≡ alone.0
-  pub others : (d : ℕ) (other : Place) → d ≢ domain → AreApart place.ports other.ports → projected other whole.0 d ≡ projected other old d
-  pub unseen : (ports : List ℕ) → AreApart place.ports ports → own_switch ports whole.0.switch ≡ own_switch ports old.switch
-  pub drives : (ports : List ℕ) → Beside place.ports ports → DrivesItself ports old.switch → DrivesItself ports whole.0.switch
+  pub others : (d : ℕ) (other : Place) → d ≢ domain → AreApart place.ports other.ports
+      → projected other whole.0 d ≡ projected other old d
+  pub unseen : (ports : List ℕ) → AreApart place.ports ports
+      → own_switch ports whole.0.switch ≡ own_switch ports old.switch
+  pub drives : (ports : List ℕ) → Beside place.ports ports → DrivesItself ports old.switch
+      → DrivesItself ports whole.0.switch
 
-refused : (place : Place) (domain : ℕ) (farm : Farm) (whole alone : Answer) → lowered_answer place whole ≡ alone → StepsAlone place domain farm (farm, whole) (projected place farm domain, alone)
-refused place domain farm whole alone told = record { answer = told; state = refl; others = λ d other ne apart. refl; unseen = λ ports apart. refl; drives = λ ports beside own. own }
+refused : (place : Place) (domain : ℕ) (farm : Farm) (whole alone : Answer) → lowered_answer place whole ≡ alone
+    → StepsAlone place domain farm (farm, whole) (projected place farm domain, alone)
+refused place domain farm whole alone told =
+    record {
+      answer = told;
+      state = refl;
+      others = λ d other ne apart. refl;
+      unseen = λ ports apart. refl;
+      drives = λ ports beside own. own;
+    }
 
-answers-alone : SwitchLaws → (plan : List Place) (farm : Farm) (domain : ℕ) (place : Place) (call : Call) → AreSeparatePlaces plan → EachDrivesItself plan farm.switch → slice_get plan domain ≡ Some place
+answers-alone : SwitchLaws → (plan : List Place) (farm : Farm) (domain : ℕ) (place : Place) (call : Call)
+    → AreSeparatePlaces plan → EachDrivesItself plan farm.switch
+    → slice_get plan domain ≡ Some place
     → names_own place.part call.by call.event ≡ true
-    → StepsAlone place domain farm (answered_in plan place farm domain call.event, Ok (acted_in plan place farm domain call.event).1)
-    (answered place.part (projected place farm domain) call.event, Ok (acted place.part (projected place farm domain).machine call.event).1)
+    → StepsAlone place domain farm
+    (answered_in plan place farm domain call.event, Ok (acted_in plan place farm domain call.event).1) (
+      answered place.part (projected place farm domain) call.event,
+      Ok (acted place.part (projected place farm domain).machine call.event).1,
+    )
 answers-alone laws plan farm domain place call separate own there named =
     let a = call-is-private laws plan farm domain place call.by call.event separate own there named in
-    let counts = put-own domain (if is_recorded_in plan place farm domain call.event then farm.recorded domain + 1 else farm.recorded domain) farm.recorded
-    ∙ ap (λ t. cond t (farm.recorded domain + 1) (farm.recorded domain)) (records laws plan farm domain place call.by call.event separate own there named) in
+    let counts =
+    put-own domain
+    (if is_recorded_in plan place farm domain call.event then farm.recorded domain + 1 else farm.recorded domain)
+    farm.recorded
+    ∙ ap (λ t. cond t (farm.recorded domain + 1) (farm.recorded domain))
+    (records laws plan farm domain place call.by call.event separate own there named) in
     record {
       answer = ap (λ (r : Reply). Ok r) a.told;
-      state = λ i. record { machine = record { switch = a.seen i; rest = a.rest i; devices = a.devices i }; recorded = counts i };
+      state =
+          λ i.
+          record {
+            machine = record { switch = a.seen i; rest = a.rest i; devices = a.devices i };
+            recorded = counts i;
+          };
       others = λ d other ne apart.
           let switch = a.others.apart other.ports apart in
-          let count = put-other domain (if is_recorded_in plan place farm domain call.event then farm.recorded domain + 1 else farm.recorded domain) farm.recorded d ne in
-          λ i. record { machine = record { switch = switch i; rest = a.other_rests d ne i; devices = a.other_devices d ne i }; recorded = count i };
+          let count =
+          put-other domain
+          (if is_recorded_in plan place farm domain call.event then farm.recorded domain + 1 else farm.recorded domain)
+          farm.recorded d ne in
+          λ i.
+          record {
+            machine =
+                record { switch = switch i; rest = a.other_rests d ne i; devices = a.other_devices d ne i };
+            recorded = count i;
+          };
       unseen = a.others.apart;
       drives = a.others.drives;
     }
 
-steps-by : SwitchLaws → (plan : List Place) (farm : Farm) (domain : ℕ) (place : Place) (call : Call) → AreSeparatePlaces plan → EachDrivesItself plan farm.switch → slice_get plan domain ≡ Some place
+steps-by : SwitchLaws → (plan : List Place) (farm : Farm) (domain : ℕ) (place : Place) (call : Call)
+    → AreSeparatePlaces plan → EachDrivesItself plan farm.switch
+    → slice_get plan domain ≡ Some place
     → (named full : Bool) → is_there place.part call ≡ named
-    → StepsAlone place domain farm (if named then (if full then (farm, Err JournalFull) else (answered_in plan place farm domain call.event, Ok (acted_in plan place farm domain call.event).1)) else (farm, Err NoSuch))
-    (if named then (if full then (projected place farm domain, Err JournalFull) else (answered place.part (projected place farm domain) call.event, Ok (acted place.part (projected place farm domain).machine call.event).1))
+    → StepsAlone place domain farm
+    (if named
+    then (if full then (farm, Err JournalFull)
+    else (answered_in plan place farm domain call.event, Ok (acted_in plan place farm domain call.event).1))
+    else (farm, Err NoSuch))
+    (if named
+    then (if full then (projected place farm domain, Err JournalFull)
+    else (
+      answered place.part (projected place farm domain) call.event,
+      Ok (acted place.part (projected place farm domain).machine call.event).1,
+    ))
     else (projected place farm domain, Err NoSuch))
-steps-by laws plan farm domain place call separate own there false full is = refused place domain farm (Err NoSuch) _ refl
-steps-by laws plan farm domain place call separate own there true true is = refused place domain farm (Err JournalFull) _ refl
-steps-by laws plan farm domain place call separate own there true false is = answers-alone laws plan farm domain place call separate own there (and_parts _ _ is).1
+steps-by laws plan farm domain place call separate own there false full is =
+    refused place domain farm (Err NoSuch) _ refl
+steps-by laws plan farm domain place call separate own there true true is =
+    refused place domain farm (Err JournalFull) _ refl
+steps-by laws plan farm domain place call separate own there true false is =
+    answers-alone laws plan farm domain place call separate own there (and_parts _ _ is).1
 
-pub steps_alone : SwitchLaws → (plan : List Place) (farm : Farm) (domain : ℕ) (place : Place) (call : Call) → AreSeparatePlaces plan → EachDrivesItself plan farm.switch → slice_get plan domain ≡ Some place
-    → StepsAlone place domain farm (whole_next plan farm (domain, call)) (next place.part (projected place farm domain) call)
+-- a call in the whole farm answers and leaves of its domain what the domain alone answers and becomes
+pub steps_alone : SwitchLaws → (plan : List Place) (farm : Farm) (domain : ℕ) (place : Place) (call : Call)
+    → AreSeparatePlaces plan → EachDrivesItself plan farm.switch
+    → slice_get plan domain ≡ Some place
+    → StepsAlone place domain farm (whole_next plan farm (domain, call))
+    (next place.part (projected place farm domain) call)
 steps_alone laws plan farm domain place call separate own there =
-    subst (λ found. StepsAlone place domain farm (next_in plan farm domain call found) (next place.part (projected place farm domain) call)) (sym there)
-    (steps-by laws plan farm domain place call separate own there (is_there place.part call) (farm.recorded domain == place.part.limit) refl)
+    subst (λ found.
+    StepsAlone place domain farm (next_in plan farm domain call found)
+    (next place.part (projected place farm domain) call))
+    (sym there)
+    (steps-by laws plan farm domain place call separate own there (is_there place.part call)
+    (farm.recorded domain == place.part.limit) refl)
 
 -- ---- what stays
 
 -- another domain's call is not seen
-other-by : SwitchLaws → (plan : List Place) (farm : Farm) (caller : ℕ) (call : Call) (d : ℕ) (place : Place) (found : Option Place) → slice_get plan caller ≡ found → AreSeparatePlaces plan → EachDrivesItself plan farm.switch
-    → slice_get plan d ≡ Some place → d ≢ caller → projected place (next_in plan farm caller call found).0 d ≡ projected place farm d
+other-by : SwitchLaws
+    → (plan : List Place) (farm : Farm) (caller : ℕ) (call : Call) (d : ℕ) (place : Place) (found : Option Place)
+    → slice_get plan caller ≡ found → AreSeparatePlaces plan
+    → EachDrivesItself plan farm.switch
+    → slice_get plan d ≡ Some place → d ≢ caller
+    → projected place (next_in plan farm caller call found).0 d ≡ projected place farm d
 other-by laws plan farm caller call d place None at separate own there ne = refl
 other-by laws plan farm caller call d place (Some from) at separate own there ne =
     let step = steps_alone laws plan farm caller from call separate own at in
     ap (λ (found : Option Place). projected place (next_in plan farm caller call found).0 d) (sym at)
     ∙ step.others d place ne (separate.apart caller d from place (λ e. ne (sym e)) at there)
 
-pub other_stays : SwitchLaws → (plan : List Place) (farm : Farm) (caller : ℕ) (call : Call) (d : ℕ) (place : Place) → AreSeparatePlaces plan → EachDrivesItself plan farm.switch → slice_get plan d ≡ Some place → d ≢ caller
+-- a call of one domain leaves what each other domain is by itself
+pub other_stays : SwitchLaws → (plan : List Place) (farm : Farm) (caller : ℕ) (call : Call) (d : ℕ) (place : Place)
+    → AreSeparatePlaces plan → EachDrivesItself plan farm.switch → slice_get plan d ≡ Some place
+    → d ≢ caller
     → projected place (whole_next plan farm (caller, call)).0 d ≡ projected place farm d
-other_stays laws plan farm caller call d place separate own there ne = other-by laws plan farm caller call d place (slice_get plan caller) refl separate own there ne
+other_stays laws plan farm caller call d place separate own there ne =
+    other-by laws plan farm caller call d place (slice_get plan caller) refl separate own there ne
 
-drives-by : SwitchLaws → (plan : List Place) (farm : Farm) (caller : ℕ) (call : Call) (found : Option Place) → slice_get plan caller ≡ found → AreSeparatePlaces plan → EachDrivesItself plan farm.switch
+drives-by : SwitchLaws → (plan : List Place) (farm : Farm) (caller : ℕ) (call : Call) (found : Option Place)
+    → slice_get plan caller ≡ found → AreSeparatePlaces plan
+    → EachDrivesItself plan farm.switch
     → EachDrivesItself plan (next_in plan farm caller call found).0.switch
 drives-by laws plan farm caller call None at separate own = own
 drives-by laws plan farm caller call (Some from) at separate own =
@@ -202,7 +293,12 @@ drives-by laws plan farm caller call (Some from) at separate own =
       | inl same ↦ inl (ap (λ (p : Place). p.ports) (same_Some _ _ (sym at ∙ ap (slice_get plan) same ∙ there)))
       | inr ne ↦ inr (separate.apart caller d from place ne at there)
     ] in
-    subst (λ (found : Option Place). DrivesItself place.ports (next_in plan farm caller call found).0.switch) at (step.drives place.ports beside (own d place there))
+    subst (λ (found : Option Place). DrivesItself place.ports (next_in plan farm caller call found).0.switch) at
+    (step.drives place.ports beside (own d place there))
 
-pub still_each_drives : SwitchLaws → (plan : List Place) (farm : Farm) (call : ℕ × Call) → AreSeparatePlaces plan → EachDrivesItself plan farm.switch → EachDrivesItself plan (whole_next plan farm call).0.switch
-still_each_drives laws plan farm call separate own = drives-by laws plan farm call.0 call.1 (slice_get plan call.0) refl separate own
+-- after a call each domain's outputs are still driven from inside it
+pub still_each_drives : SwitchLaws → (plan : List Place) (farm : Farm) (call : ℕ × Call) → AreSeparatePlaces plan
+    → EachDrivesItself plan farm.switch
+    → EachDrivesItself plan (whole_next plan farm call).0.switch
+still_each_drives laws plan farm call separate own =
+    drives-by laws plan farm call.0 call.1 (slice_get plan call.0) refl separate own

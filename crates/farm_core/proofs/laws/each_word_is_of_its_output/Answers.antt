@@ -2,4 +2,8 @@ use Rattle.farm_core.proofs.Wholes.{each_whole_is_as_words_say, each_merge_ends_
 use Rattle.farm_core.proofs.laws.each_word_is_of_its_output.Goals as goal
 
 pub returns : goal.returns
-returns c = record { whole = each_whole_is_as_words_say c.switches_say_their_words.ensures.laws; merge = each_merge_ends_as_words_say c.switches_say_their_words.ensures.laws }
+returns c =
+    record {
+      whole = each_whole_is_as_words_say c.switches_say_their_words.ensures.laws;
+      merge = each_merge_ends_as_words_say c.switches_say_their_words.ensures.laws;
+    }

@@ -2,24 +2,39 @@ use Rattle.std.proofs.Common.{◌<◌, List, length, slice_set, subst}
 use Rattle.domain_core.specs.Domain.{DomainValue}
 use Rattle.farm_core.specs.Places.{AreSeparatePlaces}
 use Rattle.farm_core.specs.PlainFarm.{places_in, IsCommitted}
-use Rattle.farm_core.proofs.Plain.{Replaces, read_at, still_separate, committed_at, place_of_committed, others_stay, places_stay, all_stay}
+use Rattle.farm_core.proofs.Plain.{Replaces, read_at, still_separate, committed_at, place_of_committed, others_stay}
+use Rattle.farm_core.proofs.Plain.{places_stay, all_stay}
 use Rattle.farm_core.proofs.farm.PlainFarm.commit.Goals as goal
 
 committed : (c : goal.After-self-2-1) → IsCommitted c.args.ticket c.commit.result c.in-Some.home.now c.commit.new.self
-committed c = record { stale = c.commit.ensures.stale; full = c.commit.ensures.full; no_such = c.commit.ensures.no_such; done = c.commit.ensures.done; same = c.commit.ensures.unchanged }
+committed c =
+    record {
+      stale = c.commit.ensures.stale;
+      full = c.commit.ensures.full;
+      no_such = c.commit.ensures.no_such;
+      done = c.commit.ensures.done;
+      same = c.commit.ensures.unchanged;
+    }
 
 -- the home is changed
-replaces : (c : goal.After-self-2-1) → Replaces c.args.self.now (slice_set c.self.inside.domains.items c.from.result c.commit.new.self) c.args.domain c.in-Some.home.now c.commit.new.self
+replaces : (c : goal.After-self-2-1)
+    → Replaces c.args.self.now (slice_set c.self.inside.domains.items c.from.result c.commit.new.self) c.args.domain
+    c.in-Some.home.now c.commit.new.self
 replaces c =
     let within : c.from.result < length c.self.inside.domains.items = c.in-Some.ensures.item.3.0 in
     record {
-      there = read_at c.self.inside.domains.items c.args.self.now c.from.result c.args.domain c.in-Some.home.now c.self.view_is c.from.ensures within c.in-Some.ensures.value;
+      there =
+          read_at c.self.inside.domains.items c.args.self.now c.from.result c.args.domain c.in-Some.home.now
+          c.self.view_is
+          c.from.ensures within c.in-Some.ensures.value;
       later_is = λ i. slice_set (c.self.view_is i) (c.from.ensures i) c.commit.new.self;
       place = place_of_committed _ _ _ _ (committed c);
     }
 
 pub invariant_of-self-2 : goal.invariant_of-self-2
-invariant_of-self-2 c = still_separate _ _ _ _ _ (replaces c) (subst (λ (ds : List DomainValue). AreSeparatePlaces (places_in ds)) c.self.view_is c.self.invariant)
+invariant_of-self-2 c =
+    still_separate _ _ _ _ _ (replaces c)
+    (subst (λ (ds : List DomainValue). AreSeparatePlaces (places_in ds)) c.self.view_is c.self.invariant)
 
 pub returns-clause-own : goal.returns-clause-own
 returns-clause-own c = committed_at _ _ _ _ _ _ _ (replaces c) (committed c)

@@ -5,7 +5,11 @@ use Rattle.farm_core.proofs.Opened.{opened_is_whole}
 use Rattle.farm_core.proofs.farm.PlainFarm.open.Goals as goal
 
 pub invariant_of-result : goal.invariant_of-result
-invariant_of-result c = subst AreSeparatePlaces (sym c.in_ok-domains.ensures.places) (numbered_domains_are_separate c.args.plan.now c.separate_law.ensures.own c.separate_law.ensures.apart)
+invariant_of-result c =
+    subst AreSeparatePlaces (sym c.in_ok-domains.ensures.places)
+    (numbered_domains_are_separate c.args.plan.now c.separate_law.ensures.own c.separate_law.ensures.apart)
 
 pub returns-clause-whole : goal.returns-clause-whole
-returns-clause-whole c = opened_is_whole c.switches_say_their_words.ensures.laws c.args.plan.now c.in_ok-domains.domains.items c.in_ok-domains.ensures.states
+returns-clause-whole c =
+    opened_is_whole c.switches_say_their_words.ensures.laws c.args.plan.now c.in_ok-domains.domains.items
+    c.in_ok-domains.ensures.states
