@@ -1,5 +1,8 @@
--- What the program's own options give after a parse.
-use Rattle.std.proofs.Common.{zero, suc, ◌≡◌, ◌∙◌, ◌<◌, ◌≤◌, ◌&&◌, ◌^◌, ap, ℕ, Bool, true, false, List, [], ◌∷◌, length, map, Option, Some, None, refl, sym, subst, inl, inr, arith, codes, not, is_some, slice_index}
+-- What the words of the command line say of the program's options: the clauses `refused`, `in_range` and `said` of
+-- `settings`.
+use Rattle.std.proofs.Common.{zero, suc, ◌≡◌, ◌∙◌, ◌<◌, ◌≤◌, ◌&&◌, ◌^◌, ap, ℕ, Bool, true}
+use Rattle.std.proofs.Common.{false, List, [], ◌∷◌, length, map, Option, Some, None, refl}
+use Rattle.std.proofs.Common.{sym, subst, inl, inr, arith, codes, not, is_some, slice_index}
 use Rattle.std.specs.Prelude.{pos, unwrap_or, Result, Ok}
 use Rattle.std.specs.List.{All, slice_index_or}
 use Rattle.std.specs.Str.{bytes_eq}
@@ -30,10 +33,12 @@ use Rattle.clap.proofs.WalkLemmas.{one_text-rows}
 use Rattle.farm_program.specs.Settings.{IsSaid, ask_why, farm_command, flag_rule, number_option}
 use Rattle.farm_program.proofs.Options.{IsOption, option_reads}
 
+-- the program's command is one of which `clap` defines the matches
 pub farm_is_simple : is_simple farm_command ≡ true
 unfolding clap_on_literals
 farm_is_simple = refl
 
+-- and no argument of it has a rule on another, so `clap` defines which words are refused
 pub farm_is_free : is_simple_and_free farm_command ≡ true
 unfolding clap_on_literals
 farm_is_free = refl
@@ -50,7 +55,8 @@ explain_rule = flag_rule (codes "explain")
 -- ---- the arguments of a command that is the program's
 
 -- the first four of some tests that all hold
-first_four : (a b c d rest : Bool) → (a && (b && (c && (d && rest)))) ≡ true → (a ≡ true) × (b ≡ true) × (c ≡ true) × (d ≡ true)
+first_four : (a b c d rest : Bool) → (a && (b && (c && (d && rest)))) ≡ true
+    → (a ≡ true) × (b ≡ true) × (c ≡ true) × (d ≡ true)
 first_four true true true true rest h = (refl, refl, refl, refl)
 first_four false b c d rest h = cc
 first_four true false c d rest h = cc
@@ -74,7 +80,8 @@ record AreThree {X Y : Type 0} (f : X → Y) (first second third : Y) (xs : List
   other_is : f other ≡ second
   last_is : f last ≡ third
 
-three_of : {X Y : Type 0} (f : X → Y) (first second third : Y) (xs : List X) → map f xs ≡ first ∷ second ∷ third ∷ [] → AreThree f first second third xs
+three_of : {X Y : Type 0} (f : X → Y) (first second third : Y) (xs : List X) → map f xs ≡ first ∷ second ∷ third ∷ []
+    → AreThree f first second third xs
 three_of f first second third [] h = cc
 three_of f first second third (x ∷ []) h = cc
 three_of f first second third (x ∷ y ∷ []) h = cc
@@ -95,21 +102,29 @@ not_is true h = cc
 
 -- what an argument that uses no special setting lacks
 simple_parts : (a : Arg) → is_simple_arg a ≡ true
-    → (is_empty a.overrides.items ≡ true) × (is_empty a.default_vals_ifs.items ≡ true) × (is_empty a.groups.items ≡ true) × (not (is_some a.val_delim) ≡ true)
-simple_parts a simple = first_four (is_empty a.overrides.items) (is_empty a.default_vals_ifs.items) (is_empty a.groups.items) (not (is_some a.val_delim))
-    (not (is_some a.terminator) && (not a.allow_hyphen_values && (not a.allow_negative_numbers && (not a.require_equals && (not a.last && not a.global))))) simple
+    → (is_empty a.overrides.items ≡ true) × (is_empty a.default_vals_ifs.items ≡ true)
+    × (is_empty a.groups.items ≡ true) × (not (is_some a.val_delim) ≡ true)
+simple_parts a simple =
+    first_four (is_empty a.overrides.items) (is_empty a.default_vals_ifs.items)
+    (is_empty a.groups.items) (not (is_some a.val_delim))
+    (not (is_some a.terminator)
+    && (not a.allow_hyphen_values
+    && (not a.allow_negative_numbers && (not a.require_equals && (not a.last && not a.global)))))
+    simple
 
 -- an argument of a simple rule names no group
 without_groups : (a : Arg) (r : Rule) → rule_of a ≡ r → r.is_simple ≡ true → a.groups.items ≡ []
 without_groups a r is simple = empty_is a.groups.items (simple_parts a (ap (λ (r : Rule). r.is_simple) is ∙ simple)).2
 
 -- an argument of such a rule is an option
-is_option : (a : Arg) (name default : Text) (numbers : ValueParser) → rule_of a ≡ number_option name default numbers → IsOption a numbers
+is_option : (a : Arg) (name default : Text) (numbers : ValueParser) → rule_of a ≡ number_option name default numbers
+    → IsOption a numbers
 is_option a name default numbers is =
     let parts = simple_parts a (ap (λ (r : Rule). r.is_simple) is) in
     let range : a.num_vals ≡ None = ap (λ (r : Rule). r.range) is in
     let defaults : length (texts (items_of a.default_vals)) ≡ 1 = ap (λ (r : Rule). length r.defaults) is in
-    let many : length (items_of a.default_vals) ≡ 1 = sym (length-map (items_of a.default_vals) (λ s. s.now)) ∙ defaults in
+    let many : length (items_of a.default_vals) ≡ 1 =
+    sym (length-map (items_of a.default_vals) (λ s. s.now)) ∙ defaults in
     record {
       set = ap (λ (r : Rule). r.action) is;
       least = rw range (omega arith);
@@ -125,37 +140,59 @@ abbrev IsOwnId : Text → Type 0
 IsOwnId id = (id ≡ [] → ⊥) × (id ≡ codes "help" → ⊥) × (id ≡ codes "version" → ⊥)
 
 workers_own : IsOwnId (codes "workers")
-workers_own = (λ e. let bad = ap length e in absurd (omega arith), λ e. let bad = ap length e in absurd (omega arith), λ e. let bad = ap (λ t. slice_index t 1) e in absurd (omega arith))
+workers_own = (
+  λ e. let bad = ap length e in absurd (omega arith),
+  λ e. let bad = ap length e in absurd (omega arith),
+  λ e. let bad = ap (λ t. slice_index t 1) e in absurd (omega arith),
+)
 
 quantum_own : IsOwnId (codes "quantum")
-quantum_own = (λ e. let bad = ap length e in absurd (omega arith), λ e. let bad = ap length e in absurd (omega arith), λ e. let bad = ap (λ t. slice_index t 1) e in absurd (omega arith))
+quantum_own = (
+  λ e. let bad = ap length e in absurd (omega arith),
+  λ e. let bad = ap length e in absurd (omega arith),
+  λ e. let bad = ap (λ t. slice_index t 1) e in absurd (omega arith),
+)
 
 -- the three ids differ, so that each stands at one place
-one_place : (a b c : Arg) (k : ℕ) (d : Arg) → rule_of a ≡ workers_rule → rule_of b ≡ quantum_rule → rule_of c ≡ explain_rule → k < 2
-    → (j : ℕ) (e : Arg) → j < 3 → bytes_eq (slice_index_or (a ∷ b ∷ c ∷ []) j e).id.now (slice_index_or (a ∷ b ∷ c ∷ []) k d).id.now ≡ true → j ≡ k
+one_place : (a b c : Arg) (k : ℕ) (d : Arg)
+    → rule_of a ≡ workers_rule → rule_of b ≡ quantum_rule → rule_of c ≡ explain_rule → k < 2 → (j : ℕ) (e : Arg) → j < 3
+    → bytes_eq (slice_index_or (a ∷ b ∷ c ∷ []) j e).id.now (slice_index_or (a ∷ b ∷ c ∷ []) k d).id.now ≡ true
+    → j ≡ k
 one_place a b c zero d workers quantum explain lt zero e low same = refl
 one_place a b c (suc zero) d workers quantum explain lt (suc zero) e low same = refl
 one_place a b c zero d workers quantum explain lt (suc zero) e low same =
-    let ids : bytes_eq (codes "quantum") (codes "workers") ≡ true = rw (ap (λ (r : Rule). r.id) workers, ap (λ (r : Rule). r.id) quantum) at same in
+    let ids : bytes_eq (codes "quantum") (codes "workers") ≡ true =
+    rw (ap (λ (r : Rule). r.id) workers, ap (λ (r : Rule). r.id) quantum) at same in
     cc
 one_place a b c zero d workers quantum explain lt (suc (suc zero)) e low same =
-    let ids : bytes_eq (codes "explain") (codes "workers") ≡ true = rw (ap (λ (r : Rule). r.id) workers, ap (λ (r : Rule). r.id) explain) at same in
+    let ids : bytes_eq (codes "explain") (codes "workers") ≡ true =
+    rw (ap (λ (r : Rule). r.id) workers, ap (λ (r : Rule). r.id) explain) at same in
     cc
 one_place a b c (suc zero) d workers quantum explain lt zero e low same =
-    let ids : bytes_eq (codes "workers") (codes "quantum") ≡ true = rw (ap (λ (r : Rule). r.id) workers, ap (λ (r : Rule). r.id) quantum) at same in
+    let ids : bytes_eq (codes "workers") (codes "quantum") ≡ true =
+    rw (ap (λ (r : Rule). r.id) workers, ap (λ (r : Rule). r.id) quantum) at same in
     cc
 one_place a b c (suc zero) d workers quantum explain lt (suc (suc zero)) e low same =
-    let ids : bytes_eq (codes "explain") (codes "quantum") ≡ true = rw (ap (λ (r : Rule). r.id) explain, ap (λ (r : Rule). r.id) quantum) at same in
+    let ids : bytes_eq (codes "explain") (codes "quantum") ≡ true =
+    rw (ap (λ (r : Rule). r.id) explain, ap (λ (r : Rule). r.id) quantum) at same in
     cc
 one_place a b c k d workers quantum explain lt (suc (suc (suc j))) e low same = absurd (omega arith)
 one_place a b c (suc (suc k)) d workers quantum explain lt j e low same = absurd (omega arith)
 
 -- what a plain command lacks
-plain_parts : (c : Command-F Command) → has_plain_fields c ≡ true → (is_empty c.groups.items ≡ true) × (not c.has_globals ≡ true)
+plain_parts : (c : Command-F Command) → has_plain_fields c ≡ true
+    → (is_empty c.groups.items ≡ true) × (not c.has_globals ≡ true)
 plain_parts c plain =
-    let parts = first_four (is_empty c.groups.items) (not c.allow_external_subcommands) (not c.has_globals) (not c.infer_long_args)
-    (not c.allow_missing_positional && (not c.infer_subcommands && (not c.args_conflicts_with_subcommands && (not c.subcommand_precedence_over_arg
-    && (not (is_some c.long_flag) && (not (is_some c.short_flag) && (is_empty c.long_flag_aliases.items && is_empty c.short_flag_aliases.items))))))) plain in
+    let parts =
+    first_four (is_empty c.groups.items) (not c.allow_external_subcommands) (not c.has_globals) (not c.infer_long_args)
+    (not c.allow_missing_positional
+    && (not c.infer_subcommands
+    && (not c.args_conflicts_with_subcommands
+    && (not c.subcommand_precedence_over_arg
+    && (not (is_some c.long_flag)
+    && (not (is_some c.short_flag)
+    && (is_empty c.long_flag_aliases.items && is_empty c.short_flag_aliases.items)))))))
+    plain in
     (parts.0, parts.2)
 
 all_without_groups : (a b c : Arg) → a.groups.items ≡ [] → b.groups.items ≡ [] → c.groups.items ≡ []
@@ -178,15 +215,16 @@ flag_of : (E : Type 0) (o : Option Text) (r : Option Bool) → (o ≡ None → r
     → ((text : Text) → o ≡ Some text → ReadsOne (ParsesBool {E = E}) text r)
     → unwrap_or r false ≡ option_map_or (λ text. bytes_eq text (codes "true")) o false
 flag_of E None r none value = ap (λ (x : Option Bool). unwrap_or x false) (none refl)
-flag_of E (Some text) None none value = sym (not_is (bytes_eq text (codes "true")) (not_equal text (value text refl).1.0))
+flag_of E (Some text) None none value =
+    sym (not_is (bytes_eq text (codes "true")) (not_equal text (value text refl).1.0))
 flag_of E (Some text) (Some true) none value = sym ((bytes_eq-Decides text (codes "true")).1 (value text refl))
 flag_of E (Some text) (Some false) none value =
     let is : text ≡ codes "false" = value text refl in
     rw is refl
 
 -- a number that was read of an option's text
-module _ (command : Command) (m : ArgMatches) (words : List Text) (is : app_of command ≡ farm_command) (p : IsParsedFrom command m)
-    (matches : HasMatchesOf (app_of command) words m) where
+module _ (command : Command) (m : ArgMatches) (words : List Text) (is : app_of command ≡ farm_command)
+    (p : IsParsedFrom command m) (matches : HasMatchesOf (app_of command) words m) where
   options : AreThree rule_of workers_rule quantum_rule explain_rule (args_of command)
   options = three_of rule_of workers_rule quantum_rule explain_rule (args_of command) (ap (λ (a : App). a.top.rules) is)
 
@@ -204,36 +242,41 @@ module _ (command : Command) (m : ArgMatches) (words : List Text) (is : app_of c
       let workers = without_groups options.one workers_rule options.one_is refl in
       let quantum = without_groups options.other quantum_rule options.other_is refl in
       let explain = without_groups options.last explain_rule options.last_is refl in
-      subst (All (λ (a : Arg). a.groups.items ≡ [])) (sym options.list) (all_without_groups options.one options.other options.last workers quantum explain)
+      subst (All (λ (a : Arg). a.groups.items ≡ [])) (sym options.list)
+      (all_without_groups options.one options.other options.last workers quantum explain)
 
   no_groups : groups_of p.built ≡ []
-  no_groups = (p.from.same_groups names_no_group).1 ∙ empty_is (groups_of command) (plain_parts (out-Command command) plain).0
+  no_groups =
+      (p.from.same_groups names_no_group).1 ∙ empty_is (groups_of command) (plain_parts (out-Command command) plain).0
 
-  said_at : (k : ℕ) (d : Arg) (name default : Text) (most bits : ℕ) (E : Type 0) (G : List ℕ → Result ℕ E → Type 0) (r : Option ℕ) (fallback : ℕ)
+  said_at : (k : ℕ) (d : Arg) (name default : Text) (most bits : ℕ) (E : Type 0)
+      (G : List ℕ → Result ℕ E → Type 0) (r : Option ℕ) (fallback : ℕ)
       → k < length (args_of command)
       → rule_of (slice_index_or (args_of command) k d) ≡ number_option name default (Signed (pos 1) (pos most))
       → IsOwnId name
       → ((j : ℕ) (e : Arg) → j < length (args_of command)
-      → bytes_eq (slice_index_or (args_of command) j e).id.now (slice_index_or (args_of command) k d).id.now ≡ true → j ≡ k)
-      → most < 2 ^ bits
-      → ((text : List ℕ) → one_text (found_of m) name ≡ Some text → ReadsOne G text r)
-      → ((u : List ℕ) (x : Result ℕ E) → G u x → ParsesUnsigned bits 10 u x)
-      → (n : ℕ) → n ≡ unwrap_or r fallback → (1 ≤ n) × (n ≤ most) × IsSaid words name n
+      → bytes_eq (slice_index_or (args_of command) j e).id.now (slice_index_or (args_of command) k d).id.now ≡ true
+      → j ≡ k)
+      → most < 2 ^ bits → ((text : List ℕ) → one_text (found_of m) name ≡ Some text → ReadsOne G text r)
+      → ((u : List ℕ) (x : Result ℕ E) → G u x → ParsesUnsigned bits 10 u x) → (n : ℕ) → n ≡ unwrap_or r fallback
+      → (1 ≤ n) × (n ≤ most) × IsSaid words name n
   said_at k d name default most bits E G r fallback lt rule own unique fits value only n is_n =
       let id : (slice_index_or (args_of command) k d).id.now ≡ name = ap (λ (x : Rule). x.id) rule in
       let option = is_option (slice_index_or (args_of command) k d) name default (Signed (pos 1) (pos most)) rule in
       let got = option_reads command m p k d lt (Signed (pos 1) (pos most)) option unique (λ e. own.0 (sym id ∙ e))
       (λ auto. elim auto [ inl h ↦ own.1 (sym id ∙ h) | inr h ↦ own.2 (sym id ∙ h) ]) no_groups globals in
       let text = without_minus got.0 in
-      let there : one_text (found_of m) name ≡ Some text = subst (λ (w : List ℕ). one_text (found_of m) w ≡ Some text) id got.1 in
+      let there : one_text (found_of m) name ≡ Some text =
+      subst (λ (w : List ℕ). one_text (found_of m) w ≡ Some text) id got.1 in
       let read : ReadsOne G text r = value text there in
       let number = signed_reads E G bits 1 most got.0 r read only fits got.2 in
       let parsed = only text (Ok number.0) (subst (λ (o : Option ℕ). ReadsOne G text o) number.1 read) in
-      let row : one_of name (matches_of farm_command words) ≡ Some text = ap (one_of name) (sym rows) ∙ (sym (one_text-rows (found_of m) name) ∙ there) in
+      let row : one_of name (matches_of farm_command words) ≡ Some text =
+      ap (one_of name) (sym rows) ∙ (sym (one_text-rows (found_of m) name) ∙ there) in
       let is : number.0 ≡ n = sym (is_n ∙ ap (λ (o : Option ℕ). unwrap_or o fallback) number.1) in
       subst (λ (x : ℕ). (1 ≤ x) × (x ≤ most) × IsSaid words name x) is (number.2, number.3, (text, row, parsed.1))
 
-  -- so many workers
+  -- the number that is read of `--workers` is from 1 to 8, and the words say it
   pub workers_said : (E : Type 0) (G : List ℕ → Result ℕ E → Type 0) (r : Option ℕ) (fallback : ℕ)
       → ((text : List ℕ) → one_text (found_of m) (codes "workers") ≡ Some text → ReadsOne G text r)
       → ((u : List ℕ) (x : Result ℕ E) → G u x → ParsesUnsigned 8 10 u x)
@@ -243,11 +286,15 @@ module _ (command : Command) (m : ArgMatches) (words : List Text) (is : app_of c
       let d = xs.one in
       let elem : slice_index_or (args_of command) 0 d ≡ xs.one = ap (λ (l : List Arg). slice_index_or l 0 d) xs.list in
       let lt : 0 < length (args_of command) = subst (λ (l : List Arg). 0 < length l) (sym xs.list) (omega arith) in
-      let unique = subst (λ (l : List Arg). (j : ℕ) (e : Arg) → j < length l → bytes_eq (slice_index_or l j e).id.now (slice_index_or l 0 d).id.now ≡ true → j ≡ 0)
+      let unique =
+      subst (λ (l : List Arg). (j : ℕ) (e : Arg) → j < length l
+      → bytes_eq (slice_index_or l j e).id.now (slice_index_or l 0 d).id.now ≡ true
+      → j ≡ 0)
       (sym xs.list) (one_place xs.one xs.other xs.last 0 d xs.one_is xs.other_is xs.last_is (omega arith)) in
-      said_at 0 d (codes "workers") (codes "2") 8 8 E G r fallback lt (ap rule_of elem ∙ xs.one_is) workers_own unique (omega arith) value only n is_n
+      said_at 0 d (codes "workers") (codes "2") 8 8 E G r fallback lt (ap rule_of elem ∙ xs.one_is) workers_own unique
+      (omega arith) value only n is_n
 
-  -- so many Steps
+  -- the number that is read of `--quantum` is from 1 to 4096, and the words say it
   pub quantum_said : (E : Type 0) (G : List ℕ → Result ℕ E → Type 0) (r : Option ℕ) (fallback : ℕ)
       → ((text : List ℕ) → one_text (found_of m) (codes "quantum") ≡ Some text → ReadsOne G text r)
       → ((u : List ℕ) (x : Result ℕ E) → G u x → ParsesUnsigned 16 10 u x)
@@ -255,17 +302,25 @@ module _ (command : Command) (m : ArgMatches) (words : List Text) (is : app_of c
   quantum_said E G r fallback value only n is_n =
       let xs = options in
       let d = xs.other in
-      let elem : slice_index_or (args_of command) 1 d ≡ xs.other = ap (λ (l : List Arg). slice_index_or l 1 d) xs.list in
+      let elem : slice_index_or (args_of command) 1 d ≡ xs.other =
+      ap (λ (l : List Arg). slice_index_or l 1 d) xs.list in
       let lt : 1 < length (args_of command) = subst (λ (l : List Arg). 1 < length l) (sym xs.list) (omega arith) in
-      let unique = subst (λ (l : List Arg). (j : ℕ) (e : Arg) → j < length l → bytes_eq (slice_index_or l j e).id.now (slice_index_or l 1 d).id.now ≡ true → j ≡ 1)
+      let unique =
+      subst (λ (l : List Arg). (j : ℕ) (e : Arg) → j < length l
+      → bytes_eq (slice_index_or l j e).id.now (slice_index_or l 1 d).id.now ≡ true
+      → j ≡ 1)
       (sym xs.list) (one_place xs.one xs.other xs.last 1 d xs.one_is xs.other_is xs.last_is (omega arith)) in
-      said_at 1 d (codes "quantum") (codes "256") 4096 16 E G r fallback lt (ap rule_of elem ∙ xs.other_is) quantum_own unique (omega arith) value only n is_n
+      said_at 1 d (codes "quantum") (codes "256") 4096 16 E G r fallback lt (ap rule_of elem ∙ xs.other_is) quantum_own
+      unique (omega arith) value only n is_n
 
-  -- whether the flag is there
+  -- the flag `--explain` is read as set just if the words have it
   pub explain_said : (E : Type 0) (r : Option Bool) → (one_text (found_of m) (codes "explain") ≡ None → r ≡ None)
       → ((text : List ℕ) → one_text (found_of m) (codes "explain") ≡ Some text → ReadsOne (ParsesBool {E = E}) text r)
       → (b : Bool) → b ≡ unwrap_or r false → b ≡ ask_why words
   explain_said E r none value b is_b =
       let id = codes "explain" in
-      let row : one_text (found_of m) id ≡ one_of id (matches_of farm_command words) = one_text-rows (found_of m) id ∙ ap (one_of id) rows in
-      is_b ∙ (flag_of E (one_text (found_of m) id) r none value ∙ ap (λ o. option_map_or (λ text. bytes_eq text (codes "true")) o false) row)
+      let row : one_text (found_of m) id ≡ one_of id (matches_of farm_command words) =
+      one_text-rows (found_of m) id ∙ ap (one_of id) rows in
+      is_b
+      ∙ (flag_of E (one_text (found_of m) id) r none value
+      ∙ ap (λ o. option_map_or (λ text. bytes_eq text (codes "true")) o false) row)

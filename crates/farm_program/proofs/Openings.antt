@@ -1,5 +1,8 @@
--- The users of a plan, one after another.
-use Rattle.std.proofs.Common.{◌≡◌, ◌<◌, ◌+◌, ℕ, zero, suc, List, [], ◌∷◌, ◌++◌, Bor, length, map, take, get_or, slice_get, Option, Some, None, IfSome, All, refl, sym, ap, ◌∙◌, subst, arith, append_assoc, length-append}
+-- The names and the users of a plan, one domain and one user after another: the contracts of `add_names`, `names_of`
+-- and `users_of`.
+use Rattle.std.proofs.Common.{◌≡◌, ◌<◌, ◌+◌, ℕ, zero, suc, List, [], ◌∷◌, ◌++◌, Bor, length}
+use Rattle.std.proofs.Common.{map, take, get_or, slice_get, Option, Some, None, IfSome, All}
+use Rattle.std.proofs.Common.{refl, sym, ap, ◌∙◌, subst, arith, append_assoc, length-append}
 use Rattle.std.specs.List.{range_with_len, flat_map}
 use Rattle.std.proofs.lemmas.List.{append-nil, length-map, map-append, map-id, take_more, take_all, get_or-map}
 use Rattle.std.proofs.lemmas.List.Elements.{All-append, All-from_recursion}
@@ -18,22 +21,27 @@ texts names = map (λ n. n.now) names
 
 -- ---- names
 
-more_of : (users : List UserData) (user : ℕ) (u : UserData) → slice_get users user ≡ Some u → map (λ v. v.name) (take (user + 1) users) ≡ map (λ v. v.name) (take user users) ++ u.name ∷ []
+more_of : (users : List UserData) (user : ℕ) (u : UserData) → slice_get users user ≡ Some u
+    → map (λ v. v.name) (take (user + 1) users) ≡ map (λ v. v.name) (take user users) ++ u.name ∷ []
 more_of users user u at =
     let within = slice_get_within users user u at in
     ap (map (λ (v : UserData). v.name)) (take_more users user u within)
     ∙ map-append (λ (v : UserData). v.name) (take user users) (get_or users user u ∷ [])
-    ∙ ap (λ (v : UserData). map (λ (w : UserData). w.name) (take user users) ++ v.name ∷ []) (get_or_from_slice_get users user u u at)
+    ∙ ap (λ (v : UserData). map (λ (w : UserData). w.name) (take user users) ++ v.name ∷ [])
+    (get_or_from_slice_get users user u u at)
 
--- a user's name more
-pub name_more : (found : Option DomainData) (names more : List (Bor (List ℕ))) (start : List (List ℕ)) (user : ℕ) (name : Bor (List ℕ)) → IfSome found (λ d. user < length d.users)
+-- names that are those of a domain's first users, with the next user's, are those of one user more
+pub name_more : (found : Option DomainData) (names more : List (Bor (List ℕ))) (start : List (List ℕ))
+    (user : ℕ) (name : Bor (List ℕ))
+    → IfSome found (λ d. user < length d.users)
     → IfSome found (λ d. IfSome (slice_get d.users user) (λ u. name.now ≡ u.name)) → more ≡ names ++ name ∷ []
     → IfSome found (λ d. map (λ n. n.now) names ≡ start ++ map (λ u. u.name) (take user d.users))
     → IfSome found (λ d. map (λ n. n.now) more ≡ start ++ map (λ u. u.name) (take (user + 1) d.users))
 name_more None names more start user name within named is before = tt
 name_more (Some d) names more start user name within named is before =
     let at : (u : UserData) × (slice_get d.users user ≡ Some u) = there_is d.users user within in
-    let named_so : name.now ≡ at.0.name = subst (λ (found : Option UserData). IfSome found (λ u. name.now ≡ u.name)) at.1 named in
+    let named_so : name.now ≡ at.0.name =
+    subst (λ (found : Option UserData). IfSome found (λ u. name.now ≡ u.name)) at.1 named in
     ap (map (λ (n : Bor (List ℕ)). n.now)) is
     ∙ map-append (λ (n : Bor (List ℕ)). n.now) names (name ∷ [])
     ∙ (λ k. before k ++ named_so k ∷ [])
@@ -45,41 +53,45 @@ name_more (Some d) names more start user name within named is before =
     there_is (u ∷ us) zero less = (u, refl)
     there_is (u ∷ us) (suc i) less = there_is us i (omega arith)
 
--- all names of a domain
-pub all_names : (found : Option DomainData) (names : List (Bor (List ℕ))) (start : List (List ℕ)) (count : ℕ) → IfSome found (λ d. count ≡ length d.users)
-    → IfSome found (λ d. map (λ n. n.now) names ≡ start ++ map (λ u. u.name) (take count d.users))
-    → IfSome found (λ d. map (λ n. n.now) names ≡ start ++ map (λ u. u.name) d.users)
-all_names None names start count is so_far = tt
-all_names (Some d) names start count is so_far = so_far ∙ ap (λ (us : List UserData). start ++ map (λ (u : UserData). u.name) us) (take_all count d.users (omega (arith, is)))
-
-names_of_more : (plan : List DomainData) (i : ℕ) (d : DomainData) → slice_get plan i ≡ Some d → names_in (take (i + 1) plan) ≡ names_in (take i plan) ++ map (λ u. u.name) d.users
+names_of_more : (plan : List DomainData) (i : ℕ) (d : DomainData) → slice_get plan i ≡ Some d
+    → names_in (take (i + 1) plan) ≡ names_in (take i plan) ++ map (λ u. u.name) d.users
 names_of_more plan i d at =
     let within = slice_get_within plan i d at in
     ap names_in (take_more plan i d within)
     ∙ ap (λ (e : DomainData). names_in (take i plan ++ e ∷ [])) (get_or_from_slice_get plan i d d at)
     ∙ ap (map (λ (u : UserData). u.name)) (flat_map-append (λ (e : DomainData). e.users) (take i plan) (d ∷ []))
-    ∙ ap (λ (us : List UserData). map (λ (u : UserData). u.name) (flat_map (λ (e : DomainData). e.users) (take i plan) ++ us)) (append-nil d.users)
+    ∙ ap (λ (us : List UserData). map (λ (u : UserData). u.name)
+    (flat_map (λ (e : DomainData). e.users) (take i plan) ++ us))
+    (append-nil d.users)
     ∙ map-append (λ (u : UserData). u.name) (flat_map (λ (e : DomainData). e.users) (take i plan)) d.users
 
--- a domain's names more
-pub domain_names : (plan : List DomainData) (i : ℕ) (names more : List (Bor (List ℕ))) → i < length plan → map (λ n. n.now) names ≡ names_in (take i plan)
-    → IfSome (slice_get plan i) (λ d. map (λ n. n.now) more ≡ map (λ n. n.now) names ++ map (λ u. u.name) d.users) → map (λ n. n.now) more ≡ names_in (take (i + 1) plan)
+-- names of the first domains, with those of the next domain, are those of one domain more
+pub domain_names : (plan : List DomainData) (i : ℕ) (names more : List (Bor (List ℕ)))
+    → i < length plan → map (λ n. n.now) names ≡ names_in (take i plan)
+    → IfSome (slice_get plan i) (λ d. map (λ n. n.now) more ≡ map (λ n. n.now) names ++ map (λ u. u.name) d.users)
+    → map (λ n. n.now) more ≡ names_in (take (i + 1) plan)
 domain_names plan i names more within before step =
     let at = there_is plan i within in
-    let stepped = subst (λ (found : Option DomainData). IfSome found (λ d. map (λ n. n.now) more ≡ map (λ n. n.now) names ++ map (λ u. u.name) d.users)) at.1 step in
-    stepped ∙ ap (λ (ns : List (List ℕ)). ns ++ map (λ (u : UserData). u.name) at.0.users) before ∙ sym (names_of_more plan i at.0 at.1)
+    let stepped =
+    subst (λ (found : Option DomainData).
+    IfSome found (λ d. map (λ n. n.now) more ≡ map (λ n. n.now) names ++ map (λ u. u.name) d.users))
+    at.1 step in
+    stepped ∙ ap (λ (ns : List (List ℕ)). ns ++ map (λ (u : UserData). u.name) at.0.users) before
+    ∙ sym (names_of_more plan i at.0 at.1)
   where
     there_is : (ds : List DomainData) (k : ℕ) → k < length ds → (d : DomainData) × (slice_get ds k ≡ Some d)
     there_is [] k less = absurd (omega arith)
     there_is (d ∷ ds) zero less = (d, refl)
     there_is (d ∷ ds) (suc k) less = there_is ds k (omega arith)
 
-pub all_domains : (plan : List DomainData) (count : ℕ) (names : List (Bor (List ℕ))) → count ≡ length plan → map (λ n. n.now) names ≡ names_in (take count plan) → map (λ n. n.now) names ≡ names_in plan
-all_domains plan count names is so_far = so_far ∙ ap names_in (take_all count plan (omega (arith, is)))
-
 length_in : (number count : ℕ) → length (passes_in number count) ≡ count
 length_in number zero = refl
-length_in number (suc count) = omega (arith, length-append (passes_in number count) (record { domain = number; user = count; told = [] } ∷ []), length_in number count)
+length_in number (suc count) =
+    omega (
+      arith,
+      length-append (passes_in number count) (record { domain = number; user = count; told = [] } ∷ []),
+      length_in number count,
+    )
 
 length_names : (number : ℕ) (plan : List DomainData) → length (names_in plan) ≡ length (passes_from number plan)
 length_names number [] = refl
@@ -94,38 +106,54 @@ length_names number (d ∷ plan) =
       length_names (suc number) plan,
     )
 
--- there are as many names as passes
+-- a plan has as many names as passes
 pub as_many : (plan : List DomainData) → length (names_in plan) ≡ length (fresh_passes plan)
 as_many plan = length_names 0 plan
 
 -- ---- users
 
 -- a user for each of these passes, which are the first
-pub record AreUsersSoFar (plan : List DomainData) (lines : List ScriptLine) (steps : ℕ) (passes : List UserPassValue) (users : List User) : Type 0 where
+pub record AreUsersSoFar (plan : List DomainData) (lines : List ScriptLine) (steps : ℕ)
+    (passes : List UserPassValue) (users : List User) : Type 0 where
   pub count : length users ≡ length passes
   pub sessions : map (λ u. u.session) users ≡ map (session_of plan) passes
   pub names : map (λ u. u.name.now) users ≡ take (length passes) (names_in plan)
-  pub commands : map (λ u. map (λ c. c.now) u.commands.items) users ≡ map (commands_at lines) (range_with_len 0 (length passes))
+  pub commands :
+      map (λ u. map (λ c. c.now) u.commands.items) users ≡ map (commands_at lines) (range_with_len 0 (length passes))
   pub quantum : All (λ u. u.quantum.steps ≡ steps) users
 
-pub none_so_far : (plan : List DomainData) (lines : List ScriptLine) (steps : ℕ) → AreUsersSoFar plan lines steps [] []
-none_so_far plan lines steps = record { count = refl; sessions = refl; names = refl; commands = refl; quantum = λ k d less. absurd (omega (arith, less)) }
-
 -- the place of the next pass has a name
-pub place_within : (plan : List DomainData) (names : List (Bor (List ℕ))) (passes : List UserPassValue) (n place : ℕ) → n < length passes → passes ≡ fresh_passes plan → texts names ≡ names_in plan → place ≡ n
+pub place_within : (plan : List DomainData) (names : List (Bor (List ℕ)))
+    (passes : List UserPassValue) (n place : ℕ)
+    → n < length passes → passes ≡ fresh_passes plan → texts names ≡ names_in plan → place ≡ n
     → place < length names
-place_within plan names passes n place less fresh named is = omega (arith, less, is, ap length fresh, as_many plan, ap length named, length-map names (λ (n : Bor (List ℕ)). n.now))
+place_within plan names passes n place less fresh named is =
+    omega (
+      arith,
+      less,
+      is,
+      ap length fresh,
+      as_many plan,
+      ap length named,
+      length-map names (λ (n : Bor (List ℕ)). n.now),
+    )
 
--- a user more
-pub user_more : (plan : List DomainData) (lines : List ScriptLine) (steps : ℕ) (passes : List UserPassValue) (pass : UserPassValue) (users more : List User) (u : User) (names : List (Bor (List ℕ))) (place : ℕ)
-    → AreUsersSoFar plan lines steps passes users → texts names ≡ names_in plan → place ≡ length passes → place < length names → u.session ≡ session_of plan pass → u.name ≡ get_or names place u.name
-    → map (λ c. c.now) u.commands.items ≡ commands_at lines place → u.quantum.steps ≡ steps → more ≡ users ++ u ∷ [] → AreUsersSoFar plan lines steps (passes ++ pass ∷ []) more
+-- users of the first passes, with one of the next pass, are those of one pass more
+pub user_more : (plan : List DomainData) (lines : List ScriptLine) (steps : ℕ) (passes : List UserPassValue)
+    (pass : UserPassValue) (users more : List User) (u : User) (names : List (Bor (List ℕ))) (place : ℕ)
+    → AreUsersSoFar plan lines steps passes users → texts names ≡ names_in plan → place ≡ length passes
+    → place < length names → u.session ≡ session_of plan pass → u.name ≡ get_or names place u.name
+    → map (λ c. c.now) u.commands.items ≡ commands_at lines place → u.quantum.steps ≡ steps → more ≡ users ++ u ∷ []
+    → AreUsersSoFar plan lines steps (passes ++ pass ∷ []) more
 user_more plan lines steps passes pass users more u names place before named at within session name asked quantum is =
     let n : ℕ = length passes in
     let longer : length (passes ++ pass ∷ []) ≡ n + 1 = length-append passes (pass ∷ []) in
-    let names_there : length (names_in plan) ≡ length names = ap length (sym named) ∙ length-map names (λ (m : Bor (List ℕ)). m.now) in
+    let names_there : length (names_in plan) ≡ length names =
+    ap length (sym named) ∙ length-map names (λ (m : Bor (List ℕ)). m.now) in
     let text : u.name.now ≡ get_or (names_in plan) n u.name.now =
-    ap (λ (m : Bor (List ℕ)). m.now) name ∙ sym (get_or-map (λ (m : Bor (List ℕ)). m.now) names place u.name u.name.now within) ∙ (λ k. get_or (named k) (at k) u.name.now) in
+    ap (λ (m : Bor (List ℕ)). m.now) name
+    ∙ sym (get_or-map (λ (m : Bor (List ℕ)). m.now) names place u.name u.name.now within)
+    ∙ (λ k. get_or (named k) (at k) u.name.now) in
     record {
       count = omega (arith, before.count, ap length is, length-append users (u ∷ []), longer);
       sessions =
@@ -147,12 +175,16 @@ user_more plan lines steps passes pass users more u names place before named at 
           ∙ ap (λ (m : ℕ). map (commands_at lines) (range_with_len 0 m)) (sym longer);
       quantum =
           subst (All (λ (v : User). v.quantum.steps ≡ steps)) (sym is)
-          (All-append (λ (v : User). v.quantum.steps ≡ steps) users (u ∷ []) before.quantum (All-from_recursion (λ (v : User). v.quantum.steps ≡ steps) (u ∷ []) (quantum, tt)));
+          (All-append (λ (v : User). v.quantum.steps ≡ steps) users (u ∷ []) before.quantum
+          (All-from_recursion (λ (v : User). v.quantum.steps ≡ steps) (u ∷ []) (quantum, tt)));
     }
 
--- a user for each pass
-pub all_users : (plan : List DomainData) (lines : List ScriptLine) (steps : ℕ) (yielded passes : List UserPassValue) (users : List User) → AreUsersSoFar plan lines steps yielded users
-    → map (λ p. p) yielded ≡ passes → passes ≡ fresh_passes plan → All (λ l. l.user < length (names_in plan)) lines → AreUsersOf plan lines steps users
+-- users of all passes of a plan are the plan's users
+pub all_users : (plan : List DomainData) (lines : List ScriptLine) (steps : ℕ)
+    (yielded passes : List UserPassValue) (users : List User)
+    → AreUsersSoFar plan lines steps yielded users → map (λ p. p) yielded ≡ passes → passes ≡ fresh_passes plan
+    → All (λ l. l.user < length (names_in plan)) lines
+    → AreUsersOf plan lines steps users
 all_users plan lines steps yielded passes users so_far ended fresh within =
     let all : yielded ≡ fresh_passes plan = sym (map-id yielded) ∙ ended ∙ fresh in
     let count : length users ≡ length (names_in plan) = so_far.count ∙ ap length all ∙ sym (as_many plan) in

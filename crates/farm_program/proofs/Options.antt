@@ -1,12 +1,15 @@
--- What an option with a default gives after a parse: a text that passed its parser.
-use Rattle.std.proofs.Common.{zero, suc, ◌≡◌, ◌∙◌, ◌<◌, ◌≤◌, ap, ℕ, Bool, true, false, List, [], ◌∷◌, length, Option, Some, None, refl, sym, subst, inl, inr, arith}
+-- What an option with a default gives after a parse: a text that passed its parser. `CommandLine` needs it of
+-- `--workers` and `--quantum`.
+use Rattle.std.proofs.Common.{zero, suc, ◌≡◌, ◌∙◌, ◌<◌, ◌≤◌, ap, ℕ, Bool, true, false, List, []}
+use Rattle.std.proofs.Common.{◌∷◌, length, Option, Some, None, refl, sym, subst, inl, inr, arith}
 use Rattle.std.specs.List.{All, slice_index_or}
 use Rattle.std.specs.Prelude.{option_map, slice_get, find}
 use Rattle.std.specs.Str.{bytes_eq}
 use Rattle.std.specs.Borrow.{Bor}
 use Rattle.std.proofs.lemmas.List.Elements.{All-get_or}
 use Rattle.std.proofs.lemmas.Slice.Eq.{bytes_eq-Decides}
-use Rattle.clap.specs.Facts.{args_of, groups_of, Entry, EntryPasses, HasIn, HasReading, PassesArg, WantsDefault, least_values, parser_of, parser_of_value}
+use Rattle.clap.specs.Facts.{args_of, groups_of, Entry, EntryPasses, HasIn, HasReading}
+use Rattle.clap.specs.Facts.{PassesArg, WantsDefault, least_values, parser_of, parser_of_value}
 use Rattle.clap.specs.Built.{IsAuto, IsParsedFrom}
 use Rattle.clap.specs.Matches.{found_of, matched_of, one_text}
 use Rattle.clap.specs.Values.{Accepts, read_as, reading_of}
@@ -37,13 +40,16 @@ in_rest x xs id (zero, lt, same) other =
 in_rest x xs id (suc i, lt, same) other = (i, omega arith, same)
 
 -- an id that stands in a list of entries is found there
-found_in : (xs : List Entry) (id : List ℕ) → HasIn xs id → (a : MatchedArg) × (option_map (λ e. e.1) (find (λ e. bytes_eq e.0.now id) xs) ≡ Some a)
+found_in : (xs : List Entry) (id : List ℕ) → HasIn xs id
+    → (a : MatchedArg) × (option_map (λ e. e.1) (find (λ e. bytes_eq e.0.now id) xs) ≡ Some a)
 found_in [] id h =
     let bad = h.1 in
     absurd (omega arith)
 found_in (x ∷ xs) id h = go (λ other. found_in xs id (in_rest x xs id h other)) (bytes_eq x.0.now id) refl
   where
-    go : (bytes_eq x.0.now id ≡ false → (a : MatchedArg) × (option_map (λ e. e.1) (find (λ e. bytes_eq e.0.now id) xs) ≡ Some a))
+    go :
+        (bytes_eq x.0.now id ≡ false
+        → (a : MatchedArg) × (option_map (λ e. e.1) (find (λ e. bytes_eq e.0.now id) xs) ≡ Some a))
         → (b : Bool) → bytes_eq x.0.now id ≡ b
         → (a : MatchedArg) × (option_map (λ e. e.1) (find (λ e. bytes_eq e.0.now id) (x ∷ xs)) ≡ Some a)
     go deeper true is = (x.1, rw is refl)
@@ -52,23 +58,27 @@ found_in (x ∷ xs) id h = go (λ other. found_in xs id (in_rest x xs id h other
         (rest.0, rw is rest.1)
 
 -- the first of some values
-first_in : (P : Bor (List ℕ) → Type 0) (vs : List (Bor (List ℕ))) → 0 < length vs → All P vs → (v : Bor (List ℕ)) × (slice_get vs 0 ≡ Some v) × P v
+first_in : (P : Bor (List ℕ) → Type 0) (vs : List (Bor (List ℕ))) → 0 < length vs → All P vs
+    → (v : Bor (List ℕ)) × (slice_get vs 0 ≡ Some v) × P v
 first_in P [] lt h = absurd (omega arith)
 first_in P (v ∷ vs) lt h = (v, refl, All-get_or P (v ∷ vs) 0 v (omega arith) h)
 
 -- the text that a getter reads of an entry
-text_at : (f : Found) (id : List ℕ) (x : MatchedArg) (v : Bor (List ℕ)) (how : Reading) → matched_of f id ≡ Some x → slice_get x.vals.items 0 ≡ Some v
-    → x.reading ≡ how → one_text f id ≡ Some (read_as how v.now)
+text_at : (f : Found) (id : List ℕ) (x : MatchedArg) (v : Bor (List ℕ)) (how : Reading)
+    → matched_of f id ≡ Some x → slice_get x.vals.items 0 ≡ Some v → x.reading ≡ how
+    → one_text f id ≡ Some (read_as how v.now)
 text_at f id x v how found first is = rw (found, first, is) refl
 
 -- the entry of an option has a first value, which passed its parser and is read as this says
-module _ (old : Command) (m : ArgMatches) (p : IsParsedFrom old m) (k : ℕ) (d : Arg) (lt : k < length (args_of old)) (numbers : ValueParser)
-    (option : IsOption (slice_index_or (args_of old) k d) numbers)
-    (unique : (j : ℕ) (e : Arg) → j < length (args_of old) → bytes_eq (slice_index_or (args_of old) j e).id.now (slice_index_or (args_of old) k d).id.now ≡ true → j ≡ k)
-    (named : (slice_index_or (args_of old) k d).id.now ≡ [] → ⊥)
-    (own : IsAuto (slice_index_or (args_of old) k d) → ⊥)
+module _ (old : Command) (m : ArgMatches) (p : IsParsedFrom old m) (k : ℕ) (d : Arg) (lt : k < length (args_of old))
+    (numbers : ValueParser) (option : IsOption (slice_index_or (args_of old) k d) numbers)
+    (unique : (j : ℕ) (e : Arg) → j < length (args_of old)
+    → bytes_eq (slice_index_or (args_of old) j e).id.now (slice_index_or (args_of old) k d).id.now ≡ true
+    → j ≡ k)
+    (named : (slice_index_or (args_of old) k d).id.now ≡ [] → ⊥) (own : IsAuto (slice_index_or (args_of old) k d) → ⊥)
     (no_groups : groups_of p.built ≡ []) where
-  is_filled : (e : Entry) → e.0.now ≡ (slice_index_or (args_of old) k d).id.now → EntryPasses p.built e → 0 < length e.1.vals.items
+  is_filled : (e : Entry) → e.0.now ≡ (slice_index_or (args_of old) k d).id.now → EntryPasses p.built e
+      → 0 < length e.1.vals.items
   is_filled e key_id pass = elim pass.1 [
     | inl h ↦ elim h.1 [
       | inl empty ↦ absurd (named (sym key_id ∙ empty))
@@ -95,7 +105,9 @@ module _ (old : Command) (m : ArgMatches) (p : IsParsedFrom old m) (k : ℕ) (d 
         ]
   ]
 
-  is_no_group : (e : Entry) → e.0.now ≡ (slice_index_or (args_of old) k d).id.now → EntryPasses p.built e → e.1.is_group ≡ true → ⊥
+  is_no_group : (e : Entry)
+      → e.0.now ≡ (slice_index_or (args_of old) k d).id.now → EntryPasses p.built e → e.1.is_group ≡ true
+      → ⊥
   is_no_group e key_id pass g = elim (pass.3 g) [
     | inl empty ↦ named (sym key_id ∙ empty)
     | inr has ↦
@@ -111,7 +123,8 @@ module _ (old : Command) (m : ArgMatches) (p : IsParsedFrom old m) (k : ℕ) (d 
       let passed = subst (λ (q : ValueParser). Accepts any.1.ignore_case q text) is any.4.1 in
       subst (λ (b : Bool). Accepts b numbers text) s.ignore_case passed
 
-  reads_by : (w : List ℕ) (how : Reading) → w ≡ (slice_index_or (args_of old) k d).id.now → HasReading p.built w how → how ≡ reading_of numbers
+  reads_by : (w : List ℕ) (how : Reading) → w ≡ (slice_index_or (args_of old) k d).id.now → HasReading p.built w how
+      → how ≡ reading_of numbers
   reads_by w how key_id any =
       let s = same_rules_by_id old m p k d lt unique own any.0 any.1 any.2 any.3 (rw key_id at any.4.0) in
       sym any.4.1 ∙ ap (λ (q : Option ValueParser). reading_of (parser_of_value q)) (s.parser numbers option.parser)
@@ -121,13 +134,17 @@ module _ (old : Command) (m : ArgMatches) (p : IsParsedFrom old m) (k : ℕ) (d 
       × Accepts (slice_index_or (args_of old) k d).ignore_case numbers v.now
   of_entry e key_id pass =
       let no_group = is_no_group e key_id pass in
-      let all : All (λ v. PassesArg p.built e.0.now v.now) e.1.vals.items = elim pass.0 [ inl g ↦ absurd (no_group g) | inr h ↦ h ] in
-      let how : e.1.reading ≡ reading_of numbers = elim pass.4 [ inl g ↦ absurd (no_group g) | inr h ↦ reads_by e.0.now e.1.reading key_id h ] in
+      let all : All (λ v. PassesArg p.built e.0.now v.now) e.1.vals.items =
+      elim pass.0 [ inl g ↦ absurd (no_group g) | inr h ↦ h ] in
+      let how : e.1.reading ≡ reading_of numbers =
+      elim pass.4 [ inl g ↦ absurd (no_group g) | inr h ↦ reads_by e.0.now e.1.reading key_id h ] in
       let first = first_in (λ v. PassesArg p.built e.0.now v.now) e.1.vals.items (is_filled e key_id pass) all in
       (first.0, first.1, how, accepts e.0.now first.0.now key_id first.2)
 
+  -- after a parse a getter reads a text of the option, as its parser reads it, and the parser accepts the text
   pub option_reads : (out-Command old).has_globals ≡ false
-      → (text : List ℕ) × (one_text (found_of m) (slice_index_or (args_of old) k d).id.now ≡ Some (read_as (reading_of numbers) text))
+      → (text : List ℕ)
+      × (one_text (found_of m) (slice_index_or (args_of old) k d).id.now ≡ Some (read_as (reading_of numbers) text))
       × Accepts (slice_index_or (args_of old) k d).ignore_case numbers text
   option_reads globals =
       let id = (slice_index_or (args_of old) k d).id.now in
@@ -137,6 +154,7 @@ module _ (old : Command) (m : ArgMatches) (p : IsParsedFrom old m) (k : ℕ) (d 
       let key_id : entry.0.0.now ≡ id = (bytes_eq-Decides entry.0.0.now id).0 entry.2 in
       let first = of_entry entry.0 key_id entry.3 in (
         first.0.now,
-        text_at (found_of m) id entry.0.1 first.0 (reading_of numbers) (found.1 ∙ ap Some (sym entry.1)) first.1 first.2,
+        text_at (found_of m) id entry.0.1 first.0 (reading_of numbers)
+            (found.1 ∙ ap Some (sym entry.1)) first.1 first.2,
         first.3,
       )

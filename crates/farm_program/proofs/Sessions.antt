@@ -1,4 +1,4 @@
--- A session gains by commands alone.
+-- A session gains by commands alone, so it stays its user's: the clause `unchanged` of `User::run`.
 use Rattle.std.proofs.Common.{◌≡◌, ap}
 use Rattle.farm_service.specs.Passes.{SessionValue}
 use Rattle.line_answers.specs.Sessions.{GainsSome}

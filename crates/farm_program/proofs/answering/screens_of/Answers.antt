@@ -15,10 +15,13 @@ returns-clause-output g c =
       asked = c.in_ok-asked.asked.items;
       closed = closed;
       screens = screens;
-      text_of = (c.divide.result.0.now, c.divide.result.1.now, c.divide.ensures, (accepted, c.in_ok-asked.ensures.asked));
+      text_of =
+          (c.divide.result.0.now, c.divide.result.1.now, c.divide.ensures, (accepted, c.in_ok-asked.ensures.asked));
       domains = c.in_ok-ended.ensures.domains;
       alone = all_alone plan closed c.each_domain_of_a_plan_is_private.ensures.told accepted.1 runs;
       runs = runs;
-      shown = subst (λ (lines : List ScriptLine). AreScreens plan lines closed screens) c.as_slice.ensures.value c.in_ok-ended.ensures.screens;
+      shown =
+          subst (λ (lines : List ScriptLine). AreScreens plan lines closed screens)
+          c.as_slice.ensures.value c.in_ok-ended.ensures.screens;
       whole = refl;
     }

@@ -4,5 +4,7 @@ use Rattle.farm_program.proofs.users.add_names.Given as goal
 -- the names of the users so far
 abbrev pub invariant-loop-user : goal.invariant-loop-user
 invariant-loop-user l =
-    IfSome (slice_get l.plan l.domain) (λ d.
-    map {A = Bor (List ℕ)} {B = List ℕ} (λ n. n.now) l.names.items ≡ map {A = Bor (List ℕ)} {B = List ℕ} (λ n. n.now) l.fn.names.items ++ map (λ u. u.name) (take l.user d.users))
+    IfSome (slice_get l.plan l.domain)
+    (λ d. map {A = Bor (List ℕ)} {B = List ℕ} (λ n. n.now) l.names.items
+    ≡ map {A = Bor (List ℕ)} {B = List ℕ} (λ n. n.now) l.fn.names.items
+    ++ map (λ u. u.name) (take l.user d.users))

@@ -4,4 +4,5 @@ use Rattle.farm_program.proofs.users.names_of.Given as goal
 
 -- the names in the domains so far
 abbrev pub invariant-loop-domain : goal.invariant-loop-domain
-invariant-loop-domain l = map {A = Bor (List ℕ)} {B = List ℕ} (λ n. n.now) l.names.items ≡ names_in (take l.domain l.plan)
+invariant-loop-domain l =
+    map {A = Bor (List ℕ)} {B = List ℕ} (λ n. n.now) l.names.items ≡ names_in (take l.domain l.plan)
