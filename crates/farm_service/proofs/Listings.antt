@@ -1,18 +1,17 @@
--- A user's commands in a journal, entry by entry.
-use Rattle.std.proofs.Common.{◌≡◌, ℕ, zero, suc, ◌+◌, ◌<◌, List, [], ◌∷◌, ◌++◌, length, take, get_or, replicate, Bool, true, false, ◌==◌, Some, None, refl, sym, ap, ◌∙◌, append_assoc, cond, ◌&&◌}
+-- A user's commands in a journal, entry by entry: the contracts of `command_in` and `lists`, and the clause `listed` of
+-- `listed_after`.
+use Rattle.std.proofs.Common.{◌≡◌, ℕ, zero, suc, ◌+◌, ◌<◌, List, [], ◌∷◌, ◌++◌, length, take, get_or, replicate}
+use Rattle.std.proofs.Common.{Bool, true, false, ◌==◌, Some, None, refl, sym, ap, ◌∙◌, append_assoc, cond, ◌&&◌}
 use Rattle.std.specs.Prelude.{option_to_list}
-use Rattle.std.proofs.lemmas.List.{take_more, append-nil}
+use Rattle.std.proofs.lemmas.List.{take_more}
 use Rattle.std.proofs.lemmas.List.Elements.{filter_map-append}
 use Rattle.t414_step.specs.declared.stepping.Stepped.{Stepped}
 use Rattle.t414_step.specs.declared.stepping.Stepped.TheVariants.{Ran}
 use Rattle.domain_core.specs.declared.event.By.{By}
 use Rattle.domain_core.specs.declared.event.By.TheVariants.{User, Farm}
-use Rattle.domain_core.specs.declared.event.Event.{Event}
-use Rattle.domain_core.specs.declared.event.Reply.{Reply}
 use Rattle.domain_core.specs.declared.journal.Entry.{Entry}
-use Rattle.domain_core.specs.declared.journal.Entry.TheVariants.{One, Run}
+use Rattle.domain_core.specs.declared.journal.Entry.TheVariants.{Run}
 use Rattle.domain_core.specs.Journal.{AnsweredCall, expanded, answered_step}
-use Rattle.domain_core.specs.Commands.{is_command, is_user}
 use Rattle.domain_core.specs.Laws.{JournalsAddUp}
 use Rattle.farm_service.specs.declared.told.Told.{Told}
 use Rattle.farm_service.specs.Commands.{command_in, commands_of}
@@ -26,28 +25,25 @@ no_command : (user : ℕ) (by : By) (node : ℕ) (answer : Stepped) → command_
 no_command user Farm node answer = refl
 no_command user (User other) node answer = and_none (other == user) _
 
-no_replicated : (user : ℕ) (by : By) (node count : ℕ) (rest : List AnsweredCall) → commands_of user (replicate count (answered_step by node Ran) ++ rest) ≡ commands_of user rest
+no_replicated : (user : ℕ) (by : By) (node count : ℕ) (rest : List AnsweredCall)
+    → commands_of user (replicate count (answered_step by node Ran) ++ rest) ≡ commands_of user rest
 no_replicated user by node zero rest = refl
 no_replicated user by node (suc count) rest = rw (no_command user by node Ran) (no_replicated user by node count rest)
 
--- a run of Steps has no command
-pub no_steps : (user : ℕ) (by : By) (node count : ℕ) (last : Stepped) → commands_of user (expanded (Run by node count last ∷ [])) ≡ []
+-- a run of Steps has no command of any user
+pub no_steps : (user : ℕ) (by : By) (node count : ℕ) (last : Stepped)
+    → commands_of user (expanded (Run by node count last ∷ [])) ≡ []
 no_steps user by node zero last = refl
 no_steps user by node (suc count) last =
-    ap (commands_of user) (append_assoc (replicate count (answered_step by node Ran)) (answered_step by node last ∷ []) []) ∙ no_replicated user by node count (answered_step by node last ∷ []) ∙ rw (no_command user by node last) refl
+    ap (commands_of user)
+    (append_assoc (replicate count (answered_step by node Ran)) (answered_step by node last ∷ []) [])
+    ∙ no_replicated user by node count (answered_step by node last ∷ []) ∙ rw (no_command user by node last) refl
 
--- an event that is a command of the user, and one that isn't
-pub own_command : (user : ℕ) (by : By) (event : Event) (reply : Reply) → (is_user user by && is_command event) ≡ true
-    → commands_of user (expanded (One by event reply ∷ [])) ≡ option_to_list (Some (record { event = event; reply = reply }))
-own_command user by event reply is = rw is refl
-
-pub no_own_command : (user : ℕ) (by : By) (event : Event) (reply : Reply) → (is_user user by && is_command event) ≡ false
-    → commands_of user (expanded (One by event reply ∷ [])) ≡ []
-no_own_command user by event reply is = rw is refl
-
--- an entry more
-pub more_listed : JournalsAddUp → (user : ℕ) (journal : List Entry) (told : List Told) (i listed n : ℕ) (d : Entry) → i < length journal
-    → commands_of user (expanded (take i journal)) ≡ take listed told → take n told ≡ take listed told ++ commands_of user (expanded (get_or journal i d ∷ []))
+-- a list that begins with the commands of the first entries, and then has those of the next, has one entry more
+pub more_listed : JournalsAddUp
+    → (user : ℕ) (journal : List Entry) (told : List Told) (i listed n : ℕ) (d : Entry) → i < length journal
+    → commands_of user (expanded (take i journal)) ≡ take listed told
+    → take n told ≡ take listed told ++ commands_of user (expanded (get_or journal i d ∷ []))
     → commands_of user (expanded (take (i + 1) journal)) ≡ take n told
 more_listed law user journal told i listed n d within so_far next =
     ap (λ (xs : List Entry). commands_of user (expanded xs)) (take_more journal i d within)
@@ -56,11 +52,11 @@ more_listed law user journal told i listed n d within so_far next =
     ∙ ap (λ (xs : List Told). xs ++ commands_of user (expanded (get_or journal i d ∷ []))) so_far
     ∙ sym next
 
--- the next of the list is what an entry has
-pub next_told : (user : ℕ) (entry : Entry) (told : List Told) (listed : ℕ) (command d : Told) → listed < length told → get_or told listed d ≡ command
-    → commands_of user (expanded (entry ∷ [])) ≡ option_to_list (Some command) → take (listed + 1) told ≡ take listed told ++ commands_of user (expanded (entry ∷ []))
-next_told user entry told listed command d within is has = take_more told listed d within ∙ ap (λ (x : Told). take listed told ++ x ∷ []) is ∙ ap (λ (xs : List Told). take listed told ++ xs) (sym has)
-
--- an entry that has no command of the user
-pub none_told : (user : ℕ) (entry : Entry) (told : List Told) (listed : ℕ) → commands_of user (expanded (entry ∷ [])) ≡ option_to_list None → take listed told ≡ take listed told ++ commands_of user (expanded (entry ∷ []))
-none_told user entry told listed has = sym (append-nil (take listed told)) ∙ ap (λ (xs : List Told). take listed told ++ xs) (sym has)
+-- if the next of a list is the one command that an entry has, the list goes on with that entry's commands
+pub next_told : (user : ℕ) (entry : Entry) (told : List Told) (listed : ℕ) (command d : Told)
+    → listed < length told → get_or told listed d ≡ command
+    → commands_of user (expanded (entry ∷ [])) ≡ option_to_list (Some command)
+    → take (listed + 1) told ≡ take listed told ++ commands_of user (expanded (entry ∷ []))
+next_told user entry told listed command d within is has =
+    take_more told listed d within ∙ ap (λ (x : Told). take listed told ++ x ∷ []) is
+    ∙ ap (λ (xs : List Told). take listed told ++ xs) (sym has)

@@ -24,11 +24,16 @@ loop-lock-preserved g c =
     let rooms = i.rooms in
     let within : so_far ≤ length plan = omega arith in record {
       ends =
-          subst (λ (n : ℕ). AreEndsSoFar plan n c.push_reserved.new.self.items) (sym (length_push c.loop-lock.yielded c.in-Some.lock))
+          subst (λ (n : ℕ). AreEndsSoFar plan n c.push_reserved.new.self.items)
+          (sym (length_push c.loop-lock.yielded c.in-Some.lock))
           (subst (AreEndsSoFar plan (so_far + 1)) (sym c.push_reserved.ensures.items)
-          (ends_more plan so_far c.loop-lock.closed.items c.into_inner.result c.close_domain.result i.ends (length-take-le so_far plan within)
-          (subst (λ (n : ℕ). IsEndOf plan n c.into_inner.result c.close_domain.result) number c.close_domain.ensures)));
-      count = let p = length_push c.loop-lock.yielded c.in-Some.lock in let l = c.push_reserved.ensures.len in let n = i.count in omega arith;
+          (ends_more plan so_far c.loop-lock.closed.items c.into_inner.result c.close_domain.result i.ends
+          (length-take-le so_far plan within)
+          (subst (λ (n : ℕ). IsEndOf plan n c.into_inner.result c.close_domain.result)
+          number c.close_domain.ensures)));
+      count =
+          let p = length_push c.loop-lock.yielded c.in-Some.lock in
+          let l = c.push_reserved.ensures.len in let n = i.count in omega arith;
       room = search rules;
       rooms =
           let p = length_push c.loop-lock.yielded c.in-Some.lock in
@@ -39,9 +44,16 @@ loop-lock-preserved g c =
 
 pub returns-clause-runs : goal.returns-clause-runs
 returns-clause-runs g c =
-    let end = YieldsList-end (YieldsList-from_vec {s = c.into_iter-lock-iterator.result} c.args.locks.items (search rules) (search rules))
-    c.loop-lock.yielded c.loop-lock.lock-iterator c.loop-lock.yielded_by c.next.result c.next.new.self c.in-None.is c.next.ensures.steps in
+    let end =
+    YieldsList-end
+    (YieldsList-from_vec {s = c.into_iter-lock-iterator.result} c.args.locks.items (search rules) (search rules))
+    c.loop-lock.yielded c.loop-lock.lock-iterator c.loop-lock.yielded_by c.next.result c.next.new.self
+    c.in-None.is c.next.ensures.steps in
     let all : length c.args.plan.now ≡ length c.loop-lock.yielded = sym c.requires.locks ∙ sym end.1 in
-    let ends = whole c.args.plan.now (length c.loop-lock.yielded) c.loop-lock.closed.items all c.loop-lock.invariant.ends in
-    all_run c.args.plan.now c.loop-lock.closed.items ends.0 c.each_merge_is_a_run.ensures.domains c.each_word_is_of_its_output.ensures.merge
-    (c.numbered_domains_are_separate.ensures.law c.args.plan.now c.separate_law.ensures.own c.separate_law.ensures.apart) ends.1
+    let ends =
+    whole c.args.plan.now (length c.loop-lock.yielded) c.loop-lock.closed.items all c.loop-lock.invariant.ends in
+    all_run c.args.plan.now c.loop-lock.closed.items ends.0 c.each_merge_is_a_run.ensures.domains
+    c.each_word_is_of_its_output.ensures.merge
+    (c.numbered_domains_are_separate.ensures.law c.args.plan.now
+    c.separate_law.ensures.own c.separate_law.ensures.apart)
+    ends.1
