@@ -1,5 +1,7 @@
--- What pfix 0 before an instruction changes: nothing.
-use Rattle.std.proofs.Common.{ℕ, ◌≡◌, ◌≤◌, ◌/◌, ◌++◌, List, [], Some, length, zero, suc, true, replicate, refl, sym, ap, ◌∙◌, append_assoc, append-nil}
+-- pfix 0 before an instruction changes nothing, so it fills a room that is too large: the clause `put` of
+-- `put_statement`.
+use Rattle.std.proofs.Common.{ℕ, ◌≡◌, ◌≤◌, ◌/◌, ◌++◌, List, [], Some, length, zero, suc}
+use Rattle.std.proofs.Common.{true, replicate, refl, sym, ap, ◌∙◌, append_assoc, append-nil}
 use Rattle.t414_decode.specs.Codes.{function_of, accumulated, shifted}
 use Rattle.t414_decode.specs.declared.instruction.Function.{Function}
 use Rattle.t414_decode.specs.declared.instruction.Function.TheVariants.{Prefix}
@@ -18,15 +20,22 @@ two = refl
 stays : accumulated 0 0x20 ≡ 0
 stays = taken_in 0 0x20 0 (function_of (0x20 / 16)) refl refl refl ∙ ap (λ f. shifted f 0) two
 
+-- bytes behind any number of pfix 0 are read as without them
 pub pad_reads : (pads : ℕ) (bytes : List ℕ) → read_from 0 (replicate pads 0x20 ++ bytes) ≡ read_from 0 bytes
 pad_reads zero bytes = refl
-pad_reads (suc pads) bytes = passes 0 0x20 (replicate pads 0x20 ++ bytes) on ∙ ap (λ o. read_from o (replicate pads 0x20 ++ bytes)) stays ∙ pad_reads pads bytes
+pad_reads (suc pads) bytes =
+    passes 0 0x20 (replicate pads 0x20 ++ bytes) on ∙ ap (λ o. read_from o (replicate pads 0x20 ++ bytes)) stays
+    ∙ pad_reads pads bytes
 
-pub pad_means : (pads : ℕ) (bytes : List ℕ) (f : Function) (operand : ℕ) → Means bytes f operand → Means (replicate pads 0x20 ++ bytes) f operand
+-- bytes that mean an instruction mean it behind any number of pfix 0
+pub pad_means : (pads : ℕ) (bytes : List ℕ) (f : Function) (operand : ℕ) → Means bytes f operand
+    → Means (replicate pads 0x20 ++ bytes) f operand
 pad_means pads bytes f operand means = λ rest.
     ap (read_from 0) (append_assoc (replicate pads 0x20) bytes rest) ∙ pad_reads pads (bytes ++ rest) ∙ means rest
 
--- the room of what is as short as can be
+-- a room that no bytes of an instruction are shorter than isn't longer than these bytes of it
 pub no_pads : (short : List ℕ) (room : ℕ) (f : Function) (operand : ℕ) → Means short f operand
-    → ((others : List ℕ) → read_from 0 others ≡ Some (record { function = f; operand = operand; rest = [] }) → room ≤ length others) → room ≤ length short
+    → ((others : List ℕ) → read_from 0 others ≡ Some (record { function = f; operand = operand; rest = [] })
+    → room ≤ length others)
+    → room ≤ length short
 no_pads short room f operand means least = least short (ap (read_from 0) (sym (append-nil short)) ∙ means [])

@@ -1,5 +1,6 @@
--- The bytes of single statements.
-use Rattle.std.proofs.Common.{ℕ, ◌≡◌, ◌<◌, ◌≤◌, ◌+◌, ◌-◌, ◌%◌, ◌++◌, List, length, true, false, replicate, max, slice_index, refl, sym, ap, ◌∙◌, subst, arith, length-append}
+-- The bytes that are put for a statement are bytes of that statement: the clause `put` of `put_statement`.
+use Rattle.std.proofs.Common.{ℕ, ◌≡◌, ◌<◌, ◌≤◌, ◌+◌, ◌-◌, ◌%◌, ◌++◌, List, length, true, false, replicate}
+use Rattle.std.proofs.Common.{max, slice_index, refl, sym, ap, ◌∙◌, subst, arith, length-append}
 use Rattle.std.proofs.lemmas.List.{length-replicate}
 use Rattle.t414_decode.specs.declared.instruction.Function.{Function}
 use Rattle.t414_assembly.specs.declared.statement.Operand.{Operand}
@@ -23,11 +24,14 @@ number_in (Number n) = n
 number_in _ = 0
 
 not_padded : (room : ℕ) (short : List ℕ) → room ≤ length short → replicate (room - length short) 0x20 ++ short ≡ short
-not_padded room short h = let none : room - length short ≡ 0 = omega (arith, h) in ap (λ n. replicate n 0x20 ++ short) none
+not_padded room short h =
+    let none : room - length short ≡ 0 = omega (arith, h) in ap (λ n. replicate n 0x20 ++ short) none
 
 number_short : (address : ℕ → ℕ) (next room : ℕ) (f : Function) (o : Operand) (short : List ℕ)
-    → (continues f ≡ false → Means short f (operand_of address next f o)) → (continues f ≡ false → IsShortest short f (operand_of address next f o)) → IsTight room (Instruction f o)
-    → (n : ℕ) → o ≡ Number n → continues f ≡ false → IsShortest (replicate (room - length short) 0x20 ++ short) f n
+    → (continues f ≡ false → Means short f (operand_of address next f o))
+    → (continues f ≡ false → IsShortest short f (operand_of address next f o)) → IsTight room (Instruction f o)
+    → (n : ℕ) → o ≡ Number n → continues f ≡ false
+    → IsShortest (replicate (room - length short) 0x20 ++ short) f n
 number_short address next room f (Number m) short means shortest tight n is off =
     let same : m ≡ n = ap number_in is in
     let less : room ≤ length short = no_pads short room f m (means off) (λ others h. tight.1 others off h) in
@@ -36,15 +40,18 @@ number_short address next room f (Number m) short means shortest tight n is off 
 number_short address next room f (Label p m) short means shortest tight n is off = cc
 number_short address next room f (Difference p q m) short means shortest tight n is off = cc
 
-prefix_byte : (room nibble : ℕ) (f : Function) (short : List ℕ) → room ≡ 1 → IsByteOf f nibble short → IsByteOf f nibble (replicate (room - length short) 0x20 ++ short)
+prefix_byte : (room nibble : ℕ) (f : Function) (short : List ℕ) → room ≡ 1 → IsByteOf f nibble short
+    → IsByteOf f nibble (replicate (room - length short) 0x20 ++ short)
 prefix_byte room nibble f short one is =
     let count : length short ≡ 1 = ap length is.1 in
     let less : room ≤ length short = omega (arith, one, count) in
     (is.0, not_padded room short less ∙ is.1, is.2, is.3)
 
-number_usual : (address : ℕ → ℕ) (next room : ℕ) (f : Function) (o : Operand) (short : List ℕ) → (continues f ≡ false → Means short f (operand_of address next f o))
-    → (continues f ≡ true → IsByteOf f (operand_of address next f o % 16) short) → short ≡ usual f (operand_of address next f o) → IsTight room (Instruction f o)
-    → (n : ℕ) → o ≡ Number n → replicate (room - length short) 0x20 ++ short ≡ usual f n
+number_usual : (address : ℕ → ℕ) (next room : ℕ) (f : Function) (o : Operand) (short : List ℕ)
+    → (continues f ≡ false → Means short f (operand_of address next f o))
+    → (continues f ≡ true → IsByteOf f (operand_of address next f o % 16) short)
+    → short ≡ usual f (operand_of address next f o) → IsTight room (Instruction f o) → (n : ℕ) → o ≡ Number n
+    → replicate (room - length short) 0x20 ++ short ≡ usual f n
 number_usual address next room f (Number m) short means prefix usual_is tight n is =
     let same : m ≡ n = ap number_in is in
     let less : room ≤ length short = (elim (continues f) as (λ g. continues f ≡ g → room ≤ length short) [
@@ -55,27 +62,53 @@ number_usual address next room f (Number m) short means prefix usual_is tight n 
 number_usual address next room f (Label p m) short means prefix usual_is tight n is = cc
 number_usual address next room f (Difference p q m) short means prefix usual_is tight n is = cc
 
+-- the shortest bytes of an instruction, behind as many pfix 0 as its room has left, are bytes of it
 pub instruction_piece : (address : ℕ → ℕ) (next room : ℕ) (f : Function) (o : Operand) (short : List ℕ)
-    → (continues f ≡ false → Means short f (operand_of address next f o)) → (continues f ≡ false → IsShortest short f (operand_of address next f o))
-    → (continues f ≡ true → IsByteOf f (operand_of address next f o % 16) short) → short ≡ usual f (operand_of address next f o) → IsTight room (Instruction f o)
+    → (continues f ≡ false → Means short f (operand_of address next f o))
+    → (continues f ≡ false → IsShortest short f (operand_of address next f o))
+    → (continues f ≡ true → IsByteOf f (operand_of address next f o % 16) short)
+    → short ≡ usual f (operand_of address next f o) → IsTight room (Instruction f o)
     → IsInstruction address next f o (replicate (room - length short) 0x20 ++ short)
 instruction_piece address next room f o short means shortest prefix usual_is tight = record {
-  prefix = λ on. prefix_byte room (operand_of address next f o % 16) f short (tight_prefix room f o tight on) (prefix on);
-  other = λ off. (room - length short, record { means = pad_means (room - length short) short f (operand_of address next f o) (means off); short = short; whole = refl; shortest = shortest off });
+  prefix =
+      λ on. prefix_byte room (operand_of address next f o % 16) f short (tight_prefix room f o tight on) (prefix on);
+  other =
+      λ off. (
+        room - length short,
+        record {
+          means = pad_means (room - length short) short f (operand_of address next f o) (means off);
+          short = short;
+          whole = refl;
+          shortest = shortest off;
+        },
+      );
   number = number_usual address next room f o short means prefix usual_is tight;
   shortest = number_short address next room f o short means shortest tight;
 }
 
-pub piece_length : (room : ℕ) (short : List ℕ) → length short ≤ room → length (replicate {A = ℕ} (room - length short) 0x20 ++ short) ≡ room
+-- bytes behind as many pfix 0 as a room has left fill the room
+pub piece_length : (room : ℕ) (short : List ℕ) → length short ≤ room
+    → length (replicate {A = ℕ} (room - length short) 0x20 ++ short) ≡ room
 piece_length room short h =
-    let pads : length (replicate {A = ℕ} (room - length short) 0x20) ≡ room - length short = length-replicate (room - length short) 0x20 in
+    let pads : length (replicate {A = ℕ} (room - length short) 0x20) ≡ room - length short =
+    length-replicate (room - length short) 0x20 in
     let sum : length (replicate {A = ℕ} (room - length short) 0x20) + length short ≡ room = omega (arith, pads, h) in
     length-append (replicate (room - length short) 0x20) short ∙ sum
 
-pub align_piece : (origin : ℕ) (starts : List ℕ) (place size : ℕ) → slice_index starts (place + 1) ≡ slice_index starts place + gap (max size 1) (address_of origin starts place)
-    → IsPiece (address_of origin starts) (place + 1) (Align size) (replicate (gap (max size 1) (address_of origin starts place)) 0)
+-- zeros up to the next multiple of a size are the bytes of a statement that aligns to that size
+pub align_piece : (origin : ℕ) (starts : List ℕ) (place size : ℕ)
+    → slice_index starts (place + 1) ≡ slice_index starts place + gap (max size 1) (address_of origin starts place)
+    → IsPiece (address_of origin starts) (place + 1) (Align size)
+    (replicate (gap (max size 1) (address_of origin starts place)) 0)
 align_piece origin starts place size next =
     let some : 0 < max size 1 = omega arith in
-    let count : length (replicate {A = ℕ} (gap (max size 1) (address_of origin starts place)) 0) ≡ gap (max size 1) (address_of origin starts place) = length-replicate (gap (max size 1) (address_of origin starts place)) 0 in
-    let there : address_of origin starts (place + 1) ≡ address_of origin starts place + gap (max size 1) (address_of origin starts place) = omega (arith, next) in
-    (ap (λ n. replicate n 0) (sym count), subst (λ n. n < max size 1) (sym count) (gap_lt (max size 1) (address_of origin starts place) some), ap (λ a. a % max size 1) there ∙ gap_reaches (max size 1) (address_of origin starts place) some)
+    let count : length (replicate {A = ℕ} (gap (max size 1) (address_of origin starts place)) 0)
+    ≡ gap (max size 1) (address_of origin starts place) =
+    length-replicate (gap (max size 1) (address_of origin starts place)) 0 in
+    let there : address_of origin starts (place + 1)
+    ≡ address_of origin starts place + gap (max size 1) (address_of origin starts place) =
+    omega (arith, next) in (
+      ap (λ n. replicate n 0) (sym count),
+      subst (λ n. n < max size 1) (sym count) (gap_lt (max size 1) (address_of origin starts place) some),
+      ap (λ a. a % max size 1) there ∙ gap_reaches (max size 1) (address_of origin starts place) some,
+    )
