@@ -1,4 +1,5 @@
--- Known bytes that are consumed one piece after another, and the lines of a record that are done again meanwhile.
+-- Known bytes that are consumed one piece after another, and the lines of a record that are done again meanwhile:
+-- the contracts of `redo_lines` and `take_head`.
 use Rattle.std.specs.Prelude.{◌≡◌, ◌<◌, ◌+◌, ℕ, List, [], ◌∷◌, ◌++◌, length, take, drop, Option, None, Some}
 use Rattle.std.proofs.Common.{refl, ap, ◌∙◌, sym, subst, arith, append_assoc}
 use Rattle.std.proofs.lemmas.List.{append-nil, take-append-drop, length-take}
@@ -9,26 +10,29 @@ use Rattle.domain_core.specs.Domain.{DomainValue}
 use Rattle.domain_core.specs.Journal.{AnsweredCall, expanded}
 use Rattle.farm_records.specs.RecordText.{RecordLine, record_line_text, line_history, record_text, record_history}
 use Rattle.farm_records.specs.Records.{GainsHistory, RedoesLine}
-use Rattle.farm_records.specs.Taking.{IsAllOf, HasBeginning, TakesLines, TakesAll}
+use Rattle.farm_records.specs.Taking.{IsAllOf, HasBeginning, TakesLines}
 
--- nothing is consumed
+-- if the known bytes stay as they are, none were consumed
 pub consumes_none : (known : Option (List ℕ)) → Consumes known known []
 consumes_none None = tt
 consumes_none (Some xs) = refl
 
--- one piece, and then another
-pub consumes_more : (a b c : Option (List ℕ)) (xs ys : List ℕ) → Consumes a b xs → Consumes b c ys → Consumes a c (xs ++ ys)
+-- if one piece is consumed, and then another, both are, one behind the other
+pub consumes_more : (a b c : Option (List ℕ)) (xs ys : List ℕ) → Consumes a b xs → Consumes b c ys
+    → Consumes a c (xs ++ ys)
 consumes_more None b c xs ys first next = tt
 consumes_more (Some us) None c xs ys first next = absurd first
 consumes_more (Some us) (Some vs) None xs ys first next = absurd next
-consumes_more (Some us) (Some vs) (Some ws) xs ys first next = first ∙ (ap (λ l. xs ++ l) next ∙ sym (append_assoc xs ys ws))
+consumes_more (Some us) (Some vs) (Some ws) xs ys first next =
+    first ∙ (ap (λ l. xs ++ l) next ∙ sym (append_assoc xs ys ws))
 
 -- a history gains nothing
 gains_nothing : (d : DomainValue) → GainsHistory [] d d
 gains_nothing d = record { history = sym (append-nil (expanded d.journal)); part = refl; ports = refl }
 
 -- it gains some, and then more
-gains_more : (xs ys : List AnsweredCall) (d e f : DomainValue) → GainsHistory xs d e → GainsHistory ys e f → GainsHistory (xs ++ ys) d f
+gains_more : (xs ys : List AnsweredCall) (d e f : DomainValue) → GainsHistory xs d e → GainsHistory ys e f
+    → GainsHistory (xs ++ ys) d f
 gains_more xs ys d e f first next = record {
   history = next.history ∙ (ap (λ h. h ++ ys) first.history ∙ append_assoc (expanded d.journal) xs ys);
   part = next.part ∙ first.part;
@@ -41,44 +45,55 @@ pub record RedoneSoFar (before now : Option (List ℕ)) (old new : DomainValue) 
   pub taken : Consumes before now (record_text lines)
   pub gains : GainsHistory (record_history lines) old new
 
--- at the beginning
+-- at the beginning nothing was taken, and nothing was done again
 pub none_yet : (known : Option (List ℕ)) (d : DomainValue) → RedoneSoFar known known d d
 none_yet known d = record { lines = []; taken = consumes_none known; gains = gains_nothing d }
 
 -- the text of one line more
-one_more_text : (lines : List RecordLine) (l : RecordLine) → record_text (lines ++ l ∷ []) ≡ record_text lines ++ record_line_text l
-one_more_text lines l = flat_map-append record_line_text lines (l ∷ []) ∙ ap (λ t. record_text lines ++ t) (append-nil (record_line_text l))
+one_more_text : (lines : List RecordLine) (l : RecordLine)
+    → record_text (lines ++ l ∷ []) ≡ record_text lines ++ record_line_text l
+one_more_text lines l =
+    flat_map-append record_line_text lines (l ∷ []) ∙ ap (λ t. record_text lines ++ t) (append-nil (record_line_text l))
 
 -- its history
-one_more_history : (lines : List RecordLine) (l : RecordLine) → record_history (lines ++ l ∷ []) ≡ record_history lines ++ line_history l
-one_more_history lines l = flat_map-append line_history lines (l ∷ []) ∙ ap (λ t. record_history lines ++ t) (append-nil (line_history l))
+one_more_history : (lines : List RecordLine) (l : RecordLine)
+    → record_history (lines ++ l ∷ []) ≡ record_history lines ++ line_history l
+one_more_history lines l =
+    flat_map-append line_history lines (l ∷ []) ∙ ap (λ t. record_history lines ++ t) (append-nil (line_history l))
 
--- one line more
-pub one_more : (a b c : Option (List ℕ)) (bytes : List ℕ) (d e f : DomainValue) → RedoneSoFar a b d e → Consumes b c bytes → RedoesLine bytes e f → RedoneSoFar a c d f
+-- if one line more is taken and done again, all lines so far are
+pub one_more : (a b c : Option (List ℕ)) (bytes : List ℕ) (d e f : DomainValue)
+    → RedoneSoFar a b d e → Consumes b c bytes → RedoesLine bytes e f
+    → RedoneSoFar a c d f
 one_more a b c bytes d e f so_far taken redone = record {
   lines = so_far.lines ++ redone.line ∷ [];
-  taken = subst (λ (t : List ℕ). Consumes a c t) (ap (λ t. record_text so_far.lines ++ t) (sym redone.text) ∙ sym (one_more_text so_far.lines redone.line))
+  taken =
+      subst (λ (t : List ℕ). Consumes a c t)
+      (ap (λ t. record_text so_far.lines ++ t) (sym redone.text) ∙ sym (one_more_text so_far.lines redone.line))
       (consumes_more a b c (record_text so_far.lines) bytes so_far.taken taken);
   gains = subst (λ (h : List AnsweredCall). GainsHistory h d f) (sym (one_more_history so_far.lines redone.line))
       (gains_more (record_history so_far.lines) (line_history redone.line) d e f so_far.gains redone.gains);
 }
 
--- what was consumed up to the end is all
-pub consumed_all : (a b c : Option (List ℕ)) (xs ys : List ℕ) → Consumes a b xs → Consumes b c ys → IsAtEnd c → IsAllOf (xs ++ ys) a
+-- two pieces, behind which the bytes end, are all bytes
+pub consumed_all : (a b c : Option (List ℕ)) (xs ys : List ℕ) → Consumes a b xs → Consumes b c ys → IsAtEnd c
+    → IsAllOf (xs ++ ys) a
 consumed_all None b c xs ys first next end = tt
 consumed_all (Some us) None c xs ys first next end = absurd first
 consumed_all (Some us) (Some vs) None xs ys first next end = absurd next
 consumed_all (Some us) (Some vs) (Some ws) xs ys first next end =
     first ∙ ap (λ l. xs ++ l) (next ∙ (ap (λ l. ys ++ l) end ∙ append-nil ys))
 
--- the same of one piece
+-- one piece, behind which the bytes end, is all bytes
 pub consumed_one : (a b : Option (List ℕ)) (xs : List ℕ) → Consumes a b xs → IsAtEnd b → IsAllOf xs a
 consumed_one None b xs first end = tt
 consumed_one (Some us) None xs first end = absurd first
 consumed_one (Some us) (Some vs) xs first end = first ∙ (ap (λ l. xs ++ l) end ∙ append-nil xs)
 
--- the end, with what stands behind the last line feed
-pub at_the_end : (a b c : Option (List ℕ)) (bytes : List ℕ) (d e : DomainValue) → RedoneSoFar a b d e → Consumes b c bytes → IsAtEnd c → TakesLines a (length bytes) d e
+-- if the bytes end behind a piece, the lines before it were done again, and the piece is torn
+pub at_the_end : (a b c : Option (List ℕ)) (bytes : List ℕ) (d e : DomainValue)
+    → RedoneSoFar a b d e → Consumes b c bytes → IsAtEnd c
+    → TakesLines a (length bytes) d e
 at_the_end a b c bytes d e so_far taken end = record {
   bytes = record_text so_far.lines ++ bytes;
   behind = bytes;
@@ -87,30 +102,19 @@ at_the_end a b c bytes d e so_far taken end = record {
   torn_is = refl;
 }
 
--- all that stands behind what was consumed
-all_behind : (a b : Option (List ℕ)) (xs ys : List ℕ) → Consumes a b xs → IsAllOf ys b → IsAllOf (xs ++ ys) a
-all_behind None b xs ys first all = tt
-all_behind (Some us) None xs ys first all = absurd first
-all_behind (Some us) (Some vs) xs ys first all = first ∙ ap (λ l. xs ++ l) all
-
--- the head, and then all lines
-pub behind_the_head : (a b : Option (List ℕ)) (head : List ℕ) (torn : ℕ) (d e : DomainValue) → Consumes a b head → TakesLines b torn d e → TakesAll a head torn d e
-behind_the_head a b head torn d e first lines = record {
-  bytes = lines.bytes;
-  behind = lines.behind;
-  all = all_behind a b head lines.bytes first lines.all;
-  redone = lines.redone;
-  torn_is = lines.torn_is;
-}
-
--- one line more of the head
-pub more_of_the_head : (a b c : Option (List ℕ)) (head line : List ℕ) (taken : ℕ) → Consumes a b (take taken head) → Consumes b c line → take (length line) (drop taken head) ≡ line → Consumes a c (take (taken + length line) head)
+-- the first bytes of a head, with its next line, are as many more of its first bytes
+pub more_of_the_head : (a b c : Option (List ℕ)) (head line : List ℕ) (taken : ℕ)
+    → Consumes a b (take taken head) → Consumes b c line → take (length line) (drop taken head) ≡ line
+    → Consumes a c (take (taken + length line) head)
 more_of_the_head a b c head line taken first next same =
-    subst (λ (t : List ℕ). Consumes a c t) (ap (λ l. take taken head ++ l) (sym same) ∙ sym (take-add taken (length line) head))
+    subst (λ (t : List ℕ). Consumes a c t)
+    (ap (λ l. take taken head ++ l) (sym same) ∙ sym (take-add taken (length line) head))
     (consumes_more a b c (take taken head) line first next)
 
--- a head of which only so much was there
-pub beginning_of : (a b : Option (List ℕ)) (head : List ℕ) (taken : ℕ) → Consumes a b (take taken head) → IsAtEnd b → taken < length head → HasBeginning a head
+-- if the bytes end within a head, they are its beginning
+pub beginning_of : (a b : Option (List ℕ)) (head : List ℕ) (taken : ℕ)
+    → Consumes a b (take taken head) → IsAtEnd b → taken < length head
+    → HasBeginning a head
 beginning_of a b head taken first end less = record {
   bytes = take taken head;
   rest = drop taken head;

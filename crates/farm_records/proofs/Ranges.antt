@@ -1,4 +1,4 @@
--- Equality of ranges.
+-- Ranges are equal just if their comparison says so: the contract of `are_same_ranges`.
 use Rattle.std.proofs.Common.{◌≡◌, ℕ, Bool, ◌&&◌, Option, Some, None, refl, ap}
 use Rattle.std.specs.Bool.{Decides}
 use Rattle.std.specs.Option.{option_eq}
@@ -25,8 +25,10 @@ same_range a b =
       λ e. fields.1 (ap (λ (r : PortRange). r.first) e, ap (λ (r : PortRange). r.last) e),
     )
 
+-- two ranges, each of which may be missing, are equal just if their comparison says so
 pub same_range_or_none : (a b : Option PortRange) → Decides (option_eq range_eq a b) (a ≡ b)
 same_range_or_none None None = (λ e. refl, λ e. refl)
 same_range_or_none None (Some y) = (λ e. absurd (false≢true e), λ e. cc)
 same_range_or_none (Some x) None = (λ e. absurd (false≢true e), λ e. cc)
-same_range_or_none (Some x) (Some y) = (λ e. ap Some ((same_range x y).0 e), λ e. let same : x ≡ y = cc in (same_range x y).1 same)
+same_range_or_none (Some x) (Some y) =
+    (λ e. ap Some ((same_range x y).0 e), λ e. let same : x ≡ y = cc in (same_range x y).1 same)

@@ -5,6 +5,10 @@ use Rattle.farm_records.proofs.redoing.redo_line.Goals as goal
 pub returns-then-eq : goal.returns-then-eq
 returns-then-eq g c =
     let call = c.in_ok-call.call in
-    let line : RecordLine = record { times = call.times; answered = record { call = record { by = call.by; event = call.event }; reply = c.in_ok-reply.reply } } in
+    let line : RecordLine =
+    record {
+      times = call.times;
+      answered = record { call = record { by = call.by; event = call.event }; reply = c.in_ok-reply.reply };
+    } in
     let text : record_line_text line ≡ c.args.line.now = search rules in
     record { line = line; text = text; gains = c.in_ok-reply.ensures }

@@ -10,4 +10,5 @@ returns-in-Done g c =
     let number : c.burst.new.self.number ≡ c.args.node = search rules in
     let steps : c.burst.new.self.steps ≡ c.args.times = search rules in
     let last : c.burst.new.self.last ≡ Some Ran = search rules in
-    committed_steps c.args.domain.now c.commit_lent.new.self c.burst.new.self c.args.node c.args.times commits number steps last
+    committed_steps c.args.domain.now c.commit_lent.new.self c.burst.new.self c.args.node
+    c.args.times commits number steps last
