@@ -1,4 +1,5 @@
--- What is wrong with the arguments of a verb, if it is a digit of an address or word.
+-- What is wrong with the arguments of a verb, if it is a digit of an address or word: the clauses `fault` of
+-- `with_two`, `with_three`, `parse_request` and `parse_line`.
 use Rattle.std.proofs.Common.{◌≡◌, ℕ, List, [], ◌∷◌, Ok, Err, sym, subst}
 use Rattle.std.specs.Prelude.{IfErr, Result}
 use Rattle.script_lines.specs.declared.command.Command.{Command}
@@ -23,7 +24,8 @@ no_peek place at none (command.Collect host) asked = asked
 no_peek place at none (command.Reset node) asked = asked
 no_peek place at none (command.Look node) asked = asked
 
-no_poke_at : (place at stored : List ℕ) → ((value : ℕ) → ¬ IsWord at value) → (c : Command) → ¬ Requests Poke (place ∷ at ∷ stored ∷ []) c
+no_poke_at : (place at stored : List ℕ) → ((value : ℕ) → ¬ IsWord at value) → (c : Command)
+    → ¬ Requests Poke (place ∷ at ∷ stored ∷ []) c
 no_poke_at place at stored none (command.Config bytes) asked = asked
 no_poke_at place at stored none (command.Write host bytes) asked = asked
 no_poke_at place at stored none (command.Boot host code) asked = asked
@@ -33,7 +35,8 @@ no_poke_at place at stored none (command.Collect host) asked = asked
 no_poke_at place at stored none (command.Reset node) asked = asked
 no_poke_at place at stored none (command.Look node) asked = asked
 
-no_poke_of : (place at stored : List ℕ) → ((value : ℕ) → ¬ IsWord stored value) → (c : Command) → ¬ Requests Poke (place ∷ at ∷ stored ∷ []) c
+no_poke_of : (place at stored : List ℕ) → ((value : ℕ) → ¬ IsWord stored value) → (c : Command)
+    → ¬ Requests Poke (place ∷ at ∷ stored ∷ []) c
 no_poke_of place at stored none (command.Config bytes) asked = asked
 no_poke_of place at stored none (command.Write host bytes) asked = asked
 no_poke_of place at stored none (command.Boot host code) asked = asked
@@ -47,41 +50,54 @@ no_poke_of place at stored none (command.Look node) asked = asked
 abbrev pub IsNoWord : List ℕ → Unread → Type 0
 IsNoWord word u = (f : LineFault) → u ≡ Faulty f → (f ≡ Hex) × ((value : ℕ) → ¬ IsWord word value)
 
-pub peek_refused : (verb : Verb) (place at : List ℕ) (host : ℕ) (u : Unread) → verb ≡ Peek → IsDecimal place host → IsNoWord at u
-    → (f : LineFault) → u ≡ Faulty f → IsArgumentFault verb (place ∷ at ∷ []) f
+-- if the address of a peek isn't read, its arguments are wrong by the fault that is told
+pub peek_refused : (verb : Verb) (place at : List ℕ) (host : ℕ) (u : Unread)
+    → verb ≡ Peek → IsDecimal place host → IsNoWord at u → (f : LineFault) → u ≡ Faulty f
+    → IsArgumentFault verb (place ∷ at ∷ []) f
 peek_refused verb place at host u is number none f told =
     let why = none f told in
-    subst (λ v. IsArgumentFault v (place ∷ at ∷ []) f) (sym is) (subst (IsArgumentFault Peek (place ∷ at ∷ [])) (sym why.0) ((host, number), no_peek place at why.1))
+    subst (λ v. IsArgumentFault v (place ∷ at ∷ []) f) (sym is)
+    (subst (IsArgumentFault Peek (place ∷ at ∷ [])) (sym why.0) ((host, number), no_peek place at why.1))
 
-pub poke_refused_at : (verb : Verb) (place at stored : List ℕ) (host : ℕ) (u : Unread) → verb ≡ Poke → IsDecimal place host → IsNoWord at u
-    → (f : LineFault) → u ≡ Faulty f → IsArgumentFault verb (place ∷ at ∷ stored ∷ []) f
+-- so are those of a poke, if its address isn't read
+pub poke_refused_at : (verb : Verb) (place at stored : List ℕ) (host : ℕ) (u : Unread)
+    → verb ≡ Poke → IsDecimal place host → IsNoWord at u → (f : LineFault) → u ≡ Faulty f
+    → IsArgumentFault verb (place ∷ at ∷ stored ∷ []) f
 poke_refused_at verb place at stored host u is number none f told =
     let why = none f told in
     subst (λ v. IsArgumentFault v (place ∷ at ∷ stored ∷ []) f) (sym is)
-    (subst (IsArgumentFault Poke (place ∷ at ∷ stored ∷ [])) (sym why.0) ((host, number), no_poke_at place at stored why.1))
+    (subst (IsArgumentFault Poke (place ∷ at ∷ stored ∷ [])) (sym why.0)
+    ((host, number), no_poke_at place at stored why.1))
 
-pub poke_refused_of : (verb : Verb) (place at stored : List ℕ) (host : ℕ) (u : Unread) → verb ≡ Poke → IsDecimal place host → IsNoWord stored u
-    → (f : LineFault) → u ≡ Faulty f → IsArgumentFault verb (place ∷ at ∷ stored ∷ []) f
+-- so are those of a poke, if its word isn't read
+pub poke_refused_of : (verb : Verb) (place at stored : List ℕ) (host : ℕ) (u : Unread)
+    → verb ≡ Poke → IsDecimal place host → IsNoWord stored u → (f : LineFault) → u ≡ Faulty f
+    → IsArgumentFault verb (place ∷ at ∷ stored ∷ []) f
 poke_refused_of verb place at stored host u is number none f told =
     let why = none f told in
     subst (λ v. IsArgumentFault v (place ∷ at ∷ stored ∷ []) f) (sym is)
-    (subst (IsArgumentFault Poke (place ∷ at ∷ stored ∷ [])) (sym why.0) ((host, number), no_poke_of place at stored why.1))
+    (subst (IsArgumentFault Poke (place ∷ at ∷ stored ∷ [])) (sym why.0)
+    ((host, number), no_poke_of place at stored why.1))
 
 -- what follows a name is wrong if the arguments of its verb are
-rest_refused : (rest : List (List ℕ)) (verb : Verb) (arguments : List (List ℕ)) (f : LineFault) → IsOf rest verb arguments → IsArgumentFault verb arguments f → IsRestFault rest f
+rest_refused : (rest : List (List ℕ)) (verb : Verb) (arguments : List (List ℕ)) (f : LineFault)
+    → IsOf rest verb arguments → IsArgumentFault verb arguments f
+    → IsRestFault rest f
 rest_refused rest verb arguments fault.User of wrong = absurd wrong
 rest_refused rest verb arguments fault.Verb of wrong = absurd wrong
 rest_refused rest verb arguments fault.Args of wrong = (verb, arguments, of, wrong)
 rest_refused rest verb arguments fault.Hex of wrong = (verb, arguments, of, wrong)
 
--- so it is with what is answered
-pub request_refused : (rest : List (List ℕ)) (verb : Verb) (arguments : List (List ℕ)) (r : Result Command Unread) → IsOf rest verb arguments
-    → IfErr r (λ u. (f : LineFault) → u ≡ Faulty f → IsArgumentFault verb arguments f) → IfErr r (λ u. (f : LineFault) → u ≡ Faulty f → IsRestFault rest f)
+-- if a request is refused for the arguments of its verb, what follows the name is wrong by that fault
+pub request_refused : (rest : List (List ℕ)) (verb : Verb) (arguments : List (List ℕ)) (r : Result Command Unread)
+    → IsOf rest verb arguments → IfErr r (λ u. (f : LineFault) → u ≡ Faulty f → IsArgumentFault verb arguments f)
+    → IfErr r (λ u. (f : LineFault) → u ≡ Faulty f → IsRestFault rest f)
 request_refused rest verb arguments (Ok c) of wrong = tt
 request_refused rest verb arguments (Err u) of wrong = λ f told. rest_refused rest verb arguments f of (wrong f told)
 
 -- a line is wrong if what follows its user's name is
-pub line_refused : (names words : List (List ℕ)) (user : ℕ) (rest : List (List ℕ)) (f : LineFault) → BeginsWith names words user rest → IsRestFault rest f
+pub line_refused : (names words : List (List ℕ)) (user : ℕ) (rest : List (List ℕ)) (f : LineFault)
+    → BeginsWith names words user rest → IsRestFault rest f
     → IsLineFault names words f
 line_refused names words user rest fault.User begins wrong = absurd wrong
 line_refused names words user rest fault.Verb begins wrong = (user, rest, begins, wrong)

@@ -1,5 +1,7 @@
--- What the reading of a word and of a script rests on.
-use Rattle.std.proofs.Common.{◌≡◌, ◌+◌, ◌<◌, ◌++◌, ℕ, List, Bool, cond, [], ◌∷◌, length, map, refl, sym, ap, ◌∙◌, true, false, not, inl, inr, subst, append-nil, append_assoc, length-append, arith}
+-- What the reading of a word and of a script rests on: the clauses of `read_script`, the clause `fault` of
+-- `parse_place`, and the contract of `user_named`.
+use Rattle.std.proofs.Common.{◌≡◌, ◌+◌, ◌<◌, ◌++◌, ℕ, List, Bool, cond, [], ◌∷◌, length, map, sym, ap, ◌∙◌}
+use Rattle.std.proofs.Common.{true, false, not, inl, inr, subst, append-nil, append_assoc, length-append, arith}
 use Rattle.std.specs.Prelude.{slice_get, Option, Some, None, All}
 use Rattle.std.specs.Borrow.{Bor}
 use Rattle.std.proofs.lemmas.Option.{slice_get_within}
@@ -43,64 +45,66 @@ pub record IsReadTo (names : List (List ℕ)) (text rest : List ℕ) (asked : Li
   pub readable : IsScript names before asked
   pub counted : count ≡ length before
 
-pub read_at_start : (names : List (List ℕ)) (text : List ℕ) → IsReadTo names text text [] 0
-read_at_start names text = record { before = []; parts = refl; readable = tt; counted = refl }
-
--- an empty rest has no lines, so all is read
-pub read_to_the_end : (names : List (List ℕ)) (text : List ℕ) (asked : List ScriptLine) (count : ℕ) → IsReadTo names text [] asked count
-    → IsScript names (lines text) asked
-read_to_the_end names text asked count read =
-    subst (λ ls. IsScript names ls asked) (sym (read.parts ∙ append-nil read.before)) read.readable
-
 asking_one : (line : List ℕ) (b : Bool) → asks_nothing line ≡ b → asking (line ∷ []) ≡ cond (not b) (line ∷ []) []
 asking_one line b e = ap (λ x. cond (not x) (line ∷ []) []) e
 
-zip_more : (names lines : List (List ℕ)) (asked : List ScriptLine) (line : List ℕ) (l : ScriptLine) → AllZip (IsAsked names) lines asked → IsAsked names line l
+zip_more : (names lines : List (List ℕ)) (asked : List ScriptLine) (line : List ℕ) (l : ScriptLine)
+    → AllZip (IsAsked names) lines asked → IsAsked names line l
     → AllZip (IsAsked names) (lines ++ line ∷ []) (asked ++ l ∷ [])
 zip_more names [] [] line l all one = (one, tt)
 zip_more names [] (k ∷ asked) line l all one = absurd all
 zip_more names (x ∷ lines) [] line l all one = absurd all
 zip_more names (x ∷ lines) (k ∷ asked) line l all one = (all.0, zip_more names lines asked line l all.1 one)
 
--- a line that asks nothing is passed over
-pub read_past : (names : List (List ℕ)) (text rest after : List ℕ) (asked : List ScriptLine) (count : ℕ) → IsReadTo names text rest asked count → 0 < length rest
-    → asks_nothing (line_of rest) ≡ true → after ≡ after_line rest → IsReadTo names text after asked (count + 1)
+-- if a script is read up to a line that asks nothing, it is read up to the line behind, and asks no more
+pub read_past : (names : List (List ℕ)) (text rest after : List ℕ) (asked : List ScriptLine) (count : ℕ)
+    → IsReadTo names text rest asked count → 0 < length rest → asks_nothing (line_of rest) ≡ true
+    → after ≡ after_line rest
+    → IsReadTo names text after asked (count + 1)
 read_past names text rest after asked count read some nothing is =
     let before = read.before in
     record {
       before = before ++ line_of rest ∷ [];
       parts =
-          read.parts ∙ ap (λ ls. before ++ ls) (first_line rest some) ∙ sym (append_assoc before (line_of rest ∷ []) (lines (after_line rest)))
+          read.parts ∙ ap (λ ls. before ++ ls) (first_line rest some)
+          ∙ sym (append_assoc before (line_of rest ∷ []) (lines (after_line rest)))
           ∙ ap (λ t. (before ++ line_of rest ∷ []) ++ lines t) (sym is);
       readable =
           subst (λ ls. AllZip (IsAsked names) ls asked)
-          (sym (filter-append _ before (line_of rest ∷ []) ∙ ap (λ ls. asking before ++ ls) (asking_one (line_of rest) true nothing) ∙ append-nil (asking before)))
+          (sym (filter-append _ before (line_of rest ∷ [])
+          ∙ ap (λ ls. asking before ++ ls) (asking_one (line_of rest) true nothing) ∙ append-nil (asking before)))
           read.readable;
       counted = omega (arith, read.counted, length-append before (line_of rest ∷ []));
     }
 
--- a line that asks something is the next
-pub read_more : (names : List (List ℕ)) (text rest after : List ℕ) (asked more : List ScriptLine) (l : ScriptLine) (count : ℕ) → IsReadTo names text rest asked count
-    → 0 < length rest → asks_nothing (line_of rest) ≡ false → IsAsked names (line_of rest) l → after ≡ after_line rest → more ≡ asked ++ l ∷ []
+-- if it is read up to a line that asks something, it is read up to the line behind, and asks that too
+pub read_more : (names : List (List ℕ)) (text rest after : List ℕ)
+    (asked more : List ScriptLine) (l : ScriptLine) (count : ℕ)
+    → IsReadTo names text rest asked count → 0 < length rest → asks_nothing (line_of rest) ≡ false
+    → IsAsked names (line_of rest) l → after ≡ after_line rest → more ≡ asked ++ l ∷ []
     → IsReadTo names text after more (count + 1)
 read_more names text rest after asked more l count read some asks one is items =
     let before = read.before in
     record {
       before = before ++ line_of rest ∷ [];
       parts =
-          read.parts ∙ ap (λ ls. before ++ ls) (first_line rest some) ∙ sym (append_assoc before (line_of rest ∷ []) (lines (after_line rest)))
+          read.parts ∙ ap (λ ls. before ++ ls) (first_line rest some)
+          ∙ sym (append_assoc before (line_of rest ∷ []) (lines (after_line rest)))
           ∙ ap (λ t. (before ++ line_of rest ∷ []) ++ lines t) (sym is);
       readable =
           subst (AllZip (IsAsked names) (asking (before ++ line_of rest ∷ []))) (sym items)
           (subst (λ ls. AllZip (IsAsked names) ls (asked ++ l ∷ []))
-          (sym (filter-append _ before (line_of rest ∷ []) ∙ ap (λ ls. asking before ++ ls) (asking_one (line_of rest) false asks)))
+          (sym (filter-append _ before (line_of rest ∷ [])
+          ∙ ap (λ ls. asking before ++ ls) (asking_one (line_of rest) false asks)))
           (zip_more names (asking before) asked (line_of rest) l read.readable one));
       counted = omega (arith, read.counted, length-append before (line_of rest ∷ []));
     }
 
--- a line that is wrong is the first
-pub read_wrong : (names : List (List ℕ)) (text rest : List ℕ) (asked : List ScriptLine) (count : ℕ) (f : LineFault) → IsReadTo names text rest asked count
-    → 0 < length rest → asks_nothing (line_of rest) ≡ false → IsLineFault names (words_in (line_of rest)) f → IsFirstFault names (lines text) (count + 1) f
+-- if it is read up to a line that is wrong, that is its first wrong line
+pub read_wrong : (names : List (List ℕ)) (text rest : List ℕ) (asked : List ScriptLine) (count : ℕ) (f : LineFault)
+    → IsReadTo names text rest asked count → 0 < length rest → asks_nothing (line_of rest) ≡ false
+    → IsLineFault names (words_in (line_of rest)) f
+    → IsFirstFault names (lines text) (count + 1) f
 read_wrong names text rest asked count f read some asks wrong =
     record {
       before = read.before;
@@ -114,9 +118,11 @@ read_wrong names text rest asked count f read some asks wrong =
       wrong = wrong;
     }
 
--- a name that isn't this one leaves no earlier place for it
-pub no_earlier_name : (names : List (List ℕ)) (name : List ℕ) (user : ℕ) (other : List ℕ) → ((k : ℕ) → k < user → ¬ IsUserName names name k) → IsUserName names other user
-    → ¬ (other ≡ name) → (k : ℕ) → k < user + 1 → ¬ IsUserName names name k
+-- if no place before this one has a name, and this one has another name, no place up to it has the name
+pub no_earlier_name : (names : List (List ℕ)) (name : List ℕ) (user : ℕ) (other : List ℕ)
+    → ((k : ℕ) → k < user → ¬ IsUserName names name k) → IsUserName names other user → ¬ (other ≡ name) → (k : ℕ)
+    → k < user + 1
+    → ¬ IsUserName names name k
 no_earlier_name names name user other none here differs k lt is =
     elim (cases_lt k user) [
       | inl below ↦ none k below is
@@ -125,15 +131,24 @@ no_earlier_name names name user other none here differs k lt is =
           differs (some_is other name (sym here ∙ ap (λ n. slice_get names n) same ∙ is))
     ]
 
-each_named : (names : List (Bor (List ℕ))) (texts : List (List ℕ)) (asked : List ScriptLine) → AllZip (IsAsked (map (λ n. n.now) names)) texts asked
+each_named : (names : List (Bor (List ℕ))) (texts : List (List ℕ)) (asked : List ScriptLine)
+    → AllZip (IsAsked (map (λ n. n.now) names)) texts asked
     → AllByRecursion (λ l. l.user < length names) asked
 each_named names [] [] all = tt
 each_named names [] (l ∷ asked) all = absurd all
 each_named names (line ∷ texts) [] all = absurd all
-each_named names (line ∷ texts) (l ∷ asked) all =
-    (omega (arith, length-map names (λ n. n.now), slice_get_within (map (λ n. n.now) names) l.user _ all.0.begins.named), each_named names texts asked all.1)
+each_named names (line ∷ texts) (l ∷ asked) all = (
+  omega (
+    arith,
+    length-map names (λ n. n.now),
+    slice_get_within (map (λ n. n.now) names) l.user _ all.0.begins.named,
+  ),
+  each_named names texts asked all.1,
+)
 
 -- each line is of a user who is named
-pub users_named : (names : List (Bor (List ℕ))) (texts : List (List ℕ)) (asked : List ScriptLine) → AllZip (IsAsked (map (λ n. n.now) names)) texts asked
+pub users_named : (names : List (Bor (List ℕ))) (texts : List (List ℕ)) (asked : List ScriptLine)
+    → AllZip (IsAsked (map (λ n. n.now) names)) texts asked
     → All (λ l. l.user < length names) asked
-users_named names texts asked all = All-from_recursion (λ (l : ScriptLine). l.user < length names) asked (each_named names texts asked all)
+users_named names texts asked all =
+    All-from_recursion (λ (l : ScriptLine). l.user < length names) asked (each_named names texts asked all)

@@ -1,5 +1,7 @@
--- The first part of a text that is split, and its first line.
-use Rattle.std.proofs.Common.{◌≡◌, ◌+◌, ◌<◌, ◌≤◌, ℕ, Bool, List, [], ◌∷◌, length, refl, sym, ap, ◌∙◌, nat_lt, ◌==◌, inl, inr, arith, lt-ltb, le-ltb}
+-- The first part of a text that is split, which `LineWords::take` needs, and its first line, by which `read_script`
+-- goes on.
+use Rattle.std.proofs.Common.{◌≡◌, ◌+◌, ◌<◌, ◌≤◌, ℕ, Bool, List, [], ◌∷◌, length, refl}
+use Rattle.std.proofs.Common.{sym, ap, ◌∙◌, nat_lt, ◌==◌, inl, inr, arith, lt-ltb, le-ltb}
 use Rattle.std.specs.List.{slice_split, position_or_len, before_first}
 use Rattle.std.specs.Str.Lines.{lines, lines_of_parts, strip_carriage_return}
 use Rattle.std.proofs.lemmas.Bool.{cond-true, cond-false, cases_lt, ne_eqb}
@@ -12,7 +14,8 @@ use Rattle.script_text.specs.Lines.{is_line_feed, line_of, after_line}
 pub only_part : (p : ℕ → Bool) (xs : List ℕ) → length xs ≤ position_or_len p xs → slice_split p xs ≡ xs ∷ []
 only_part p xs none = slice_split_none p xs (λ k e m. fails_before_first p xs k e (omega (arith, none, m)))
 
-lines_of_more : (x : List ℕ) (parts : List (List ℕ)) → 0 < length parts → lines_of_parts (x ∷ parts) ≡ strip_carriage_return x ∷ lines_of_parts parts
+lines_of_more : (x : List ℕ) (parts : List (List ℕ)) → 0 < length parts
+    → lines_of_parts (x ∷ parts) ≡ strip_carriage_return x ∷ lines_of_parts parts
 lines_of_more x [] some = absurd (omega (arith, some))
 lines_of_more x (y ∷ more) some = refl
 
@@ -24,7 +27,8 @@ first_line text some =
       | inl inside ↦
           let rest = slice_split is_line_feed (after_line text) in
           ap lines_of_parts (slice_split_first is_line_feed text 0 inside)
-          ∙ lines_of_more (before_first is_line_feed text) rest (omega (arith, length-slice_split is_line_feed (after_line text)))
+          ∙ lines_of_more (before_first is_line_feed text) rest
+          (omega (arith, length-slice_split is_line_feed (after_line text)))
           ∙ ap (λ l. l ∷ lines (after_line text)) (sym (cond-true (nat_lt n (length text)) _ _ (lt-ltb _ _ inside)))
       | inr past ↦
           ap lines_of_parts (only_part is_line_feed text past)

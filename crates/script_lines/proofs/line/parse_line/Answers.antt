@@ -11,7 +11,8 @@ returns-in_err-command-clause-fault c =
     let names = map {A = Bor (List ℕ)} {B = List ℕ} (λ n. n.now) c.args.names.now in
     let line = words_in c.args.line.now in
     let first : line ≡ c.in-Some.name.now ∷ c.take.new.self = search rules in
-    let begins : BeginsWith names line c.in-Some-user_named.user c.take.new.self = record { name = c.in-Some.name.now; first = first; named = search rules } in
+    let begins : BeginsWith names line c.in-Some-user_named.user c.take.new.self =
+    record { name = c.in-Some.name.now; first = first; named = search rules } in
     let all : (f : LineFault) → c.in_err-command.field-0.0 ≡ Faulty f → IsLineFault names line f =
     λ f told. line_refused names line _ _ f begins (c.in_err-command.ensures.fault f told) in
     search rules

@@ -9,8 +9,10 @@ pub loop-rest-preserved-then-is_passed_over : goal.loop-rest-preserved-then-is_p
 loop-rest-preserved-then-is_passed_over c =
     let inv = c.loop-rest.invariant in
     let rest = c.loop-rest.rest.now in
-    let some : 0 < length rest = search rules in
-    (read_past _ _ rest _ _ _ inv.0 some (search rules) c.split_line.ensures.rest, omega (arith, inv.1, c.split_line.ensures.shorter some))
+    let some : 0 < length rest = search rules in (
+      read_past _ _ rest _ _ _ inv.0 some (search rules) c.split_line.ensures.rest,
+      omega (arith, inv.1, c.split_line.ensures.shorter some),
+    )
 
 pub loop-rest-preserved : goal.loop-rest-preserved
 loop-rest-preserved c =
