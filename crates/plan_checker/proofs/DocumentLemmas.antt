@@ -1,6 +1,9 @@
--- Data and the values that it spells.
-use Rattle.std.proofs.Common.{◌≡◌, ◌<◌, ◌+◌, ◌++◌, ℕ, suc, List, [], ◌∷◌, map, take, length, get_or, codes, Some, Result, Ok, Err, All, Vec, Global, subst, zero, refl, ap, sym, ◌∙◌, arith}
-use Rattle.toml.specs.Data.{Data, string, integer, float, boolean, datetime, array, table, Items, no_items, item, Members, no_members, member, get_member, get_item, push_item, as_array}
+-- Data of a TOML document and the plans that it spells: the contracts of `read_plan`, of the readers of a plan's
+-- parts, and of `list_of`.
+use Rattle.std.proofs.Common.{◌≡◌, ◌<◌, ◌+◌, ◌++◌, ℕ, suc, List, [], ◌∷◌, map, take, length, get_or, codes}
+use Rattle.std.proofs.Common.{Some, Result, Ok, Err, All, Vec, Global, subst, zero, refl, ap, sym, ◌∙◌, arith}
+use Rattle.toml.specs.Data.{Data, string, integer, float, boolean, datetime, array, table, Items, no_items}
+use Rattle.toml.specs.Data.{item, Members, no_members, member, get_member, get_item, push_item, as_array}
 use Rattle.toml.specs.View.{view, items_of, items_view}
 use Rattle.toml.specs.declared.value.Value.{Value}
 use Rattle.toml.proofs.Views.{items_view-push, get_item_within}
@@ -8,14 +11,19 @@ use Rattle.plan_checker.specs.Fields.{keys_of}
 use Rattle.plan_rules.specs.Data.{DomainData}
 use Rattle.plan_checker.specs.Document.{ReadsValue, list, document, IsDocument, ReadsDocument, ReadsPlan}
 use Rattle.plan_rules.specs.declared.fault.PlanFault.{PlanFault}
-use Rattle.plan_rules.specs.declared.fault.PlanFault.TheVariants.{Text, Shape, DomainCount, Name, NameTwice, Range, SharedPort, NodeCount, Memory, Port, PortTwice, HostCount, UnwiredNode, Limit, NoMemory, RangeCount, UserCount}
+use Rattle.plan_rules.specs.declared.fault.PlanFault.TheVariants.{Text, Shape, DomainCount, Name, NameTwice}
+use Rattle.plan_rules.specs.declared.fault.PlanFault.TheVariants.{Range, SharedPort, NodeCount, Memory}
+use Rattle.plan_rules.specs.declared.fault.PlanFault.TheVariants.{Port, PortTwice, HostCount, UnwiredNode}
+use Rattle.plan_rules.specs.declared.fault.PlanFault.TheVariants.{Limit, NoMemory, RangeCount, UserCount}
 use Rattle.std.proofs.lemmas.List.{take_more}
 
-pub items_of-push : {X : Type 0} (f : X → Data) (xs : List X) (x : X) → items_of (map f (xs ++ x ∷ [])) ≡ push_item (items_of (map f xs)) (f x)
+-- the data of a list with x behind it is the data of the list with that of x behind it
+pub items_of-push : {X : Type 0} (f : X → Data) (xs : List X) (x : X)
+    → items_of (map f (xs ++ x ∷ [])) ≡ push_item (items_of (map f xs)) (f x)
 items_of-push f [] x = refl
 items_of-push f (y ∷ xs) x = ap (item (f y)) (items_of-push f xs x)
 
--- one more value that spells an item
+-- if values spell the first items, and the next one spells x, they spell one item more
 pub spells_more : {X : Type 0} (f : X → Data) (vs : List Value) (i : ℕ) (d : Value) (xs : List X) (x : X)
     → i < length vs → d ≡ get_or vs i d → view d ≡ f x → items_view (take i vs) ≡ items_of (map f xs)
     → items_view (take (i + 1) vs) ≡ items_of (map f (xs ++ x ∷ []))
@@ -24,22 +32,26 @@ spells_more f vs i d xs x within at_i here so_far =
     rw (take_more vs i d within, items_view-push, items_of-push, so_far, here')
 
 -- a place of a list that holds x
-get_item-map : {X : Type 0} (f : X → Data) (xs : List X) (i : ℕ) (e : Data) → Some e ≡ get_item i (items_of (map f xs)) → (x : X) × (i < length xs) × (get_or xs i x ≡ x) × (e ≡ f x)
+get_item-map : {X : Type 0} (f : X → Data) (xs : List X) (i : ℕ) (e : Data) → Some e ≡ get_item i (items_of (map f xs))
+    → (x : X) × (i < length xs) × (get_or xs i x ≡ x) × (e ≡ f x)
 get_item-map f [] i e h = cc
 get_item-map f (x ∷ xs) zero e h = (x, omega arith, refl, cc)
 get_item-map f (x ∷ xs) (suc i) e h =
     let found = get_item-map f xs i e h in
     (found.0, omega (arith, found.1), found.2, found.3)
 
--- An array with an item that spells nothing whole is no list.
-pub refused : {X : Type 0} (Whole : X → Type 0) (f : X → Data) (vs : List Value) (i : ℕ) (d : Value) → i < length vs → d ≡ get_or vs i d
-    → ((x : X) → Whole x → ¬ (view d ≡ f x))
-    → (xs : List X) → All Whole xs → ¬ (array (items_view vs) ≡ list f xs)
+-- an array with an item that spells nothing whole is no list
+pub refused : {X : Type 0} (Whole : X → Type 0) (f : X → Data) (vs : List Value) (i : ℕ) (d : Value)
+    → i < length vs → d ≡ get_or vs i d → ((x : X) → Whole x → ¬ (view d ≡ f x)) → (xs : List X) → All Whole xs
+    → ¬ (array (items_view vs) ≡ list f xs)
 refused Whole f vs i d within at_i none xs whole e =
     let same : items_view vs ≡ items_of (map f xs) = cc in
-    let found = get_item-map f xs i (view d) (ap (λ v. Some (view v)) at_i ∙ get_item_within vs i d within ∙ ap (get_item i) same) in
+    let found =
+    get_item-map f xs i (view d)
+    (ap (λ v. Some (view v)) at_i ∙ get_item_within vs i d within ∙ ap (get_item i) same) in
     none found.0 (subst Whole found.2 (whole i found.0 found.1)) found.3
 
+-- data whose items were read as those of an array is that array
 pub array_is : (d : Data) (items : Items) → Some items ≡ as_array d → d ≡ array items
 array_is (string s) items h = cc
 array_is (integer z) items h = cc
@@ -50,10 +62,13 @@ array_is (array ds) items h = cc
 array_is (table ms) items h = cc
 
 -- the fault of an item is that of the list
-pub list_fault : {X : Type 0} (Whole : X → Type 0) (f : X → Data) (value : Data) (vs : List Value) (i : ℕ) (d : Value) (e : PlanFault)
-    → value ≡ array (items_view vs) → i < length vs → d ≡ get_or vs i d → ReadsValue {X = X} Whole f (λ x. x) (view d) (Err e)
+pub list_fault : {X : Type 0} (Whole : X → Type 0) (f : X → Data) (value : Data) (vs : List Value)
+    (i : ℕ) (d : Value) (e : PlanFault)
+    → value ≡ array (items_view vs) → i < length vs → d ≡ get_or vs i d
+    → ReadsValue {X = X} Whole f (λ x. x) (view d) (Err e)
     → ReadsValue {X = Vec X Global} (All Whole) (list f) (λ v. v.items) value (Err e)
-list_fault Whole f value vs i d Shape is within at_i h = λ xs whole. rw is (refused Whole f vs i d within at_i h xs whole)
+list_fault Whole f value vs i d Shape is within at_i h =
+    λ xs whole. rw is (refused Whole f vs i d within at_i h xs whole)
 list_fault Whole f value vs i d NoMemory is within at_i h = tt
 list_fault Whole f value vs i d Text is within at_i h = h
 list_fault Whole f value vs i d DomainCount is within at_i h = h
@@ -84,11 +99,12 @@ items_in (array ds) = ds
 items_in _ = no_items
 
 -- one list of data has one length
-pub same_length : {X : Type 0} (f : X → Data) (value : Data) (xs ys : List X) → value ≡ list f xs → value ≡ list f ys → length xs ≡ length ys
+pub same_length : {X : Type 0} (f : X → Data) (value : Data) (xs ys : List X) → value ≡ list f xs → value ≡ list f ys
+    → length xs ≡ length ys
 same_length f value xs ys a b =
     sym (count_items-map f xs) ∙ ap (λ d. count_items (items_in d)) (sym a ∙ b) ∙ count_items-map f ys
 
--- the fields of a node
+-- a table with just the keys of a node has just these two values
 pub node_fields : (ms : Members) (links memory : Data)
     → keys_of ms ≡ codes "links" ∷ codes "memory" ∷ []
     → get_member (codes "links") ms ≡ Some links
@@ -102,7 +118,7 @@ node_fields (member a s (member b t no_members)) links memory keys h1 h2 =
     cc
 node_fields _ links memory keys h1 h2 = cc
 
--- the fields of a user
+-- a table with just the keys of a user has just these two values
 pub user_fields : (ms : Members) (host name : Data)
     → keys_of ms ≡ codes "host" ∷ codes "name" ∷ []
     → get_member (codes "host") ms ≡ Some host
@@ -116,17 +132,19 @@ user_fields (member a s (member b t no_members)) host name keys h1 h2 =
     cc
 user_fields _ host name keys h1 h2 = cc
 
--- the fields of a domain in version 1
+-- a table with just the keys of a domain in version 1 has just these six values
 pub one_range_fields : (ms : Members) (first host last limit name node : Data)
     → keys_of ms ≡ codes "first" ∷ codes "host" ∷ codes "last" ∷ codes "limit" ∷ codes "name" ∷ codes "node" ∷ []
-    → get_member (codes "first") ms ≡ Some first
-    → get_member (codes "host") ms ≡ Some host
-    → get_member (codes "last") ms ≡ Some last
-    → get_member (codes "limit") ms ≡ Some limit
-    → get_member (codes "name") ms ≡ Some name
-    → get_member (codes "node") ms ≡ Some node
-    → ms ≡ member (codes "first") first (member (codes "host") host (member (codes "last") last (member (codes "limit") limit (member (codes "name") name (member (codes "node") node no_members)))))
-one_range_fields (member a s (member b t (member c u (member d v (member e w (member f x no_members)))))) first host last limit name node keys h1 h2 h3 h4 h5 h6 =
+    → get_member (codes "first") ms ≡ Some first → get_member (codes "host") ms ≡ Some host
+    → get_member (codes "last") ms ≡ Some last → get_member (codes "limit") ms ≡ Some limit
+    → get_member (codes "name") ms ≡ Some name → get_member (codes "node") ms ≡ Some node
+    → ms
+    ≡ member (codes "first") first
+    (member (codes "host") host
+    (member (codes "last") last
+    (member (codes "limit") limit (member (codes "name") name (member (codes "node") node no_members)))))
+one_range_fields (member a s (member b t (member c u (member d v (member e w (member f x no_members)))))) first host
+    last limit name node keys h1 h2 h3 h4 h5 h6 =
     let ka : a ≡ codes "first" = cc in
     let kb : b ≡ codes "host" = cc in
     let kc : c ≡ codes "last" = cc in
@@ -142,16 +160,18 @@ one_range_fields (member a s (member b t (member c u (member d v (member e w (me
     cc
 one_range_fields _ first host last limit name node keys h1 h2 h3 h4 h5 h6 = cc
 
--- the fields of a domain in version 2
+-- a table with just the keys of a domain in version 2 has just these five values
 pub one_user_fields : (ms : Members) (host limit name node range : Data)
     → keys_of ms ≡ codes "host" ∷ codes "limit" ∷ codes "name" ∷ codes "node" ∷ codes "range" ∷ []
-    → get_member (codes "host") ms ≡ Some host
-    → get_member (codes "limit") ms ≡ Some limit
-    → get_member (codes "name") ms ≡ Some name
-    → get_member (codes "node") ms ≡ Some node
+    → get_member (codes "host") ms ≡ Some host → get_member (codes "limit") ms ≡ Some limit
+    → get_member (codes "name") ms ≡ Some name → get_member (codes "node") ms ≡ Some node
     → get_member (codes "range") ms ≡ Some range
-    → ms ≡ member (codes "host") host (member (codes "limit") limit (member (codes "name") name (member (codes "node") node (member (codes "range") range no_members))))
-one_user_fields (member a s (member b t (member c u (member d v (member e w no_members))))) host limit name node range keys h1 h2 h3 h4 h5 =
+    → ms
+    ≡ member (codes "host") host
+    (member (codes "limit") limit
+    (member (codes "name") name (member (codes "node") node (member (codes "range") range no_members))))
+one_user_fields (member a s (member b t (member c u (member d v (member e w no_members))))) host limit name node
+    range keys h1 h2 h3 h4 h5 =
     let ka : a ≡ codes "host" = cc in
     let kb : b ≡ codes "limit" = cc in
     let kc : c ≡ codes "name" = cc in
@@ -165,14 +185,14 @@ one_user_fields (member a s (member b t (member c u (member d v (member e w no_m
     cc
 one_user_fields _ host limit name node range keys h1 h2 h3 h4 h5 = cc
 
--- the fields of a domain in version 3
+-- a table with just the keys of a domain in version 3 has just these four values
 pub users_fields : (ms : Members) (limit node range user : Data)
     → keys_of ms ≡ codes "limit" ∷ codes "node" ∷ codes "range" ∷ codes "user" ∷ []
-    → get_member (codes "limit") ms ≡ Some limit
-    → get_member (codes "node") ms ≡ Some node
-    → get_member (codes "range") ms ≡ Some range
-    → get_member (codes "user") ms ≡ Some user
-    → ms ≡ member (codes "limit") limit (member (codes "node") node (member (codes "range") range (member (codes "user") user no_members)))
+    → get_member (codes "limit") ms ≡ Some limit → get_member (codes "node") ms ≡ Some node
+    → get_member (codes "range") ms ≡ Some range → get_member (codes "user") ms ≡ Some user
+    → ms
+    ≡ member (codes "limit") limit
+    (member (codes "node") node (member (codes "range") range (member (codes "user") user no_members)))
 users_fields (member a s (member b t (member c u (member d v no_members)))) limit node range user keys h1 h2 h3 h4 =
     let ka : a ≡ codes "limit" = cc in
     let kb : b ≡ codes "node" = cc in
@@ -185,7 +205,7 @@ users_fields (member a s (member b t (member c u (member d v no_members)))) limi
     cc
 users_fields _ limit node range user keys h1 h2 h3 h4 = cc
 
--- the fields of a document
+-- a table with just the keys of a document has just these two values
 pub document_fields : (ms : Members) (domain version : Data)
     → keys_of ms ≡ codes "domain" ∷ codes "version" ∷ []
     → get_member (codes "domain") ms ≡ Some domain
@@ -200,10 +220,15 @@ document_fields (member a s (member b t no_members)) domain version keys h1 h2 =
 document_fields _ domain version keys h1 h2 = cc
 
 -- what the reader of a document says of the bytes that write it
-pub reads_document : (bytes : List ℕ) (ms : Members) (r : Result (List DomainData) PlanFault) → IsDocument bytes ms → ReadsDocument ms r → ReadsPlan bytes r
+pub reads_document : (bytes : List ℕ) (ms : Members) (r : Result (List DomainData) PlanFault)
+    → IsDocument bytes ms → ReadsDocument ms r
+    → ReadsPlan bytes r
 reads_document bytes ms (Ok plan) is h = (h.0, (is.0, is.1 ∙ ap Some h.1.0), h.1.1)
-reads_document bytes ms (Err Shape) is h =
-    ((ms, is), λ plan given. let same : Some ms ≡ Some (document given.0 plan) = sym is.1 ∙ given.1.1 in h given.0 plan (cc, given.2))
+reads_document bytes ms (Err Shape) is h = (
+  (ms, is),
+  λ plan given. let same : Some ms ≡ Some (document given.0 plan) = sym is.1 ∙ given.1.1 in
+      h given.0 plan (cc, given.2),
+)
 reads_document bytes ms (Err NoMemory) is h = tt
 reads_document bytes ms (Err Text) is h = absurd h
 reads_document bytes ms (Err DomainCount) is h = absurd h
@@ -221,14 +246,18 @@ reads_document bytes ms (Err Limit) is h = absurd h
 reads_document bytes ms (Err RangeCount) is h = absurd h
 reads_document bytes ms (Err UserCount) is h = absurd h
 
--- A part of a value that has a fault gives the value that fault.
-pub part_fault : {X Y Z W D E : Type 0} (Part : Y → Type 0) (f : Y → D) (shown : X → Y) (Whole : Z → Type 0) (g : Z → E) (seen : W → Z) (v : D) (w : E) (e : PlanFault) (of : Z → Y)
+-- a part of a value that has a fault gives the value that fault
+pub part_fault : {X Y Z W D E : Type 0} (Part : Y → Type 0) (f : Y → D) (shown : X → Y) (Whole : Z → Type 0)
+    (g : Z → E) (seen : W → Z) (v : D) (w : E) (e : PlanFault) (of : Z → Y)
     → ((z : Z) → Whole z → w ≡ g z → (v ≡ f (of z)) × Part (of z))
     → ReadsValue {X = X} Part f shown v (Err e) → ReadsValue {X = W} Whole g seen w (Err e)
-part_fault Part f shown Whole g seen v w Shape of taken h = λ z whole is. h (of z) (taken z whole is).1 (taken z whole is).0
+part_fault Part f shown Whole g seen v w Shape of taken h =
+    λ z whole is. h (of z) (taken z whole is).1 (taken z whole is).0
 part_fault Part f shown Whole g seen v w NoMemory of taken h = tt
 part_fault Part f shown Whole g seen v w _ of taken h = absurd h
 
 -- the value of a field, in a table that is written in two ways
-pub at_field : (value : Data) (ms ns : Members) (key : List ℕ) (v w : Data) → value ≡ table ms → value ≡ table ns → get_member key ms ≡ Some v → get_member key ns ≡ Some w → v ≡ w
+pub at_field : (value : Data) (ms ns : Members) (key : List ℕ) (v w : Data)
+    → value ≡ table ms → value ≡ table ns → get_member key ms ≡ Some v → get_member key ns ≡ Some w
+    → v ≡ w
 at_field value ms ns key v w first second at_ms at_ns = cc

@@ -17,8 +17,14 @@ returns-in_err-table c =
 pub returns-in_err-nodes : goal.returns-in_err-nodes
 returns-in_err-nodes c =
     let p = err_from_is_err_and c.from_residual-in_err-nodes.result c.from_residual-in_err-nodes.ensures.1 in
-    rw (p.1, p.2) (part_fault {X = Vec NodePlan Global} (All HasFourLinks) (list node) (λ v. v.items) (IsWhole One) (domain One) (λ d. d) _ _ _ (λ (d : DomainData). d.nodes)
-    (λ d whole e. (at_field _ _ _ (codes "node") _ _ c.in_ok-table.ensures.0 e c.in_ok-value_at-6.ensures refl, whole.1)) c.in_err-nodes.ensures)
+    rw (p.1, p.2)
+    (part_fault {X = Vec NodePlan Global} (All HasFourLinks) (list node) (λ v. v.items) (IsWhole One) (domain One)
+    (λ d. d) _ _ _ (λ (d : DomainData). d.nodes)
+    (λ d whole e. (
+      at_field _ _ _ (codes "node") _ _ c.in_ok-table.ensures.0 e c.in_ok-value_at-6.ensures refl,
+      whole.1,
+    ))
+    c.in_err-nodes.ensures)
 
 pub returns : goal.returns
 returns c =
@@ -32,5 +38,11 @@ returns c =
     (c.in_ok-value_at-4.ensures ∙ ap Some c.in_ok-limit.ensures.0)
     (c.in_ok-value_at-5.ensures ∙ ap Some c.in_ok-name.ensures.0)
     (c.in_ok-value_at-6.ensures ∙ ap Some c.in_ok-nodes.ensures.0) in
-    rw (c.in_ok-users.ensures, c.in_ok-ranges.ensures, to_z-of_z w64 _ first, to_z-of_z w64 _ last, to_z-of_z w64 _ limit)
+    rw (
+      c.in_ok-users.ensures,
+      c.in_ok-ranges.ensures,
+      to_z-of_z w64 _ first,
+      to_z-of_z w64 _ last,
+      to_z-of_z w64 _ limit,
+    )
     (c.in_ok-table.ensures.0 ∙ ap table fields, ((refl, refl), c.in_ok-nodes.ensures.1))

@@ -18,14 +18,26 @@ returns-in_err-table c =
 pub returns-in_err-nodes : goal.returns-in_err-nodes
 returns-in_err-nodes c =
     let p = err_from_is_err_and c.from_residual-in_err-nodes.result c.from_residual-in_err-nodes.ensures.1 in
-    rw (p.1, p.2) (part_fault {X = Vec NodePlan Global} (All HasFourLinks) (list node) (λ v. v.items) (IsWhole Two) (domain Two) (λ d. d) _ _ _ (λ (d : DomainData). d.nodes)
-    (λ d whole e. (at_field _ _ _ (codes "node") _ _ c.in_ok-table.ensures.0 e c.in_ok-value_at-4.ensures refl, whole.1)) c.in_err-nodes.ensures)
+    rw (p.1, p.2)
+    (part_fault {X = Vec NodePlan Global} (All HasFourLinks) (list node) (λ v. v.items) (IsWhole Two) (domain Two)
+    (λ d. d) _ _ _ (λ (d : DomainData). d.nodes)
+    (λ d whole e. (
+      at_field _ _ _ (codes "node") _ _ c.in_ok-table.ensures.0 e c.in_ok-value_at-4.ensures refl,
+      whole.1,
+    ))
+    c.in_err-nodes.ensures)
 
 pub returns-in_err-ranges : goal.returns-in_err-ranges
 returns-in_err-ranges c =
     let p = err_from_is_err_and c.from_residual-in_err-ranges.result c.from_residual-in_err-ranges.ensures.1 in
-    rw (p.1, p.2) (part_fault {X = Vec RangePlan Global} (All (λ _. Unit {0})) (list range) (λ v. v.items) (IsWhole Two) (domain Two) (λ d. d) _ _ _ (λ (d : DomainData). d.ranges)
-    (λ d whole e. (at_field _ _ _ (codes "range") _ _ c.in_ok-table.ensures.0 e c.in_ok-value_at-5.ensures refl, (λ _ _ _. tt))) c.in_err-ranges.ensures)
+    rw (p.1, p.2)
+    (part_fault {X = Vec RangePlan Global} (All (λ _. Unit {0})) (list range) (λ v. v.items) (IsWhole Two) (domain Two)
+    (λ d. d) _ _ _ (λ (d : DomainData). d.ranges)
+    (λ d whole e. (
+      at_field _ _ _ (codes "range") _ _ c.in_ok-table.ensures.0 e c.in_ok-value_at-5.ensures refl,
+      (λ _ _ _. tt),
+    ))
+    c.in_err-ranges.ensures)
 
 pub returns : goal.returns
 returns c =

@@ -9,12 +9,20 @@ pub returns-in_err-from_value : goal.returns-in_err-from_value
 returns-in_err-from_value g c =
     let p = err_from_is_err_and c.from_residual-in_err-from_value.result c.from_residual-in_err-from_value.ensures.1 in
     let found : c.as_array.result ≡ Some c.in_ok-array.array = search rules in
-    let is = array_is (view c.args.value.now) (items_view c.deref-value-items.result.now) (rw c.deref-value-items.ensures.value (rw found at c.as_array.ensures)) in
-    rw (p.1, p.2) (list_fault (g.T.FromValue.is_whole c.args.version) (g.T.FromValue.spelling c.args.version) (view c.args.value.now) c.deref-value-items.result.now c.loop-value.value-index c.value-item.result c.in_err-from_value.field-0.0 is (omega arith) c.value-item.is c.in_err-from_value.ensures)
+    let is =
+    array_is (view c.args.value.now) (items_view c.deref-value-items.result.now)
+    (rw c.deref-value-items.ensures.value (rw found at c.as_array.ensures)) in
+    rw (p.1, p.2)
+    (list_fault (g.T.FromValue.is_whole c.args.version) (g.T.FromValue.spelling c.args.version) (view c.args.value.now)
+    c.deref-value-items.result.now c.loop-value.value-index c.value-item.result c.in_err-from_value.field-0.0 is
+    (omega arith) c.value-item.is c.in_err-from_value.ensures)
 
 pub loop-value-preserved : goal.loop-value-preserved
 loop-value-preserved g c =
     rw c.in_ok-push.ensures.items (
-      spells_more (g.T.FromValue.spelling c.args.version) c.deref-value-items.result.now c.loop-value.value-index c.value-item.result c.loop-value.items.items c.in_ok-from_value.field-0 (omega arith) c.value-item.is c.in_ok-from_value.ensures.0 c.loop-value.invariant.0,
-      All-push (g.T.FromValue.is_whole c.args.version) c.loop-value.items.items c.in_ok-from_value.field-0 c.loop-value.invariant.1 c.in_ok-from_value.ensures.1,
+      spells_more (g.T.FromValue.spelling c.args.version) c.deref-value-items.result.now c.loop-value.value-index
+          c.value-item.result c.loop-value.items.items c.in_ok-from_value.field-0 (omega arith) c.value-item.is
+          c.in_ok-from_value.ensures.0 c.loop-value.invariant.0,
+      All-push (g.T.FromValue.is_whole c.args.version) c.loop-value.items.items c.in_ok-from_value.field-0
+          c.loop-value.invariant.1 c.in_ok-from_value.ensures.1,
     )
