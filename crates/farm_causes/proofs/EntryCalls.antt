@@ -1,14 +1,16 @@
--- A moment that goes on by the calls for which entries of a journal stand.
-use Rattle.std.specs.Prelude.{◌≡◌, ◌+◌, ◌-◌, ◌<◌, ◌≤◌, take, ◌++◌, ◌∷◌, [], ℕ, zero, suc, List, length, map, replicate}
+-- A moment that goes on by the calls for which entries of a journal stand: the contract of `Follower::follow_entries`,
+-- and those of the calls that it makes.
+use Rattle.std.specs.Prelude.{◌≡◌, ◌+◌, ◌-◌, ◌<◌, ◌≤◌, take, ◌++◌, ◌∷◌, [], ℕ, zero, suc, List, length, replicate}
 use Rattle.std.proofs.Common.{refl, ap, sym, subst, ◌∙◌, arith, get_or, append_assoc}
-use Rattle.std.proofs.lemmas.List.{replicate_more, length-replicate, length-append, length-take, map-append, take_more, append-nil, take_all, take-replicate}
+use Rattle.std.proofs.lemmas.List.{replicate_more, length-replicate, length-append, length-take}
+use Rattle.std.proofs.lemmas.List.{map-append, take_more, append-nil, take_all, take-replicate}
 use Rattle.t414_step.specs.declared.stepping.Stepped.{Stepped}
 use Rattle.t414_step.specs.declared.stepping.Stepped.TheVariants.{Ran}
 use Rattle.plan_rules.specs.Part.{PartData}
 use Rattle.domain_core.specs.declared.event.By.{By}
 use Rattle.domain_core.specs.declared.event.Event.TheVariants.{Step}
 use Rattle.domain_core.specs.declared.journal.Entry.{Entry}
-use Rattle.domain_core.specs.declared.journal.Entry.TheVariants.{One, Run}
+use Rattle.domain_core.specs.declared.journal.Entry.TheVariants.{Run}
 use Rattle.domain_core.specs.Journal.{AnsweredCall, answered_step, calls_of, expanded, steps, IsHistory}
 use Rattle.domain_core.specs.Laws.{JournalsAddUp}
 use Rattle.domain_core.specs.Moments.{MomentValue, state_at}
@@ -25,7 +27,9 @@ stays m = record {
   follows = record {
     gain = [];
     calls_are = refl;
-    leads = λ history of. subst (λ (h : List AnsweredCall). IsHistory m.machine.part h (state_at m)) (sym (append-nil history)) of;
+    leads =
+        λ history of. subst (λ (h : List AnsweredCall). IsHistory m.machine.part h (state_at m))
+        (sym (append-nil history)) of;
     recorded_is = omega arith;
   };
 }
@@ -34,7 +38,7 @@ stays m = record {
 pub stays_by : (m : MomentValue) (calls : List Call) → calls ≡ [] → MovesOn m calls m
 stays_by m calls none = subst (λ (cs : List Call). MovesOn m cs m) (sym none) (stays m)
 
--- some calls, and then others
+-- a moment that goes on by some calls, and then by others, goes on by all of them
 pub moves_twice : (a b c : MomentValue) (xs ys : List Call) → MovesOn a xs b → MovesOn b ys c → MovesOn a (xs ++ ys) c
 moves_twice a b c xs ys one two =
     let first : FollowsCalls a.machine.part (state_at a) xs (state_at b) = one.follows in
@@ -49,14 +53,17 @@ moves_twice a b c xs ys one two =
             ∙ (ap (λ cs. cs ++ calls_of second.gain) first.calls_are ∙ ap (λ cs. xs ++ cs) second.calls_are);
         leads =
             λ history of.
-            subst (λ (h : List AnsweredCall). IsHistory a.machine.part h (state_at c)) (append_assoc history first.gain second.gain)
+            subst (λ (h : List AnsweredCall). IsHistory a.machine.part h (state_at c))
+            (append_assoc history first.gain second.gain)
             (second.leads (history ++ first.gain) (first.leads history of));
         recorded_is = omega (arith, first.recorded_is, second.recorded_is, length-append xs ys);
       };
     }
 
--- so many alike, and one more
-pub moves_more : (a b c : MomentValue) (before count : ℕ) (call : Call) → before + 1 ≡ count → MovesOn a (replicate before call) b → MovesOn b (call ∷ []) c → MovesOn a (replicate count call) c
+-- a moment that goes on by so many calls that are alike, and then by one more, goes on by one more of them
+pub moves_more : (a b c : MomentValue) (before count : ℕ) (call : Call)
+    → before + 1 ≡ count → MovesOn a (replicate before call) b → MovesOn b (call ∷ []) c
+    → MovesOn a (replicate count call) c
 moves_more a b c before count call is one two =
     subst (λ (calls : List Call). MovesOn a calls c) (replicate_more before call ∙ ap (λ n. replicate n call) is)
     (moves_twice a b c (replicate before call) (call ∷ []) one two)
@@ -64,49 +71,62 @@ moves_more a b c before count call is one two =
 -- ---- an entry
 
 -- the calls of a run are alike
-run_calls : (by : By) (node count : ℕ) (last : Stepped) → calls_of (steps by node count last) ≡ replicate count (record { by = by; event = Step node })
+run_calls : (by : By) (node count : ℕ) (last : Stepped)
+    → calls_of (steps by node count last) ≡ replicate count (record { by = by; event = Step node })
 run_calls by node zero last = refl
 run_calls by node (suc more) last =
     let call : Call = record { by = by; event = Step node } in
-    map-append (λ (it : AnsweredCall). it.call) (replicate more (answered_step by node Ran)) (answered_step by node last ∷ [])
+    map-append (λ (it : AnsweredCall). it.call) (replicate more (answered_step by node Ran))
+    (answered_step by node last ∷ [])
     ∙ (ap (λ (calls : List Call). calls ++ call ∷ []) (alike_calls more (answered_step by node Ran))
     ∙ (replicate_more more call ∙ ap (λ n. replicate n call) (one_more more)))
 
--- those of an entry that is a run
-pub run_entry : (by : By) (node count : ℕ) (last : Stepped) → entry_calls (Run by node count last ∷ []) ≡ replicate count (record { by = by; event = Step node })
+-- the calls of an entry that is a run are as many Steps of its node
+pub run_entry : (by : By) (node count : ℕ) (last : Stepped)
+    → entry_calls (Run by node count last ∷ []) ≡ replicate count (record { by = by; event = Step node })
 run_entry by node count last = ap calls_of (append-nil (steps by node count last)) ∙ run_calls by node count last
 
--- a run that is cut ran up to there
-pub run_cut : (by : By) (node count most : ℕ) (last : Stepped) → most < count → entry_calls (Run by node most Ran ∷ []) ≡ take most (entry_calls (Run by node count last ∷ []))
+-- the first calls of a run are those of a shorter run, all of which ran
+pub run_cut : (by : By) (node count most : ℕ) (last : Stepped) → most < count
+    → entry_calls (Run by node most Ran ∷ []) ≡ take most (entry_calls (Run by node count last ∷ []))
 run_cut by node count most last less =
     let call : Call = record { by = by; event = Step node } in
     run_entry by node most Ran
     ∙ sym (ap (take most) (run_entry by node count last) ∙ take-replicate most count call (omega (arith, less)))
 
--- a run of no more Steps isn't cut
-pub run_whole : (by : By) (node count most : ℕ) (last : Stepped) → count ≤ most → entry_calls (Run by node count last ∷ []) ≡ take most (entry_calls (Run by node count last ∷ []))
+-- if a run has no more Steps than are asked, its first calls are all of its calls
+pub run_whole : (by : By) (node count most : ℕ) (last : Stepped) → count ≤ most
+    → entry_calls (Run by node count last ∷ []) ≡ take most (entry_calls (Run by node count last ∷ []))
 run_whole by node count most last few =
     let call : Call = record { by = by; event = Step node } in
-    let long : length (entry_calls (Run by node count last ∷ [])) ≡ count = ap length (run_entry by node count last) ∙ length-replicate count call in
+    let long : length (entry_calls (Run by node count last ∷ [])) ≡ count =
+    ap length (run_entry by node count last) ∙ length-replicate count call in
     sym (take_all most (entry_calls (Run by node count last ∷ [])) (omega (arith, few, long)))
 
--- a call isn't cut
+-- the first calls of one call are that call, if any are asked
 pub one_whole : (most : ℕ) (call : Call) → 0 < most → call ∷ [] ≡ take most (call ∷ [])
 one_whole most call some = sym (take_all most (call ∷ []) (omega (arith, some)))
 
 -- a moment that goes on by a run goes on by the calls of its entry
-pub moves_run : (a b : MomentValue) (by : By) (node count : ℕ) (last : Stepped) → MovesOn a (replicate count (record { by = by; event = Step node })) b → MovesOn a (entry_calls (Run by node count last ∷ [])) b
-moves_run a b by node count last on = subst (λ (calls : List Call). MovesOn a calls b) (sym (run_entry by node count last)) on
+pub moves_run : (a b : MomentValue) (by : By) (node count : ℕ) (last : Stepped)
+    → MovesOn a (replicate count (record { by = by; event = Step node })) b
+    → MovesOn a (entry_calls (Run by node count last ∷ [])) b
+moves_run a b by node count last on =
+    subst (λ (calls : List Call). MovesOn a calls b) (sym (run_entry by node count last)) on
 
 -- ---- calls up to so many events
 
--- there are none
-pub none_before : (m : MomentValue) (most : ℕ) (calls : List Call) → most - m.recorded ≡ 0 → MovesOn m (calls_before most m calls) m
+-- if so many events are recorded already, no call comes before, and the moment stays
+pub none_before : (m : MomentValue) (most : ℕ) (calls : List Call) → most - m.recorded ≡ 0
+    → MovesOn m (calls_before most m calls) m
 none_before m most calls none = stays_by m (calls_before most m calls) (ap (λ k. take k calls) none)
 
--- these are they
-pub moves_before : (a b : MomentValue) (most left : ℕ) (some calls : List Call) → left ≡ most - a.recorded → some ≡ take left calls → MovesOn a some b → MovesOn a (calls_before most a calls) b
-moves_before a b most left some calls is first on = subst (λ (cs : List Call). MovesOn a cs b) (first ∙ ap (λ k. take k calls) is) on
+-- a moment that goes on by the first calls, as many as are left to that event, goes on up to it
+pub moves_before : (a b : MomentValue) (most left : ℕ) (some calls : List Call)
+    → left ≡ most - a.recorded → some ≡ take left calls → MovesOn a some b
+    → MovesOn a (calls_before most a calls) b
+moves_before a b most left some calls is first on =
+    subst (λ (cs : List Call). MovesOn a cs b) (first ∙ ap (λ k. take k calls) is) on
 
 -- ---- entries
 
@@ -122,9 +142,11 @@ take_twice (suc n) (x ∷ xs) ys =
     let less : suc n - length (x ∷ xs) ≡ n - length xs = omega arith in
     ap (λ (calls : List Call). x ∷ calls) (take_twice n xs ys) ∙ ap (λ (k : ℕ). x ∷ (take n xs ++ take k ys)) (sym less)
 
--- one entry more was followed
-pub one_entry : JournalsAddUp → (entries : List Entry) (i : ℕ) (d : Entry) (most : ℕ) (f g h : MomentValue) → i < length entries
-    → MovesOn f (calls_before most f (entry_calls (take i entries))) g → MovesOn g (calls_before most g (entry_calls (get_or entries i d ∷ []))) h
+-- a moment that goes on by entries up to an event, and then by the next entry, goes on by one entry more
+pub one_entry : JournalsAddUp
+    → (entries : List Entry) (i : ℕ) (d : Entry) (most : ℕ) (f g h : MomentValue) → i < length entries
+    → MovesOn f (calls_before most f (entry_calls (take i entries))) g
+    → MovesOn g (calls_before most g (entry_calls (get_or entries i d ∷ []))) h
     → MovesOn f (calls_before most f (entry_calls (take (i + 1) entries))) h
 one_entry add entries i d most f g h less one two =
     let entry : Entry = get_or entries i d in
@@ -139,4 +161,5 @@ one_entry add entries i d most f g h less one two =
     ∙ map-append (λ (it : AnsweredCall). it.call) (expanded (take i entries)) (expanded (entry ∷ []))) in
     let calls : take n xs ++ take (most - g.recorded) ys ≡ take n (entry_calls (take (i + 1) entries)) =
     ap (λ k. take n xs ++ take k ys) left ∙ (sym (take_twice n xs ys) ∙ ap (take n) (sym whole)) in
-    subst (λ (cs : List Call). MovesOn f cs h) calls (moves_twice f g h (take n xs) (take (most - g.recorded) ys) one two)
+    subst (λ (cs : List Call). MovesOn f cs h) calls
+    (moves_twice f g h (take n xs) (take (most - g.recorded) ys) one two)

@@ -1,5 +1,7 @@
--- A moment that goes on by calls.
-use Rattle.std.specs.Prelude.{◌≡◌, ◌+◌, ◌<◌, take, ◌++◌, ◌∷◌, [], ℕ, zero, suc, List, Option, Some, None, Ok, IfSome, length, map, replicate, slice_get}
+-- A moment that goes on by calls: the contracts of `Follower::open`, `follow_event`, `follow_steps` and
+-- `follow_record`, and the law `moments_go_on`.
+use Rattle.std.specs.Prelude.{◌≡◌, ◌+◌, ◌<◌, take, ◌++◌, ◌∷◌, [], ℕ, zero, suc, List, Option}
+use Rattle.std.specs.Prelude.{Some, None, Ok, IfSome, length, map, replicate, slice_get}
 use Rattle.std.proofs.Common.{refl, ap, sym, subst, ◌∙◌, arith, get_or}
 use Rattle.std.proofs.lemmas.List.{replicate_more, length-replicate, length-append, map-append, take_more, append-nil}
 use Rattle.std.proofs.lemmas.Grind.{flat_map-append}
@@ -17,10 +19,15 @@ use Rattle.domain_core.specs.PrivateFarm.{State, Answer, Call, next, opening}
 use Rattle.domain_core.specs.Ticket.{steps_told}
 use Rattle.farm_causes.specs.declared.line.RecordedLine.{RecordedLine}
 use Rattle.farm_causes.specs.declared.line.SaidCall.{SaidCall}
-use Rattle.farm_causes.specs.Following.{calls_said, all_said, entry_calls, calls_before, FollowsCalls, MovesOn, IsStateAfter, IsMomentAfter, MomentsGoOn}
+use Rattle.farm_causes.specs.Following.{calls_said, all_said, FollowsCalls}
+use Rattle.farm_causes.specs.Following.{MovesOn, IsStateAfter, IsMomentAfter, MomentsGoOn}
 
--- one call that was answered and recorded
-pub one_call : HistoriesGrow → (old new : MomentValue) (call : Call) (reply : Reply) → next old.machine.part (state_at old) call ≡ (state_at new, Ok reply) → new.machine.part ≡ old.machine.part → new.recorded ≡ old.recorded + 1 → MovesOn old (call ∷ []) new
+-- a moment that answers a call, and records it, goes on by that call
+pub one_call : HistoriesGrow
+    → (old new : MomentValue) (call : Call) (reply : Reply)
+    → next old.machine.part (state_at old) call ≡ (state_at new, Ok reply) → new.machine.part ≡ old.machine.part
+    → new.recorded ≡ old.recorded + 1
+    → MovesOn old (call ∷ []) new
 one_call grow old new call reply called part recorded =
     let one : AnsweredCall = record { call = call; reply = reply } in
     let told : (next old.machine.part (state_at old) call).1 ≡ Ok reply = ap (λ (p : State × Answer). p.1) called in
@@ -30,27 +37,35 @@ one_call grow old new call reply called part recorded =
       follows = record {
         gain = one ∷ [];
         calls_are = refl;
-        leads = λ history of. subst (λ (t : State). IsHistory old.machine.part (history ++ one ∷ []) t) left (grow old.machine.part history (state_at old) call reply of told);
+        leads =
+            λ history of. subst (λ (t : State). IsHistory old.machine.part (history ++ one ∷ []) t) left
+            (grow old.machine.part history (state_at old) call reply of told);
         recorded_is = recorded;
       };
     }
 
--- one more
+-- more + 1 is the number after more
 pub one_more : (more : ℕ) → more + 1 ≡ suc more
 one_more more = omega arith
 
 -- Steps of which the last ran all ran
 ran_told : (node count : ℕ) → steps_told node count (Some Ran) ≡ replicate count (answered_step Farm node Ran)
 ran_told node zero = refl
-ran_told node (suc more) = replicate_more more (answered_step Farm node Ran) ∙ ap (λ n. replicate n (answered_step Farm node Ran)) (one_more more)
+ran_told node (suc more) =
+    replicate_more more (answered_step Farm node Ran)
+    ∙ ap (λ n. replicate n (answered_step Farm node Ran)) (one_more more)
 
 -- the calls of alike answers are alike
 pub alike_calls : (count : ℕ) (a : AnsweredCall) → calls_of (replicate count a) ≡ replicate count a.call
 alike_calls zero a = refl
 alike_calls (suc more) a = ap (λ calls. a.call ∷ calls) (alike_calls more a)
 
--- Steps of a node that all ran, as many as were asked
-pub steps_ran : (old new : MomentValue) (node times steps : ℕ) (last : Option Stepped) → steps ≡ times → last ≡ Some Ran → LeadsOn old.machine.part (state_at old) (steps_told node steps last) (state_at new) → new.recorded ≡ old.recorded + steps → new.machine.part ≡ old.machine.part → MovesOn old (calls_said (record { times = times; by = Farm; event = Step node })) new
+-- a moment in which a node did as many Steps as were asked, and all ran, goes on by them
+pub steps_ran : (old new : MomentValue) (node times steps : ℕ) (last : Option Stepped)
+    → steps ≡ times → last ≡ Some Ran
+    → LeadsOn old.machine.part (state_at old) (steps_told node steps last) (state_at new)
+    → new.recorded ≡ old.recorded + steps → new.machine.part ≡ old.machine.part
+    → MovesOn old (calls_said (record { times = times; by = Farm; event = Step node })) new
 steps_ran old new node times steps last count ran leads recorded part =
     let call : Call = record { by = Farm; event = Step node } in
     let told : steps_told node steps last ≡ replicate times (answered_step Farm node Ran) =
@@ -66,7 +81,9 @@ steps_ran old new node times steps last count ran leads recorded part =
     }
 
 -- as it is opened, no call has come
-opened_at : (d : Option DomainData) (m : MomentValue) → IfSome d (λ d. state_at m ≡ opening (part_of d)) → IfSome d (λ d. m.machine.part ≡ part_of d) → IfSome d (λ d. (m.machine.part ≡ part_of d) × IsStateAfter (part_of d) [] (state_at m))
+opened_at : (d : Option DomainData) (m : MomentValue)
+    → IfSome d (λ d. state_at m ≡ opening (part_of d)) → IfSome d (λ d. m.machine.part ≡ part_of d)
+    → IfSome d (λ d. (m.machine.part ≡ part_of d) × IsStateAfter (part_of d) [] (state_at m))
 opened_at None m state part = tt
 opened_at (Some d) m state part = (
   part,
@@ -78,33 +95,45 @@ opened_at (Some d) m state part = (
   },
 )
 
--- the same of a domain of a plan
-pub opened : (plan : List DomainData) (number : ℕ) (m : MomentValue) → IfSome (slice_get plan number) (λ d. state_at m ≡ opening (part_of d)) → IfSome (slice_get plan number) (λ d. m.machine.part ≡ part_of d) → IsMomentAfter plan number [] m
+-- a moment that is as a domain is opened is the moment after no call
+pub opened : (plan : List DomainData) (number : ℕ) (m : MomentValue)
+    → IfSome (slice_get plan number) (λ d. state_at m ≡ opening (part_of d))
+    → IfSome (slice_get plan number) (λ d. m.machine.part ≡ part_of d)
+    → IsMomentAfter plan number [] m
 opened plan number m state part = opened_at (slice_get plan number) m state part
 
 -- a state after calls, and after others behind them
-state_on : (part : PartData) (s t : State) (xs ys : List Call) → IsStateAfter part xs s → FollowsCalls part s ys t → IsStateAfter part (xs ++ ys) t
+state_on : (part : PartData) (s t : State) (xs ys : List Call) → IsStateAfter part xs s → FollowsCalls part s ys t
+    → IsStateAfter part (xs ++ ys) t
 state_on part s t xs ys a b = record {
   history = a.history ++ b.gain;
-  calls_are = map-append (λ (it : AnsweredCall). it.call) a.history b.gain ∙ (ap (λ cs. cs ++ calls_of b.gain) a.calls_are ∙ ap (λ cs. xs ++ cs) b.calls_are);
+  calls_are =
+      map-append (λ (it : AnsweredCall). it.call) a.history b.gain
+      ∙ (ap (λ cs. cs ++ calls_of b.gain) a.calls_are ∙ ap (λ cs. xs ++ cs) b.calls_are);
   leads = b.leads a.history a.leads;
   recorded_is = omega (arith, a.recorded_is, b.recorded_is, length-append xs ys);
 }
 
 -- a moment after calls, and after others behind them
-moved_at : (d : Option DomainData) (xs ys : List Call) (f g : MomentValue) → IfSome d (λ d. (f.machine.part ≡ part_of d) × IsStateAfter (part_of d) xs (state_at f)) → MovesOn f ys g → IfSome d (λ d. (g.machine.part ≡ part_of d) × IsStateAfter (part_of d) (xs ++ ys) (state_at g))
+moved_at : (d : Option DomainData) (xs ys : List Call) (f g : MomentValue)
+    → IfSome d (λ d. (f.machine.part ≡ part_of d) × IsStateAfter (part_of d) xs (state_at f)) → MovesOn f ys g
+    → IfSome d (λ d. (g.machine.part ≡ part_of d) × IsStateAfter (part_of d) (xs ++ ys) (state_at g))
 moved_at None xs ys f g is on = tt
 moved_at (Some d) xs ys f g is on = (
   on.part ∙ is.0,
-  state_on (part_of d) (state_at f) (state_at g) xs ys is.1 (subst (λ (p : PartData). FollowsCalls p (state_at f) ys (state_at g)) is.0 on.follows),
+  state_on (part_of d) (state_at f) (state_at g) xs ys is.1
+      (subst (λ (p : PartData). FollowsCalls p (state_at f) ys (state_at g)) is.0 on.follows),
 )
 
--- the same of a domain of a plan
+-- a moment after some calls, which goes on by others, is the moment after all of them
 pub moment_on : MomentsGoOn
 moment_on plan number xs ys f g is on = moved_at (slice_get plan number) xs ys f g is on
 
--- one line more was followed
-pub one_line : (plan : List DomainData) (lines : List RecordedLine) (i : ℕ) (d : RecordedLine) (f g : MomentValue) → i < length lines → IsMomentAfter plan 0 (all_said (map (λ line. line.call) (take i lines))) f → MovesOn f (calls_said (get_or lines i d).call) g → IsMomentAfter plan 0 (all_said (map (λ line. line.call) (take (i + 1) lines))) g
+-- a moment after the first lines of a record, which goes on by the next line, is the moment after one line more
+pub one_line : (plan : List DomainData) (lines : List RecordedLine) (i : ℕ) (d : RecordedLine) (f g : MomentValue)
+    → i < length lines → IsMomentAfter plan 0 (all_said (map (λ line. line.call) (take i lines))) f
+    → MovesOn f (calls_said (get_or lines i d).call) g
+    → IsMomentAfter plan 0 (all_said (map (λ line. line.call) (take (i + 1) lines))) g
 one_line plan lines i d f g less is on =
     let call : RecordedLine → SaidCall = λ line. line.call in
     let line : RecordedLine = get_or lines i d in

@@ -3,4 +3,5 @@ use Rattle.farm_causes.proofs.following.follow_record.Goals as goal
 
 pub loop-line-preserved : goal.loop-line-preserved
 loop-line-preserved c =
-    one_line c.args.plan.now c.args.lines.now c.loop-line.line-index _ c.loop-line.follower c.follow.new.self c.loop-line-test.true c.loop-line.invariant c.in_default.ensures
+    one_line c.args.plan.now c.args.lines.now c.loop-line.line-index _ c.loop-line.follower c.follow.new.self
+    c.loop-line-test.true c.loop-line.invariant c.in_default.ensures

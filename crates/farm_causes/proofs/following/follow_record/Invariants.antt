@@ -4,4 +4,5 @@ use Rattle.farm_causes.proofs.following.follow_record.Given as goal
 
 -- the lines so far have led here
 abbrev pub invariant-loop-line : goal.invariant-loop-line
-invariant-loop-line l = IsMomentAfter l.fn.plan 0 (all_said (map (λ line. line.call) (take l.line-index l.lines))) l.follower
+invariant-loop-line l =
+    IsMomentAfter l.fn.plan 0 (all_said (map (λ line. line.call) (take l.line-index l.lines))) l.follower

@@ -5,4 +5,6 @@ use Rattle.farm_causes.proofs.passage.input_of.Given as goal
 
 -- no input so far drives the output
 abbrev pub invariant-loop-input : goal.invariant-loop-input
-invariant-loop-input l = (l.moment ≡ l.fn.moment) × ((p : ℕ) → p < l.input → drives (machine_of l.fn.moment.machine).switch p l.fn.output ≡ false)
+invariant-loop-input l =
+    (l.moment ≡ l.fn.moment)
+    × ((p : ℕ) → p < l.input → drives (machine_of l.fn.moment.machine).switch p l.fn.output ≡ false)

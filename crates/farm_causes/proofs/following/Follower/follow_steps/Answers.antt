@@ -12,7 +12,8 @@ returns c =
     let burst = c.in_ok-burst.burst in
     let count : burst.steps ≡ c.args.times = search rules in
     let ran : burst.last ≡ Some Ran = search rules in
-    let leads : LeadsOn old.machine.part (state_at old) (steps_told c.args.node burst.steps burst.last) (state_at new) = search rules in
+    let leads : LeadsOn old.machine.part (state_at old) (steps_told c.args.node burst.steps burst.last) (state_at new) =
+    search rules in
     let recorded : new.recorded ≡ old.recorded + burst.steps = search rules in
     let part : new.machine.part ≡ old.machine.part = search rules in
     steps_ran old new c.args.node c.args.times burst.steps burst.last count ran leads recorded part
