@@ -7,5 +7,6 @@ use Rattle.lab_timeline.proofs.progress.Progress.begin_line.Goals as goal
 
 pub returns-clause-progress : goal.returns-clause-progress
 returns-clause-progress c = λ plan was.
-    let none : RecordedLine = record { number = 0; call = record { times = 0; by = User 0; event = Config 0 }; answer = None } in
+    let none : RecordedLine =
+    record { number = 0; call = record { times = 0; by = User 0; event = Config 0 }; answer = None } in
     line_begun plan c.args.lines.now c.args.self.now _ none was c.requires.rest c.requires.next refl refl refl

@@ -5,5 +5,7 @@ use Rattle.lab_timeline.proofs.progress.Progress.follow_some.Goals as goal
 
 pub returns-clause-progress : goal.returns-clause-progress
 returns-clause-progress c = λ lines plan was.
-    let on : MovesOn c.args.self.now.follower (calls_said (record c.args.self.now.rest { times = c.args.times })) c.follow_call.new.self = search rules in
+    let on : MovesOn c.args.self.now.follower
+    (calls_said (record c.args.self.now.rest { times = c.args.times })) c.follow_call.new.self =
+    search rules in
     some_followed c.moments_go_on.ensures.law plan lines c.args.self.now _ c.args.times was c.requires refl refl on

@@ -4,14 +4,20 @@ use Rattle.farm_causes.specs.declared.line.RecordedLine.{RecordedLine}
 use Rattle.lab_timeline.specs.Timeline.{said_by}
 use Rattle.lab_timeline.proofs.Led.{led}
 use Rattle.lab_timeline.proofs.progress.Progress.lead.Goals as goal
-use Rattle.lab_timeline.proofs.progress.Progress.lead.Goals.{then-loop-self-test+else-recorded-event, else-loop-self-test}
+use Rattle.lab_timeline.proofs.progress.Progress.lead.Goals.{then-loop-self-test+else-recorded-event}
+use Rattle.lab_timeline.proofs.progress.Progress.lead.Goals.{else-loop-self-test}
 
 pub returns-clause-there : goal.returns-clause-there
 returns-clause-there c = λ plan was.
-    let same : length (said_by c.args.lines.now) ≡ length c.args.lines.now = length-map c.args.lines.now (λ (line : RecordedLine). line.call) in
-    let end : c.loop-self.self.follower.recorded < c.args.event → length (said_by c.args.lines.now) ≤ c.loop-self.self.next =
-    elim c.loop-self-test.branch as (λ b. c.loop-self.self.follower.recorded < c.args.event → length (said_by c.args.lines.now) ≤ c.loop-self.self.next) [
+    let same : length (said_by c.args.lines.now) ≡ length c.args.lines.now =
+    length-map c.args.lines.now (λ (line : RecordedLine). line.call) in
+    let end : c.loop-self.self.follower.recorded < c.args.event
+    → length (said_by c.args.lines.now) ≤ c.loop-self.self.next =
+    elim c.loop-self-test.branch as
+    (λ b. c.loop-self.self.follower.recorded < c.args.event
+    → length (said_by c.args.lines.now) ≤ c.loop-self.self.next) [
       | then-loop-self-test+else-recorded-event w ↦ λ before. omega (arith, w.if-recorded-event, w.recorded, before)
       | else-loop-self-test w ↦ λ before. omega (arith, w.loop-self-test, same)
     ] in
-    led plan (said_by c.args.lines.now) c.loop-self.self c.args.event (c.loop-self.invariant.progress plan was) c.loop-self.invariant.within c.loop-self.invariant.stops end
+    led plan (said_by c.args.lines.now) c.loop-self.self c.args.event (c.loop-self.invariant.progress plan was)
+    c.loop-self.invariant.within c.loop-self.invariant.stops end

@@ -3,4 +3,6 @@ use Rattle.lab_timeline.proofs.Led.{opened_empty, opened_progress}
 use Rattle.lab_timeline.proofs.progress.Progress.open.Goals as goal
 
 pub returns-clause-progress : goal.returns-clause-progress
-returns-clause-progress c = λ lines. opened_progress c.args.plan.now lines _ refl refl c.in_ok-open.ensures.after (opened_empty c.args.plan.now c.in_ok-open.field-0 c.requires c.in_ok-open.ensures.after)
+returns-clause-progress c =
+    λ lines. opened_progress c.args.plan.now lines _ refl refl c.in_ok-open.ensures.after
+    (opened_empty c.args.plan.now c.in_ok-open.field-0 c.requires c.in_ok-open.ensures.after)
