@@ -1,4 +1,4 @@
--- What the reading of a line rests on.
+-- What the reading of a line rests on: the clauses `fault` of `parse_rest` and `parse_live_line`.
 use Rattle.std.proofs.Common.{◌≡◌, ℕ, List, [], ◌∷◌, Ok, Err, false, inl, sym, ap, subst, ◌∙◌}
 use Rattle.std.specs.Prelude.{IfErr, Result}
 use Rattle.script_lines.specs.declared.fault.LineFault.{LineFault}
@@ -12,28 +12,35 @@ use Rattle.live_farm.specs.declared.verbs.DomainVerb.{DomainVerb}
 use Rattle.live_farm.specs.LiveVerbs.{domain_verb_name}
 use Rattle.live_farm.specs.LiveLines.{is_operators, IsOfDomain, IsLiveRestFault, IsUserFault, IsLiveFault}
 
--- a first word that asks nothing of the domain as a whole
-pub not_of_domain : (rest behind : List (List ℕ)) (word : List ℕ) → rest ≡ word ∷ behind → ((v : DomainVerb) → ¬ (word ≡ domain_verb_name v))
-    → (verb : DomainVerb) (arguments : List (List ℕ)) → ¬ IsOfDomain rest verb arguments
+-- if the first word is no verb of a domain, the words ask nothing of the domain as a whole
+pub not_of_domain : (rest behind : List (List ℕ)) (word : List ℕ)
+    → rest ≡ word ∷ behind → ((v : DomainVerb) → ¬ (word ≡ domain_verb_name v))
+    → (verb : DomainVerb) (arguments : List (List ℕ))
+    → ¬ IsOfDomain rest verb arguments
 not_of_domain rest behind word is none verb arguments of = none verb (ap (first word) (sym is ∙ of))
   where
     first : List ℕ → List (List ℕ) → List ℕ
     first d [] = d
     first d (x ∷ xs) = x
 
--- what a script refuses is refused
-pub live_refused : (rest : List (List ℕ)) (f : LineFault) → ((verb : DomainVerb) (arguments : List (List ℕ)) → ¬ IsOfDomain rest verb arguments) → IsRestFault rest f
+-- what a script refuses is refused, if it asks nothing of the domain as a whole
+pub live_refused : (rest : List (List ℕ)) (f : LineFault)
+    → ((verb : DomainVerb) (arguments : List (List ℕ)) → ¬ IsOfDomain rest verb arguments) → IsRestFault rest f
     → IsLiveRestFault rest f
 live_refused rest fault.User none wrong = wrong
 live_refused rest fault.Verb none wrong = (wrong, none)
 live_refused rest fault.Args none wrong = inl wrong
 live_refused rest fault.Hex none wrong = wrong
 
--- a user's line that is wrong is wrong
-pub user_line_refused : (names : List (List ℕ)) (line : List ℕ) (words : List (List ℕ)) (r : Result LiveLine LiveFault) → is_operators line ≡ false → words ≡ words_in line
-    → IfErr r (IsUserFault names words) → IfErr r (IsLiveFault names line)
+-- if a line isn't the operator's, what is wrong with it as a user's line is wrong with it
+pub user_line_refused : (names : List (List ℕ)) (line : List ℕ) (words : List (List ℕ))
+    (r : Result LiveLine LiveFault)
+    → is_operators line ≡ false → words ≡ words_in line → IfErr r (IsUserFault names words)
+    → IfErr r (IsLiveFault names line)
 user_line_refused names line words (Ok l) theirs is wrong = tt
-user_line_refused names line words (Err live_fault.UnknownUser) theirs is wrong = (theirs, subst (λ ws. IsUserFault names ws live_fault.UnknownUser) is wrong)
-user_line_refused names line words (Err (live_fault.User user f)) theirs is wrong = (theirs, subst (λ ws. IsUserFault names ws (live_fault.User user f)) is wrong)
+user_line_refused names line words (Err live_fault.UnknownUser) theirs is wrong =
+    (theirs, subst (λ ws. IsUserFault names ws live_fault.UnknownUser) is wrong)
+user_line_refused names line words (Err (live_fault.User user f)) theirs is wrong =
+    (theirs, subst (λ ws. IsUserFault names ws (live_fault.User user f)) is wrong)
 user_line_refused names line words (Err (live_fault.Operator f)) theirs is wrong = absurd wrong
 user_line_refused names line words (Err live_fault.NoMemory) theirs is wrong = tt

@@ -1,5 +1,7 @@
--- What is written line by line is whole lines.
-use Rattle.std.proofs.Common.{◌≡◌, ℕ, List, [], ◌∷◌, ◌++◌, refl, true, false, rules, Bool, ap, ◌∙◌, sym, subst, append-nil}
+-- What is written line by line is whole lines: what `LiveAnswer::of` requires of `DomainUsers::answer` and
+-- `LiveAnswer::line`, and the invariant of `Outlet`.
+use Rattle.std.proofs.Common.{◌≡◌, ℕ, List, [], ◌∷◌, ◌++◌, refl, true, false}
+use Rattle.std.proofs.Common.{rules, Bool, ap, ◌∙◌, sym, subst, append-nil}
 use Rattle.std.specs.Prelude.{None, Some, Option, ◌||◌, ◌==◌, codes}
 use Rattle.std.specs.Fmt.{decimal}
 use Rattle.std.specs.Option.{option_map_or}
@@ -18,6 +20,7 @@ is_ended [] = false
 is_ended (x ∷ []) = x == 10
 is_ended (x ∷ y ∷ ys) = is_ended (y ∷ ys)
 
+-- bytes that end in a line feed still do so behind other bytes
 pub ended_behind : (xs ys : List ℕ) → is_ended ys ≡ true → is_ended (xs ++ ys) ≡ true
 ended_behind [] ys is = is
 ended_behind (x ∷ xs) ys is = more x (xs ++ ys) (ended_behind xs ys is)
@@ -26,21 +29,27 @@ ended_behind (x ∷ xs) ys is = more x (xs ++ ys) (ended_behind xs ys is)
     more x [] is = absurd (search rules)
     more x (z ∷ zs) is = is
 
+-- bytes that end in a line feed are whole lines
 pub ended_lines : (xs : List ℕ) → is_ended xs ≡ true → are_lines xs ≡ true
 ended_lines [] is = refl
 ended_lines (x ∷ []) is = is
 ended_lines (x ∷ y ∷ ys) is = ended_lines (y ∷ ys) is
 
--- an output line of a script
-pub line_is_whole : (before after : DomainUsers) (user : ℕ) (command : Command) (text : List ℕ) → AnswersLine before after user command text → are_lines text ≡ true
+-- an output line of a script is a whole line
+pub line_is_whole : (before after : DomainUsers) (user : ℕ) (command : Command) (text : List ℕ)
+    → AnswersLine before after user command text
+    → are_lines text ≡ true
 line_is_whole before after user command text is =
     let line = is.answered.is_line in
     let told = replies_told is.answered.told in
     let shown =
-    is.name.now ++ behind_blank (name_of (verb_of command)) ++ option_map_or (λ (p : ℕ). behind_blank (decimal p)) (place_asked command) []
+    is.name.now ++ behind_blank (name_of (verb_of command))
+    ++ option_map_or (λ (p : ℕ). behind_blank (decimal p)) (place_asked command) []
     ++ outcome_text command told line.result in
-    let ended : is_ended (line_text is.name.now command told line.result) ≡ true = ended_behind shown (codes "\n") refl in
-    subst (λ (t : List ℕ). are_lines t ≡ true) (sym (is.answered.text ∙ line.is_text)) (ended_lines (line_text is.name.now command told line.result) ended)
+    let ended : is_ended (line_text is.name.now command told line.result) ≡ true =
+    ended_behind shown (codes "\n") refl in
+    subst (λ (t : List ℕ). are_lines t ≡ true) (sym (is.answered.text ∙ line.is_text))
+    (ended_lines (line_text is.name.now command told line.result) ended)
 
 -- ---- a writer
 
@@ -54,14 +63,18 @@ pub lines_behind : (xs ys : List ℕ) → are_lines xs ≡ true → are_lines ys
 lines_behind xs [] before after = ap are_lines (append-nil xs) ∙ before
 lines_behind xs (y ∷ ys) before after = behind xs y ys ∙ after
 
-whole_after : (a b c : Option (List ℕ)) (lines : List ℕ) → is_whole a ≡ true → are_lines lines ≡ true → Appends a b lines → Keeps b c → is_whole c ≡ true
+whole_after : (a b c : Option (List ℕ)) (lines : List ℕ)
+    → is_whole a ≡ true → are_lines lines ≡ true → Appends a b lines → Keeps b c
+    → is_whole c ≡ true
 whole_after None b c lines whole ended one two = absurd (search rules)
 whole_after (Some xs) None c lines whole ended one two = elim one [ ]
 whole_after (Some xs) (Some ys) None lines whole ended one two = elim two [ ]
 whole_after (Some xs) (Some ys) (Some zs) lines whole ended one two =
     subst (λ (t : List ℕ). are_lines t ≡ true) (sym (two ∙ one)) (lines_behind xs lines whole ended)
 
-pub put_whole : (f : Bool) (a b c : Option (List ℕ)) (lines : List ℕ) → (f || is_whole a) ≡ true → f ≡ false → are_lines lines ≡ true → Appends a b lines → Keeps b c
+-- a writer that has whole lines, and takes whole lines, has whole lines
+pub put_whole : (f : Bool) (a b c : Option (List ℕ)) (lines : List ℕ)
+    → (f || is_whole a) ≡ true → f ≡ false → are_lines lines ≡ true → Appends a b lines → Keeps b c
     → (false || is_whole c) ≡ true
 put_whole false a b c lines h off ended one two = whole_after a b c lines h ended one two
 put_whole true a b c lines h off ended one two = absurd (search rules)

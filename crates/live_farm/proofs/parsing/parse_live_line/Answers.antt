@@ -4,4 +4,5 @@ use Rattle.live_farm.proofs.parsing.parse_live_line.Goals as goal
 
 pub returns-then-not-is_operators-clause-fault : goal.returns-then-not-is_operators-clause-fault
 returns-then-not-is_operators-clause-fault c =
-    user_line_refused _ c.args.line.now c.of.result c.parse_user_line.result (search rules) (search rules) c.parse_user_line.ensures.fault
+    user_line_refused _ c.args.line.now c.of.result c.parse_user_line.result (search rules) (search rules)
+    c.parse_user_line.ensures.fault

@@ -7,5 +7,6 @@ use Rattle.live_farm.proofs.program.run_live.Goals as goal
 
 pub returns-clause-runs : goal.returns-clause-runs
 returns-clause-runs g c =
-    subst (λ plan. IfOk c.close.result (λ (closed : Closed). EachMergeRuns (places_of plan) closed.domains.items)) c.in-Ok.ensures.plan
+    subst (λ plan. IfOk c.close.result (λ (closed : Closed). EachMergeRuns (places_of plan) closed.domains.items))
+    c.in-Ok.ensures.plan
     c.close.ensures.runs

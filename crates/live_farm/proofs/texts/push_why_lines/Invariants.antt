@@ -5,4 +5,5 @@ use Rattle.live_farm.proofs.texts.push_why_lines.Given as goal
 
 -- the lines so far stand there
 abbrev pub invariant-loop-line : goal.invariant-loop-line
-invariant-loop-line l = string_bytes l.text ≡ string_bytes l.initial.text ++ flat_map (why_line l.name) (map (λ line. line.now) l.yielded)
+invariant-loop-line l =
+    string_bytes l.text ≡ string_bytes l.initial.text ++ flat_map (why_line l.name) (map (λ line. line.now) l.yielded)

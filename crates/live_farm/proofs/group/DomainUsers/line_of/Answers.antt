@@ -10,8 +10,12 @@ returns g c =
       name = c.index.result.now;
       entry = c.index_mut.result.now;
       exit = c.answer_line.new.session;
-      named = slice_get-get_or c.args.self.now.names.items c.args.user c.index.result.now named ∙ ap Some (sym c.index.ensures);
-      session = slice_get-get_or c.args.self.now.sessions.items c.args.user c.index_mut.result.now there ∙ ap Some (sym c.index_mut.ensures.value);
+      named =
+          slice_get-get_or c.args.self.now.names.items c.args.user c.index.result.now named
+          ∙ ap Some (sym c.index.ensures);
+      session =
+          slice_get-get_or c.args.self.now.sessions.items c.args.user c.index_mut.result.now there
+          ∙ ap Some (sym c.index_mut.ensures.value);
       answered = search rules;
       sessions = refl;
       names = refl;

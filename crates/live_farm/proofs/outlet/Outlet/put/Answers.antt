@@ -9,6 +9,7 @@ invariant_of-self-2 g c =
       whole =
           λ is.
           put_whole old.failed (g.W.Write.contents old.writer) (g.W.Write.contents c.write_all.new.self)
-          (g.W.Write.contents c.flush.new.self) (string_bytes c.args.answer.now.text) (old.whole is) (search rules) c.args.answer.now.whole
+          (g.W.Write.contents c.flush.new.self) (string_bytes c.args.answer.now.text) (old.whole is)
+          (search rules) c.args.answer.now.whole
           (search rules) (c.flush.ensures.bytes);
     }
