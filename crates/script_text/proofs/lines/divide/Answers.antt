@@ -6,7 +6,8 @@ use Rattle.script_text.proofs.LineLemmas.{none_through, none_at_all, is_empty, i
 use Rattle.script_text.proofs.lines.divide.Goals as goal
 
 pub loop-mark-init : goal.loop-mark-init
-loop-mark-init c = record { number = zero; before = []; here = refl; parts = refl; none = λ other lt. absurd (omega (arith, lt)) }
+loop-mark-init c =
+    record { number = zero; before = []; here = refl; parts = refl; none = λ other lt. absurd (omega (arith, lt)) }
 
 pub returns-then-eq : goal.returns-then-eq
 returns-then-eq c =
@@ -16,7 +17,8 @@ returns-then-eq c =
     let decides = slice_eq-Decides Decides-eqb _ _ _ c.eq.ensures in
     let is_there : from_line inv.number text ≢ [] = λ e. is_not_empty rest c.loop-mark-test.ensures (inv.here ∙ e) in
     let is_mark = ap line_of (sym inv.here) ∙ sym c.split_line.ensures.line ∙ decides.0 c.if-eq.true in
-    let front = before_rest text inv.before rest inv.parts ∙ ap (λ xs. take (length text - length rest) text ++ xs) inv.here in
+    let front =
+    before_rest text inv.before rest inv.parts ∙ ap (λ xs. take (length text - length rest) text ++ xs) inv.here in
     inl (inv.number, ((is_there, is_mark), inv.none), front, c.split_line.ensures.rest ∙ ap after_line inv.here)
 
 pub loop-mark-preserved : goal.loop-mark-preserved

@@ -20,9 +20,11 @@ returns-in-Some-clause-rest c =
 pub returns-in-None-clause-line : goal.returns-in-None-clause-line
 returns-in-None-clause-line c =
     let text = c.args.text.now in
-    sym (line_of_all text (position_or_len_is is_line_feed text (length text) 0 (omega arith) (search rules) (search rules)))
+    sym (line_of_all text
+    (position_or_len_is is_line_feed text (length text) 0 (omega arith) (search rules) (search rules)))
 
 pub returns-in-None-clause-rest : goal.returns-in-None-clause-rest
 returns-in-None-clause-rest c =
     let text = c.args.text.now in
-    sym (nothing_after text (position_or_len_is is_line_feed text (length text) 0 (omega arith) (search rules) (search rules)))
+    sym (nothing_after text
+    (position_or_len_is is_line_feed text (length text) 0 (omega arith) (search rules) (search rules)))
