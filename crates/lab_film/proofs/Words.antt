@@ -1,17 +1,22 @@
--- The words of the outputs, one after another.
+-- The words of the outputs, one after another: the clause `words` of `words_of`.
 use Rattle.std.proofs.Common.{◌≡◌, ℕ, ◌+◌, List, [], ◌∷◌, ◌++◌, take, ap, sym, ◌∙◌}
-use Rattle.std.specs.Prelude.{slice_get, Some, Option}
+use Rattle.std.specs.Prelude.{slice_get, Some}
 use Rattle.std.proofs.lemmas.List.{take_more}
 use Rattle.std.proofs.lemmas.Option.{slice_get_within, get_or_from_slice_get}
 use Rattle.crossbar.specs.declared.word.Word.{Word}
 use Rattle.domain_core.specs.Moments.{MomentValue}
 
-one_more : (words : List Word) (i : ℕ) (w : Word) → slice_get words i ≡ Some w → take i words ++ w ∷ [] ≡ take (i + 1) words
+one_more : (words : List Word) (i : ℕ) (w : Word) → slice_get words i ≡ Some w
+    → take i words ++ w ∷ [] ≡ take (i + 1) words
 one_more words i w at =
-    sym (take_more words i w (slice_get_within words i w at) ∙ ap (λ (x : Word). take i words ++ x ∷ []) (get_or_from_slice_get words i w w at))
+    sym (take_more words i w (slice_get_within words i w at)
+    ∙ ap (λ (x : Word). take i words ++ x ∷ []) (get_or_from_slice_get words i w w at))
 
--- the word of the next output of the same moment
-pub next_word : (now old : MomentValue) (told : List Word) (i : ℕ) (w : Word) → now ≡ old → told ≡ take i old.machine.switch.words
-    → slice_get now.machine.switch.words i ≡ Some w → told ++ w ∷ [] ≡ take (i + 1) old.machine.switch.words
+-- the first words of a moment, with that of the next output, are its first words and one more
+pub next_word : (now old : MomentValue) (told : List Word) (i : ℕ) (w : Word)
+    → now ≡ old → told ≡ take i old.machine.switch.words → slice_get now.machine.switch.words i ≡ Some w
+    → told ++ w ∷ [] ≡ take (i + 1) old.machine.switch.words
 next_word now old told i w same so_far at =
-    ap (λ (words : List Word). words ++ w ∷ []) so_far ∙ one_more old.machine.switch.words i w (ap (λ (m : MomentValue). slice_get m.machine.switch.words i) (sym same) ∙ at)
+    ap (λ (words : List Word). words ++ w ∷ []) so_far
+    ∙ one_more old.machine.switch.words i w
+    (ap (λ (m : MomentValue). slice_get m.machine.switch.words i) (sym same) ∙ at)

@@ -2,4 +2,5 @@ use Rattle.std.proofs.Common.{◌≡◌, take}
 use Rattle.lab_film.proofs.frame.words_of.Given as goal
 
 abbrev pub invariant-loop-output : goal.invariant-loop-output
-invariant-loop-output l = (l.follower ≡ l.initial.follower) × (l.words.items ≡ take l.output l.initial.follower.machine.switch.words)
+invariant-loop-output l =
+    (l.follower ≡ l.initial.follower) × (l.words.items ≡ take l.output l.initial.follower.machine.switch.words)
