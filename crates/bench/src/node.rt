@@ -1,4 +1,4 @@
-//! A loop of instruction bytes through a node's bursts, `node`, and through the processor's step alone, `processor`, so that
+//! A loop of instruction bytes through a node's bursts, `node`, and through the processor's steps alone, `processor`, so that
 //! their rates can be compared.
 
 use crate::processor::{begun, place};
@@ -10,7 +10,7 @@ use node_memory::Memory;
 use os_link::Packet;
 use std::alloc::{AllocError, Global};
 use std::io;
-use t414_step::{Cpu, Stepped, step};
+use t414_step::run;
 
 // Where code is loaded, and the word boundary at its end.
 const START: u32 = 0x8000_0048;
@@ -44,18 +44,7 @@ fn run_node(rt: &impl Print, alloc: Global, count: u64) -> io::Result<()> {
     println!(rt; "node: {} bytes", burst.steps)
 }
 
-// Steps until a step doesn't run, at most so many times; how many ran. Links are served before each byte. Its one caller has
-// the registers, so they are locals of the loop.
-fn burst(cpu: &mut Cpu, memory: &mut Memory, links: &mut Links, limit: u64) -> u64 {
-    for done in 0..limit {
-        if !matches!(step(cpu, memory, links), Stepped::Ran) {
-            return done;
-        }
-    }
-    limit
-}
-
-// Runs the loop through the processor's step, which begins as that node does.
+// Runs the loop through the processor's steps, which begins as that node does.
 fn run_processor(rt: &impl Print, alloc: Global, count: u64) -> io::Result<()> {
     let mut memory = Memory::new(alloc, 4096)?;
     if place(&mut memory, START, code(alloc)?.as_slice()).is_err() {
@@ -63,7 +52,7 @@ fn run_processor(rt: &impl Print, alloc: Global, count: u64) -> io::Result<()> {
     }
     let mut cpu = begun(START, WORKSPACE, LinkNumber::Zero.input_channel());
     let mut links = Links::new();
-    let done = burst(&mut cpu, &mut memory, &mut links, count);
+    let (done, _) = run(&mut cpu, &mut memory, &mut links, count);
     println!(rt; "processor: {done} bytes")
 }
 

@@ -6,7 +6,7 @@ use link_channels::Links;
 use node_memory::Memory;
 use std::alloc::Global;
 use std::io;
-use t414_step::{Cpu, Stepped, step};
+use t414_step::run;
 
 /// The address of the first byte of a loop.
 const START: u32 = 0x8000_0100;
@@ -78,36 +78,24 @@ const LOOPS: [(&str, &[u8]); 5] = [
     ("sieve", &SIEVE),
 ];
 
-// Steps until a step doesn't run, at most so many times; how many ran. Links are served before each byte. Its one caller has
-// the registers, so they are locals of the loop.
-fn burst(cpu: &mut Cpu, memory: &mut Memory, links: &mut Links, limit: u32) -> u32 {
-    for done in 0..limit {
-        if !matches!(step(cpu, memory, links), Stepped::Ran) {
-            return done;
-        }
-    }
-    limit
-}
-
 // Runs a loop for so many steps, and prints what came of it.
-fn run(rt: &impl Print, alloc: Global, name: &str, code: &[u8], count: u32) -> io::Result<()> {
+fn run_loop(rt: &impl Print, alloc: Global, name: &str, code: &[u8], count: u64) -> io::Result<()> {
     let mut memory = Memory::new(alloc, 4096)?;
     if place(&mut memory, START, code).is_err() {
         return Ok(());
     }
     let mut cpu = begun(START, WORKSPACE, 0);
     let mut links = Links::new();
-    let done = burst(&mut cpu, &mut memory, &mut links, count);
+    let (done, _) = run(&mut cpu, &mut memory, &mut links, count);
     let word = memory.word(WORKSPACE + 4).unwrap_or(0);
     println!(rt; "{name}: {done} bytes, word {word}")
 }
 
-/// Runs the loops that are asked for, COUNT bytes each, but no more than 2^32 - 1.
+/// Runs the loops that are asked for, COUNT bytes each.
 pub fn measure(rt: &impl Print, alloc: Global, selection: Selection<'_>) -> io::Result<()> {
-    let count = u32::try_from(selection.count).unwrap_or(u32::MAX);
     for (name, code) in LOOPS {
         if selection.runs(name) {
-            run(rt, alloc, name, code, count)?;
+            run_loop(rt, alloc, name, code, selection.count)?;
         }
     }
     Ok(())

@@ -1,24 +1,26 @@
 -- Bursts: the Steps of a processor as those of its node, and bursts after Steps.
-use Rattle.std.proofs.Common.{◌≡◌, ℕ, zero, suc, ◌+◌, ◌-◌, ◌<◌, ◌≤◌, Bool, true, false, not, List, Option, Some, None, refl, ◌∙◌, ap, sym, subst, arith}
+use Rattle.std.proofs.Common.{◌≡◌, ℕ, zero, suc, ◌+◌, ◌-◌, ◌<◌, ◌≤◌, Bool, true, false, not, List, Option, Some, None, refl, ◌∙◌, ap, sym, subst, arith, add-one}
 use Rattle.node_memory.specs.declared.fault.Fault.{Fault}
 use Rattle.link_channels.specs.declared.link.FourLinks.{FourLinks}
 use Rattle.link_channels.specs.Laws.{ServiceLeavesTheRest}
 use Rattle.t414_step.specs.declared.cpu.Cpu.{Cpu}
 use Rattle.t414_step.specs.declared.stepping.Stepped.{Stepped}
 use Rattle.t414_step.specs.declared.stepping.Stepped.TheVariants as code
-use Rattle.t414_step.specs.Answers.{is_idle}
+use Rattle.t414_step.specs.Answers.{is_idle, tells_idle}
 use Rattle.t414_step.specs.Laws.{IdleWhereItRests}
 use Rattle.t414_step.specs.Registers.{has_nothing_to_do}
 use Rattle.t414_step.specs.Step.{Broke, Idle, Ran}
 use Rattle.t414_step.specs.Step.{step}
+use Rattle.t414_step.specs.Steps.{steps}
+use Rattle.t414_step.proofs.Steps.{steps-zero, ran-before}
 use Rattle.bootstrap.specs.Laws.{later_or}
 use Rattle.bootstrap.specs.Step.{node_step, ran, has_halted, is_step_recorded, is_quiet}
-use Rattle.bootstrap.specs.Steps.{last_answer, IsAfter, IsBurst, running, left_by}
+use Rattle.bootstrap.specs.Steps.{last_answer, IsAfter, IsBurst, last_of_ran, running, left_by}
 use Rattle.bootstrap.specs.declared.burst.Burst.{Burst}
 use Rattle.bootstrap.specs.declared.node.Node.{Node}
 use Rattle.bootstrap.specs.declared.state.NodeState.{NodeState}
 use Rattle.bootstrap.specs.declared.state.NodeState.TheVariants.{Runs}
-use Rattle.bootstrap.proofs.Counting.{one-more, last-more, after-add, last-add, last_answer-zero, last_answer-suc}
+use Rattle.bootstrap.proofs.Counting.{no-steps, one-more, last-more, after-add, last-add, last_answer-zero, last_answer-suc}
 use Rattle.bootstrap.proofs.Resting.{not-not, resting-step, quiet-runs}
 
 -- the processor's Step as the node's
@@ -93,3 +95,72 @@ steps-more x y z k quiet answer after is busy e =
 pub found-running : (x n : Node) (k : ℕ) (s : Cpu) → IsAfter x k n → n.state ≡ Runs s → IsAfter x k (running s n.links n.memory)
 found-running x n k s after e =
     subst (λ (st : NodeState). IsAfter x k (record { memory = n.memory; links = n.links; state = st })) e after
+
+-- a processor's steps that ran, as those of its node
+pub record Led (k : ℕ) (x y : Node) : Type 0 where
+  pub after : IsAfter x k y
+  pub last : last_of_ran k ≡ last_answer k x
+
+same-ran : (s t : Cpu) (ls ks : FourLinks) (m n : List ℕ) → Some (Ran s ls m) ≡ Some (Ran t ks n) → running s ls m ≡ running t ks n
+same-ran s t ls ks m n e = cc
+
+pub steps-led : (k : ℕ) (s t : Cpu) (ls ks : FourLinks) (m n : List ℕ) → steps k s ls m ≡ Some (Ran t ks n) → Led k (running s ls m) (running t ks n)
+steps-led zero s t ls ks m n e =
+    let same : running s ls m ≡ running t ks n = same-ran s t ls ks m n (sym (steps-zero s ls m) ∙ e) in
+    record {
+      after = subst (λ (y : Node). IsAfter (running s ls m) 0 y) same (no-steps (running s ls m));
+      last = sym (last_answer-zero (running s ls m));
+    }
+steps-led (suc k) s t ls ks m n e =
+    let before = ran-before k s ls m (Ran t ks n) e in
+    let led = steps-led k s before.cpu ls before.links m before.memory before.is in
+    let more = runs-more (running s ls m) (running t ks n) k before.cpu before.links before.memory code.Ran led.after
+    (ran-step before.cpu t before.links ks before.memory n (sym before.next)) refl in
+    record {
+      after = subst (λ (i : ℕ). IsAfter (running s ls m) i (running t ks n)) (add-one k) more.0;
+      last = more.1 ∙ ap (λ (i : ℕ). last_answer i (running s ls m)) (add-one k);
+    }
+
+-- a processor's steps of which the last met a fault
+pub steps-broke : (k : ℕ) (fault : Fault) (s t : Cpu) (ls ks : FourLinks) (m n : List ℕ) → 0 < k → steps k s ls m ≡ Some (Broke fault ks n)
+    → IsAfter (running s ls m) k (left_by (Some (code.Fault fault)) t ks n) × (Some (code.Fault fault) ≡ last_answer k (running s ls m))
+steps-broke zero fault s t ls ks m n some e = absurd (omega arith)
+steps-broke (suc k) fault s t ls ks m n some e =
+    let before = ran-before k s ls m (Broke fault ks n) e in
+    let led = steps-led k s before.cpu ls before.links m before.memory before.is in
+    let more = runs-more (running s ls m) (left_by (Some (code.Fault fault)) t ks n) k before.cpu before.links before.memory (code.Fault fault) led.after
+    (broke-step fault before.cpu before.links ks before.memory n (sym before.next)) refl in (
+      subst (λ (i : ℕ). IsAfter (running s ls m) i (left_by (Some (code.Fault fault)) t ks n)) (add-one k) more.0,
+      more.1 ∙ ap (λ (i : ℕ). last_answer i (running s ls m)) (add-one k),
+    )
+
+-- a processor's steps of which the last found nothing to do
+pub record Rested (k : ℕ) (x y : Node) : Type 0 where
+  pub after : IsAfter x k y
+  pub last : last_of_ran k ≡ last_answer k x
+  pub quiet : is_quiet y ≡ true
+
+pub steps-rested : IdleWhereItRests → ServiceLeavesTheRest → (k : ℕ) (s t : Cpu) (ls ks : FourLinks) (m n : List ℕ) → steps (suc k) s ls m ≡ Some (Idle t ks n)
+    → Rested k (running s ls m) (running t ks n)
+steps-rested idle rests k s t ls ks m n e =
+    let before = ran-before k s ls m (Idle t ks n) e in
+    let led = steps-led k s before.cpu ls before.links m before.memory before.is in
+    let nothing : true ≡ has_nothing_to_do before.cpu before.links = sym (ap tells_idle before.next) ∙ idle before.cpu before.links before.memory in
+    let stays : running before.cpu before.links before.memory ≡ running t ks n = idle-stays rests before.cpu t before.links ks before.memory n (sym before.next) nothing in
+    record {
+      after = subst (λ (y : Node). IsAfter (running s ls m) k y) stays led.after;
+      last = led.last;
+      quiet = subst (λ (y : Node). is_quiet y ≡ true) stays (quiet-running idle before.cpu before.links before.memory nothing);
+    }
+
+-- steps that ran leave a node that runs
+pub left-ran : (k : ℕ) (s : Cpu) (ls : FourLinks) (m : List ℕ) → running s ls m ≡ left_by (last_of_ran k) s ls m
+left-ran zero s ls m = refl
+left-ran (suc k) s ls m = refl
+
+-- an answer that is none of a step that ran
+pub some-idle : (k : ℕ) (answer : Stepped) → answer ≡ code.Idle → (¬ (answer ≡ code.Ran) → 0 < k) → 0 < k
+some-idle k answer is some = some (λ e. let both : code.Idle ≡ code.Ran = sym is ∙ e in cc)
+
+pub some-fault : (k : ℕ) (fault : Fault) (answer : Stepped) → answer ≡ code.Fault fault → (¬ (answer ≡ code.Ran) → 0 < k) → 0 < k
+some-fault k fault answer is some = some (λ e. let both : code.Fault fault ≡ code.Ran = sym is ∙ e in cc)

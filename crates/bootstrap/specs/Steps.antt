@@ -46,3 +46,8 @@ state_after (Some (code.Fault fault)) s = Halted fault
 -- the node that a burst leaves, by its last answer and what the processor left
 abbrev pub left_by : Option Stepped → Cpu → FourLinks → List ℕ → Node
 left_by last s ls m = record { memory = m; links = ls; state = state_after last s }
+
+-- what the last of so many Steps answered, each of which ran
+abbrev pub last_of_ran : ℕ → Option Stepped
+last_of_ran zero = None
+last_of_ran (suc k) = Some code.Ran

@@ -1,13 +1,13 @@
 //! Many Steps of a node in one call.
 
 ghost use Rattle.std.specs.Prelude.{◌≡◌};
-ghost use Rattle.bootstrap.specs.Steps.{IsBurst, running, left_by, state_after};
+ghost use Rattle.bootstrap.specs.Steps.{IsBurst, last_of_ran, running, left_by, state_after};
 
 use crate::node::Node;
 use crate::state::NodeState;
 use link_channels::{Links, services_act_on_work};
 use node_memory::Memory;
-use t414_step::{Cpu, Stepped, idle_where_it_rests, step};
+use t414_step::{Cpu, Stepped, idle_where_it_rests};
 
 /// What a burst of Steps came to.
 #[derive(Clone, Copy, Debug, PartialEq, Eq)]
@@ -18,8 +18,14 @@ pub struct Burst {
     pub last: Option<Stepped>,
 }
 
+// What the last of so many Steps answered, each of which ran.
+fn last_ran(steps: u64) -> Option<Stepped>
+    ensures { result ≡ last_of_ran steps }
+{
+    if steps == 0 { None } else { Some(Stepped::Ran) }
+}
+
 // The Steps of a node that runs, up to the nth or to the first that would not be recorded.
-#[inline(always)]
 fn run(cpu: &mut Cpu, memory: &mut Memory, links: &mut Links, n: u64) -> Burst
     ensures burst { IsBurst n (running cpu.old links.old memory.old) result (left_by result.last cpu.new links.new memory.new) }
 {
@@ -27,20 +33,21 @@ fn run(cpu: &mut Cpu, memory: &mut Memory, links: &mut Links, n: u64) -> Burst
     idle_where_it_rests();
     // Links are served only if one of them has work.
     services_act_on_work();
-    let mut last = None;
-    for steps in 0..n {
-        match step(cpu, memory, links) {
-            Stepped::Ran => last = Some(Stepped::Ran),
-            Stepped::Idle => return Burst { steps, last },
-            Stepped::Fault(fault) => {
-                return Burst {
-                    steps: steps + 1,
-                    last: Some(Stepped::Fault(fault)),
-                };
-            }
-        }
+    let (steps, answer) = t414_step::run(cpu, memory, links, n);
+    match answer {
+        Stepped::Ran => Burst {
+            steps,
+            last: last_ran(steps),
+        },
+        Stepped::Idle => Burst {
+            steps: steps - 1,
+            last: last_ran(steps - 1),
+        },
+        Stepped::Fault(fault) => Burst {
+            steps,
+            last: Some(Stepped::Fault(fault)),
+        },
     }
-    Burst { steps: n, last }
 }
 
 // What a node does whose processor answered so last: a fault has halted it.

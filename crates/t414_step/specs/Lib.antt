@@ -7,3 +7,5 @@ pub mod Step
 pub mod Answers
 -- what only helps contracts
 pub mod Laws
+pub mod Next
+pub mod Steps

@@ -8,13 +8,15 @@ use node_memory::{Fault, add_checked, mul_checked, signed, sub_checked};
 #[tactic(auto, unfolding(crate::specs::Rows::row))]
 impl Cpu {
     ghost use Rattle.t414_decode.specs.declared.instruction.PlainOperation.TheVariants as op;
+    ghost use Rattle.t414_step.specs.Next.{AreKept};
     ghost use Rattle.t414_step.specs.Outcome.{plain_outcome, Went};
     ghost use Rattle.t414_step.specs.Rows.{row};
 
     // rev
     #[inline(always)]
     pub(crate) fn reverse(&mut self)
-        ensures { (m : List ℕ) → Went self.new m ≡ row op.Reverse self.old m }
+        ensures answer { (m : List ℕ) → Went self.new m ≡ row op.Reverse self.old m }
+        ensures kept { AreKept self.old self.new }
     {
         let a = self.a;
         self.a = self.b;
@@ -24,7 +26,8 @@ impl Cpu {
     // bsub
     #[inline(always)]
     pub(crate) fn byte_subscript(&mut self)
-        ensures { (m : List ℕ) → Went self.new m ≡ row op.ByteSubscript self.old m }
+        ensures answer { (m : List ℕ) → Went self.new m ≡ row op.ByteSubscript self.old m }
+        ensures kept { AreKept self.old self.new }
     {
         self.binary(self.a.wrapping_add(self.b));
     }
@@ -32,7 +35,8 @@ impl Cpu {
     // diff
     #[inline(always)]
     pub(crate) fn difference(&mut self)
-        ensures { (m : List ℕ) → Went self.new m ≡ row op.Difference self.old m }
+        ensures answer { (m : List ℕ) → Went self.new m ≡ row op.Difference self.old m }
+        ensures kept { AreKept self.old self.new }
     {
         self.binary(self.b.wrapping_sub(self.a));
     }
@@ -40,7 +44,8 @@ impl Cpu {
     // add
     #[inline(always)]
     pub(crate) fn add(&mut self) -> Result<(), Fault>
-        ensures { (m : List ℕ) → plain_outcome result self.new m ≡ row op.Add self.old m }
+        ensures answer { (m : List ℕ) → plain_outcome result self.new m ≡ row op.Add self.old m }
+        ensures kept { AreKept self.old self.new }
     {
         let (sum, overflows) = add_checked(self.b, self.a);
         self.binary(sum);
@@ -50,7 +55,8 @@ impl Cpu {
     // prod
     #[inline(always)]
     pub(crate) fn product(&mut self)
-        ensures { (m : List ℕ) → Went self.new m ≡ row op.Product self.old m }
+        ensures answer { (m : List ℕ) → Went self.new m ≡ row op.Product self.old m }
+        ensures kept { AreKept self.old self.new }
     {
         self.binary(self.b.wrapping_mul(self.a));
     }
@@ -58,7 +64,8 @@ impl Cpu {
     // gt
     #[inline(always)]
     pub(crate) fn greater_than(&mut self)
-        ensures { (m : List ℕ) → Went self.new m ≡ row op.GreaterThan self.old m }
+        ensures answer { (m : List ℕ) → Went self.new m ≡ row op.GreaterThan self.old m }
+        ensures kept { AreKept self.old self.new }
     {
         self.binary(u32::from(signed(self.a) < signed(self.b)));
     }
@@ -66,7 +73,8 @@ impl Cpu {
     // wsub
     #[inline(always)]
     pub(crate) fn word_subscript(&mut self)
-        ensures { (m : List ℕ) → Went self.new m ≡ row op.WordSubscript self.old m }
+        ensures answer { (m : List ℕ) → Went self.new m ≡ row op.WordSubscript self.old m }
+        ensures kept { AreKept self.old self.new }
     {
         self.binary(self.a.wrapping_add(4u32.wrapping_mul(self.b)));
     }
@@ -74,7 +82,8 @@ impl Cpu {
     // sub
     #[inline(always)]
     pub(crate) fn subtract(&mut self) -> Result<(), Fault>
-        ensures { (m : List ℕ) → plain_outcome result self.new m ≡ row op.Subtract self.old m }
+        ensures answer { (m : List ℕ) → plain_outcome result self.new m ≡ row op.Subtract self.old m }
+        ensures kept { AreKept self.old self.new }
     {
         let (rest, overflows) = sub_checked(self.b, self.a);
         self.binary(rest);
@@ -84,7 +93,8 @@ impl Cpu {
     // sum
     #[inline(always)]
     pub(crate) fn sum(&mut self)
-        ensures { (m : List ℕ) → Went self.new m ≡ row op.Sum self.old m }
+        ensures answer { (m : List ℕ) → Went self.new m ≡ row op.Sum self.old m }
+        ensures kept { AreKept self.old self.new }
     {
         self.binary(self.b.wrapping_add(self.a));
     }
@@ -92,7 +102,8 @@ impl Cpu {
     // mul
     #[inline(always)]
     pub(crate) fn multiply(&mut self) -> Result<(), Fault>
-        ensures { (m : List ℕ) → plain_outcome result self.new m ≡ row op.Multiply self.old m }
+        ensures answer { (m : List ℕ) → plain_outcome result self.new m ≡ row op.Multiply self.old m }
+        ensures kept { AreKept self.old self.new }
     {
         let (product, overflows) = mul_checked(self.b, self.a);
         self.binary(product);
@@ -118,7 +129,8 @@ impl Cpu {
     // mint
     #[inline(always)]
     pub(crate) fn minimum_integer(&mut self)
-        ensures { (m : List ℕ) → Went self.new m ≡ row op.MinimumInteger self.old m }
+        ensures answer { (m : List ℕ) → Went self.new m ≡ row op.MinimumInteger self.old m }
+        ensures kept { AreKept self.old self.new }
     {
         self.push(0x8000_0000);
     }

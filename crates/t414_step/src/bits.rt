@@ -7,13 +7,15 @@ use crate::cpu::Cpu;
 #[tactic(auto, unfolding(crate::specs::Rows::row))]
 impl Cpu {
     ghost use Rattle.t414_decode.specs.declared.instruction.PlainOperation.TheVariants as op;
+    ghost use Rattle.t414_step.specs.Next.{AreKept};
     ghost use Rattle.t414_step.specs.Outcome.{Went};
     ghost use Rattle.t414_step.specs.Rows.{row};
 
     // and
     #[inline(always)]
     pub(crate) fn and(&mut self)
-        ensures { (m : List ℕ) → Went self.new m ≡ row op.And self.old m }
+        ensures answer { (m : List ℕ) → Went self.new m ≡ row op.And self.old m }
+        ensures kept { AreKept self.old self.new }
     {
         self.binary(self.b & self.a);
     }
@@ -21,7 +23,8 @@ impl Cpu {
     // or
     #[inline(always)]
     pub(crate) fn or(&mut self)
-        ensures { (m : List ℕ) → Went self.new m ≡ row op.Or self.old m }
+        ensures answer { (m : List ℕ) → Went self.new m ≡ row op.Or self.old m }
+        ensures kept { AreKept self.old self.new }
     {
         self.binary(self.b | self.a);
     }
@@ -29,7 +32,8 @@ impl Cpu {
     // xor
     #[inline(always)]
     pub(crate) fn exclusive_or(&mut self)
-        ensures { (m : List ℕ) → Went self.new m ≡ row op.ExclusiveOr self.old m }
+        ensures answer { (m : List ℕ) → Went self.new m ≡ row op.ExclusiveOr self.old m }
+        ensures kept { AreKept self.old self.new }
     {
         self.binary(self.b ^ self.a);
     }
@@ -37,7 +41,8 @@ impl Cpu {
     // not
     #[inline(always)]
     pub(crate) fn not(&mut self)
-        ensures { (m : List ℕ) → Went self.new m ≡ row op.Not self.old m }
+        ensures answer { (m : List ℕ) → Went self.new m ≡ row op.Not self.old m }
+        ensures kept { AreKept self.old self.new }
     {
         self.a = !self.a;
     }
@@ -45,7 +50,8 @@ impl Cpu {
     // shl
     #[inline(always)]
     pub(crate) fn shift_left(&mut self)
-        ensures { (m : List ℕ) → Went self.new m ≡ row op.ShiftLeft self.old m }
+        ensures answer { (m : List ℕ) → Went self.new m ≡ row op.ShiftLeft self.old m }
+        ensures kept { AreKept self.old self.new }
     {
         self.binary(self.b.checked_shl(self.a).unwrap_or(0));
     }
@@ -53,7 +59,8 @@ impl Cpu {
     // shr
     #[inline(always)]
     pub(crate) fn shift_right(&mut self)
-        ensures { (m : List ℕ) → Went self.new m ≡ row op.ShiftRight self.old m }
+        ensures answer { (m : List ℕ) → Went self.new m ≡ row op.ShiftRight self.old m }
+        ensures kept { AreKept self.old self.new }
     {
         self.binary(self.b.checked_shr(self.a).unwrap_or(0));
     }

@@ -1,7 +1,6 @@
 //! Messages through channels.
 //!
-//! All of these stand in the one function that does channel operations, so that it moves registers one by one: to read
-//! several at once that were just written in parts takes longer.
+//! All of these stand in the loop of steps itself, so that it keeps its registers where no address is taken.
 
 ghost use Rattle.std.specs.Prelude.{◌≡◌};
 

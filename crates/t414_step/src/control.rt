@@ -8,6 +8,7 @@ use node_memory::{Fault, Memory, signed};
 #[tactic(auto, unfolding(crate::specs::Rows::row))]
 impl Cpu {
     ghost use Rattle.t414_decode.specs.declared.instruction.PlainOperation.TheVariants as op;
+    ghost use Rattle.t414_step.specs.Next.{AreKept, turned_back};
     ghost use Rattle.t414_step.specs.Outcome.{plain_outcome, Went};
     ghost use Rattle.t414_step.specs.Rows.{row};
 
@@ -24,28 +25,42 @@ impl Cpu {
     // ret
     #[inline(always)]
     pub(crate) fn return_from_call(&mut self, memory: &Memory) -> Result<(), Fault>
-        ensures { plain_outcome result self.new memory.now ≡ row op.Return self.old memory.now }
+        ensures answer { plain_outcome result self.new memory.now ≡ row op.Return self.old memory.now }
+        ensures kept { AreKept self.old self.new }
     {
         self.instruction = memory.word(self.workspace)?;
         self.set_workspace(self.workspace.wrapping_add(16));
         Ok(())
     }
 
-    // lend
+    // lend, without the slice: whether it goes back
     #[inline(always)]
-    pub(crate) fn loop_end(&mut self, memory: &mut Memory) -> Result<(), Fault>
-        ensures { plain_outcome result self.new memory.new ≡ row op.LoopEnd self.old memory.old }
+    pub(crate) fn turn_back(&mut self, memory: &mut Memory) -> Result<bool, Fault>
+        ensures answer { turned_back result self.new memory.new ≡ row op.LoopEnd self.old memory.old }
+        ensures kept { AreKept self.old self.new }
     {
         let counter = self.b.wrapping_add(4);
         let count = memory.word(counter)?;
         memory.set_word(counter, count.wrapping_sub(1))?;
         if signed(count) <= 1 {
-            return Ok(());
+            return Ok(false);
         }
         let index = memory.word(self.b)?;
         memory.set_word(self.b, index.wrapping_add(1))?;
         self.instruction = self.instruction.wrapping_sub(self.a);
-        self.slice(memory)
+        Ok(true)
+    }
+
+    // lend
+    #[inline]
+    pub(crate) fn loop_end(&mut self, memory: &mut Memory) -> Result<(), Fault>
+        ensures { plain_outcome result self.new memory.new ≡ row op.LoopEnd self.old memory.old }
+    {
+        if self.turn_back(memory)? {
+            self.slice(memory)
+        } else {
+            Ok(())
+        }
     }
 
     // gajw

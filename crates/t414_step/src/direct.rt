@@ -8,13 +8,15 @@ use node_memory::{Fault, Memory, add_checked};
 #[tactic(auto, unfolding(crate::specs::Rows::direct))]
 impl Cpu {
     ghost use Rattle.t414_decode.specs.declared.instruction.Function.TheVariants as function;
+    ghost use Rattle.t414_step.specs.Next.{AreKept};
     ghost use Rattle.t414_step.specs.Outcome.{plain_outcome, Went};
     ghost use Rattle.t414_step.specs.Rows.{direct, error_if, save, slice};
 
     // The error flag is set where the test holds.
     #[inline(always)]
     pub(crate) fn raise_if(&mut self, raised: bool) -> Result<(), Fault>
-        ensures { (m : List ℕ) → plain_outcome result self.new m ≡ error_if raised self.old m }
+        ensures answer { (m : List ℕ) → plain_outcome result self.new m ≡ error_if raised self.old m }
+        ensures kept { AreKept self.old self.new }
     {
         if raised {
             if self.halt_on_error {
@@ -47,19 +49,20 @@ impl Cpu {
         Ok(())
     }
 
-    // j
+    // j, without the slice
     #[inline(always)]
-    pub(crate) fn jump(&mut self, memory: &mut Memory, operand: u32) -> Result<(), Fault>
-        ensures { plain_outcome result self.new memory.new ≡ direct function.Jump operand self.old memory.old }
+    pub(crate) fn jump(&mut self, operand: u32)
+        ensures answer { (m : List ℕ) → slice self.new m ≡ direct function.Jump operand self.old m }
+        ensures kept { AreKept self.old self.new }
     {
         self.instruction = self.instruction.wrapping_add(operand);
-        self.slice(memory)
     }
 
     // ldlp
     #[inline(always)]
     pub(crate) fn load_local_pointer(&mut self, operand: u32)
-        ensures { (m : List ℕ) → Went self.new m ≡ direct function.LoadLocalPointer operand self.old m }
+        ensures answer { (m : List ℕ) → Went self.new m ≡ direct function.LoadLocalPointer operand self.old m }
+        ensures kept { AreKept self.old self.new }
     {
         self.push(self.local(operand));
     }
@@ -67,7 +70,8 @@ impl Cpu {
     // ldl
     #[inline(always)]
     pub(crate) fn load_local(&mut self, memory: &Memory, operand: u32) -> Result<(), Fault>
-        ensures { plain_outcome result self.new memory.now ≡ direct function.LoadLocal operand self.old memory.now }
+        ensures answer { plain_outcome result self.new memory.now ≡ direct function.LoadLocal operand self.old memory.now }
+        ensures kept { AreKept self.old self.new }
     {
         let word = memory.word(self.local(operand))?;
         self.push(word);
@@ -77,7 +81,8 @@ impl Cpu {
     // stl
     #[inline(always)]
     pub(crate) fn store_local(&mut self, memory: &mut Memory, operand: u32) -> Result<(), Fault>
-        ensures { plain_outcome result self.new memory.new ≡ direct function.StoreLocal operand self.old memory.old }
+        ensures answer { plain_outcome result self.new memory.new ≡ direct function.StoreLocal operand self.old memory.old }
+        ensures kept { AreKept self.old self.new }
     {
         memory.set_word(self.local(operand), self.a)?;
         self.discard();
@@ -87,7 +92,8 @@ impl Cpu {
     // adc
     #[inline(always)]
     pub(crate) fn add_constant(&mut self, operand: u32) -> Result<(), Fault>
-        ensures { (m : List ℕ) → plain_outcome result self.new m ≡ direct function.AddConstant operand self.old m }
+        ensures answer { (m : List ℕ) → plain_outcome result self.new m ≡ direct function.AddConstant operand self.old m }
+        ensures kept { AreKept self.old self.new }
     {
         let (sum, overflows) = add_checked(self.a, operand);
         self.a = sum;
@@ -97,7 +103,8 @@ impl Cpu {
     // call
     #[inline(always)]
     pub(crate) fn call(&mut self, memory: &mut Memory, operand: u32) -> Result<(), Fault>
-        ensures { plain_outcome result self.new memory.new ≡ direct function.Call operand self.old memory.old }
+        ensures answer { plain_outcome result self.new memory.new ≡ direct function.Call operand self.old memory.old }
+        ensures kept { AreKept self.old self.new }
     {
         let workspace = self.workspace;
         memory.set_word(workspace.wrapping_sub(4), self.c)?;
@@ -113,7 +120,8 @@ impl Cpu {
     // cj
     #[inline(always)]
     pub(crate) fn conditional_jump(&mut self, operand: u32)
-        ensures { (m : List ℕ) → Went self.new m ≡ direct function.ConditionalJump operand self.old m }
+        ensures answer { (m : List ℕ) → Went self.new m ≡ direct function.ConditionalJump operand self.old m }
+        ensures kept { AreKept self.old self.new }
     {
         if self.a == 0 {
             self.instruction = self.instruction.wrapping_add(operand);
@@ -125,7 +133,8 @@ impl Cpu {
     // pfix
     #[inline(always)]
     pub(crate) fn prefix(&mut self, operand: u32)
-        ensures { (m : List ℕ) → Went self.new m ≡ direct function.Prefix operand self.old m }
+        ensures answer { (m : List ℕ) → Went self.new m ≡ direct function.Prefix operand self.old m }
+        ensures kept { AreKept self.old self.new }
     {
         self.operand = operand << 4;
     }
@@ -133,7 +142,8 @@ impl Cpu {
     // nfix
     #[inline(always)]
     pub(crate) fn negative_prefix(&mut self, operand: u32)
-        ensures { (m : List ℕ) → Went self.new m ≡ direct function.NegativePrefix operand self.old m }
+        ensures answer { (m : List ℕ) → Went self.new m ≡ direct function.NegativePrefix operand self.old m }
+        ensures kept { AreKept self.old self.new }
     {
         self.operand = !operand << 4;
     }
@@ -141,7 +151,8 @@ impl Cpu {
     // ldnl
     #[inline(always)]
     pub(crate) fn load_non_local(&mut self, memory: &Memory, operand: u32) -> Result<(), Fault>
-        ensures { plain_outcome result self.new memory.now ≡ direct function.LoadNonLocal operand self.old memory.now }
+        ensures answer { plain_outcome result self.new memory.now ≡ direct function.LoadNonLocal operand self.old memory.now }
+        ensures kept { AreKept self.old self.new }
     {
         self.a = memory.word(self.beyond(operand))?;
         Ok(())
@@ -150,7 +161,8 @@ impl Cpu {
     // ldc
     #[inline(always)]
     pub(crate) fn load_constant(&mut self, operand: u32)
-        ensures { (m : List ℕ) → Went self.new m ≡ direct function.LoadConstant operand self.old m }
+        ensures answer { (m : List ℕ) → Went self.new m ≡ direct function.LoadConstant operand self.old m }
+        ensures kept { AreKept self.old self.new }
     {
         self.push(operand);
     }
@@ -158,7 +170,8 @@ impl Cpu {
     // ldnlp
     #[inline(always)]
     pub(crate) fn load_non_local_pointer(&mut self, operand: u32)
-        ensures { (m : List ℕ) → Went self.new m ≡ direct function.LoadNonLocalPointer operand self.old m }
+        ensures answer { (m : List ℕ) → Went self.new m ≡ direct function.LoadNonLocalPointer operand self.old m }
+        ensures kept { AreKept self.old self.new }
     {
         self.a = self.beyond(operand);
     }
@@ -166,7 +179,8 @@ impl Cpu {
     // ajw
     #[inline(always)]
     pub(crate) fn adjust_workspace(&mut self, operand: u32)
-        ensures { (m : List ℕ) → Went self.new m ≡ direct function.AdjustWorkspace operand self.old m }
+        ensures answer { (m : List ℕ) → Went self.new m ≡ direct function.AdjustWorkspace operand self.old m }
+        ensures kept { AreKept self.old self.new }
     {
         self.set_workspace(self.local(operand));
     }
@@ -174,7 +188,8 @@ impl Cpu {
     // eqc
     #[inline(always)]
     pub(crate) fn equals_constant(&mut self, operand: u32)
-        ensures { (m : List ℕ) → Went self.new m ≡ direct function.EqualsConstant operand self.old m }
+        ensures answer { (m : List ℕ) → Went self.new m ≡ direct function.EqualsConstant operand self.old m }
+        ensures kept { AreKept self.old self.new }
     {
         self.a = u32::from(self.a == operand);
     }
@@ -182,7 +197,8 @@ impl Cpu {
     // stnl
     #[inline(always)]
     pub(crate) fn store_non_local(&mut self, memory: &mut Memory, operand: u32) -> Result<(), Fault>
-        ensures { plain_outcome result self.new memory.new ≡ direct function.StoreNonLocal operand self.old memory.old }
+        ensures answer { plain_outcome result self.new memory.new ≡ direct function.StoreNonLocal operand self.old memory.old }
+        ensures kept { AreKept self.old self.new }
     {
         memory.set_word(self.beyond(operand), self.b)?;
         self.discard_two();

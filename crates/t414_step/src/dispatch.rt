@@ -1,8 +1,9 @@
 //! The dispatch on an instruction byte.
 
-ghost use Rattle.std.specs.Prelude.{◌≡◌};
+ghost use Rattle.std.specs.Prelude.{◌≡◌, ◌+◌, min};
 
 use crate::cpu::Cpu;
+use crate::next::Next;
 use link_channels::Links;
 use node_memory::{Fault, Memory};
 use t414_decode::{ChannelOperation, Function, Operation, PlainOperation, decode, operation};
@@ -15,9 +16,18 @@ macro_rules! done {
     }};
 }
 
+// A row that can't fault, of the loop of bytes.
+macro_rules! next {
+    ($row:expr) => {{
+        $row;
+        Next::Byte
+    }};
+}
+
 impl Cpu {
     ghost use Rattle.t414_decode.specs.Codes.{operation_of};
     ghost use Rattle.t414_step.specs.ChannelRows.{channel_row};
+    ghost use Rattle.t414_step.specs.Next.{AreKept, outcome_of};
     ghost use Rattle.t414_step.specs.Outcome.{plain_outcome, finished, with_links};
     ghost use Rattle.t414_step.specs.Rows.{row, operate, direct};
     ghost use Rattle.t414_step.specs.Step.{byte_done};
@@ -111,39 +121,36 @@ impl Cpu {
         (self, done)
     }
 
-    // One operation on registers and memory. The frequent ones stand in the loop of steps.
+    // One operation on registers and memory, if it is a frequent one.
     #[inline(always)]
-    fn perform(&mut self, memory: &mut Memory, operation: PlainOperation) -> Result<(), Fault>
-        ensures answer { plain_outcome result self.new memory.new ≡ row operation self.old memory.old }
+    fn perform(&mut self, memory: &mut Memory, operation: PlainOperation) -> Next
+        ensures answer { outcome_of result self.new memory.new ≡ row operation self.old memory.old }
+        ensures kept { AreKept self.old self.new }
     {
         match operation {
-            PlainOperation::Reverse => done!(self.reverse()),
-            PlainOperation::LoadByte => self.load_byte(memory),
-            PlainOperation::ByteSubscript => done!(self.byte_subscript()),
-            PlainOperation::Difference => done!(self.difference()),
-            PlainOperation::Add => self.add(),
-            PlainOperation::Product => done!(self.product()),
-            PlainOperation::GreaterThan => done!(self.greater_than()),
-            PlainOperation::WordSubscript => done!(self.word_subscript()),
-            PlainOperation::Subtract => self.subtract(),
-            PlainOperation::Return => self.return_from_call(memory),
-            PlainOperation::LoopEnd => self.loop_end(memory),
-            PlainOperation::Not => done!(self.not()),
-            PlainOperation::ExclusiveOr => done!(self.exclusive_or()),
-            PlainOperation::StoreByte => self.store_byte(memory),
-            PlainOperation::ShiftRight => done!(self.shift_right()),
-            PlainOperation::ShiftLeft => done!(self.shift_left()),
-            PlainOperation::MinimumInteger => done!(self.minimum_integer()),
-            PlainOperation::And => done!(self.and()),
-            PlainOperation::Or => done!(self.or()),
-            PlainOperation::Sum => done!(self.sum()),
-            PlainOperation::Multiply => self.multiply(),
-            PlainOperation::CheckSubscriptFromZero => self.check_subscript_from_zero(),
-            _ => {
-                let (after, done) = self.perform_by_value(memory, operation);
-                *self = after;
-                done
-            }
+            PlainOperation::Reverse => next!(self.reverse()),
+            PlainOperation::LoadByte => Next::of(self.load_byte(memory)),
+            PlainOperation::ByteSubscript => next!(self.byte_subscript()),
+            PlainOperation::Difference => next!(self.difference()),
+            PlainOperation::Add => Next::of(self.add()),
+            PlainOperation::Product => next!(self.product()),
+            PlainOperation::GreaterThan => next!(self.greater_than()),
+            PlainOperation::WordSubscript => next!(self.word_subscript()),
+            PlainOperation::Subtract => Next::of(self.subtract()),
+            PlainOperation::Return => Next::of(self.return_from_call(memory)),
+            PlainOperation::LoopEnd => Next::of_turn(self.turn_back(memory)),
+            PlainOperation::Not => next!(self.not()),
+            PlainOperation::ExclusiveOr => next!(self.exclusive_or()),
+            PlainOperation::StoreByte => Next::of(self.store_byte(memory)),
+            PlainOperation::ShiftRight => next!(self.shift_right()),
+            PlainOperation::ShiftLeft => next!(self.shift_left()),
+            PlainOperation::MinimumInteger => next!(self.minimum_integer()),
+            PlainOperation::And => next!(self.and()),
+            PlainOperation::Or => next!(self.or()),
+            PlainOperation::Sum => next!(self.sum()),
+            PlainOperation::Multiply => Next::of(self.multiply()),
+            PlainOperation::CheckSubscriptFromZero => Next::of(self.check_subscript_from_zero()),
+            _ => Next::Plain(operation),
         }
     }
 
@@ -168,79 +175,90 @@ impl Cpu {
         }
     }
 
-    // The same by value, apart from the loops of steps.
-    #[inline(never)]
-    fn perform_channel_by_value(
-        mut self,
-        memory: &mut Memory,
-        links: &mut Links,
-        operation: ChannelOperation,
-    ) -> (Cpu, Result<(), Fault>)
-        ensures answer { finished result.1 result.0 links.new memory.new ≡ channel_row operation self links.old memory.old }
-    {
-        let done = self.perform_channel(memory, links, operation);
-        (self, done)
-    }
-
     // The operation of a code.
     #[inline(always)]
-    fn operate(&mut self, memory: &mut Memory, links: &mut Links, code: u32) -> Result<(), Fault>
-        ensures answer { finished result self.new links.new memory.new ≡ with_links links.old (operate (operation_of code) code self.old memory.old) }
+    fn operate(&mut self, memory: &mut Memory, code: u32) -> Next
+        ensures answer { outcome_of result self.new memory.new ≡ operate (operation_of code) code self.old memory.old }
+        ensures kept { AreKept self.old self.new }
     {
         match operation(code) {
             Some(Operation::Plain(operation)) => self.perform(memory, operation),
-            Some(Operation::Channel(operation)) => {
-                let (after, done) = self.perform_channel_by_value(memory, links, operation);
-                *self = after;
-                done
-            }
-            None => Err(Fault::UnknownOperation(code)),
+            Some(Operation::Channel(operation)) => Next::Channel(operation),
+            None => Next::Fault(Fault::UnknownOperation(code)),
         }
     }
 
     // One function of an operand.
     #[inline(always)]
-    fn apply(
-        &mut self,
-        memory: &mut Memory,
-        links: &mut Links,
-        function: Function,
-        operand: u32,
-    ) -> Result<(), Fault>
-        ensures answer { finished result self.new links.new memory.new ≡ with_links links.old (direct function operand self.old memory.old) }
+    fn apply(&mut self, memory: &mut Memory, function: Function, operand: u32) -> Next
+        ensures answer { outcome_of result self.new memory.new ≡ direct function operand self.old memory.old }
+        ensures kept { AreKept self.old self.new }
     {
         match function {
-            Function::Jump => self.jump(memory, operand),
-            Function::LoadLocalPointer => done!(self.load_local_pointer(operand)),
-            Function::Prefix => done!(self.prefix(operand)),
-            Function::LoadNonLocal => self.load_non_local(memory, operand),
-            Function::LoadConstant => done!(self.load_constant(operand)),
-            Function::LoadNonLocalPointer => done!(self.load_non_local_pointer(operand)),
-            Function::NegativePrefix => done!(self.negative_prefix(operand)),
-            Function::LoadLocal => self.load_local(memory, operand),
-            Function::AddConstant => self.add_constant(operand),
-            Function::Call => self.call(memory, operand),
-            Function::ConditionalJump => done!(self.conditional_jump(operand)),
-            Function::AdjustWorkspace => done!(self.adjust_workspace(operand)),
-            Function::EqualsConstant => done!(self.equals_constant(operand)),
-            Function::StoreLocal => self.store_local(memory, operand),
-            Function::StoreNonLocal => self.store_non_local(memory, operand),
-            Function::Operate => self.operate(memory, links, operand),
+            Function::Jump => {
+                self.jump(operand);
+                Next::Jumped
+            }
+            Function::LoadLocalPointer => next!(self.load_local_pointer(operand)),
+            Function::Prefix => next!(self.prefix(operand)),
+            Function::LoadNonLocal => Next::of(self.load_non_local(memory, operand)),
+            Function::LoadConstant => next!(self.load_constant(operand)),
+            Function::LoadNonLocalPointer => next!(self.load_non_local_pointer(operand)),
+            Function::NegativePrefix => next!(self.negative_prefix(operand)),
+            Function::LoadLocal => Next::of(self.load_local(memory, operand)),
+            Function::AddConstant => Next::of(self.add_constant(operand)),
+            Function::Call => Next::of(self.call(memory, operand)),
+            Function::ConditionalJump => next!(self.conditional_jump(operand)),
+            Function::AdjustWorkspace => next!(self.adjust_workspace(operand)),
+            Function::EqualsConstant => next!(self.equals_constant(operand)),
+            Function::StoreLocal => Next::of(self.store_local(memory, operand)),
+            Function::StoreNonLocal => Next::of(self.store_non_local(memory, operand)),
+            Function::Operate => self.operate(memory, operand),
         }
     }
 
-    // One instruction byte. It stands in the loop of each caller, so that its address is nowhere taken.
+    // One instruction byte, as far as registers and memory do it. It stands in the loop of bytes, so that its address is
+    // nowhere taken.
     #[inline(always)]
     #[tactic(auto, unfolding(crate::specs::Step::byte_done))]
-    pub(crate) fn do_byte(&mut self, memory: &mut Memory, links: &mut Links) -> Result<(), Fault>
-        ensures answer { finished result self.new links.new memory.new ≡ with_links links.old (byte_done self.old memory.old) }
+    pub(crate) fn do_byte(&mut self, memory: &mut Memory) -> Next
+        ensures answer { outcome_of result self.new memory.new ≡ byte_done self.old memory.old }
+        ensures running { self.new.running ≡ self.old.running }
+        ensures counted { self.new.bytes ≡ min (self.old.bytes + 1) 1024 }
     {
-        let byte = memory.byte(self.instruction)?;
+        // After a fault the registers are given up, so the byte may be counted before it is read.
+        self.bytes = self.bytes.min(1023) + 1;
+        let byte = match memory.byte(self.instruction) {
+            Ok(byte) => byte,
+            Err(fault) => return Next::Fault(fault),
+        };
         let (function, nibble) = decode(byte);
         let operand = self.operand | u32::from(nibble);
         self.instruction = self.instruction.wrapping_add(1);
-        self.bytes = self.bytes.min(1023) + 1;
         self.operand = 0;
-        self.apply(memory, links, function, operand)
+        self.apply(memory, function, operand)
+    }
+
+    // What is left of an instruction byte.
+    #[inline(always)]
+    pub(crate) fn complete(
+        &mut self,
+        memory: &mut Memory,
+        links: &mut Links,
+        next: Next,
+    ) -> Result<(), Fault>
+        ensures answer { finished result self.new links.new memory.new ≡ with_links links.old (outcome_of next self.old memory.old) }
+    {
+        match next {
+            Next::Byte => Ok(()),
+            Next::Jumped => self.slice(memory),
+            Next::Plain(operation) => {
+                let (after, done) = self.perform_by_value(memory, operation);
+                *self = after;
+                done
+            }
+            Next::Channel(operation) => self.perform_channel(memory, links, operation),
+            Next::Fault(fault) => Err(fault),
+        }
     }
 }

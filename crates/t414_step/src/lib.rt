@@ -12,10 +12,13 @@ mod dispatch;
 mod flags;
 mod laws;
 mod long;
+mod next;
 mod processes;
+mod running;
 mod stepping;
 mod storage;
 
 pub use crate::cpu::Cpu;
 pub use crate::laws::{great_count_is_the_most, idle_where_it_rests, move_stops_at_the_edge};
+pub use crate::running::run;
 pub use crate::stepping::{Stepped, step};

@@ -1,6 +1,6 @@
 //! One step of the processor.
 
-ghost use Rattle.std.specs.Prelude.{◌≡◌};
+ghost use Rattle.std.specs.Prelude.{◌≡◌, Ok, true};
 ghost use Rattle.t414_step.specs.Answers.{step_answer_of, is_idle};
 ghost use Rattle.t414_step.specs.Registers.{has_nothing_to_do};
 ghost use Rattle.t414_step.specs.Step.{resuming, resumption, step};
@@ -23,8 +23,9 @@ pub enum Stepped {
 impl Cpu {
     // Takes a process from the queue; whether there was one.
     #[inline(always)]
-    fn resume(&mut self, memory: &Memory) -> Result<bool, Fault>
+    pub(crate) fn resume(&mut self, memory: &Memory) -> Result<bool, Fault>
         ensures answer { resuming result self.new ≡ resumption self.old memory.now }
+        ensures runs { result ≡ Ok true → self.new.running ≡ true }
     {
         let Some(found) = self.queue.take(memory)? else {
             return Ok(false);
@@ -45,7 +46,7 @@ impl Cpu {
 // One step, whose answer alone is told.
 #[inline(always)]
 #[tactic(auto, unfolding(crate::specs::Step::step))]
-fn advance(cpu: &mut Cpu, memory: &mut Memory, links: &mut Links) -> Stepped
+pub(crate) fn advance(cpu: &mut Cpu, memory: &mut Memory, links: &mut Links) -> Stepped
     ensures answer { step_answer_of result cpu.new links.new memory.new ≡ step cpu.old links.old memory.old }
 {
     // Links without work are left as they are.
@@ -65,7 +66,8 @@ fn advance(cpu: &mut Cpu, memory: &mut Memory, links: &mut Links) -> Stepped
             Err(fault) => return Stepped::Fault(fault),
         }
     }
-    match cpu.do_byte(memory, links) {
+    let next = cpu.do_byte(memory);
+    match cpu.complete(memory, links, next) {
         Ok(()) => Stepped::Ran,
         Err(fault) => Stepped::Fault(fault),
     }
@@ -79,7 +81,7 @@ fn advance(cpu: &mut Cpu, memory: &mut Memory, links: &mut Links) -> Stepped
 /// has them.
 ///
 /// Source: Transputer instruction set handbook, and Reference Manual, links; the order and the slices are our choice.
-// It stands in each caller's loop, so that a local `Cpu` is kept in registers.
+// For many steps there is `run`.
 #[inline(always)]
 pub fn step(cpu: &mut Cpu, memory: &mut Memory, links: &mut Links) -> Stepped
     ensures answer { step_answer_of result cpu.new links.new memory.new ≡ step cpu.old links.old memory.old }

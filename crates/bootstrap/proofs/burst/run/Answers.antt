@@ -1,61 +1,56 @@
-use Rattle.std.proofs.Common.{◌≡◌, ℕ, true, refl, ◌∙◌, ap, sym, subst, arith}
+use Rattle.std.proofs.Common.{◌≡◌, ℕ, suc, ◌+◌, ◌-◌, ◌<◌, true, Option, Some, refl, ◌∙◌, ap, sym, subst, arith, add-one}
+use Rattle.t414_step.specs.Answers.{step_answer_of}
+use Rattle.t414_step.specs.Step.{Ran, Idle, Broke}
+use Rattle.t414_step.specs.Steps.{steps}
+use Rattle.t414_step.specs.declared.stepping.Stepped.{Stepped}
 use Rattle.bootstrap.specs.Step.{is_quiet}
-use Rattle.bootstrap.specs.Steps.{last_answer, IsAfter, running, left_by}
+use Rattle.bootstrap.specs.Steps.{IsAfter, running, left_by}
 use Rattle.bootstrap.specs.declared.node.Node.{Node}
-use Rattle.bootstrap.proofs.Counting.{no-steps, last_answer-zero}
-use Rattle.bootstrap.proofs.Running.{ran-step, broke-step, idle-stays, runs-more, quiet-running}
+use Rattle.bootstrap.proofs.Running.{steps-led, steps-broke, steps-rested, left-ran, some-idle, some-fault}
 use Rattle.bootstrap.proofs.burst.run.Goals as goal
 
-pub loop-steps-init : goal.loop-steps-init
-loop-steps-init c = record {
-  after = no-steps (running c.args.cpu.now c.args.links.now c.args.memory.now);
-  last = sym (last_answer-zero (running c.args.cpu.now c.args.links.now c.args.memory.now));
-  goes_on = λ s ls m. refl;
-}
-
-pub loop-steps-preserved : goal.loop-steps-preserved
-loop-steps-preserved c =
-    let more = runs-more (running c.args.cpu.now c.args.links.now c.args.memory.now) (running c.step.new.cpu c.step.new.links c.step.new.memory) c.loop-steps.steps c.loop-steps.cpu c.loop-steps.links c.loop-steps.memory _
-    c.loop-steps.invariant.after
-    (ran-step c.loop-steps.cpu c.step.new.cpu c.loop-steps.links c.step.new.links c.loop-steps.memory c.step.new.memory c.in-Ran.ensures.answer)
-    refl in
-    record { after = more.0; last = more.1; goes_on = λ s ls m. refl }
-
-pub returns-in-Fault : goal.returns-in-Fault
-returns-in-Fault c =
-    let more = runs-more (running c.args.cpu.now c.args.links.now c.args.memory.now) _ c.loop-steps.steps c.loop-steps.cpu c.loop-steps.links c.loop-steps.memory _
-    c.loop-steps.invariant.after
-    (broke-step c.in-Fault.fault c.loop-steps.cpu c.loop-steps.links c.step.new.links c.loop-steps.memory c.step.new.memory c.in-Fault.ensures.answer)
-    refl in
-    record { burst = record { steps = more.0; last = more.1; most = omega arith; ends = λ lt. refl } }
-
-pub returns-in-Idle : goal.returns-in-Idle
-returns-in-Idle c =
-    let stays : running c.loop-steps.cpu c.loop-steps.links c.loop-steps.memory ≡ left_by c.loop-steps.last c.step.new.cpu c.step.new.links c.step.new.memory =
-    idle-stays c.services_act_on_work.ensures.rest c.loop-steps.cpu c.step.new.cpu c.loop-steps.links c.step.new.links c.loop-steps.memory c.step.new.memory c.in-Idle.ensures.answer c.in-Idle.ensures.idle
-    ∙ sym (c.loop-steps.invariant.goes_on c.step.new.cpu c.step.new.links c.step.new.memory) in
-    let quiet : is_quiet (running c.loop-steps.cpu c.loop-steps.links c.loop-steps.memory) ≡ true =
-    quiet-running c.idle_where_it_rests.ensures.law c.loop-steps.cpu c.loop-steps.links c.loop-steps.memory c.in-Idle.ensures.idle in
+pub returns-in-Ran : goal.returns-in-Ran
+returns-in-Ran c =
+    let answer : steps c.run-steps.result.0 c.args.cpu.now c.args.links.now c.args.memory.now ≡ Some (Ran c.run-steps.new.cpu c.run-steps.new.links c.run-steps.new.memory) =
+    c.run-steps.ensures.answer ∙ ap (λ (a : Stepped). Some (step_answer_of a c.run-steps.new.cpu c.run-steps.new.links c.run-steps.new.memory)) c.in-Ran.is in
+    let led = steps-led c.run-steps.result.0 c.args.cpu.now c.run-steps.new.cpu c.args.links.now c.run-steps.new.links c.args.memory.now c.run-steps.new.memory answer in
+    let left : running c.run-steps.new.cpu c.run-steps.new.links c.run-steps.new.memory ≡ left_by c.last_ran.result c.run-steps.new.cpu c.run-steps.new.links c.run-steps.new.memory =
+    left-ran c.run-steps.result.0 c.run-steps.new.cpu c.run-steps.new.links c.run-steps.new.memory
+    ∙ ap (λ (last : Option Stepped). left_by last c.run-steps.new.cpu c.run-steps.new.links c.run-steps.new.memory) (sym c.last_ran.ensures) in
+    let all : c.run-steps.result.0 ≡ c.args.n = c.run-steps.ensures.all c.in-Ran.is in
     record {
       burst = record {
-        steps = subst (λ (y : Node). IsAfter (running c.args.cpu.now c.args.links.now c.args.memory.now) c.loop-steps.steps y) stays c.loop-steps.invariant.after;
-        last = c.loop-steps.invariant.last;
-        most = omega arith;
-        ends = λ lt. subst (λ (y : Node). is_quiet y ≡ true) stays quiet;
-      };
-    }
-
-pub returns : goal.returns
-returns c =
-    let stays : running c.loop-steps.cpu c.loop-steps.links c.loop-steps.memory ≡ left_by c.loop-steps.last c.loop-steps.cpu c.loop-steps.links c.loop-steps.memory =
-    sym (c.loop-steps.invariant.goes_on c.loop-steps.cpu c.loop-steps.links c.loop-steps.memory) in
-    let all : c.loop-steps.steps ≡ c.args.n = omega arith in
-    record {
-      burst = record {
-        steps = subst (λ (k : ℕ). IsAfter (running c.args.cpu.now c.args.links.now c.args.memory.now) k (left_by c.loop-steps.last c.loop-steps.cpu c.loop-steps.links c.loop-steps.memory)) all
-            (subst (λ (y : Node). IsAfter (running c.args.cpu.now c.args.links.now c.args.memory.now) c.loop-steps.steps y) stays c.loop-steps.invariant.after);
-        last = c.loop-steps.invariant.last ∙ ap (λ (k : ℕ). last_answer k (running c.args.cpu.now c.args.links.now c.args.memory.now)) all;
-        most = omega arith;
+        steps = subst (λ (y : Node). IsAfter (running c.args.cpu.now c.args.links.now c.args.memory.now) c.run-steps.result.0 y) left led.after;
+        last = c.last_ran.ensures ∙ led.last;
+        most = c.run-steps.ensures.most;
         ends = λ lt. absurd (omega arith);
       };
     }
+
+pub returns-in-Idle : goal.returns-in-Idle
+returns-in-Idle c =
+    let some : 0 < c.run-steps.result.0 = some-idle c.run-steps.result.0 c.run-steps.result.1 c.in-Idle.is c.run-steps.ensures.some in
+    let count : (c.run-steps.result.0 - 1) + 1 ≡ c.run-steps.result.0 = omega arith in
+    let answer : steps (suc (c.run-steps.result.0 - 1)) c.args.cpu.now c.args.links.now c.args.memory.now ≡ Some (Idle c.run-steps.new.cpu c.run-steps.new.links c.run-steps.new.memory) =
+    ap (λ (i : ℕ). steps i c.args.cpu.now c.args.links.now c.args.memory.now) (sym (add-one (c.run-steps.result.0 - 1)) ∙ count)
+    ∙ c.run-steps.ensures.answer ∙ ap (λ (a : Stepped). Some (step_answer_of a c.run-steps.new.cpu c.run-steps.new.links c.run-steps.new.memory)) c.in-Idle.is in
+    let rested = steps-rested c.idle_where_it_rests.ensures.law c.services_act_on_work.ensures.rest (c.run-steps.result.0 - 1) c.args.cpu.now c.run-steps.new.cpu c.args.links.now c.run-steps.new.links c.args.memory.now c.run-steps.new.memory answer in
+    let left : running c.run-steps.new.cpu c.run-steps.new.links c.run-steps.new.memory ≡ left_by c.last_ran-in-Idle.result c.run-steps.new.cpu c.run-steps.new.links c.run-steps.new.memory =
+    left-ran (c.run-steps.result.0 - 1) c.run-steps.new.cpu c.run-steps.new.links c.run-steps.new.memory
+    ∙ ap (λ (last : Option Stepped). left_by last c.run-steps.new.cpu c.run-steps.new.links c.run-steps.new.memory) (sym c.last_ran-in-Idle.ensures) in
+    record {
+      burst = record {
+        steps = subst (λ (y : Node). IsAfter (running c.args.cpu.now c.args.links.now c.args.memory.now) (c.run-steps.result.0 - 1) y) left rested.after;
+        last = c.last_ran-in-Idle.ensures ∙ rested.last;
+        most = omega arith;
+        ends = λ lt. subst (λ (y : Node). is_quiet y ≡ true) left rested.quiet;
+      };
+    }
+
+pub returns-in-Fault : goal.returns-in-Fault
+returns-in-Fault c =
+    let some : 0 < c.run-steps.result.0 = some-fault c.run-steps.result.0 c.in-Fault.fault c.run-steps.result.1 c.in-Fault.is c.run-steps.ensures.some in
+    let answer : steps c.run-steps.result.0 c.args.cpu.now c.args.links.now c.args.memory.now ≡ Some (Broke c.in-Fault.fault c.run-steps.new.links c.run-steps.new.memory) =
+    c.run-steps.ensures.answer ∙ ap (λ (a : Stepped). Some (step_answer_of a c.run-steps.new.cpu c.run-steps.new.links c.run-steps.new.memory)) c.in-Fault.is in
+    let broke = steps-broke c.run-steps.result.0 c.in-Fault.fault c.args.cpu.now c.run-steps.new.cpu c.args.links.now c.run-steps.new.links c.args.memory.now c.run-steps.new.memory some answer in
+    record { burst = record { steps = broke.0; last = broke.1; most = c.run-steps.ensures.most; ends = λ lt. refl } }

@@ -1,0 +1,49 @@
+//! What an instruction byte came to, as far as registers and memory do it.
+
+ghost use Rattle.std.specs.Prelude.{◌≡◌, List, ℕ};
+ghost use Rattle.t414_step.specs.Next.{outcome_of, turned_back};
+ghost use Rattle.t414_step.specs.Outcome.{plain_outcome};
+ghost use Rattle.t414_step.specs.declared.cpu.Cpu.{Cpu};
+
+use node_memory::Fault;
+use t414_decode::{ChannelOperation, PlainOperation};
+
+// What an instruction byte came to. The loop of bytes goes on only after the first two.
+#[derive(Clone, Copy)]
+pub(crate) enum Next {
+    // It is done.
+    Byte,
+    // It is done but for the slice, which follows a jump.
+    Jumped,
+    // It asks for an operation that the loop of bytes doesn't do.
+    Plain(PlainOperation),
+    // It asks for an operation on a channel.
+    Channel(ChannelOperation),
+    // The node halts.
+    Fault(Fault),
+}
+
+impl Next {
+    // What a row of the table came to.
+    #[inline(always)]
+    pub(crate) fn of(done: Result<(), Fault>) -> Next
+        ensures { (s : Cpu) (m : List ℕ) → outcome_of result s m ≡ plain_outcome done s m }
+    {
+        match done {
+            Ok(()) => Next::Byte,
+            Err(fault) => Next::Fault(fault),
+        }
+    }
+
+    // What lend came to, by whether it went back.
+    #[inline(always)]
+    pub(crate) fn of_turn(back: Result<bool, Fault>) -> Next
+        ensures { (s : Cpu) (m : List ℕ) → outcome_of result s m ≡ turned_back back s m }
+    {
+        match back {
+            Ok(true) => Next::Jumped,
+            Ok(false) => Next::Byte,
+            Err(fault) => Next::Fault(fault),
+        }
+    }
+}
