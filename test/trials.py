@@ -34,33 +34,20 @@ def examples():
     yield "the stored run", contents(f"{STORED}/stdin"), contents(f"{STORED}/stdout")
 
 
-def assembled(lab, name, words):
-    """What `lab assemble` prints for a program of programs/."""
-    status, out, errors = run([lab, "assemble", *words], contents(f"{PROGRAMS}/{name}.s"))
-    if status != 0:
-        sys.exit(f"lab assemble < {name}.s: status {status}, {errors.decode()}")
-    return out.decode()
-
-
-def with_code(lab, text):
-    """A text of programs/ with code in the place of its lines that begin with @."""
-    lines = []
-    for line in text.decode().splitlines(keepends=True):
-        if line.startswith("@boot "):
-            _, user, host, name = line.split()
-            lines.append(f"{user} boot {host} {assembled(lab, name, [])}")
-        elif line.startswith("@pokes "):
-            _, user, host, name = line.split()
-            lines.append(assembled(lab, name, ["--pokes", host, user]))
-        else:
-            lines.append(line)
-    return "".join(lines).encode()
-
-
 def programs(lab):
-    """The same of each example of programs/, with the code that `lab assemble` makes."""
+    """The same of each example of programs/, as `lab expand` spells out its lines."""
     for name in names_in(PROGRAMS):
-        yield f"programs/{name}", with_code(lab, contents(f"{PROGRAMS}/{name}.farm")), contents(f"{PROGRAMS}/{name}.out")
+        status, text, errors = run([lab, "expand", f"{PROGRAMS}/{name}.farm"])
+        if status != 0:
+            sys.exit(f"lab expand {name}.farm: status {status}, {errors.decode()}")
+        yield f"programs/{name}", text, contents(f"{PROGRAMS}/{name}.out")
+
+
+def scripts():
+    """Each text of examples/ and of programs/: its name, its path, and what is printed."""
+    for folder, before in ((EXAMPLES, ""), (PROGRAMS, "programs/")):
+        for name in names_in(folder):
+            yield before + name, f"{folder}/{name}.farm", contents(f"{folder}/{name}.out")
 
 
 def library(name, folder):
@@ -86,13 +73,13 @@ def no_threads():
             resource.setrlimit(it, limits)
 
 
-def run(call, text=b"", more=None, limits=contextlib.nullcontext, seconds=MOST_SECONDS):
+def run(call, text=b"", more=None, limits=contextlib.nullcontext, seconds=MOST_SECONDS, folder=None):
     """Status, standard output and standard error of a program with this standard input, with more variables than this process
-    has. The status is none if the program didn't end in so many seconds."""
+    has, and in this folder if one is given. The status is none if the program didn't end in so many seconds."""
     with limits():
         try:
             done = subprocess.run(call, input=text, capture_output=True, timeout=seconds, check=False,
-                                  env={**os.environ, **(more or {})})
+                                  env={**os.environ, **(more or {})}, cwd=folder)
         except subprocess.TimeoutExpired:
             return None, b"", b"it did not end"
     return done.returncode, done.stdout, done.stderr

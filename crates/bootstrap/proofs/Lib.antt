@@ -1,3 +1,4 @@
+pub mod Before
 pub mod Counting
 pub mod Resting
 pub mod Running

@@ -1,5 +1,6 @@
 -- Bursts: the Steps of a processor as those of its node, and bursts after Steps.
-use Rattle.std.proofs.Common.{◌≡◌, ℕ, zero, suc, ◌+◌, ◌-◌, ◌<◌, ◌≤◌, Bool, true, false, not, List, Option, Some, None, refl, ◌∙◌, ap, sym, subst, arith, add-one}
+use Rattle.std.proofs.Common.{◌≡◌, ℕ, zero, suc, ◌+◌, ◌-◌, ◌<◌, ◌≤◌, Bool, true, false, not, List}
+use Rattle.std.proofs.Common.{Option, Some, None, refl, ◌∙◌, ap, sym, subst, arith, add-one}
 use Rattle.node_memory.specs.declared.fault.Fault.{Fault}
 use Rattle.link_channels.specs.declared.link.FourLinks.{FourLinks}
 use Rattle.link_channels.specs.Laws.{ServiceLeavesTheRest}
@@ -11,8 +12,7 @@ use Rattle.t414_step.specs.Laws.{IdleWhereItRests}
 use Rattle.t414_step.specs.Registers.{has_nothing_to_do}
 use Rattle.t414_step.specs.Step.{Broke, Idle, Ran}
 use Rattle.t414_step.specs.Step.{step}
-use Rattle.t414_step.specs.Steps.{steps}
-use Rattle.t414_step.proofs.Steps.{steps-zero, ran-before}
+use Rattle.t414_step.specs.Steps.{nth_step}
 use Rattle.bootstrap.specs.Laws.{later_or}
 use Rattle.bootstrap.specs.Step.{node_step, ran, has_halted, is_step_recorded, is_quiet}
 use Rattle.bootstrap.specs.Steps.{last_answer, IsAfter, IsBurst, last_of_ran, running, left_by}
@@ -20,14 +20,18 @@ use Rattle.bootstrap.specs.declared.burst.Burst.{Burst}
 use Rattle.bootstrap.specs.declared.node.Node.{Node}
 use Rattle.bootstrap.specs.declared.state.NodeState.{NodeState}
 use Rattle.bootstrap.specs.declared.state.NodeState.TheVariants.{Runs}
-use Rattle.bootstrap.proofs.Counting.{no-steps, one-more, last-more, after-add, last-add, last_answer-zero, last_answer-suc}
+use Rattle.bootstrap.proofs.Counting.{no-steps, one-more, last-more, after-add}
+use Rattle.bootstrap.proofs.Counting.{last-add, last_answer-zero, last_answer-suc}
+use Rattle.bootstrap.proofs.Before.{no-nth-step, ran-before}
 use Rattle.bootstrap.proofs.Resting.{not-not, resting-step, quiet-runs}
 
 -- the processor's Step as the node's
-pub ran-step : (s t : Cpu) (ls ks : FourLinks) (m n : List ℕ) → Ran t ks n ≡ step s ls m → node_step (running s ls m) ≡ (running t ks n, code.Ran)
+pub ran-step : (s t : Cpu) (ls ks : FourLinks) (m n : List ℕ) → Ran t ks n ≡ step s ls m
+    → node_step (running s ls m) ≡ (running t ks n, code.Ran)
 unfolding node_step
 ran-step s t ls ks m n e = sym (ap ran e)
 
+-- a step that meets a fault halts its node
 pub broke-step : (fault : Fault) (s : Cpu) (ls ks : FourLinks) (m n : List ℕ) → Broke fault ks n ≡ step s ls m
     → node_step (running s ls m) ≡ (left_by (Some (code.Fault fault)) s ks n, code.Fault fault)
 unfolding node_step
@@ -36,23 +40,32 @@ broke-step fault s ls ks m n e = sym (ap ran e)
 same-idle : (s t : Cpu) (ls ks : FourLinks) (m n : List ℕ) → Idle t ks n ≡ Idle s ls m → running s ls m ≡ running t ks n
 same-idle s t ls ks m n e = cc
 
-pub idle-stays : ServiceLeavesTheRest → (s t : Cpu) (ls ks : FourLinks) (m n : List ℕ) → Idle t ks n ≡ step s ls m → true ≡ has_nothing_to_do s ls → running s ls m ≡ running t ks n
+-- an idle step of a processor that has nothing to do changes nothing
+pub idle-stays : ServiceLeavesTheRest
+    → (s t : Cpu) (ls ks : FourLinks) (m n : List ℕ) → Idle t ks n ≡ step s ls m → true ≡ has_nothing_to_do s ls
+    → running s ls m ≡ running t ks n
 idle-stays rests s t ls ks m n e r = same-idle s t ls ks m n (e ∙ resting-step rests s ls m (sym r))
 
 -- a Step that answers so is recorded
-recorded-by : (n : Node) (answer : Stepped) → has_halted n.state ≡ false → (node_step n).1 ≡ answer → is_idle answer ≡ false → is_step_recorded n ≡ true
+recorded-by : (n : Node) (answer : Stepped)
+    → has_halted n.state ≡ false → (node_step n).1 ≡ answer → is_idle answer ≡ false
+    → is_step_recorded n ≡ true
 recorded-by n answer h e i = rw (h, e, i) refl
 
-pub runs-more : (x y : Node) (k : ℕ) (s : Cpu) (ls : FourLinks) (m : List ℕ) (answer : Stepped) → IsAfter x k (running s ls m) → node_step (running s ls m) ≡ (y, answer) → is_idle answer ≡ false
+-- a Step of a node that runs is one more, and is the last
+pub runs-more : (x y : Node) (k : ℕ) (s : Cpu) (ls : FourLinks) (m : List ℕ) (answer : Stepped)
+    → IsAfter x k (running s ls m) → node_step (running s ls m) ≡ (y, answer) → is_idle answer ≡ false
     → IsAfter x (k + 1) y × (Some answer ≡ last_answer (k + 1) x)
 runs-more x y k s ls m answer after e busy =
     let answers : (node_step (running s ls m)).1 ≡ answer = ap (λ (p : Node × Stepped). p.1) e in (
-      one-more x (running s ls m) y k after (recorded-by (running s ls m) answer refl answers busy) (ap (λ (p : Node × Stepped). p.0) e),
+      one-more x (running s ls m) y k after (recorded-by (running s ls m) answer refl answers busy)
+          (ap (λ (p : Node × Stepped). p.0) e),
       sym (last-more x (running s ls m) k answer after answers),
     )
 
 -- a processor with nothing to do makes its node quiet
-pub quiet-running : IdleWhereItRests → (s : Cpu) (ls : FourLinks) (m : List ℕ) → true ≡ has_nothing_to_do s ls → is_quiet (running s ls m) ≡ true
+pub quiet-running : IdleWhereItRests → (s : Cpu) (ls : FourLinks) (m : List ℕ) → true ≡ has_nothing_to_do s ls
+    → is_quiet (running s ls m) ≡ true
 quiet-running idle s ls m r = quiet-runs idle (running s ls m) s refl ∙ sym r
 
 later-some : (k : ℕ) (y : Node) (before : Option Stepped) → 0 < k → later_or (last_answer k y) before ≡ last_answer k y
@@ -62,7 +75,9 @@ later-some (suc k) y before some = rw last_answer-suc refl
 none-last : (k : ℕ) (y : Node) → k ≡ 0 → last_answer k y ≡ None
 none-last k y e = ap (λ (i : ℕ). last_answer i y) e ∙ last_answer-zero y
 
-burst-add : (n j : ℕ) (x y z : Node) (more : Burst) (last : Option Stepped) → j ≤ n → IsAfter x j y → IsBurst (n - j) y more z → last ≡ later_or (last_answer more.steps y) (last_answer j x)
+burst-add : (n j : ℕ) (x y z : Node) (more : Burst) (last : Option Stepped)
+    → j ≤ n → IsAfter x j y → IsBurst (n - j) y more z
+    → last ≡ later_or (last_answer more.steps y) (last_answer j x)
     → IsBurst n x (record { steps = j + more.steps; last = last }) z
 burst-add n j x y z more last le after burst e = record {
   steps = after-add x y z j more.steps after burst.steps;
@@ -72,18 +87,25 @@ burst-add n j x y z more last le after burst e = record {
 }
 
 -- a burst after Steps is a burst
-pub burst-after-none : (n j : ℕ) (x y z : Node) (more : Burst) (last : Option Stepped) → j ≤ n → IsAfter x j y → IsBurst (n - j) y more z → last ≡ last_answer j x → more.steps ≡ 0
+pub burst-after-none : (n j : ℕ) (x y z : Node) (more : Burst) (last : Option Stepped)
+    → j ≤ n → IsAfter x j y → IsBurst (n - j) y more z → last ≡ last_answer j x
+    → more.steps ≡ 0
     → IsBurst n x (record { steps = j + more.steps; last = last }) z
 burst-after-none n j x y z more last le after burst e none =
-    burst-add n j x y z more last le after burst (e ∙ sym (ap (λ (o : Option Stepped). later_or o (last_answer j x)) (none-last more.steps y none)))
+    burst-add n j x y z more last le after burst
+    (e ∙ sym (ap (λ (o : Option Stepped). later_or o (last_answer j x)) (none-last more.steps y none)))
 
-pub burst-after-some : (n j : ℕ) (x y z : Node) (more : Burst) → j ≤ n → IsAfter x j y → IsBurst (n - j) y more z → 0 < more.steps
+-- Steps and then a burst are a burst of all
+pub burst-after-some : (n j : ℕ) (x y z : Node) (more : Burst) → j ≤ n → IsAfter x j y → IsBurst (n - j) y more z
+    → 0 < more.steps
     → IsBurst n x (record { steps = j + more.steps; last = more.last }) z
 burst-after-some n j x y z more le after burst some =
-    burst-add n j x y z more more.last le after burst (burst.last ∙ sym (later-some more.steps y (last_answer j x) some))
+    burst-add n j x y z more more.last le after burst
+    (burst.last ∙ sym (later-some more.steps y (last_answer j x) some))
 
 -- a Step of a node that isn't quiet is one more
-pub steps-more : (x y z : Node) (k : ℕ) (quiet : Bool) (answer : Stepped) → IsAfter x k y → quiet ≡ is_quiet y → quiet ≡ false → (z, answer) ≡ node_step y
+pub steps-more : (x y z : Node) (k : ℕ) (quiet : Bool) (answer : Stepped)
+    → IsAfter x k y → quiet ≡ is_quiet y → quiet ≡ false → (z, answer) ≡ node_step y
     → IsAfter x (k + 1) z × (Some answer ≡ last_answer (k + 1) x)
 steps-more x y z k quiet answer after is busy e =
     let recorded : is_step_recorded y ≡ true = sym (not-not (is_step_recorded y)) ∙ ap not (sym is ∙ busy) in (
@@ -92,7 +114,8 @@ steps-more x y z k quiet answer after is busy e =
     )
 
 -- a node that is found running
-pub found-running : (x n : Node) (k : ℕ) (s : Cpu) → IsAfter x k n → n.state ≡ Runs s → IsAfter x k (running s n.links n.memory)
+pub found-running : (x n : Node) (k : ℕ) (s : Cpu) → IsAfter x k n → n.state ≡ Runs s
+    → IsAfter x k (running s n.links n.memory)
 found-running x n k s after e =
     subst (λ (st : NodeState). IsAfter x k (record { memory = n.memory; links = n.links; state = st })) e after
 
@@ -101,12 +124,15 @@ pub record Led (k : ℕ) (x y : Node) : Type 0 where
   pub after : IsAfter x k y
   pub last : last_of_ran k ≡ last_answer k x
 
-same-ran : (s t : Cpu) (ls ks : FourLinks) (m n : List ℕ) → Some (Ran s ls m) ≡ Some (Ran t ks n) → running s ls m ≡ running t ks n
+same-ran : (s t : Cpu) (ls ks : FourLinks) (m n : List ℕ) → Some (Ran s ls m) ≡ Some (Ran t ks n)
+    → running s ls m ≡ running t ks n
 same-ran s t ls ks m n e = cc
 
-pub steps-led : (k : ℕ) (s t : Cpu) (ls ks : FourLinks) (m n : List ℕ) → steps k s ls m ≡ Some (Ran t ks n) → Led k (running s ls m) (running t ks n)
+-- steps that all ran lead a node that runs
+pub steps-led : (k : ℕ) (s t : Cpu) (ls ks : FourLinks) (m n : List ℕ) → nth_step k s ls m ≡ Some (Ran t ks n)
+    → Led k (running s ls m) (running t ks n)
 steps-led zero s t ls ks m n e =
-    let same : running s ls m ≡ running t ks n = same-ran s t ls ks m n (sym (steps-zero s ls m) ∙ e) in
+    let same : running s ls m ≡ running t ks n = same-ran s t ls ks m n (sym (no-nth-step s ls m) ∙ e) in
     record {
       after = subst (λ (y : Node). IsAfter (running s ls m) 0 y) same (no-steps (running s ls m));
       last = sym (last_answer-zero (running s ls m));
@@ -122,13 +148,17 @@ steps-led (suc k) s t ls ks m n e =
     }
 
 -- a processor's steps of which the last met a fault
-pub steps-broke : (k : ℕ) (fault : Fault) (s t : Cpu) (ls ks : FourLinks) (m n : List ℕ) → 0 < k → steps k s ls m ≡ Some (Broke fault ks n)
-    → IsAfter (running s ls m) k (left_by (Some (code.Fault fault)) t ks n) × (Some (code.Fault fault) ≡ last_answer k (running s ls m))
+pub steps-broke : (k : ℕ) (fault : Fault) (s t : Cpu) (ls ks : FourLinks) (m n : List ℕ)
+    → 0 < k → nth_step k s ls m ≡ Some (Broke fault ks n)
+    → IsAfter (running s ls m) k (left_by (Some (code.Fault fault)) t ks n)
+    × (Some (code.Fault fault) ≡ last_answer k (running s ls m))
 steps-broke zero fault s t ls ks m n some e = absurd (omega arith)
 steps-broke (suc k) fault s t ls ks m n some e =
     let before = ran-before k s ls m (Broke fault ks n) e in
     let led = steps-led k s before.cpu ls before.links m before.memory before.is in
-    let more = runs-more (running s ls m) (left_by (Some (code.Fault fault)) t ks n) k before.cpu before.links before.memory (code.Fault fault) led.after
+    let more =
+    runs-more (running s ls m) (left_by (Some (code.Fault fault)) t ks n) k before.cpu before.links
+    before.memory (code.Fault fault) led.after
     (broke-step fault before.cpu before.links ks before.memory n (sym before.next)) refl in (
       subst (λ (i : ℕ). IsAfter (running s ls m) i (left_by (Some (code.Fault fault)) t ks n)) (add-one k) more.0,
       more.1 ∙ ap (λ (i : ℕ). last_answer i (running s ls m)) (add-one k),
@@ -140,17 +170,24 @@ pub record Rested (k : ℕ) (x y : Node) : Type 0 where
   pub last : last_of_ran k ≡ last_answer k x
   pub quiet : is_quiet y ≡ true
 
-pub steps-rested : IdleWhereItRests → ServiceLeavesTheRest → (k : ℕ) (s t : Cpu) (ls ks : FourLinks) (m n : List ℕ) → steps (suc k) s ls m ≡ Some (Idle t ks n)
+-- steps of which the last is idle leave a node that is quiet, after all but that one
+pub steps-rested : IdleWhereItRests
+    → ServiceLeavesTheRest → (k : ℕ) (s t : Cpu) (ls ks : FourLinks) (m n : List ℕ)
+    → nth_step (suc k) s ls m ≡ Some (Idle t ks n)
     → Rested k (running s ls m) (running t ks n)
 steps-rested idle rests k s t ls ks m n e =
     let before = ran-before k s ls m (Idle t ks n) e in
     let led = steps-led k s before.cpu ls before.links m before.memory before.is in
-    let nothing : true ≡ has_nothing_to_do before.cpu before.links = sym (ap tells_idle before.next) ∙ idle before.cpu before.links before.memory in
-    let stays : running before.cpu before.links before.memory ≡ running t ks n = idle-stays rests before.cpu t before.links ks before.memory n (sym before.next) nothing in
+    let nothing : true ≡ has_nothing_to_do before.cpu before.links =
+    sym (ap tells_idle before.next) ∙ idle before.cpu before.links before.memory in
+    let stays : running before.cpu before.links before.memory ≡ running t ks n =
+    idle-stays rests before.cpu t before.links ks before.memory n (sym before.next) nothing in
     record {
       after = subst (λ (y : Node). IsAfter (running s ls m) k y) stays led.after;
       last = led.last;
-      quiet = subst (λ (y : Node). is_quiet y ≡ true) stays (quiet-running idle before.cpu before.links before.memory nothing);
+      quiet =
+          subst (λ (y : Node). is_quiet y ≡ true) stays
+          (quiet-running idle before.cpu before.links before.memory nothing);
     }
 
 -- steps that ran leave a node that runs
@@ -162,5 +199,8 @@ left-ran (suc k) s ls m = refl
 pub some-idle : (k : ℕ) (answer : Stepped) → answer ≡ code.Idle → (¬ (answer ≡ code.Ran) → 0 < k) → 0 < k
 some-idle k answer is some = some (λ e. let both : code.Idle ≡ code.Ran = sym is ∙ e in cc)
 
-pub some-fault : (k : ℕ) (fault : Fault) (answer : Stepped) → answer ≡ code.Fault fault → (¬ (answer ≡ code.Ran) → 0 < k) → 0 < k
+-- the same of a fault
+pub some-fault : (k : ℕ) (fault : Fault) (answer : Stepped)
+    → answer ≡ code.Fault fault → (¬ (answer ≡ code.Ran) → 0 < k)
+    → 0 < k
 some-fault k fault answer is some = some (λ e. let both : code.Fault fault ≡ code.Ran = sym is ∙ e in cc)

@@ -1,5 +1,6 @@
 -- Groups of equal neighbours, as a list grows.
-use Rattle.std.proofs.Common.{arith, ◌≡◌, ◌≢◌, ◌<◌, ◌+◌, ℕ, zero, suc, List, [], ◌∷◌, ◌++◌, codes, replicate, refl, sym, ap, ◌∙◌, subst, append_assoc}
+use Rattle.std.proofs.Common.{arith, ◌≡◌, ◌≢◌, ◌<◌, ◌+◌, ℕ, zero, suc, List, [], ◌∷◌, ◌++◌}
+use Rattle.std.proofs.Common.{codes, replicate, refl, sym, ap, ◌∙◌, subst, append_assoc}
 use Rattle.std.proofs.lemmas.List.{append-nil, replicate-append-replicate}
 use Rattle.std.proofs.lemmas.Grind.{flat_map-append}
 use Rattle.std.specs.List.{flat_map, join_by}
@@ -7,40 +8,51 @@ use Rattle.farm_replay.specs.Listing.{Group, AreGroups, grouped_texts, group_tex
 use Rattle.farm_replay.specs.Kept.{KeptList, last_group, IsBehind, IsUnwritten, HoldsTextsAt, HoldsTexts}
 
 -- the texts of groups, and of one more
-texts_of_more : (groups : List Group) (g : Group) → grouped_texts (groups ++ g ∷ []) ≡ grouped_texts groups ++ replicate g.count g.text
-texts_of_more groups g = flat_map-append (λ (x : Group). replicate x.count x.text) groups (g ∷ []) ∙ ap (λ (xs : List (List ℕ)). grouped_texts groups ++ xs) (append-nil (replicate g.count g.text))
+texts_of_more : (groups : List Group) (g : Group)
+    → grouped_texts (groups ++ g ∷ []) ≡ grouped_texts groups ++ replicate g.count g.text
+texts_of_more groups g =
+    flat_map-append (λ (x : Group). replicate x.count x.text) groups (g ∷ [])
+    ∙ ap (λ (xs : List (List ℕ)). grouped_texts groups ++ xs) (append-nil (replicate g.count g.text))
 
 -- the last group has so many more of its text
-apart_grown : (groups : List Group) (count more : ℕ) (text : List ℕ) → AreGroups (groups ++ record { count = count; text = text } ∷ [])
+apart_grown : (groups : List Group) (count more : ℕ) (text : List ℕ)
+    → AreGroups (groups ++ record { count = count; text = text } ∷ [])
     → AreGroups (groups ++ record { count = count + more; text = text } ∷ [])
 apart_grown [] count more text so = omega (arith, so)
 apart_grown (g ∷ []) count more text so = (so.0, so.1, omega (arith, so.2))
 apart_grown (g ∷ h ∷ groups) count more text so = (so.0, so.1, apart_grown (h ∷ groups) count more text so.2)
 
-many_more_alike : (texts : List (List ℕ)) (l : KeptList) (more : ℕ) → IsBehind texts l → IsBehind (texts ++ replicate more l.last) (record l { count = l.count + more })
+many_more_alike : (texts : List (List ℕ)) (l : KeptList) (more : ℕ) → IsBehind texts l
+    → IsBehind (texts ++ replicate more l.last) (record l { count = l.count + more })
 many_more_alike texts l more so = record {
   groups = so.groups;
   apart = apart_grown so.groups l.count more l.last so.apart;
   all =
       texts_of_more so.groups (record { count = l.count + more; text = l.last })
-      ∙ ap (λ (xs : List (List ℕ)). grouped_texts so.groups ++ xs) (sym (replicate-append-replicate l.count more l.last))
+      ∙ ap (λ (xs : List (List ℕ)). grouped_texts so.groups ++ xs)
+      (sym (replicate-append-replicate l.count more l.last))
       ∙ sym (append_assoc (grouped_texts so.groups) (replicate l.count l.last) (replicate more l.last))
-      ∙ ap (λ (xs : List (List ℕ)). xs ++ replicate more l.last) (sym (texts_of_more so.groups (last_group l)) ∙ so.all);
+      ∙ ap (λ (xs : List (List ℕ)). xs ++ replicate more l.last)
+      (sym (texts_of_more so.groups (last_group l)) ∙ so.all);
   written = so.written;
 }
 
 -- a group of one other text behind the last
-apart_more : (groups : List Group) (g h : Group) → AreGroups (groups ++ g ∷ []) → g.text ≢ h.text → 0 < h.count → AreGroups (groups ++ g ∷ [] ++ h ∷ [])
+apart_more : (groups : List Group) (g h : Group) → AreGroups (groups ++ g ∷ []) → g.text ≢ h.text → 0 < h.count
+    → AreGroups (groups ++ g ∷ [] ++ h ∷ [])
 apart_more [] g h so ne some = (so, ne, some)
 apart_more (a ∷ []) g h so ne some = (so.0, so.1, (so.2, ne, some))
 apart_more (a ∷ b ∷ groups) g h so ne some = (so.0, so.1, apart_more (b ∷ groups) g h so.2 ne some)
 
-many_others : (texts : List (List ℕ)) (l m : KeptList) → IsBehind texts l → l.last ≢ m.last → 0 < m.count → m.text ≡ l.text ++ group_text (last_group l) ++ codes ", "
+many_others : (texts : List (List ℕ)) (l m : KeptList)
+    → IsBehind texts l → l.last ≢ m.last → 0 < m.count → m.text ≡ l.text ++ group_text (last_group l) ++ codes ", "
     → IsBehind (texts ++ replicate m.count m.last) m
 many_others texts l m so ne some text = record {
   groups = so.groups ++ last_group l ∷ [];
   apart = apart_more so.groups (last_group l) (last_group m) so.apart ne some;
-  all = texts_of_more (so.groups ++ last_group l ∷ []) (last_group m) ∙ ap (λ (xs : List (List ℕ)). xs ++ replicate m.count m.last) so.all;
+  all =
+      texts_of_more (so.groups ++ last_group l ∷ []) (last_group m)
+      ∙ ap (λ (xs : List (List ℕ)). xs ++ replicate m.count m.last) so.all;
   written =
       text ∙ append_assoc l.text (group_text (last_group l)) (codes ", ")
       ∙ ap (λ (xs : List ℕ). xs ++ (group_text (last_group l) ++ codes ", ")) so.written
@@ -53,22 +65,32 @@ many_others texts l m so ne some text = record {
 
 -- commas behind all but the last are commas between all
 commas : (groups : List Group) (g : Group)
-    → flat_map (λ h. codes ", " ++ group_text h) (groups ++ g ∷ []) ≡ codes ", " ++ (flat_map (λ h. group_text h ++ codes ", ") groups ++ group_text g)
+    → flat_map (λ h. codes ", " ++ group_text h) (groups ++ g ∷ [])
+    ≡ codes ", " ++ (flat_map (λ h. group_text h ++ codes ", ") groups ++ group_text g)
 commas [] g = append-nil (codes ", " ++ group_text g)
 commas (h ∷ groups) g =
     ap (λ (xs : List ℕ). codes ", " ++ group_text h ++ xs) (commas groups g)
-    ∙ append_assoc (codes ", ") (group_text h) (codes ", " ++ (flat_map (λ x. group_text x ++ codes ", ") groups ++ group_text g))
-    ∙ ap (λ (xs : List ℕ). codes ", " ++ xs) (sym (append_assoc (group_text h) (codes ", ") (flat_map (λ x. group_text x ++ codes ", ") groups ++ group_text g))
-    ∙ sym (append_assoc (group_text h ++ codes ", ") (flat_map (λ x. group_text x ++ codes ", ") groups) (group_text g)))
+    ∙ append_assoc (codes ", ") (group_text h)
+    (codes ", " ++ (flat_map (λ x. group_text x ++ codes ", ") groups ++ group_text g))
+    ∙ ap (λ (xs : List ℕ). codes ", " ++ xs)
+    (sym (append_assoc (group_text h) (codes ", ")
+    (flat_map (λ x. group_text x ++ codes ", ") groups ++ group_text g))
+    ∙ sym (append_assoc (group_text h ++ codes ", ")
+    (flat_map (λ x. group_text x ++ codes ", ") groups) (group_text g)))
 
-joined : (groups : List Group) (g : Group) → flat_map (λ h. group_text h ++ codes ", ") groups ++ group_text g ≡ join_by group_text (codes ", ") (groups ++ g ∷ [])
+joined : (groups : List Group) (g : Group)
+    → flat_map (λ h. group_text h ++ codes ", ") groups ++ group_text g
+    ≡ join_by group_text (codes ", ") (groups ++ g ∷ [])
 joined [] g = sym (append-nil (group_text g))
 joined (h ∷ groups) g =
     append_assoc (group_text h ++ codes ", ") (flat_map (λ x. group_text x ++ codes ", ") groups) (group_text g)
     ∙ append_assoc (group_text h) (codes ", ") (flat_map (λ x. group_text x ++ codes ", ") groups ++ group_text g)
     ∙ ap (λ (xs : List ℕ). group_text h ++ xs) (sym (commas groups g))
 
-pub listing_of : (texts : List (List ℕ)) (l : KeptList) (line : List ℕ) → IsBehind texts l → line ≡ l.text ++ group_text (last_group l) → IsListing texts line
+-- texts of which the last stand as a group behind the written ones are a listing once the group is written
+pub listing_of : (texts : List (List ℕ)) (l : KeptList) (line : List ℕ)
+    → IsBehind texts l → line ≡ l.text ++ group_text (last_group l)
+    → IsListing texts line
 listing_of texts l line so text = record {
   groups = so.groups ++ last_group l ∷ [];
   apart = so.apart;
@@ -89,11 +111,13 @@ holds texts l zero some so = absurd (some refl)
 holds texts l (suc n) some so = so
 
 -- nothing more
-pub push_none : (texts : List (List ℕ)) (l : KeptList) (answer : List ℕ) → HoldsTexts texts l → HoldsTexts (texts ++ replicate 0 answer) l
+pub push_none : (texts : List (List ℕ)) (l : KeptList) (answer : List ℕ) → HoldsTexts texts l
+    → HoldsTexts (texts ++ replicate 0 answer) l
 push_none texts l answer so = subst (λ (ts : List (List ℕ)). HoldsTexts ts l) (sym (append-nil texts)) so
 
 -- the first group
-pub push_first : (texts : List (List ℕ)) (l m : KeptList) (answer : List ℕ) (more : ℕ) → HoldsTexts texts l → l.count ≡ 0 → m.text ≡ l.text → m.last ≡ answer → m.count ≡ more → more ≢ 0
+pub push_first : (texts : List (List ℕ)) (l m : KeptList) (answer : List ℕ) (more : ℕ)
+    → HoldsTexts texts l → l.count ≡ 0 → m.text ≡ l.text → m.last ≡ answer → m.count ≡ more → more ≢ 0
     → HoldsTexts (texts ++ replicate more answer) m
 push_first texts l m answer more so none text last count some =
     let empty : IsUnwritten texts l = subst (λ n. HoldsTextsAt texts l n) none so in
@@ -101,32 +125,48 @@ push_first texts l m answer more so none text last count some =
     holds (texts ++ replicate more answer) m m.count counted (record {
       groups = [];
       apart = omega (arith, counted);
-      all = append-nil (replicate m.count m.last) ∙ (λ i. replicate (count i) (last i)) ∙ ap (λ (ts : List (List ℕ)). ts ++ replicate more answer) (sym empty.none);
+      all =
+          append-nil (replicate m.count m.last) ∙ (λ i. replicate (count i) (last i))
+          ∙ ap (λ (ts : List (List ℕ)). ts ++ replicate more answer) (sym empty.none);
       written = text ∙ empty.text;
     })
 
-pub push_alike : (texts : List (List ℕ)) (l m : KeptList) (answer : List ℕ) (more : ℕ) → HoldsTexts texts l → l.count ≢ 0 → l.last ≡ answer → m.text ≡ l.text → m.last ≡ l.last
-    → m.count ≡ l.count + more → HoldsTexts (texts ++ replicate more answer) m
+-- answers that are the last one again lengthen its group
+pub push_alike : (texts : List (List ℕ)) (l m : KeptList) (answer : List ℕ) (more : ℕ)
+    → HoldsTexts texts l → l.count ≢ 0 → l.last ≡ answer → m.text ≡ l.text → m.last ≡ l.last → m.count ≡ l.count + more
+    → HoldsTexts (texts ++ replicate more answer) m
 push_alike texts l m answer more so some same text last count =
-    let whole : record l { count = l.count + more } ≡ m = λ i. record { text = sym text i; last = sym last i; count = sym count i } in
+    let whole : record l { count = l.count + more } ≡ m =
+    λ i. record { text = sym text i; last = sym last i; count = sym count i } in
     let done : IsBehind (texts ++ replicate more answer) m =
     subst (λ (n : KeptList). IsBehind (texts ++ replicate more answer) n) whole
-    (subst (λ (a : List ℕ). IsBehind (texts ++ replicate more a) (record l { count = l.count + more })) same (many_more_alike texts l more (behind texts l l.count some so))) in
+    (subst (λ (a : List ℕ). IsBehind (texts ++ replicate more a) (record l { count = l.count + more })) same
+    (many_more_alike texts l more (behind texts l l.count some so))) in
     holds (texts ++ replicate more answer) m m.count (λ e. some (omega (arith, count, e))) done
 
-pub push_other : (texts : List (List ℕ)) (l m : KeptList) (answer : List ℕ) (more : ℕ) → HoldsTexts texts l → l.count ≢ 0 → l.last ≢ answer → m.last ≡ answer → m.count ≡ more → more ≢ 0
-    → m.text ≡ l.text ++ group_text (last_group l) ++ codes ", " → HoldsTexts (texts ++ replicate more answer) m
+-- another answer writes the group before it, and begins its own
+pub push_other : (texts : List (List ℕ)) (l m : KeptList) (answer : List ℕ) (more : ℕ)
+    → HoldsTexts texts l → l.count ≢ 0 → l.last ≢ answer → m.last ≡ answer → m.count ≡ more → more ≢ 0
+    → m.text ≡ l.text ++ group_text (last_group l) ++ codes ", "
+    → HoldsTexts (texts ++ replicate more answer) m
 push_other texts l m answer more so some other last count few text =
     let ne : l.last ≢ m.last = λ e. other (e ∙ last) in
     let counted : m.count ≢ 0 = λ e. few (sym count ∙ e) in
-    let done : IsBehind (texts ++ replicate m.count m.last) m = many_others texts l m (behind texts l l.count some so) ne (omega (arith, counted)) text in
-    holds (texts ++ replicate more answer) m m.count counted (subst (λ (ts : List (List ℕ)). IsBehind (texts ++ ts) m) (λ i. replicate (count i) (last i)) done)
+    let done : IsBehind (texts ++ replicate m.count m.last) m =
+    many_others texts l m (behind texts l l.count some so) ne (omega (arith, counted)) text in
+    holds (texts ++ replicate more answer) m m.count counted
+    (subst (λ (ts : List (List ℕ)). IsBehind (texts ++ ts) m) (λ i. replicate (count i) (last i)) done)
 
 -- the line of a list, which is what is written if there is no text
-pub listing_at : (texts : List (List ℕ)) (l : KeptList) (line : List ℕ) → HoldsTexts texts l → l.count ≢ 0 → line ≡ l.text ++ group_text (last_group l) → IsListing texts line
+pub listing_at : (texts : List (List ℕ)) (l : KeptList) (line : List ℕ)
+    → HoldsTexts texts l → l.count ≢ 0 → line ≡ l.text ++ group_text (last_group l)
+    → IsListing texts line
 listing_at texts l line so some = listing_of texts l line (behind texts l l.count some so)
 
-pub listing_of_none : (texts : List (List ℕ)) (l : KeptList) (line : List ℕ) → HoldsTexts texts l → l.count ≡ 0 → line ≡ l.text → IsListing texts line
+-- a list that holds no text is the empty line
+pub listing_of_none : (texts : List (List ℕ)) (l : KeptList) (line : List ℕ)
+    → HoldsTexts texts l → l.count ≡ 0 → line ≡ l.text
+    → IsListing texts line
 listing_of_none texts l line so none text =
     let empty : IsUnwritten texts l = subst (λ n. HoldsTextsAt texts l n) none so in
     record { groups = []; apart = tt; all = sym empty.none; divided = text ∙ empty.text }

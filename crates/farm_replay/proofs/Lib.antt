@@ -1,4 +1,5 @@
 mod Groups
 mod Running
 mod Grown
+mod Entries
 mod Lines

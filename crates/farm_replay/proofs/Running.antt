@@ -1,9 +1,14 @@
 -- Runs of calls, one after another, and the answers that a list gains by them.
-use Rattle.std.proofs.Common.{rules, arith, ◌≡◌, ◌+◌, ◌<◌, ℕ, zero, suc, List, [], ◌∷◌, ◌++◌, map, replicate, true, eqb, Option, Some, None, add-one, Ok, Err, Result, IfOk, OnOk, refl, sym, ap, ◌∙◌, subst, append_assoc, take, get_or, length}
+use Rattle.std.proofs.Common.{rules, arith, ◌≡◌, ◌+◌, ◌<◌, ℕ, zero, suc, List, [], ◌∷◌, ◌++◌, All, map, replicate, true}
+use Rattle.std.proofs.Common.{eqb, Option, Some, None, add-one, Ok, Err, Result, IfOk, OnOk, refl, sym, ap, ◌∙◌, subst}
+use Rattle.std.proofs.Common.{append_assoc, take, get_or, length}
 use Rattle.std.proofs.lemmas.Bool.{eqb-true}
 use Rattle.std.proofs.lemmas.List.{map-append, take_more}
+use Rattle.std.proofs.lemmas.List.Elements.{All-append, All-from_recursion}
 use Rattle.domain_core.specs.declared.event.By.{By}
+use Rattle.domain_core.specs.declared.event.By.TheVariants.{Farm as ByTheFarm}
 use Rattle.domain_core.specs.declared.event.Event.{Event}
+use Rattle.domain_core.specs.declared.event.Event.TheVariants.{Step}
 use Rattle.std.specs.List.{repeat}
 use Rattle.std.specs.Option.{option_eq}
 use Rattle.t414_step.specs.declared.stepping.Stepped.{Stepped}
@@ -21,24 +26,33 @@ use Rattle.farm_core.specs.PlainFarm.{places_in, states_in, IsCallOfEachWhole}
 use Rattle.farm_replay.specs.Kept.{KeptList, HoldsTexts}
 use Rattle.farm_replay.specs.Listing.{IsListing}
 use Rattle.farm_replay.specs.Plain.{Asked, Calls, Looks, Opens, Else, asked_times, answer_words, event_calls}
-use Rattle.farm_replay.specs.Answering.{IsRunTo, HaveRun, ShowsCall, step_calls, steps_answers, HasAnswers, AnswersCalls, ShowsRun, AnswersAsked, ShowsAsked}
+use Rattle.farm_replay.specs.declared.bursts.DoneSteps.{DoneSteps}
+use Rattle.farm_replay.specs.Answering.{HaveStepped, ShowsCall, step_calls, nth_steps}
+use Rattle.farm_replay.specs.Answering.{HasAnswers, AnswersCalls, AnswersAsked}
+use Rattle.farm_replay.specs.Runs.{IsRunTo, HaveRun, HasGoneOn, IsOfTheFarm, ShowsRun, ShowsAsked}
 
 -- ---- runs
 
 no_calls : (domains : List DomainValue) → HaveRun domains domains [] []
 no_calls domains = record { places = refl; each = λ farm made. record { told_is = refl; made = made } }
 
-one_call : (domain : ℕ) (call : Call) (told : Answer) (old new : List DomainValue) → IsCallOfEachWhole domain call told old new → places_in new ≡ places_in old
+one_call : (domain : ℕ) (call : Call) (told : Answer) (old new : List DomainValue)
+    → IsCallOfEachWhole domain call told old new
+    → places_in new ≡ places_in old
     → HaveRun old new ((domain, call) ∷ []) (told ∷ [])
 one_call domain call told old new is places = record {
   places = places;
   each = λ farm made. record {
     told_is = ap (λ (a : Answer). a ∷ []) (is farm made).answer;
-    made = subst (λ p. IsMadeOf p (whole_next (places_in old) farm (domain, call)).0 (states_in new)) places (is farm made).made;
+    made =
+        subst (λ p. IsMadeOf p (whole_next (places_in old) farm (domain, call)).0 (states_in new)) places
+        (is farm made).made;
   };
 }
 
-more_calls : RunsAddUp → (a b c : List DomainValue) (calls later : List (ℕ × Call)) (told after : List Answer) → HaveRun a b calls told → HaveRun b c later after
+more_calls : RunsAddUp → (a b c : List DomainValue) (calls later : List (ℕ × Call)) (told after : List Answer)
+    → HaveRun a b calls told
+    → HaveRun b c later after
     → HaveRun a c (calls ++ later) (told ++ after)
 more_calls law a b c calls later told after one two = record {
   places = two.places ∙ one.places;
@@ -46,7 +60,9 @@ more_calls law a b c calls later told after one two = record {
       let plan = places_in a in
       let first = one.each farm made in
       let half : Farm = whole_after plan farm calls in
-      let then = subst (λ p. IsRunTo p half later after c) one.places (two.each half (subst (λ p. IsMadeOf p half (states_in b)) (sym one.places) first.made)) in
+      let then =
+      subst (λ p. IsRunTo p half later after c) one.places
+      (two.each half (subst (λ p. IsMadeOf p half (states_in b)) (sym one.places) first.made)) in
       let both = law plan farm calls later in
       record {
         told_is = (λ i. first.told_is i ++ then.told_is i) ∙ sym both.told;
@@ -54,23 +70,105 @@ more_calls law a b c calls later told after one two = record {
       };
 }
 
+-- a call of the farm, unless memory runs out
+pub asked_call : (domain : ℕ) (call : Call) (told : Answer) (old new : List DomainValue)
+    → UnlessNoMemory told (IsCallOfEachWhole domain call told old new)
+    → places_in new ≡ places_in old → UnlessNoMemory told (HaveRun old new ((domain, call) ∷ []) (told ∷ []))
+asked_call domain call (Ok reply) old new is places = one_call domain call (Ok reply) old new is places
+asked_call domain call (Err NoSuch) old new is places = one_call domain call (Err NoSuch) old new is places
+asked_call domain call (Err JournalFull) old new is places = one_call domain call (Err JournalFull) old new is places
+asked_call domain call (Err NoMemory) old new is places = tt
+
+-- ---- what the farm does of its own
+
+-- domains that stay have gone on, by no call
+pub gone_nowhere : (domain : ℕ) (domains : List DomainValue) → HasGoneOn domain domains domains
+gone_nowhere domain domains =
+    record { calls = []; told = []; run = no_calls domains; farms = All-from_recursion (IsOfTheFarm domain) [] tt }
+
+-- a domain that has gone on twice has gone on
+pub gone_further : RunsAddUp → (domain : ℕ) (a b c : List DomainValue) → HasGoneOn domain a b → HasGoneOn domain b c
+    → HasGoneOn domain a c
+gone_further law domain a b c one two = record {
+  calls = one.calls ++ two.calls;
+  told = one.told ++ two.told;
+  run = more_calls law a b c one.calls two.calls one.told two.told one.run two.run;
+  farms = All-append (IsOfTheFarm domain) one.calls two.calls one.farms two.farms;
+}
+
+call_of_the_farm : (domain : ℕ) (event : Event)
+    → All (IsOfTheFarm domain) ((domain, record { by = ByTheFarm; event = event }) ∷ [])
+call_of_the_farm domain event =
+    let call : ℕ × Call = (domain, record { by = ByTheFarm; event = event }) in
+    let one : IsOfTheFarm domain call = (refl, refl) in
+    All-from_recursion (IsOfTheFarm domain) (call ∷ []) (one, tt)
+
+steps_of_the_farm : (domain node count : ℕ) → All (IsOfTheFarm domain) (step_calls domain node count)
+steps_of_the_farm domain node zero = All-from_recursion (IsOfTheFarm domain) [] tt
+steps_of_the_farm domain node (suc n) =
+    All-append (IsOfTheFarm domain) ((domain, record { by = ByTheFarm; event = Step node }) ∷ [])
+    (step_calls domain node n) (call_of_the_farm domain (Step node))
+    (steps_of_the_farm domain node n)
+
+-- a domain has gone on by the Steps of a node
+pub gone_by_steps : (domain node most : ℕ) (done : Option DoneSteps) (old new : List DomainValue)
+    → HaveStepped domain node most done old new
+    → HasGoneOn domain old new
+gone_by_steps domain node most None old new stepped =
+    record { calls = []; told = []; run = stepped; farms = All-from_recursion (IsOfTheFarm domain) [] tt }
+gone_by_steps domain node most (Some done) old new stepped = record {
+  calls = step_calls domain node (done.before + 1);
+  told = nth_steps done.before done.last;
+  run = stepped.1;
+  farms = steps_of_the_farm domain node (done.before + 1);
+}
+
+-- a domain has gone on by a call for which the farm asked, whatever it was answered
+pub gone_by_call : (domain : ℕ) (event : Event) (told : Answer) (old new : List DomainValue)
+    → HaveRun old new ((domain, record { by = ByTheFarm; event = event }) ∷ []) (told ∷ [])
+    → HasGoneOn domain old new
+gone_by_call domain event told old new run = record {
+  calls = (domain, record { by = ByTheFarm; event = event }) ∷ [];
+  told = told ∷ [];
+  run = run;
+  farms = call_of_the_farm domain event;
+}
+
+-- a domain that has gone on has done so if nothing changes then
+pub gone_still : (domain : ℕ) (a b c : List DomainValue) → HasGoneOn domain a b → c ≡ b → HasGoneOn domain a c
+gone_still domain a b c gone same = subst (HasGoneOn domain a) (sym same) gone
+
+-- a domain that has gone on, and then from equal domains, has gone on
+pub gone_on_from : RunsAddUp → (domain : ℕ) (a b same c : List DomainValue) → HasGoneOn domain a b → same ≡ b
+    → HasGoneOn domain same c
+    → HasGoneOn domain a c
+gone_on_from law domain a b same c one is two =
+    gone_further law domain a b c one (subst (λ (d : List DomainValue). HasGoneOn domain d c) is two)
+
 -- ---- answers in a list
 
-one_more_answer : (told : List Answer) (answer : Answer) (text : List ℕ) (l m : KeptList) → HasAnswers told l → answer_words answer ≡ Some text
-    → ((texts : List (List ℕ)) → HoldsTexts texts l → HoldsTexts (texts ++ text ∷ []) m) → HasAnswers (told ++ answer ∷ []) m
+one_more_answer : (told : List Answer) (answer : Answer) (text : List ℕ) (l m : KeptList) → HasAnswers told l
+    → answer_words answer ≡ Some text
+    → ((texts : List (List ℕ)) → HoldsTexts texts l → HoldsTexts (texts ++ text ∷ []) m)
+    → HasAnswers (told ++ answer ∷ []) m
 one_more_answer told answer text l m has words more = record {
   texts = has.texts ++ text ∷ [];
-  words = map-append answer_words told (answer ∷ []) ∙ (λ i. has.words i ++ words i ∷ []) ∙ sym (map-append (λ (t : List ℕ). Some t) has.texts (text ∷ []));
+  words =
+      map-append answer_words told (answer ∷ []) ∙ (λ i. has.words i ++ words i ∷ [])
+      ∙ sym (map-append (λ (t : List ℕ). Some t) has.texts (text ∷ []));
   kept = more has.texts has.kept;
 }
 
 -- many answers of the same words
-many_words : (n : ℕ) (answer : Answer) (text : List ℕ) → answer_words answer ≡ Some text → map answer_words (replicate n answer) ≡ map Some (replicate n text)
+many_words : (n : ℕ) (answer : Answer) (text : List ℕ) → answer_words answer ≡ Some text
+    → map answer_words (replicate n answer) ≡ map Some (replicate n text)
 many_words zero answer text words = refl
 many_words (suc n) answer text words = λ i. words i ∷ many_words n answer text words i
 
-many_more_answers : (told : List Answer) (n : ℕ) (answer : Answer) (text : List ℕ) (l m : KeptList) → HasAnswers told l → answer_words answer ≡ Some text
-    → ((texts : List (List ℕ)) → HoldsTexts texts l → HoldsTexts (texts ++ replicate n text) m) → HasAnswers (told ++ replicate n answer) m
+many_more_answers : (told : List Answer) (n : ℕ) (answer : Answer) (text : List ℕ) (l m : KeptList) → HasAnswers told l
+    → answer_words answer ≡ Some text
+    → ((texts : List (List ℕ)) → HoldsTexts texts l → HoldsTexts (texts ++ replicate n text) m)
+    → HasAnswers (told ++ replicate n answer) m
 many_more_answers told n answer text l m has words more = record {
   texts = has.texts ++ replicate n text;
   words =
@@ -79,23 +177,38 @@ many_more_answers told n answer text l m has words more = record {
   kept = more has.texts has.kept;
 }
 
+-- no call changes nothing, and adds no answer
 pub answers_nothing : (domains : List DomainValue) (l : KeptList) → AnswersCalls [] domains domains l l
-answers_nothing domains l = record { told = []; run = no_calls domains; gains = λ earlier has. subst (λ ts. HasAnswers ts l) (sym (append_none earlier)) has }
+answers_nothing domains l =
+    record {
+      told = [];
+      run = no_calls domains;
+      gains = λ earlier has. subst (λ ts. HasAnswers ts l) (sym (append_none earlier)) has;
+    }
   where
     append_none : (xs : List Answer) → xs ++ [] ≡ xs
     append_none [] = refl
     append_none (x ∷ xs) = ap (λ ys. x ∷ ys) (append_none xs)
 
-pub answers_more : RunsAddUp → (a b c : List DomainValue) (k l m : KeptList) (calls later : List (ℕ × Call)) → AnswersCalls calls a b k l → AnswersCalls later b c l m
+-- calls and then others are all of them, and a list gains the answers of both
+pub answers_more : RunsAddUp → (a b c : List DomainValue) (k l m : KeptList) (calls later : List (ℕ × Call))
+    → AnswersCalls calls a b k l
+    → AnswersCalls later b c l m
     → AnswersCalls (calls ++ later) a c k m
 answers_more law a b c k l m calls later one two = record {
   told = one.told ++ two.told;
   run = more_calls law a b c calls later one.told two.told one.run two.run;
-  gains = λ earlier has. subst (λ ts. HasAnswers ts m) (append_assoc earlier one.told two.told) (two.gains (earlier ++ one.told) (one.gains earlier has));
+  gains =
+      λ earlier has.
+      subst (λ ts. HasAnswers ts m) (append_assoc earlier one.told two.told)
+      (two.gains (earlier ++ one.told) (one.gains earlier has));
 }
 
-pub answers_call : (call : ℕ × Call) (old new : List DomainValue) (text : List ℕ) (l m : KeptList) → ShowsCall call old new text
-    → ((texts : List (List ℕ)) → HoldsTexts texts l → HoldsTexts (texts ++ text ∷ []) m) → AnswersCalls (call ∷ []) old new l m
+-- a call that shows a text adds it to a list
+pub answers_call : (call : ℕ × Call) (old new : List DomainValue) (text : List ℕ) (l m : KeptList)
+    → ShowsCall call old new text
+    → ((texts : List (List ℕ)) → HoldsTexts texts l → HoldsTexts (texts ++ text ∷ []) m)
+    → AnswersCalls (call ∷ []) old new l m
 answers_call call old new text l m shows more = record {
   told = shows.answer ∷ [];
   run = shows.run;
@@ -103,39 +216,52 @@ answers_call call old new text l m shows more = record {
 }
 
 -- Steps that are done at once
-pub answers_steps : (domain node before : ℕ) (last : Stepped) (ran text : List ℕ) (old new : List DomainValue) (k l m : KeptList) → HaveRun old new (step_calls domain node (before + 1)) (steps_answers before last)
-    → ran ≡ stepped_text Ran → text ≡ stepped_text last → ((texts : List (List ℕ)) → HoldsTexts texts k → HoldsTexts (texts ++ replicate before ran) l)
-    → ((texts : List (List ℕ)) → HoldsTexts texts l → HoldsTexts (texts ++ text ∷ []) m) → AnswersCalls (step_calls domain node (before + 1)) old new k m
+pub answers_steps : (domain node before : ℕ) (last : Stepped) (ran text : List ℕ) (old new : List DomainValue)
+    (k l m : KeptList)
+    → HaveRun old new (step_calls domain node (before + 1)) (nth_steps before last)
+    → ran ≡ stepped_text Ran → text ≡ stepped_text last
+    → ((texts : List (List ℕ)) → HoldsTexts texts k → HoldsTexts (texts ++ replicate before ran) l)
+    → ((texts : List (List ℕ)) → HoldsTexts texts l → HoldsTexts (texts ++ text ∷ []) m)
+    → AnswersCalls (step_calls domain node (before + 1)) old new k m
 answers_steps domain node before last ran text old new k l m run first second many one = record {
-  told = steps_answers before last;
+  told = nth_steps before last;
   run = run;
   gains = λ earlier has.
       let rans : List Answer = replicate before (Ok (reply.Stepped Ran)) in
       subst (λ ts. HasAnswers ts m) (append_assoc earlier rans (Ok (reply.Stepped last) ∷ []))
-      (one_more_answer (earlier ++ rans) (Ok (reply.Stepped last)) text l m (many_more_answers earlier before (Ok (reply.Stepped Ran)) ran k l has (ap (λ t. Some t) (sym first)) many)
+      (one_more_answer (earlier ++ rans) (Ok (reply.Stepped last)) text l m
+      (many_more_answers earlier before (Ok (reply.Stepped Ran)) ran k l has (ap (λ t. Some t) (sym first)) many)
       (ap (λ t. Some t) (sym second)) one);
 }
 
 -- ---- a call that changes nothing
 
 -- what was run goes on so from there
-again : (b c : List DomainValue) (calls : List (ℕ × Call)) (told : List Answer) → HaveRun b c calls told → states_in c ≡ states_in b → HaveRun c c calls told
+again : (b c : List DomainValue) (calls : List (ℕ × Call)) (told : List Answer)
+    → HaveRun b c calls told → states_in c ≡ states_in b
+    → HaveRun c c calls told
 again b c calls told run same = record {
   places = refl;
   each = λ farm made.
-      let was : IsMadeOf (places_in b) farm (states_in b) = subst (IsMadeOf (places_in b) farm) same (subst (λ p. IsMadeOf p farm (states_in c)) run.places made) in
+      let was : IsMadeOf (places_in b) farm (states_in b) =
+      subst (IsMadeOf (places_in b) farm) same (subst (λ p. IsMadeOf p farm (states_in c)) run.places made) in
       subst (λ p. IsRunTo p farm calls told c) (sym run.places) (run.each farm was);
 }
 
-run_alike : RunsAddUp → (b c : List DomainValue) (call : ℕ × Call) (told : Answer) (n : ℕ) → HaveRun b c (call ∷ []) (told ∷ []) → states_in c ≡ states_in b
+run_alike : RunsAddUp → (b c : List DomainValue) (call : ℕ × Call) (told : Answer) (n : ℕ)
+    → HaveRun b c (call ∷ []) (told ∷ [])
+    → states_in c ≡ states_in b
     → HaveRun b c (repeat (suc n) (call ∷ [])) (replicate (suc n) told)
 run_alike law b c call told zero run same = run
 run_alike law b c call told (suc n) run same =
     more_calls law b c c (call ∷ []) (repeat (suc n) (call ∷ [])) (told ∷ []) (replicate (suc n) told) run
     (again b c (repeat (suc n) (call ∷ [])) (replicate (suc n) told) (run_alike law b c call told n run same) same)
 
-answers_alike : RunsAddUp → (call : ℕ × Call) (n : ℕ) (old new : List DomainValue) (text : List ℕ) (l m : KeptList) → 0 < n → ShowsCall call old new text → states_in new ≡ states_in old
-    → ((texts : List (List ℕ)) → HoldsTexts texts l → HoldsTexts (texts ++ replicate n text) m) → AnswersCalls (repeat n (call ∷ [])) old new l m
+answers_alike : RunsAddUp → (call : ℕ × Call) (n : ℕ) (old new : List DomainValue) (text : List ℕ) (l m : KeptList)
+    → 0 < n → ShowsCall call old new text
+    → states_in new ≡ states_in old
+    → ((texts : List (List ℕ)) → HoldsTexts texts l → HoldsTexts (texts ++ replicate n text) m)
+    → AnswersCalls (repeat n (call ∷ [])) old new l m
 answers_alike law call zero old new text l m some shows same more = absurd (omega (arith, some))
 answers_alike law call (suc n) old new text l m some shows same more = record {
   told = replicate (suc n) shows.answer;
@@ -144,19 +270,29 @@ answers_alike law call (suc n) old new text l m some shows same more = record {
 }
 
 -- a call that is answered by these words, unless memory runs out
-pub shows_call : (domain : ℕ) (call : Call) (told : Answer) (old new : List DomainValue) (text : List ℕ) → UnlessNoMemory told (IsCallOfEachWhole domain call told old new)
+pub shows_call : (domain : ℕ) (call : Call) (told : Answer) (old new : List DomainValue) (text : List ℕ)
+    → UnlessNoMemory told (IsCallOfEachWhole domain call told old new)
     → places_in new ≡ places_in old → answer_words told ≡ Some text → ShowsCall (domain, call) old new text
-shows_call domain call (Ok reply) old new text is places words = record { answer = Ok reply; run = one_call domain call (Ok reply) old new is places; words = words }
-shows_call domain call (Err NoSuch) old new text is places words = record { answer = Err NoSuch; run = one_call domain call (Err NoSuch) old new is places; words = words }
-shows_call domain call (Err JournalFull) old new text is places words = record { answer = Err JournalFull; run = one_call domain call (Err JournalFull) old new is places; words = words }
+shows_call domain call (Ok reply) old new text is places words =
+    record { answer = Ok reply; run = one_call domain call (Ok reply) old new is places; words = words }
+shows_call domain call (Err NoSuch) old new text is places words =
+    record { answer = Err NoSuch; run = one_call domain call (Err NoSuch) old new is places; words = words }
+shows_call domain call (Err JournalFull) old new text is places words =
+    record { answer = Err JournalFull; run = one_call domain call (Err JournalFull) old new is places; words = words }
 shows_call domain call (Err NoMemory) old new text is places words = absurd (search rules)
 
 -- the line of a list that was empty
-pub shows_run : (calls : List (ℕ × Call)) (old new : List DomainValue) (l m : KeptList) (line : List ℕ) → AnswersCalls calls old new l m → HoldsTexts [] l
+pub shows_run : (calls : List (ℕ × Call)) (old new : List DomainValue) (l m : KeptList) (line : List ℕ)
+    → AnswersCalls calls old new l m
+    → HoldsTexts [] l
     → ((texts : List (List ℕ)) → HoldsTexts texts m → IsListing texts line) → ShowsRun calls old new line
 shows_run calls old new l m line answers none lists =
     let has = answers.gains [] (record { texts = []; words = refl; kept = none }) in
-    record { told = answers.told; run = answers.run; shown = record { texts = has.texts; words = has.words; listing = lists has.texts has.kept } }
+    record {
+      told = answers.told;
+      run = answers.run;
+      shown = record { texts = has.texts; words = has.words; listing = lists has.texts has.kept };
+    }
 
 -- as often as it is asked
 pub repeat_more : (n : ℕ) (calls : List (ℕ × Call)) → repeat (suc n) calls ≡ repeat n calls ++ calls
@@ -165,72 +301,95 @@ repeat_more zero calls = append_none calls
     append_none : (xs : List (ℕ × Call)) → xs ++ [] ≡ xs
     append_none [] = refl
     append_none (x ∷ xs) = ap (λ ys. x ∷ ys) (append_none xs)
-repeat_more (suc n) calls = ap (λ (xs : List (ℕ × Call)). calls ++ xs) (repeat_more n calls) ∙ sym (append_assoc calls (repeat n calls) calls)
+repeat_more (suc n) calls =
+    ap (λ (xs : List (ℕ × Call)). calls ++ xs) (repeat_more n calls) ∙ sym (append_assoc calls (repeat n calls) calls)
 
 repeat_both : (i j : ℕ) (calls : List (ℕ × Call)) → repeat (i + j) calls ≡ repeat i calls ++ repeat j calls
 repeat_both zero j calls = let sum : zero + j ≡ j = omega arith in ap (λ n. repeat n calls) sum
 repeat_both (suc i) j calls =
     let sum : suc i + j ≡ suc (i + j) = omega arith in
-    ap (λ n. repeat n calls) sum ∙ ap (λ (xs : List (ℕ × Call)). calls ++ xs) (repeat_both i j calls) ∙ sym (append_assoc calls (repeat i calls) (repeat j calls))
+    ap (λ n. repeat n calls) sum ∙ ap (λ (xs : List (ℕ × Call)). calls ++ xs) (repeat_both i j calls)
+    ∙ sym (append_assoc calls (repeat i calls) (repeat j calls))
 
 -- so often, and then as often as is left
-pub answers_both : RunsAddUp → (a b c : List DomainValue) (k l m : KeptList) (calls : List (ℕ × Call)) (i j n : ℕ) → i + j ≡ n → AnswersCalls (repeat i calls) a b k l → AnswersCalls (repeat j calls) b c l m
+pub answers_both : RunsAddUp → (a b c : List DomainValue) (k l m : KeptList) (calls : List (ℕ × Call)) (i j n : ℕ)
+    → i + j ≡ n → AnswersCalls (repeat i calls) a b k l
+    → AnswersCalls (repeat j calls) b c l m
     → AnswersCalls (repeat n calls) a c k m
 answers_both law a b c k l m calls i j n sum one two =
-    subst (λ (asked : List (ℕ × Call)). AnswersCalls asked a c k m) (sym (repeat_both i j calls) ∙ ap (λ x. repeat x calls) sum) (answers_more law a b c k l m (repeat i calls) (repeat j calls) one two)
+    subst (λ (asked : List (ℕ × Call)). AnswersCalls asked a c k m)
+    (sym (repeat_both i j calls) ∙ ap (λ x. repeat x calls) sum)
+    (answers_more law a b c k l m (repeat i calls) (repeat j calls) one two)
 
 -- a call that changes nothing is answered alike as often as is left
-pub answers_rest : RunsAddUp → (a b c : List DomainValue) (k l m : KeptList) (call : ℕ × Call) (i j n : ℕ) (text : List ℕ) → i + j ≡ n → 0 < j → AnswersCalls (repeat i (call ∷ [])) a b k l
-    → ShowsCall call b c text → states_in c ≡ states_in b → ((texts : List (List ℕ)) → HoldsTexts texts l → HoldsTexts (texts ++ replicate j text) m) → AnswersCalls (repeat n (call ∷ [])) a c k m
+pub answers_rest : RunsAddUp
+    → (a b c : List DomainValue) (k l m : KeptList) (call : ℕ × Call) (i j n : ℕ) (text : List ℕ) → i + j ≡ n → 0 < j
+    → AnswersCalls (repeat i (call ∷ [])) a b k l
+    → ShowsCall call b c text → states_in c ≡ states_in b
+    → ((texts : List (List ℕ)) → HoldsTexts texts l → HoldsTexts (texts ++ replicate j text) m)
+    → AnswersCalls (repeat n (call ∷ [])) a c k m
 answers_rest law a b c k l m call i j n text sum some one shows same more =
     answers_both law a b c k l m (call ∷ []) i j n sum one (answers_alike law call j b c text l m some shows same more)
 
 -- a call is answered once more
-pub answers_once_more : RunsAddUp → (a b c : List DomainValue) (k l m : KeptList) (call : ℕ × Call) (i : ℕ) (text : List ℕ) → AnswersCalls (repeat i (call ∷ [])) a b k l → ShowsCall call b c text
-    → ((texts : List (List ℕ)) → HoldsTexts texts l → HoldsTexts (texts ++ text ∷ []) m) → AnswersCalls (repeat (i + 1) (call ∷ [])) a c k m
+pub answers_once_more : RunsAddUp
+    → (a b c : List DomainValue) (k l m : KeptList) (call : ℕ × Call) (i : ℕ) (text : List ℕ)
+    → AnswersCalls (repeat i (call ∷ [])) a b k l
+    → ShowsCall call b c text
+    → ((texts : List (List ℕ)) → HoldsTexts texts l → HoldsTexts (texts ++ text ∷ []) m)
+    → AnswersCalls (repeat (i + 1) (call ∷ [])) a c k m
 answers_once_more law a b c k l m call i text one shows more =
     answers_both law a b c k l m (call ∷ []) i 1 (i + 1) refl one (answers_call call b c text l m shows more)
 
 -- one more of the events
-pub events_more : RunsAddUp → (a b c : List DomainValue) (k l m : KeptList) (domain : ℕ) (by : By) (events : List Event) (index : ℕ) (d : Event) → index < length events
-    → AnswersCalls (event_calls domain by (take index events)) a b k l → AnswersCalls ((domain, record { by = by; event = get_or events index d }) ∷ []) b c l m
+pub events_more : RunsAddUp
+    → (a b c : List DomainValue) (k l m : KeptList) (domain : ℕ) (by : By) (events : List Event) (index : ℕ) (d : Event)
+    → index < length events
+    → AnswersCalls (event_calls domain by (take index events)) a b k l
+    → AnswersCalls ((domain, record { by = by; event = get_or events index d }) ∷ []) b c l m
     → AnswersCalls (event_calls domain by (take (index + 1) events)) a c k m
 events_more law a b c k l m domain by events index d within one two =
-    let cut : take (index + 1) events ≡ take index events ++ get_or events index d ∷ [] = take_more events index d within in
-    let calls : event_calls domain by (take (index + 1) events) ≡ event_calls domain by (take index events) ++ (domain, record { by = by; event = get_or events index d }) ∷ [] =
+    let cut : take (index + 1) events ≡ take index events ++ get_or events index d ∷ [] =
+    take_more events index d within in
+    let calls : event_calls domain by (take (index + 1) events)
+    ≡ event_calls domain by (take index events) ++ (domain, record { by = by; event = get_or events index d }) ∷ [] =
     ap (event_calls domain by) cut ∙ map-append _ (take index events) (get_or events index d ∷ []) in
-    subst (λ (asked : List (ℕ × Call)). AnswersCalls asked a c k m) (sym calls) (answers_more law a b c k l m _ _ one two)
+    subst (λ (asked : List (ℕ × Call)). AnswersCalls asked a c k m) (sym calls)
+    (answers_more law a b c k l m _ _ one two)
 
 -- ---- a line
 
 -- no time yet, one time more, and all times
-pub no_times : (plan : List Place) (asked : Asked) (domains : List DomainValue) (l : KeptList) → AnswersAsked plan (asked_times 0 asked) domains domains l l
+pub no_times : (plan : List Place) (asked : Asked) (domains : List DomainValue) (l : KeptList)
+    → AnswersAsked plan (asked_times 0 asked) domains domains l l
 no_times plan (Calls calls) domains l = answers_nothing domains l
 no_times plan Looks domains l = refl
 no_times plan Opens domains l = refl
 no_times plan Else domains l = tt
 
-pub times_more : RunsAddUp → (plan : List Place) (asked : Asked) (n : ℕ) (a b c : List DomainValue) (k l m : KeptList) → AnswersAsked plan (asked_times n asked) a b k l
+-- what is asked n times, and once more, is asked n + 1 times
+pub times_more : RunsAddUp → (plan : List Place) (asked : Asked) (n : ℕ) (a b c : List DomainValue) (k l m : KeptList)
+    → AnswersAsked plan (asked_times n asked) a b k l
     → AnswersAsked plan asked b c l m → AnswersAsked plan (asked_times (n + 1) asked) a c k m
 times_more law plan (Calls calls) n a b c k l m one two =
     let all : repeat (n + 1) calls ≡ repeat n calls ++ calls = rw add-one (repeat_more n calls) in
-    subst (λ (asked : List (ℕ × Call)). AnswersCalls asked a c k m) (sym all) (answers_more law a b c k l m (repeat n calls) calls one two)
+    subst (λ (asked : List (ℕ × Call)). AnswersCalls asked a c k m) (sym all)
+    (answers_more law a b c k l m (repeat n calls) calls one two)
 times_more law plan Looks n a b c k l m one two = two ∙ one
 times_more law plan Opens n a b c k l m one two = rw add-one two
 times_more law plan Else n a b c k l m one two = tt
 
-pub all_times : (plan : List Place) (asked : Asked) (n : ℕ) (a b : List DomainValue) (l m : KeptList) (line : List ℕ) → AnswersAsked plan (asked_times n asked) a b l m
-    → HoldsTexts [] l → ((texts : List (List ℕ)) → HoldsTexts texts m → IsListing texts line) → ShowsAsked plan (asked_times n asked) a b line
-all_times plan (Calls calls) n a b l m line answers none lists = shows_run (repeat n calls) a b l m line answers none lists
+-- what is asked n times shows the line of the list that gained its answers
+pub all_times : (plan : List Place) (asked : Asked) (n : ℕ) (a b : List DomainValue) (l m : KeptList) (line : List ℕ)
+    → AnswersAsked plan (asked_times n asked) a b l m
+    → HoldsTexts [] l → ((texts : List (List ℕ)) → HoldsTexts texts m → IsListing texts line)
+    → ShowsAsked plan (asked_times n asked) a b line
+all_times plan (Calls calls) n a b l m line answers none lists =
+    shows_run (repeat n calls) a b l m line answers none lists
 all_times plan Looks n a b l m line answers none lists = answers
 all_times plan Opens zero a b l m line answers none lists = answers
 all_times plan Opens (suc n) a b l m line answers none lists = answers
 all_times plan Else n a b l m line answers none lists = tt
-
--- what follows of each value
-pub of_each : {T E : Type 0} (r : Result T E) {P Q : T → Type 0} → ((x : T) → P x → Q x) → IfOk r P → IfOk r Q
-of_each (Ok x) follows p = follows x p
-of_each (Err e) follows p = p
 
 -- what follows of a success
 pub on_ok : {T E : Type 0} (r : Result T E) {P Q : Type 0} → (P → Q) → OnOk r P → OnOk r Q

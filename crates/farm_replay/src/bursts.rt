@@ -1,10 +1,12 @@
 //! Steps of a node that are done at once.
-ghost use Rattle.std.specs.Prelude.{IfOk};
+ghost use Rattle.std.specs.Prelude.{◌≡◌, ◌+◌, ◌≤◌, IfOk, OnErr};
 ghost use Rattle.farm_replay.specs.Answering.{HaveStepped};
 
-use domain_core::{Committed, NoMemory, Refusal};
+use crate::fault::{AskFault, FarmStop};
+use domain_core::{Committed, NoMemory, Refusal, Ticket};
 use farm_core::PlainFarm;
 use farm_core::laws::each_call_is_private;
+use step_meter::{StepMeter, StepsEnd};
 use t414_step::Stepped;
 
 /// Steps of a node for which the farm asked, one after another.
@@ -16,36 +18,84 @@ pub struct DoneSteps {
     pub last: Stepped,
 }
 
+/// Does Steps of a ticket: so many at most, up to the first that would not be recorded. The meter is asked for them, and told
+/// of them.
+///
+/// # Errors
+///
+/// `StepsEnd` if more are wanted than the meter allows. Those before are done.
+pub fn run_ticket<M: StepMeter>(
+    ticket: &mut Ticket,
+    most: u64,
+    meter: &mut M,
+) -> Result<(), StepsEnd>
+    ensures number { ticket.new.number ≡ ticket.old.number }
+    ensures most { ticket.new.steps ≤ ticket.old.steps + most }
+{
+    let mut left = most;
+    while left > 0 {
+        let some = meter.allow(left)?;
+        let before = ticket.steps();
+        ticket.burst(some);
+        let done = ticket.steps() - before;
+        meter.note(done);
+        left -= done;
+        if done < some {
+            break;
+        }
+    }
+    Ok(())
+}
+
 /// Does Steps of a node, for which the farm asks: so many at most, up to the first that would not be recorded. `None` if
-/// there are none, or the domain's journal has no room for so many. `NoMemory` if the node can't be copied, or the
-/// journal can't grow.
-pub fn burst(
+/// there are none.
+///
+/// # Errors
+///
+/// `Refused` with `NoSuch` if there is no such domain or node, with `JournalFull` if the domain's journal has no room for so
+/// many, and with `NoMemory` if the node can't be copied, or the journal can't grow; `Steps` if more Steps are wanted than the
+/// meter allows. Nothing has changed then.
+pub fn try_burst<M: StepMeter>(
     farm: &mut PlainFarm,
     domain: u8,
     node: u8,
     most: u64,
-) -> Result<Option<DoneSteps>, NoMemory>
+    meter: &mut M,
+) -> Result<Option<DoneSteps>, AskFault>
     ensures steps { IfOk result (λ done. HaveStepped domain node most done farm.old farm.new) }
+    ensures unchanged { OnErr result (farm.new ≡ farm.old) }
 {
     // Each call of the whole farm is one of a domain alone.
     each_call_is_private();
     // A domain is what its journal says, before and after.
     farm.whole_law();
-    let mut ticket = match farm.checkout(domain, node) {
-        Ok(ticket) => ticket,
-        Err(Refusal::NoMemory) => return Err(NoMemory),
-        Err(_) => return Ok(None),
-    };
-    ticket.burst(most);
+    let mut ticket = farm.checkout(domain, node)?;
+    run_ticket(&mut ticket, most, meter)?;
     let (steps, last) = (ticket.steps(), ticket.last());
-    match farm.commit(domain, ticket) {
-        Ok(Committed::Done) => {}
-        Err(Refusal::NoMemory) => return Err(NoMemory),
-        Ok(Committed::Stale) | Err(_) => return Ok(None),
-    }
+    let Committed::Done = farm.commit(domain, ticket)? else {
+        return Ok(None);
+    };
     farm.whole_law();
     let (Some(last), Some(before)) = (last, steps.checked_sub(1)) else {
         return Ok(None);
     };
     Ok(Some(DoneSteps { before, last }))
+}
+
+/// The same, if a refusal but for want of memory is none of the asker's business: `None` then, and nothing has changed.
+pub fn burst<M: StepMeter>(
+    farm: &mut PlainFarm,
+    domain: u8,
+    node: u8,
+    most: u64,
+    meter: &mut M,
+) -> Result<Option<DoneSteps>, FarmStop>
+    ensures steps { IfOk result (λ done. HaveStepped domain node most done farm.old farm.new) }
+{
+    match try_burst(farm, domain, node, most, meter) {
+        Ok(done) => Ok(done),
+        Err(AskFault::Refused(Refusal::NoMemory)) => Err(FarmStop::Memory(NoMemory)),
+        Err(AskFault::Refused(_)) => Ok(None),
+        Err(AskFault::Steps(end)) => Err(FarmStop::Steps(end)),
+    }
 }

@@ -1,42 +1,37 @@
-//! Why a text isn't replayed.
+//! Why a farm on one thread doesn't do all that is asked.
 
-use line_words::{NumberedLineFault, WrongLine};
-use plan_checker::PlanFault;
+use domain_core::Refusal;
 use std::alloc::AllocError;
+use step_meter::StepsEnd;
 use thiserror::Error;
 
-/// Why a text isn't replayed. None of its lines is then.
+/// Why a domain doesn't do all that is asked of it.
+#[derive(Clone, Copy, Debug)]
+pub enum AskFault {
+    /// The farm refuses it.
+    Refused(Refusal),
+    /// More Steps are wanted than may be done.
+    Steps(StepsEnd),
+}
+
+impl From<Refusal> for AskFault {
+    fn from(refusal: Refusal) -> AskFault {
+        AskFault::Refused(refusal)
+    }
+}
+
+impl From<StepsEnd> for AskFault {
+    fn from(end: StepsEnd) -> AskFault {
+        AskFault::Steps(end)
+    }
+}
+
+/// Why a farm ends before all is answered.
 #[derive(Clone, Copy, Debug, Error)]
-pub enum ReplayFault {
-    /// The plan that begins at this line is refused.
-    #[error("plan: {number}: {fault}, in the plan that begins at line {line} (`lab plan` says where)", number = .fault.number())]
-    Plan { fault: PlanFault, line: u64 },
-    /// The plan that begins at this line is refused, and no line divides it from what stands behind it.
-    #[error("plan: {number}: {fault}, in the plan that begins at line {line} (no line behind it is just ---, so all was read as the plan)", number = .fault.number())]
-    NoMark { fault: PlanFault, line: u64 },
-    /// A line of the whole text is wrong.
+pub enum FarmStop {
+    /// More Steps are wanted than may be done.
     #[error("{0}")]
-    Line(WrongLine),
+    Steps(StepsEnd),
     #[error("memory")]
     Memory(#[from(alloc)] AllocError),
-}
-
-impl ReplayFault {
-    /// The plan that begins at this line is refused, and a mark stands behind it or doesn't.
-    pub fn of_plan(fault: PlanFault, line: u64, is_marked: bool) -> ReplayFault {
-        match fault {
-            PlanFault::NoMemory => ReplayFault::Memory(AllocError),
-            _ if is_marked => ReplayFault::Plan { fault, line },
-            _ => ReplayFault::NoMark { fault, line },
-        }
-    }
-}
-
-impl From<NumberedLineFault> for ReplayFault {
-    fn from(fault: NumberedLineFault) -> ReplayFault {
-        match fault {
-            NumberedLineFault::Wrong(line) => ReplayFault::Line(line),
-            NumberedLineFault::Memory(error) => ReplayFault::Memory(error),
-        }
-    }
 }

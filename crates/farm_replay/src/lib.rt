@@ -9,7 +9,8 @@ mod reading;
 mod replaying;
 mod request;
 
-pub use fault::ReplayFault;
+pub use fault::{AskFault, FarmStop};
+pub use open_farm::OpenFarm;
 pub use reading::read_request;
-pub use replaying::{AnsweredRequests, Replayed, ReplayedFarm, answer_requests, replay};
+pub use replaying::{AnsweredRequests, answer_requests, answer_times};
 pub use request::{DomainRequest, RepeatedRequest, Request};

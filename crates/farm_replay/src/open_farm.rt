@@ -1,28 +1,35 @@
 //! A farm with its tickets, and what it answers.
-ghost use Rattle.std.specs.Prelude.{◌≡◌, ◌↔◌, ◌<◌, ◌≤◌, IsTrue, IfOk, IfSome, OnOk, length, string_bytes};
+ghost use Rattle.std.specs.Prelude.{◌≡◌, ◌↔◌, ◌<◌, ◌≤◌, ◌∷◌, [], IsTrue, IfOk, IfSome, OnErr, OnOk, length, slice_get, string_bytes};
+ghost use Rattle.std.specs.Option.{unwrap_or};
 ghost use Rattle.answer_text.specs.Replies.{stepped_text};
+ghost use Rattle.domain_core.specs.Domain.{UnlessNoMemory};
 ghost use Rattle.farm_core.specs.Places.{places_of};
+ghost use Rattle.farm_core.specs.PlainFarm.{journal_in};
 ghost use Rattle.farm_replay.specs.Plain.{event_calls, asked_once, asked_of_domain};
-ghost use Rattle.farm_replay.specs.Answering.{ShowsCall, StayIfUnrecorded, AnswersCalls, AnswersTimes, AnswersAsked, StaysIfLooked, IsOpenedFarm};
+ghost use Rattle.farm_replay.specs.Answering.{ShowsCall, StayIfUnrecorded, AnswersCalls, AnswersTimes, AnswersAsked, StaysIfLooked};
+ghost use Rattle.farm_replay.specs.Runs.{HasGoneOn, HaveRun, IsOpenedFarm};
 
 use crate::answer_list::AnswerList;
-use crate::bursts::{DoneSteps, burst};
+use crate::bursts::{DoneSteps, burst, run_ticket, try_burst};
+use crate::fault::{AskFault, FarmStop};
 use crate::request::{DomainRequest, Request};
 use answer_text::{write_entry, write_refusal, write_reply, write_stepped};
 use crossbar::{PORTS, Word};
-use domain_core::{By, Committed, Event, NoMemory, Refusal, Ticket};
+use domain_core::{By, Committed, Entry, Event, NoMemory, Refusal, Reply, Ticket};
 use farm_core::PlainFarm;
 use farm_core::laws::runs_add_up;
 use plan_checker::AcceptedPlan;
 use script_text::TextWriter;
 use std::alloc::Global;
+use step_meter::StepMeter;
 use t414_step::Stepped;
 
-/// A farm, and the tickets that it gave, each until it is spent.
+/// A farm on one thread, and the tickets that it gave, each until it is spent.
 #[derive(Drop)]
 pub struct OpenFarm {
     alloc: Global,
-    farm: PlainFarm,
+    /// The farm.
+    pub farm: PlainFarm,
     tickets: Vec<Option<Ticket>>,
 }
 
@@ -50,13 +57,14 @@ impl OpenFarm {
         })
     }
 
-    /// Adds the answers to a request.
-    pub fn answer(
+    /// Adds the answers to a request, if it needs no more Steps than the meter allows.
+    pub fn answer<M: StepMeter>(
         &mut self,
         plan: &AcceptedPlan,
         request: &Request,
         answers: &mut AnswerList,
-    ) -> Result<(), NoMemory>
+        meter: &mut M,
+    ) -> Result<(), FarmStop>
         ensures asked { OnOk result (AnswersAsked (places_of plan.now) (asked_once request.now) self.old.farm self.new.farm answers.old answers.new) }
     {
         let mut text = TextWriter::new(self.alloc);
@@ -67,37 +75,47 @@ impl OpenFarm {
             }
             Request::Words => self.write_words(&mut text),
             Request::Events(domain, by, events) => {
-                return self.answer_events(*domain, *by, events.as_slice(), answers);
+                return Ok(self.answer_events(*domain, *by, events.as_slice(), answers)?);
             }
             Request::Domain(domain, request) => {
-                if let Err(refusal) = self.write_answer(*domain, *request, &mut text) {
-                    let written = write_refusal(text.as_mut_string(), refusal);
-                    text.keep_failure(written);
+                match self.write_answer(*domain, *request, &mut text, meter) {
+                    Ok(()) => {}
+                    Err(AskFault::Refused(refusal)) => {
+                        let written = write_refusal(text.as_mut_string(), refusal);
+                        text.keep_failure(written);
+                    }
+                    Err(AskFault::Steps(end)) => return Err(FarmStop::Steps(end)),
                 }
             }
         }
-        answers.push(text.finish()?)
+        Ok(answers.push(text.finish()?)?)
     }
 
-    fn write_answer(
+    fn write_answer<M: StepMeter>(
         &mut self,
         domain: u8,
         request: DomainRequest,
         text: &mut TextWriter,
-    ) -> Result<(), Refusal>
+        meter: &mut M,
+    ) -> Result<(), AskFault>
         ensures looks { StaysIfLooked (asked_of_domain request) self.old.farm self.new.farm }
     {
         match request {
-            DomainRequest::Quiet => self.write_quiet(domain, text),
-            DomainRequest::Word(output) => self.write_word(domain, output, text),
-            DomainRequest::Recorded => self.write_recorded(domain, text),
-            DomainRequest::Restart => self.restart(domain, text),
-            DomainRequest::Journal => self.write_journal(domain, text),
-            DomainRequest::Checkout(node) => self.checkout(domain, node, text),
-            DomainRequest::Burst(ticket, steps) => self.burst(domain, ticket, steps, text),
-            DomainRequest::Commit(ticket) => self.commit(domain, ticket, text),
-            DomainRequest::Settle(quantum, rounds) => self.settle(domain, quantum, rounds, text),
+            DomainRequest::Quiet => self.write_quiet(domain, text)?,
+            DomainRequest::Word(output) => self.write_word(domain, output, text)?,
+            DomainRequest::Recorded => self.write_recorded(domain, text)?,
+            DomainRequest::Restart => self.restart(domain, text)?,
+            DomainRequest::Journal => self.write_journal(domain, text)?,
+            DomainRequest::Checkout(node) => self.checkout(domain, node, text)?,
+            DomainRequest::Burst(ticket, steps) => {
+                self.burst(domain, ticket, steps, text, meter)?
+            }
+            DomainRequest::Commit(ticket) => self.commit(domain, ticket, text)?,
+            DomainRequest::Settle(quantum, rounds) => {
+                self.write_settled(domain, quantum, rounds, text, meter)?
+            }
         }
+        Ok(())
     }
 
     fn has_domain(&self, domain: u8) -> bool
@@ -124,8 +142,8 @@ impl OpenFarm {
     }
 
     /// Adds the answers to an event that is asked so often. Steps for which the farm asks are done at once, as far as they
-    /// are recorded.
-    pub fn answer_repeated(
+    /// are recorded and the meter allows them.
+    pub fn answer_repeated<M: StepMeter>(
         &mut self,
         plan: &AcceptedPlan,
         domain: u8,
@@ -133,18 +151,19 @@ impl OpenFarm {
         event: Event,
         times: u64,
         answers: &mut AnswerList,
-    ) -> Result<(), NoMemory>
+        meter: &mut M,
+    ) -> Result<(), FarmStop>
         ensures calls { OnOk result (AnswersTimes times domain by event self.old.farm self.new.farm answers.old answers.new) }
     {
         // A run of calls and then of others is the run of all.
         runs_add_up();
-        let done = self.answer_burst(plan, domain, by, event, times, answers)?;
-        self.answer_each(domain, by, event, times - done, answers)
+        let done = self.answer_burst(plan, domain, by, event, times, answers, meter)?;
+        Ok(self.answer_each(domain, by, event, times - done, answers)?)
     }
 
     // Adds the answers to Steps that are done at once, if the event is a Step for which the farm asks: how many there were,
     // so many at most.
-    fn answer_burst(
+    fn answer_burst<M: StepMeter>(
         &mut self,
         plan: &AcceptedPlan,
         domain: u8,
@@ -152,7 +171,8 @@ impl OpenFarm {
         event: Event,
         most: u64,
         answers: &mut AnswerList,
-    ) -> Result<u64, NoMemory>
+        meter: &mut M,
+    ) -> Result<u64, FarmStop>
         ensures calls { IfOk result (λ done. AnswersTimes done domain by event self.old.farm self.new.farm answers.old answers.new) }
         ensures most { IfOk result (λ done. done ≤ most) }
     {
@@ -164,7 +184,8 @@ impl OpenFarm {
         if most < 2 {
             return Ok(0);
         }
-        let Some(DoneSteps { before, last }) = burst(&mut self.farm, domain, node, most)? else {
+        let Some(DoneSteps { before, last }) = burst(&mut self.farm, domain, node, most, meter)?
+        else {
             return Ok(0);
         };
         answers.push_many(self.stepped(Stepped::Ran)?, before)?;
@@ -294,19 +315,20 @@ impl OpenFarm {
         }
     }
 
-    fn burst(
+    fn burst<M: StepMeter>(
         &mut self,
         domain: u8,
         ticket: usize,
         steps: u64,
         text: &mut TextWriter,
-    ) -> Result<(), Refusal>
+        meter: &mut M,
+    ) -> Result<(), AskFault>
         ensures farm { self.new.farm ≡ self.old.farm }
     {
         let Some(ticket) = held(&mut self.tickets, domain, ticket)? else {
-            return Err(Refusal::NoSuch);
+            return Err(AskFault::Refused(Refusal::NoSuch));
         };
-        ticket.burst(steps);
+        run_ticket(ticket, steps, meter)?;
         text.push_decimal(ticket.steps());
         Ok(())
     }
@@ -322,53 +344,137 @@ impl OpenFarm {
         Ok(())
     }
 
-    // Rounds as the service's sessions do them: each node's burst is committed, and then each port's packet is moved.
-    fn settle(
+    /// One event of a domain, by this asker.
+    ///
+    /// # Errors
+    ///
+    /// Those of the farm. Nothing has changed then.
+    pub fn ask(&mut self, domain: u8, by: By, event: Event) -> Result<Reply, Refusal>
+        ensures call { UnlessNoMemory result (HaveRun self.old.farm self.new.farm ((domain, record { by = by; event = event }) ∷ []) (result ∷ [])) }
+        ensures unchanged { OnErr result (self.new.farm ≡ self.old.farm) }
+    {
+        self.farm.apply(domain, by, event)
+    }
+
+    fn write_settled<M: StepMeter>(
         &mut self,
         domain: u8,
         quantum: u64,
         rounds: u64,
         text: &mut TextWriter,
-    ) -> Result<(), Refusal> {
+        meter: &mut M,
+    ) -> Result<(), AskFault> {
+        let is_quiet = self.settle(domain, quantum, rounds, meter)?;
+        text.push(if is_quiet { "quiet" } else { "busy" });
+        Ok(())
+    }
+
+    /// Rounds of a domain, up to so many, until it is quiet, and whether it is. In each round every node does up to `quantum`
+    /// Steps, and then the packets of all ports move, as in the rounds of a service's sessions.
+    ///
+    /// # Errors
+    ///
+    /// `Refused` with `NoSuch` if there is no such domain, and else with the first refusal of a Step or Move; `Steps` if more
+    /// Steps are wanted than the meter allows. What was recorded before stands.
+    #[tactic(auto, using(crate::proofs::Running::gone_nowhere, crate::proofs::Running::gone_still, crate::proofs::Running::gone_further, crate::proofs::Running::gone_on_from))]
+    pub fn settle<M: StepMeter>(
+        &mut self,
+        domain: u8,
+        quantum: u64,
+        rounds: u64,
+        meter: &mut M,
+    ) -> Result<bool, AskFault>
+        ensures on { HasGoneOn domain self.old.farm self.new.farm }
+    {
+        // A run of calls and then of others is the run of all.
+        runs_add_up();
         if !self.has_domain(domain) {
-            return Err(Refusal::NoSuch);
+            return Err(AskFault::Refused(Refusal::NoSuch));
         }
         for _ in 0..rounds {
             if self.is_quiet(domain) {
                 break;
             }
-            self.round(domain, quantum)?;
+            self.round(domain, quantum, meter)?;
         }
-        text.push(if self.is_quiet(domain) {
-            "quiet"
-        } else {
-            "busy"
-        });
-        Ok(())
+        Ok(self.is_quiet(domain))
     }
 
-    fn is_quiet(&mut self, domain: u8) -> bool {
+    #[tactic(auto, using(crate::proofs::Running::gone_further))]
+    fn round<M: StepMeter>(
+        &mut self,
+        domain: u8,
+        quantum: u64,
+        meter: &mut M,
+    ) -> Result<(), AskFault>
+        ensures on { HasGoneOn domain self.old.farm self.new.farm }
+    {
+        // A run of calls and then of others is the run of all.
+        runs_add_up();
+        self.step_nodes(domain, quantum, meter)?;
+        Ok(self.move_packets(domain)?)
+    }
+
+    fn is_quiet(&mut self, domain: u8) -> bool
+        ensures farm { self.new.farm ≡ self.old.farm }
+    {
         self.has_domain(domain) && self.farm.quiet(domain)
     }
 
-    fn round(&mut self, domain: u8, quantum: u64) -> Result<(), Refusal> {
+    // Up to so many Steps of each node of a domain.
+    #[tactic(auto, using(crate::proofs::Running::gone_nowhere, crate::proofs::Running::gone_further, crate::proofs::Running::gone_by_steps))]
+    fn step_nodes<M: StepMeter>(
+        &mut self,
+        domain: u8,
+        quantum: u64,
+        meter: &mut M,
+    ) -> Result<(), AskFault>
+        ensures on { HasGoneOn domain self.old.farm self.new.farm }
+    {
+        // A run of calls and then of others is the run of all.
+        runs_add_up();
         for node in 0..=u8::MAX {
-            let mut ticket = match self.farm.checkout(domain, node) {
-                Ok(ticket) => ticket,
-                Err(Refusal::NoSuch) => break,
-                Err(refusal) => return Err(refusal),
-            };
-            ticket.burst(quantum);
-            let _ = self.farm.commit(domain, ticket)?;
-        }
-        for port in 0..PORTS {
-            match self.farm.apply(domain, By::Farm, Event::Move(port)) {
-                Err(Refusal::NoSuch) => break,
-                Err(refusal) => return Err(refusal),
+            match try_burst(&mut self.farm, domain, node, quantum, meter) {
                 Ok(_) => {}
+                Err(AskFault::Refused(Refusal::NoSuch)) => break,
+                Err(fault) => return Err(fault),
             }
         }
         Ok(())
+    }
+
+    // A Move of each port of a domain.
+    #[tactic(auto, using(crate::proofs::Running::gone_nowhere, crate::proofs::Running::gone_further, crate::proofs::Running::gone_by_call))]
+    fn move_packets(&mut self, domain: u8) -> Result<(), Refusal>
+        ensures on { HasGoneOn domain self.old.farm self.new.farm }
+    {
+        // A run of calls and then of others is the run of all.
+        runs_add_up();
+        for port in 0..PORTS {
+            match self.ask(domain, By::Farm, Event::Move(port)) {
+                Ok(_) => {}
+                Err(Refusal::NoSuch) => break,
+                Err(refusal) => return Err(refusal),
+            }
+        }
+        Ok(())
+    }
+
+    /// What a domain answered since it was opened or restarted, entry by entry; nothing if there is no such domain.
+    #[tactic(auto, using(crate::proofs::Entries::one_more_entry, crate::proofs::Entries::all_entries))]
+    pub fn entries(&self, domain: u8) -> Result<Vec<Entry>, NoMemory>
+        ensures { IfOk result (λ entries. entries.items ≡ unwrap_or (journal_in (slice_get self.now.farm domain)) []) }
+    {
+        let mut entries = Vec::new(self.alloc);
+        let Some(journal) = self.farm.journal(domain) else {
+            return Ok(entries);
+        };
+        for index in 0..journal.len() {
+            if let Some(entry) = journal.get(index) {
+                entries.push(entry)?;
+            }
+        }
+        Ok(entries)
     }
 
     /// The words of the physical outputs.

@@ -3,6 +3,7 @@
 use crate::assembly::AssemblyOptions;
 use crate::debugging::Debugging;
 use crate::failure::LabFailure;
+use crate::scripts::ScriptUse;
 use clap::error::ErrorKind;
 use clap::{Arg, ArgAction, ArgMatches, Command, value_parser};
 use lab_debug::ProgramOf;
@@ -33,8 +34,8 @@ pub enum LabRequest<'a> {
     Why(&'a str, u64),
     /// To show a span of the record in a file as a page.
     Film(&'a str, Span),
-    /// To spell out the lines that help of the script in a file, or on standard input.
-    Expand(Option<&'a str>),
+    /// To do something with the script in a file, or on standard input.
+    Script(Option<&'a str>, ScriptUse),
     /// To look through a record by commands.
     Debug(Debugging<'a>),
     /// To boot a node with code, and to trace it.
@@ -46,18 +47,27 @@ pub enum LabRequest<'a> {
 /// What is made of standard input.
 #[derive(Drop)]
 pub enum Reading<'a> {
-    /// It is replayed on farms.
-    Replay,
+    /// It is replayed on farms, if that takes no more Steps than these.
+    Replay(Option<u64>),
     /// The plan there is shown.
     Plan,
-    /// The switch of the farm that it leaves is drawn, or the network of one of its domains.
-    Draw(Option<u8>),
+    /// What it leaves of a farm is drawn.
+    Draw(Drawing),
     /// What it asks of a node is traced, if that takes no more Steps than these.
     Trace(Option<u64>),
     /// It is assembled.
     Assemble(AssemblyOptions<'a>),
     /// It is disassembled.
     Disassemble,
+}
+
+/// What is drawn of a farm.
+#[derive(Clone, Copy)]
+pub struct Drawing {
+    /// The domain whose network is drawn, or the switch if there is none.
+    pub domain: Option<u8>,
+    /// How many Steps may be done before, or any number.
+    pub most: Option<u64>,
 }
 
 /// How a node is traced that is booted with code.
@@ -94,6 +104,7 @@ enum Subcommand {
     Why,
     Film,
     Expand,
+    Run,
     Debug,
 }
 
@@ -106,6 +117,7 @@ impl Subcommand {
                 | Subcommand::Why
                 | Subcommand::Film
                 | Subcommand::Expand
+                | Subcommand::Run
                 | Subcommand::Debug
         )
     }
@@ -114,7 +126,7 @@ impl Subcommand {
     fn about(self) -> &'static str {
         match self {
             Subcommand::Replay => {
-                "Answers single events on farms: reads a plan, a line ---, and events, one a line"
+                "Answers single events on farms: reads a plan, a line ---, and events or users' lines, one a line"
             }
             Subcommand::Plan => {
                 "Shows the domains, users, ports and devices of a plan, or where and why it is refused"
@@ -143,6 +155,9 @@ impl Subcommand {
             Subcommand::Expand => {
                 "Spells out the lines of a script that help: reads a plan, a line ---, and a script"
             }
+            Subcommand::Run => {
+                "Runs a script as farm does, on one thread: reads a plan, a line ---, and a script, whose lines may help"
+            }
             Subcommand::Debug => {
                 "Goes to any moment of a domain's record, and shows it: reads commands, of which help is one"
             }
@@ -151,9 +166,10 @@ impl Subcommand {
 }
 
 /// The options of the subcommands that read standard input.
-const OPTIONS: [&str; 8] = [
+const OPTIONS: [&str; 9] = [
     "--boot",
     "--program",
+    "--plan",
     "--steps",
     "--until",
     "--input",
@@ -162,7 +178,7 @@ const OPTIONS: [&str; 8] = [
     "--pokes",
 ];
 
-const SUBCOMMANDS: [(&str, Subcommand); 11] = [
+const SUBCOMMANDS: [(&str, Subcommand); 12] = [
     ("replay", Subcommand::Replay),
     ("plan", Subcommand::Plan),
     ("draw", Subcommand::Draw),
@@ -173,6 +189,7 @@ const SUBCOMMANDS: [(&str, Subcommand); 11] = [
     ("why", Subcommand::Why),
     ("film", Subcommand::Film),
     ("expand", Subcommand::Expand),
+    ("run", Subcommand::Run),
     ("debug", Subcommand::Debug),
 ];
 
@@ -247,24 +264,34 @@ fn with_arguments<'a>(
         Subcommand::Trace => command
             .arg(boot_argument(alloc))?
             .arg(booted_argument(alloc))?
-            .arg(steps_argument(alloc))?
+            .arg(plan_argument(alloc))?
+            .arg(traced_domain_argument(alloc))?
+            .arg(traced_argument(alloc))?
             .arg(until_argument(alloc))?
             .arg(input_argument(alloc)),
         Subcommand::Assemble => command
             .arg(listing_argument(alloc))?
             .arg(pokes_argument(alloc)),
         Subcommand::Rows => command.arg(files_argument(alloc)),
-        Subcommand::Draw => command.arg(domain_argument(alloc)),
+        Subcommand::Replay => command.arg(steps_argument(alloc)),
+        Subcommand::Draw => command
+            .arg(domain_argument(alloc))?
+            .arg(steps_argument(alloc)),
         Subcommand::Why => command.arg(record_argument(alloc))?.arg(at_argument(alloc)),
         Subcommand::Film => command
             .arg(record_argument(alloc))?
             .arg(from_argument(alloc))?
             .arg(count_argument(alloc)),
         Subcommand::Expand => command.arg(script_argument(alloc)),
+        Subcommand::Run => command
+            .arg(script_argument(alloc))?
+            .arg(recorded_argument(alloc))?
+            .arg(steps_argument(alloc)),
         Subcommand::Debug => command
             .arg(record_argument(alloc))?
-            .arg(program_argument(alloc)),
-        Subcommand::Replay | Subcommand::Plan | Subcommand::Disassemble => Ok(command),
+            .arg(program_argument(alloc))?
+            .arg(steps_argument(alloc)),
+        Subcommand::Plan | Subcommand::Disassemble => Ok(command),
     }
 }
 
@@ -284,13 +311,41 @@ fn booted_argument<'a>(alloc: Global) -> Arg<'a> {
         .action(ArgAction::Set)
 }
 
-fn steps_argument<'a>(alloc: Global) -> Arg<'a> {
+fn plan_argument<'a>(alloc: Global) -> Arg<'a> {
+    Arg::new(alloc, "plan")
+        .long("plan")
+        .value_name("SCRIPT")
+        .help(
+            "Runs the plan and script in this file, and traces all nodes of a domain and the packets between them",
+        )
+        .action(ArgAction::Set)
+}
+
+fn traced_domain_argument<'a>(alloc: Global) -> Arg<'a> {
+    Arg::new(alloc, "domain")
+        .long("domain")
+        .value_name("D")
+        .help("The number of the domain that --plan traces, 0 unless given")
+        .action(ArgAction::Set)
+        .value_parser(value_parser!(u8))
+}
+
+fn traced_argument<'a>(alloc: Global) -> Arg<'a> {
     Arg::new(alloc, "steps")
         .long("steps")
         .value_name("N")
         .help(
-            "How many Steps of booted code are traced at most, 1000 unless given; how many the lines may do in all",
+            "How many Steps are traced at most of booted code or of a plan, 1000 unless given; how many the lines may do in all",
         )
+        .action(ArgAction::Set)
+        .value_parser(value_parser!(u64))
+}
+
+fn steps_argument<'a>(alloc: Global) -> Arg<'a> {
+    Arg::new(alloc, "steps")
+        .long("steps")
+        .value_name("N")
+        .help("How many Steps may be done in all; more end it with status 7")
         .action(ArgAction::Set)
         .value_parser(value_parser!(u64))
 }
@@ -354,6 +409,15 @@ fn script_argument<'a>(alloc: Global) -> Arg<'a> {
         .action(ArgAction::Set)
 }
 
+fn recorded_argument<'a>(alloc: Global) -> Arg<'a> {
+    Arg::new(alloc, "record")
+        .long("record")
+        .value_name("D")
+        .help("Prints the record of the domain of this number in the plan, and not the answers")
+        .action(ArgAction::Set)
+        .value_parser(value_parser!(u8))
+}
+
 fn at_argument<'a>(alloc: Global) -> Arg<'a> {
     Arg::new(alloc, "at")
         .long("at")
@@ -414,18 +478,36 @@ fn read_matches<'a>(alloc: Global, matches: &ArgMatches<'a>) -> Result<LabReques
     };
     let subcommand = value_named(&SUBCOMMANDS, name).ok_or(LabFailure::Subcommand)?;
     Ok(match subcommand {
-        Subcommand::Replay => LabRequest::Read(Reading::Replay),
+        Subcommand::Replay => LabRequest::Read(Reading::Replay(steps_of(matches))),
         Subcommand::Plan => LabRequest::Read(Reading::Plan),
-        Subcommand::Draw => LabRequest::Read(Reading::Draw(matches.get_one::<u8>("domain"))),
+        Subcommand::Draw => LabRequest::Read(Reading::Draw(Drawing {
+            domain: matches.get_one::<u8>("domain"),
+            most: steps_of(matches),
+        })),
         Subcommand::Trace => read_trace(alloc, matches)?,
         Subcommand::Assemble => LabRequest::Read(Reading::Assemble(read_options(matches))),
         Subcommand::Disassemble => LabRequest::Read(Reading::Disassemble),
         Subcommand::Rows => LabRequest::Rows(read_files(alloc, matches)?),
         Subcommand::Why => read_why(matches)?,
         Subcommand::Film => read_film(matches)?,
-        Subcommand::Expand => LabRequest::Expand(matches.get_str("script")),
+        Subcommand::Expand => LabRequest::Script(matches.get_str("script"), ScriptUse::Expand),
+        Subcommand::Run => LabRequest::Script(matches.get_str("script"), run_of(matches)),
         Subcommand::Debug => LabRequest::Debug(read_debugging(alloc, matches)?),
     })
+}
+
+// What `run` does with a script.
+fn run_of(matches: &ArgMatches) -> ScriptUse {
+    let most = steps_of(matches);
+    match matches.get_one::<u8>("record") {
+        Some(domain) => ScriptUse::Record { domain, most },
+        None => ScriptUse::Run(most),
+    }
+}
+
+// How many Steps may be done, if the words say it.
+fn steps_of(matches: &ArgMatches) -> Option<u64> {
+    matches.get_one::<u64>("steps")
 }
 
 fn read_options<'a>(matches: &ArgMatches<'a>) -> AssemblyOptions<'a> {
@@ -467,6 +549,7 @@ fn read_debugging<'a>(
     Ok(Debugging {
         record: matches.get_str("record").ok_or(LabFailure::Subcommand)?,
         programs,
+        most: steps_of(matches),
     })
 }
 
@@ -486,19 +569,59 @@ fn read_files<'a>(alloc: Global, matches: &ArgMatches<'a>) -> Result<Vec<&'a str
 }
 
 fn read_trace<'a>(alloc: Global, matches: &ArgMatches<'a>) -> Result<LabRequest<'a>, LabFailure> {
-    let steps = matches.get_one::<u64>("steps");
-    let code = match (matches.get_str("boot"), matches.get_str("program")) {
-        (None, None) => return Ok(LabRequest::Read(Reading::Trace(steps))),
-        (Some(digits), None) => BootedCode::Bytes(read_code(alloc, digits)?),
-        (None, Some(file)) => BootedCode::Program(file),
-        (Some(_), Some(_)) => return Err(LabFailure::TwoCodes),
-    };
-    Ok(LabRequest::Boot(BootOptions {
-        code,
-        steps: steps.unwrap_or(USUAL_STEPS),
-        until: matches.get_str("until"),
-        inputs: read_inputs(alloc, matches)?,
-    }))
+    let until = matches.get_str("until");
+    let inputs = read_inputs(alloc, matches)?;
+    let domain = matches.get_one::<u8>("domain");
+    let traced = traced_of(alloc, matches)?;
+    let is_booted = matches!(traced, Traced::Code(_));
+    if !is_booted && (until.is_some() || !inputs.is_empty()) {
+        return Err(LabFailure::TraceOptions);
+    }
+    if domain.is_some() && !matches!(traced, Traced::Script(_)) {
+        return Err(LabFailure::TraceOptions);
+    }
+    let steps = steps_of(matches);
+    Ok(match traced {
+        Traced::Lines => LabRequest::Read(Reading::Trace(steps)),
+        Traced::Script(file) => LabRequest::Script(
+            Some(file),
+            ScriptUse::Trace {
+                domain: domain.unwrap_or(0),
+                steps: steps.unwrap_or(USUAL_STEPS),
+            },
+        ),
+        Traced::Code(code) => LabRequest::Boot(BootOptions {
+            code,
+            steps: steps.unwrap_or(USUAL_STEPS),
+            until,
+            inputs,
+        }),
+    })
+}
+
+// What is traced.
+#[derive(Drop)]
+enum Traced<'a> {
+    Lines,
+    Script(&'a str),
+    Code(BootedCode<'a>),
+}
+
+fn traced_of<'a>(alloc: Global, matches: &ArgMatches<'a>) -> Result<Traced<'a>, LabFailure> {
+    let given = (
+        matches.get_str("boot"),
+        matches.get_str("program"),
+        matches.get_str("plan"),
+    );
+    match given {
+        (None, None, None) => Ok(Traced::Lines),
+        (Some(digits), None, None) => Ok(Traced::Code(BootedCode::Bytes(read_code(
+            alloc, digits,
+        )?))),
+        (None, Some(file), None) => Ok(Traced::Code(BootedCode::Program(file))),
+        (None, None, Some(file)) => Ok(Traced::Script(file)),
+        _ => Err(LabFailure::TwoCodes),
+    }
 }
 
 fn read_code(alloc: Global, digits: &str) -> Result<Vec<u8>, LabFailure> {

@@ -1,8 +1,9 @@
 //! A record is looked through by commands.
 
 use crate::failure::LabFailure;
+use crate::meter::TerminalMeter;
 use crate::reports::Report;
-use lab_debug::{ProgramOf, ProgramTexts, debug};
+use lab_debug::{DebugFault, Debugger, ProgramOf, ProgramTexts, debug};
 use std::alloc::AllocError;
 use std::fs;
 use std::io::{self, BufReader, IsTerminal};
@@ -12,6 +13,8 @@ use std::io::{self, BufReader, IsTerminal};
 pub struct Debugging<'a> {
     pub record: &'a str,
     pub programs: Vec<ProgramOf<'a>>,
+    /// How many Steps the record may have, or any number.
+    pub most: Option<u64>,
 }
 
 /// The texts of programs are those of files.
@@ -39,9 +42,10 @@ pub fn report_debugging(rt: &HostRuntime, asked: &Debugging) -> Result<Report, L
         Ok(input) => input,
         Err(error) => return Err(LabFailure::of_input(&error)),
     };
+    let mut debugger = opened(rt, record.as_slice(), asked.most)?;
     debug(
         alloc,
-        record.as_slice(),
+        &mut debugger,
         asked.programs.as_slice(),
         &Files(rt),
         &mut input,
@@ -52,4 +56,16 @@ pub fn report_debugging(rt: &HostRuntime, asked: &Debugging) -> Result<Report, L
         text: String::new(alloc),
         status: 0,
     })
+}
+
+/// A record at its end, if it has no more Steps than these.
+pub fn opened<'a>(
+    rt: &HostRuntime,
+    record: &'a [u8],
+    most: Option<u64>,
+) -> Result<Debugger<'a>, DebugFault> {
+    let mut meter = TerminalMeter::begin(rt, most);
+    let opened = Debugger::open(rt.alloc(), record, &mut meter);
+    meter.wipe();
+    opened
 }

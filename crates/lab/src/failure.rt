@@ -1,11 +1,11 @@
 //! Why the lab ends without its output.
 
 use farm_causes::WhyFault;
-use farm_replay::ReplayFault;
 use lab_debug::DebugFault;
 use line_words::{NumberedLineFault, WrongLine};
 use node_trace::{BootFault, TraceFault};
 use plan_faults::PlanRefusal;
+use script_replay::{ReplayFault, RunFault};
 use script_text::{ReadFault, write_whole};
 use std::alloc::{AllocError, AllocFailed, Global};
 use std::fmt;
@@ -32,8 +32,10 @@ pub enum LabFailure {
     Program,
     /// The code of `--boot` has so many bytes.
     Booted(usize),
-    /// `--boot` and `--program` both stand there.
+    /// More than one of `--boot`, `--program` and `--plan` stand there.
     TwoCodes,
+    /// Other options of `trace` stand there than go with what is traced.
+    TraceOptions,
     /// `--until` is no address, and no label of a program.
     Address,
     /// `--input` is no link with bytes.
@@ -48,10 +50,12 @@ pub enum LabFailure {
     Record(WhyFault),
     /// A text is no program, or no digits.
     Text(TextFault),
-    /// Lines of a script that help are wrong, with what is told of them.
+    /// Lines of users are wrong, with what is told of them.
     Script(String),
     /// The last farm of a text has no domain of this number.
     Domain(u8),
+    /// The head of a record doesn't read as its plan, which never happens.
+    Head,
     /// A boot can't take so many bytes of code.
     Length(usize),
     /// So many bytes of code can't be poked.
@@ -102,7 +106,10 @@ impl fmt::Display for LabFailure {
                 "error: --program takes the number of a node, and a file\n",
             ),
             LabFailure::TwoCodes => f.write_str(
-                "error: --boot and --program each give the code: write one of them\n",
+                "error: --boot, --program and --plan each say what is traced: write one of them\n",
+            ),
+            LabFailure::TraceOptions => f.write_str(
+                "error: --until and --input go with --boot or --program, and --domain with --plan\n",
             ),
             LabFailure::Address => f.write_str(
                 "error: --until takes an address, one to eight hexadecimal digits, or a label of --program: --until 8000004c\n",
@@ -125,6 +132,7 @@ impl fmt::Display for LabFailure {
                 )
             }
             LabFailure::Steps(end) => write!(f, "{end}\n"),
+            LabFailure::Head => f.write_str("the head of the record doesn't read as its plan\n"),
             LabFailure::Unread => f.write_str("it can't be read\n"),
             LabFailure::OfFile { text, .. } => write!(f, "{text}"),
             LabFailure::Memory => f.write_str("memory\n"),
@@ -169,6 +177,7 @@ impl LabFailure {
             | LabFailure::Code
             | LabFailure::Booted(_)
             | LabFailure::TwoCodes
+            | LabFailure::TraceOptions
             | LabFailure::Address
             | LabFailure::Input
             | LabFailure::Program => 2,
@@ -179,6 +188,7 @@ impl LabFailure {
             | LabFailure::Text(_)
             | LabFailure::Script(_)
             | LabFailure::Domain(_)
+            | LabFailure::Head
             | LabFailure::Length(_)
             | LabFailure::Poked(_) => 4,
             LabFailure::OfFile { status, .. } => *status,
@@ -237,6 +247,8 @@ impl From<ReplayFault> for LabFailure {
     fn from(fault: ReplayFault) -> LabFailure {
         match fault {
             ReplayFault::Line(wrong) => LabFailure::Line(wrong),
+            ReplayFault::OfUser(told) => LabFailure::Script(told),
+            ReplayFault::Steps(end) => LabFailure::Steps(end),
             ReplayFault::Memory(_) => LabFailure::Memory,
             fault => LabFailure::ReplayedPlan(fault),
         }
@@ -249,6 +261,19 @@ impl From<TraceFault> for LabFailure {
             TraceFault::Line(wrong) => LabFailure::Line(wrong),
             TraceFault::Steps(end) => LabFailure::Steps(end),
             TraceFault::Memory(_) => LabFailure::Memory,
+        }
+    }
+}
+
+impl From<RunFault> for LabFailure {
+    fn from(fault: RunFault) -> LabFailure {
+        match fault {
+            RunFault::Plan(refusal) => LabFailure::RefusedPlan(refusal),
+            RunFault::Lines(told) => LabFailure::Script(told),
+            RunFault::Steps(end) => LabFailure::Steps(end),
+            RunFault::Domain(domain) => LabFailure::Domain(domain),
+            RunFault::Head(_) => LabFailure::Head,
+            RunFault::Memory(_) => LabFailure::Memory,
         }
     }
 }
@@ -266,6 +291,7 @@ impl From<DebugFault> for LabFailure {
     fn from(fault: DebugFault) -> LabFailure {
         match fault {
             DebugFault::Record(fault) => LabFailure::Record(fault),
+            DebugFault::Steps(end) => LabFailure::Steps(end),
             DebugFault::Memory(_) => LabFailure::Memory,
             DebugFault::Io => LabFailure::Io,
         }

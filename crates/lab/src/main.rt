@@ -5,7 +5,6 @@ mod assembly;
 mod booting;
 mod command_line;
 mod debugging;
-mod expanded;
 mod failure;
 mod film;
 mod meter;
@@ -13,16 +12,17 @@ mod mistakes;
 mod plans;
 mod reports;
 mod rows;
+mod scripts;
 mod why;
 
 use crate::booting::report_booted;
 use crate::command_line::{LabRequest, read_words};
 use crate::debugging::report_debugging;
-use crate::expanded::report_expanded;
 use crate::failure::LabFailure;
 use crate::film::report_film;
 use crate::reports::{Report, report_of};
 use crate::rows::report_rows;
+use crate::scripts::report_script;
 use crate::why::report_why;
 use script_text::{read_whole, write_whole};
 use std::env;
@@ -56,7 +56,7 @@ fn report(rt: &HostRuntime) -> Result<Report, LabFailure> {
         LabRequest::Debug(asked) => report_debugging(rt, &asked),
         LabRequest::Why(record, most) => report_why(rt, record, most),
         LabRequest::Film(record, span) => report_film(rt, record, span),
-        LabRequest::Expand(script) => report_expanded(rt, script),
+        LabRequest::Script(script, what) => report_script(rt, script, what),
         LabRequest::Read(reading) => {
             let text = read_whole(alloc, &mut rt.reader())?;
             report_of(rt, &reading, text.as_slice())

@@ -1,14 +1,15 @@
 //! What goes to standard output.
 
 use crate::assembly::{print_assembled, print_disassembled};
-use crate::command_line::Reading;
+use crate::command_line::{Drawing, Reading};
 use crate::failure::LabFailure;
 use crate::meter::TerminalMeter;
-use farm_replay::{Replayed, replay};
+use crate::scripts::read_files;
 use line_words::Answered;
 use node_trace::trace;
 use plan_faults::accepted;
 use plan_views::{draw, draw_network, table_of};
+use script_replay::{Replayed, files_loaded, replay};
 use script_text::{TextWriter, divide};
 use std::alloc::{AllocError, Global};
 
@@ -28,18 +29,42 @@ pub fn report_of(rt: &HostRuntime, reading: &Reading, text: &[u8]) -> Result<Rep
 fn print_reading(rt: &HostRuntime, reading: &Reading, text: &[u8]) -> Result<String, LabFailure> {
     let alloc = rt.alloc();
     match reading {
-        Reading::Replay => print_replayed(alloc, text),
+        Reading::Replay(most) => print_replayed(rt, *most, text),
         Reading::Plan => print_plan(alloc, text),
-        Reading::Draw(domain) => print_drawing(alloc, text, *domain),
+        Reading::Draw(drawing) => print_drawing(rt, *drawing, text),
         Reading::Trace(most) => print_traced(rt, *most, text),
         Reading::Assemble(options) => print_assembled(alloc, *options, text),
         Reading::Disassemble => print_disassembled(alloc, text),
     }
 }
 
-fn print_replayed(alloc: Global, text: &[u8]) -> Result<String, LabFailure> {
-    let Replayed { answers, last: _ } = replay(alloc, text)?;
-    Ok(print_answers(alloc, answers.as_slice())?)
+/// Replays a text, whose lines load files from a folder, or from the one in which the program runs.
+pub fn replayed<'a>(
+    rt: &HostRuntime,
+    folder: Option<&str>,
+    text: &'a [u8],
+    meter: &mut TerminalMeter,
+) -> Result<Replayed<'a>, LabFailure> {
+    let names = files_loaded(rt.alloc(), text)?;
+    let files = read_files(rt, folder, names.as_slice())?;
+    Ok(replay(rt.alloc(), text, files.as_slice(), meter)?)
+}
+
+// The same of standard input, if it needs no more Steps than these.
+fn replayed_input<'a>(
+    rt: &HostRuntime,
+    most: Option<u64>,
+    text: &'a [u8],
+) -> Result<Replayed<'a>, LabFailure> {
+    let mut meter = TerminalMeter::begin(rt, most);
+    let replayed = replayed(rt, None, text, &mut meter);
+    meter.wipe();
+    replayed
+}
+
+fn print_replayed(rt: &HostRuntime, most: Option<u64>, text: &[u8]) -> Result<String, LabFailure> {
+    let Replayed { answers, last: _ } = replayed_input(rt, most, text)?;
+    Ok(print_answers(rt.alloc(), answers.as_slice())?)
 }
 
 // What lines ask of a node, if it needs no more Steps for that than it may do.
@@ -57,9 +82,10 @@ fn print_plan(alloc: Global, text: &[u8]) -> Result<String, LabFailure> {
 }
 
 // The switch of the last farm of a text, or the network of one of its domains.
-fn print_drawing(alloc: Global, text: &[u8], domain: Option<u8>) -> Result<String, LabFailure> {
-    let Replayed { answers: _, last } = replay(alloc, text)?;
-    match (last, domain) {
+fn print_drawing(rt: &HostRuntime, drawing: Drawing, text: &[u8]) -> Result<String, LabFailure> {
+    let alloc = rt.alloc();
+    let Replayed { answers: _, last } = replayed_input(rt, drawing.most, text)?;
+    match (last, drawing.domain) {
         (Some(farm), None) => Ok(draw(alloc, &farm.plan, farm.words.as_slice())?),
         (Some(farm), Some(domain)) if domain < farm.plan.domains() => {
             Ok(draw_network(alloc, &farm.plan, domain, farm.words.as_slice())?)

@@ -5,12 +5,12 @@ use crate::failure::LabFailure;
 use crate::meter::TerminalMeter;
 use crate::mistakes::try_lines;
 use crate::plans::try_plans;
-use crate::reports::Report;
-use farm_replay::{Replayed, replay};
+use crate::reports::{Report, replayed};
+use crate::scripts::folder_of;
 use line_words::Answered;
 use node_trace::trace;
+use script_replay::Replayed;
 use script_text::TextWriter;
-use std::alloc::Global;
 use std::fs;
 
 /// Compares the rows of files. Each wrong row has a line that names its file and line, what it asked, the answer and
@@ -47,7 +47,7 @@ fn report_file(
 ) -> Result<bool, LabFailure> {
     let alloc = rt.alloc();
     match fs::read(rt, file) {
-        Ok(bytes) => match answer_rows(alloc, file, bytes.as_slice(), meter) {
+        Ok(bytes) => match answer_rows(rt, file, bytes.as_slice(), meter) {
             Ok(answers) => Ok(compare(text, file, answers.as_slice())),
             Err(failure) => Err(failure.in_file(alloc, file)),
         },
@@ -57,13 +57,14 @@ fn report_file(
 
 // The answers to the rows of a file, which its name tells how to read.
 fn answer_rows<'a>(
-    alloc: Global,
+    rt: &HostRuntime,
     file: &str,
     text: &'a [u8],
     meter: &mut TerminalMeter,
 ) -> Result<Vec<Answered<'a>>, LabFailure> {
+    let alloc = rt.alloc();
     if file.ends_with(".replay") {
-        let Replayed { answers, last: _ } = replay(alloc, text)?;
+        let Replayed { answers, last: _ } = replayed(rt, folder_of(file), text, meter)?;
         Ok(answers)
     } else if file.ends_with(".plans") {
         Ok(try_plans(alloc, text)?)

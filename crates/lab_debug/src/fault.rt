@@ -1,9 +1,11 @@
 //! Why the debugger ends before its input does.
 
 use farm_causes::WhyFault;
+use lab_timeline::OpenFault;
 use script_text::WriteFailed;
 use std::alloc::{AllocError, AllocFailed};
 use std::io;
+use step_meter::StepsEnd;
 use thiserror::Error;
 
 /// Why the debugger ends before its input does.
@@ -12,6 +14,9 @@ pub enum DebugFault {
     /// A text is no record, or a line of it isn't what its domain answers.
     #[error("{0}")]
     Record(WhyFault),
+    /// The record has more Steps than may be done.
+    #[error("{0}")]
+    Steps(StepsEnd),
     #[error("memory")]
     Memory(#[from(alloc)] AllocError),
     /// The commands can't be read, or the answers can't be written.
@@ -24,6 +29,15 @@ impl From<WhyFault> for DebugFault {
         match fault {
             WhyFault::Memory(error) => DebugFault::Memory(error),
             fault => DebugFault::Record(fault),
+        }
+    }
+}
+
+impl From<OpenFault> for DebugFault {
+    fn from(fault: OpenFault) -> DebugFault {
+        match fault {
+            OpenFault::Record(fault) => DebugFault::from(fault),
+            OpenFault::Steps(end) => DebugFault::Steps(end),
         }
     }
 }

@@ -12,4 +12,5 @@ mod tracing;
 mod until;
 
 pub use fault::DebugFault;
+pub use moving::Debugger;
 pub use talking::{ProgramOf, ProgramTexts, debug};

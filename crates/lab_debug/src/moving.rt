@@ -16,9 +16,10 @@ use bootstrap::Node;
 use domain_core::Event;
 use farm_causes::{FollowFault, RecordedLine, WhyFault, explain_moment};
 use lab_timeline::Timeline;
-use node_trace::{Program, ProgramLine};
+use node_trace::{Program, ProgramLine, write_stopped};
 use script_text::TextWriter;
 use std::alloc::Global;
+use step_meter::StepMeter;
 use t414_assembly::TextFault;
 
 /// The most events that are shown at once.
@@ -47,11 +48,15 @@ enum Direction {
 }
 
 impl<'a> Debugger<'a> {
-    /// Reads a record, and is at its end.
-    pub fn open(alloc: Global, record: &'a [u8]) -> Result<Debugger<'a>, DebugFault> {
+    /// Reads a record, and is at its end. The meter is asked for the Steps of its lines.
+    pub fn open<M: StepMeter>(
+        alloc: Global,
+        record: &'a [u8],
+        meter: &mut M,
+    ) -> Result<Debugger<'a>, DebugFault> {
         Ok(Debugger {
             alloc,
-            timeline: Timeline::open(alloc, record)?,
+            timeline: Timeline::open(alloc, record, meter)?,
             programs: Vec::new(alloc),
         })
     }
@@ -223,6 +228,31 @@ impl<'a> Debugger<'a> {
             self.go(self.recorded().saturating_add(1))?;
         }
         write_place(&self.timeline, text);
+        Ok(())
+    }
+
+    /// Goes to the opening, and shows what each event does, up to so many Steps.
+    pub fn trace_from_opening(
+        &mut self,
+        most: u64,
+        text: &mut TextWriter,
+    ) -> Result<(), DebugFault> {
+        self.go(0)?;
+        let mut steps: u64 = 0;
+        for _ in 0..u64::MAX {
+            let Some(line) = self.timeline.upcoming() else {
+                break;
+            };
+            if let Event::Step(_) = line.call.event {
+                if steps >= most {
+                    write_stopped(most, text);
+                    break;
+                }
+                steps = steps.saturating_add(1);
+            }
+            self.show_next(&line, None, text)?;
+            self.go(self.recorded().saturating_add(1))?;
+        }
         Ok(())
     }
 

@@ -99,19 +99,6 @@ fn prompt<W: Write>(alloc: Global, debugger: &Debugger, output: &mut W) -> Resul
     write_text(text, output)
 }
 
-// Opens a record, takes the programs, and says where it is.
-fn begin<'a, T: ProgramTexts, W: Write>(
-    alloc: Global,
-    record: &'a [u8],
-    programs: &[ProgramOf],
-    texts: &T,
-    output: &mut W,
-) -> Result<Debugger<'a>, DebugFault> {
-    let mut debugger = Debugger::open(alloc, record)?;
-    greet(alloc, &mut debugger, programs, texts, output)?;
-    Ok(debugger)
-}
-
 // Takes programs, and says where the debugger is.
 fn greet<T: ProgramTexts, W: Write>(
     alloc: Global,
@@ -155,25 +142,25 @@ fn answer_next<R: BufRead, W: Write, T: ProgramTexts>(
     answer(alloc, debugger, texts, read, output)
 }
 
-/// Reads commands to the end of the input or to `quit`, and shows what they ask of a record. At the beginning it is at the record's
-/// end. On a terminal a prompt stands before each command.
+/// Reads commands to the end of the input or to `quit`, and shows what they ask of a record that was opened. On a terminal a
+/// prompt stands before each command.
 ///
 /// # Errors
 ///
-/// `Record` if the text is no record, or isn't what its domain answers; `Io` if commands can't be read or answers can't be written;
-/// `Memory`. A wrong command is answered, and ends nothing.
+/// `Record` if the record isn't what its domain answers; `Io` if commands can't be read or answers can't be written; `Memory`. A
+/// wrong command is answered, and ends nothing.
 pub fn debug<R: BufRead, W: Write, T: ProgramTexts>(
     alloc: Global,
-    record: &[u8],
+    debugger: &mut Debugger,
     programs: &[ProgramOf],
     texts: &T,
     input: &mut R,
     output: &mut W,
     is_terminal: bool,
 ) -> Result<(), DebugFault> {
-    let mut debugger = begin(alloc, record, programs, texts, output)?;
+    greet(alloc, debugger, programs, texts, output)?;
     for _ in 0..u64::MAX {
-        if !answer_next(alloc, &mut debugger, texts, input, output, is_terminal)? {
+        if !answer_next(alloc, debugger, texts, input, output, is_terminal)? {
             break;
         }
     }

@@ -58,12 +58,37 @@ pub fn files_named(alloc: Global, text: &[u8]) -> Result<Vec<&str>, NumberedLine
 
 fn file_named(line: NumberedLine<'_>) -> Option<&str> {
     match std::str::from_utf8(line.text) {
-        Ok(text) if !is_passed_over(line.text) => match help_line(line.number, text) {
-            Some(help) if matches!(help.verb, HelpVerb::Load) => Some(help.halves().1),
-            _ => None,
-        },
+        Ok(text) if !is_passed_over(line.text) => file_loaded(text),
         _ => None,
     }
+}
+
+/// The name of the file that a line loads, if it loads one.
+pub fn file_loaded(line: &str) -> Option<&str> {
+    match help_line(0, line) {
+        Some(help) if matches!(help.verb, HelpVerb::Load) => Some(help.halves().1),
+        _ => None,
+    }
+}
+
+/// The plain lines for which a line stands that helps, or why there are none; `None` if the line doesn't help. `number` is
+/// that of the line, as it is told.
+pub fn expanded_line(
+    alloc: Global,
+    number: u64,
+    line: &str,
+    files: &[LoadedFile<'_>],
+) -> Result<Option<Expanded>, AllocError> {
+    let Some(help) = help_line(number, line) else {
+        return Ok(None);
+    };
+    let mut expansion = Expansion {
+        text: TextWriter::new(alloc),
+        wrong: TextWriter::new(alloc),
+    };
+    spell_out(alloc, &mut expansion, help, files);
+    let Expansion { text, wrong } = expansion;
+    Ok(Some(finished(text, wrong)?))
 }
 
 /// Spells out the lines of a script that help: the plan and the line `---` before it stay as they are, and so do all other
@@ -87,10 +112,10 @@ pub fn expand(
     )?;
     expand_lines(alloc, &mut expansion, script, files)?;
     let Expansion { text, wrong } = expansion;
-    finished(text, wrong)
+    Ok(finished(text, wrong)?)
 }
 
-fn finished(text: TextWriter, wrong: TextWriter) -> Result<Expanded, NumberedLineFault> {
+fn finished(text: TextWriter, wrong: TextWriter) -> Result<Expanded, AllocError> {
     let text = text.finish()?;
     let wrong = wrong.finish()?;
     Ok(Expanded { text, wrong })

@@ -7,4 +7,4 @@ mod form;
 mod loading;
 mod spelling;
 
-pub use expanding::{Expanded, LoadedFile, expand, files_named};
+pub use expanding::{Expanded, LoadedFile, expand, expanded_line, file_loaded, files_named};

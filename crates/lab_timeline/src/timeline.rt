@@ -7,20 +7,20 @@ ghost use Rattle.farm_causes.specs.Following.{all_said};
 ghost use Rattle.lab_timeline.specs.Timeline.{said_by, IsMomentAt};
 ghost use Rattle.lab_timeline.specs.Advance.{IsProgress, GoesOn, KeepsOf, IsOfKept, Begins};
 
+use crate::fault::{LineStop, OpenFault};
 use crate::progress::Progress;
 use domain_core::{Event, NoMemory, PortState};
-use farm_causes::{
-    FollowFault, Follower, Record, RecordedLine, SaidCall, WhyFault, is_told, read_record,
-};
+use farm_causes::{FollowFault, Follower, Record, RecordedLine, SaidCall, is_told, read_record};
 use plan_checker::AcceptedPlan;
 use std::alloc::Global;
 use std::marker::Model;
+use step_meter::{StepMeter, StepsEnd};
 
 /// How many moments are kept of a record, at most.
 const MOST_KEPT: u64 = 128;
 
 /// How many Steps of a line count as one event when it is asked where moments are kept.
-const STEPS_AT_ONCE: u64 = 128;
+const STEPS_AS_ONE: u64 = 128;
 
 /// A record, and its domain at one of its moments. Moments are kept on the way, so that each is found again soon.
 #[derive(Drop)]
@@ -59,7 +59,7 @@ struct Keeping {
 
 // How much there is to do for a call: Steps that stand together are done fast.
 fn work_of(call: SaidCall) -> u64 {
-    (call.times / STEPS_AT_ONCE).saturating_add(1)
+    (call.times / STEPS_AS_ONE).saturating_add(1)
 }
 
 // How much is done from one kept moment to the next.
@@ -74,17 +74,17 @@ fn gap_of(lines: &[RecordedLine]) -> u64
 }
 
 impl Keeping {
-    // How many of the events that are left of a line are done before a moment is kept.
-    fn times_of(&self, rest: SaidCall) -> u64
-        ensures some { 1 ≤ rest.times → 1 ≤ result }
-        ensures within { result ≤ rest.times }
+    // How many of the events that are left of a line are done next: of Steps as many as the meter allows before a moment is kept.
+    fn times_of<M: StepMeter>(&self, rest: SaidCall, meter: &mut M) -> Result<u64, StepsEnd>
+        ensures some { IfOk result (λ times. 1 ≤ rest.times → 1 ≤ times) }
+        ensures within { IfOk result (λ times. times ≤ rest.times) }
     {
         match rest.event {
             Event::Step(_) => {
                 let work = self.gap.saturating_sub(self.since).max(1);
-                rest.times.min(work.saturating_mul(STEPS_AT_ONCE))
+                meter.allow(rest.times.min(work.saturating_mul(STEPS_AS_ONE)))
             }
-            _ => rest.times,
+            _ => Ok(rest.times),
         }
     }
 
@@ -101,12 +101,13 @@ impl Keeping {
     }
 
     // Does a line that was begun, compares what the domain answers with what it says, and keeps moments on the way.
-    fn finish_line(
+    fn finish_line<M: StepMeter>(
         &mut self,
         alloc: Global,
         here: &mut Progress,
         line: &RecordedLine,
-    ) -> Result<(), FollowFault>
+        meter: &mut M,
+    ) -> Result<(), LineStop>
         ensures progress { OnOk result (GoesOn here.old here.new) }
         ensures kept { OnOk result (KeepsOf here.old self.old.kept.items self.new.kept.items) }
         ensures rest { OnOk result (here.new.rest.times ≡ 0) }
@@ -114,29 +115,33 @@ impl Keeping {
     {
         let mut told = None;
         while here.rest.times > 0 {
-            let times = self.times_of(here.rest);
+            let times = self.times_of(here.rest, meter)?;
             let call = SaidCall { times, ..here.rest };
             told = Some(here.follow_some(times)?);
             self.note(here, work_of(call))?;
+            if let Event::Step(_) = call.event {
+                meter.note(times);
+            }
         }
         let Some(reply) = told else {
-            return Err(FollowFault::NoEvent);
+            return Err(LineStop::Follow(FollowFault::NoEvent));
         };
         if is_told(alloc, line, reply)? {
             Ok(())
         } else {
-            Err(FollowFault::Differs)
+            Err(LineStop::Follow(FollowFault::Differs))
         }
     }
 
     // Does all lines of a record.
     #[tactic(auto, using(crate::proofs::Led::all_recorded))]
-    fn do_lines(
+    fn do_lines<M: StepMeter>(
         &mut self,
         alloc: Global,
         plan: &AcceptedPlan,
         lines: &[RecordedLine],
-    ) -> Result<Progress, WhyFault>
+        meter: &mut M,
+    ) -> Result<Progress, OpenFault>
         requires one { length plan.now ≡ 1 }
         requires none { All (IsProgress plan.now (said_by lines.now)) self.old.kept.items }
         ensures progress { IfOk result (λ here. IsProgress plan.now (said_by lines.now) here) }
@@ -147,8 +152,8 @@ impl Keeping {
         while here.next < lines.len() {
             let line = lines[here.next];
             here.begin_line(lines);
-            if let Err(fault) = self.finish_line(alloc, &mut here, &line) {
-                return Err(WhyFault::of_line(line.number, fault));
+            if let Err(fault) = self.finish_line(alloc, &mut here, &line, meter) {
+                return Err(fault.at(line.number));
             }
         }
         Ok(here)
@@ -189,9 +194,14 @@ impl<'a> Timeline<'a> {
     ///
     /// # Errors
     ///
-    /// `NoMark` if no line `---` stands in the text; `Plan` and `Domains` if what stands before it is no plan of one domain; `Line`
-    /// with the first line that isn't one of this domain's record; `Memory`.
-    pub fn open(alloc: Global, text: &'a [u8]) -> Result<Timeline<'a>, WhyFault>
+    /// `Record` with `NoMark` if no line `---` stands in the text, with `Plan` and `Domains` if what stands before it is no plan of
+    /// one domain, with `Line` and the first line that isn't one of this domain's record, and with `Memory`; `Steps` if its lines
+    /// have more Steps than the meter allows.
+    pub fn open<M: StepMeter>(
+        alloc: Global,
+        text: &'a [u8],
+        meter: &mut M,
+    ) -> Result<Timeline<'a>, OpenFault>
         ensures end { IfOk result (λ t. IsMomentAt t.plan t.lines (length (all_said t.lines)) t.here) }
     {
         let Record {
@@ -205,7 +215,7 @@ impl<'a> Timeline<'a> {
             since: 0,
         };
         let opening = Progress::open(alloc, &plan)?;
-        let here = keeping.do_lines(alloc, &plan, lines.as_slice())?;
+        let here = keeping.do_lines(alloc, &plan, lines.as_slice(), meter)?;
         let Keeping { kept, .. } = keeping;
         Ok(Timeline {
             plan,

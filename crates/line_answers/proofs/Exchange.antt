@@ -1,5 +1,6 @@
 -- What a session asks, event by event.
-use Rattle.std.proofs.Common.{◌≡◌, ℕ, ◌+◌, ◌<◌, true, false, List, [], ◌∷◌, ◌++◌, length, get_or, Some, None, refl, sym, ap, ◌∙◌, subst, arith, append_assoc}
+use Rattle.std.proofs.Common.{◌≡◌, ℕ, ◌+◌, ◌<◌, true, false, List, [], ◌∷◌, ◌++◌, length, get_or, Some, None, refl, sym}
+use Rattle.std.proofs.Common.{ap, ◌∙◌, subst, arith, append_assoc}
 use Rattle.std.specs.Prelude.{slice_get, Ok, Err, Option}
 use Rattle.std.specs.List.{filter, list_all, list_any}
 use Rattle.std.specs.Option.{option_map}
@@ -16,17 +17,23 @@ use Rattle.domain_core.specs.declared.event.Refusal.{Refusal}
 use Rattle.farm_service.specs.declared.told.Told.{Told}
 use Rattle.farm_service.specs.Answers.{IsTold}
 use Rattle.farm_service.specs.Passes.{SessionValue, with_told, Gains}
-use Rattle.line_answers.specs.Asks.{is_write, is_read, had_no_room, is_byte, replies_told, writes_in, reads_in, next_config, next_write, next_read, next_collect, AreAsked}
+use Rattle.line_answers.specs.Asks.{is_write, is_read, had_no_room, is_byte, replies_told, writes_in, reads_in}
+use Rattle.line_answers.specs.Asks.{next_config, next_write, next_read, next_collect, AreAsked}
 use Rattle.line_answers.specs.Sessions.{with_all, AsksJust}
 
 -- an event with its reply
 abbrev pub told_of : Event → Reply → Told
 told_of event reply = record { event = event; reply = reply }
 
-asked_more : (next : List Told → Option Event) (before told : List Told) (t : Told) → AreAsked next before told → next (before ++ told) ≡ Some t.event → AreAsked next before (told ++ t ∷ [])
+asked_more : (next : List Told → Option Event) (before told : List Told) (t : Told)
+    → AreAsked next before told → next (before ++ told) ≡ Some t.event
+    → AreAsked next before (told ++ t ∷ [])
 asked_more next before [] t a n = (subst (λ (b : List Told). next b ≡ Some t.event) (append-nil before) n, tt)
-asked_more next before (u ∷ told) t a n =
-    (a.0, asked_more next (before ++ u ∷ []) told t a.1 (subst (λ (b : List Told). next b ≡ Some t.event) (sym (append_assoc before (u ∷ []) told)) n))
+asked_more next before (u ∷ told) t a n = (
+  a.0,
+  asked_more next (before ++ u ∷ []) told t a.1
+      (subst (λ (b : List Told). next b ≡ Some t.event) (sym (append_assoc before (u ∷ []) told)) n),
+)
 
 -- a session has asked this so far
 pub record IsAsking (next : List Told → Option Event) (s t : SessionValue) (told : List Told) : Type 0 where
@@ -34,20 +41,28 @@ pub record IsAsking (next : List Told → Option Event) (s t : SessionValue) (to
   pub asked : AreAsked next [] told
 
 -- one event more
-pub grown : (next : List Told → Option Event) (s t u : SessionValue) (told : List Told) (e : Event) (r : Reply) → IsAsking next s t told
+pub grown : (next : List Told → Option Event) (s t u : SessionValue) (told : List Told) (e : Event) (r : Reply)
+    → IsAsking next s t told
     → next told ≡ Some e → Gains t e (Ok r) u → IsAsking next s u (told ++ told_of e r ∷ [])
 grown next s t u told e r so_far n gains = record {
   list = gains ∙ ap (λ (t : SessionValue). record t { pass = with_told t.pass e r }) so_far.list
-      ∙ ap (λ (told : List Told). record s { pass = record s.pass { told = told } }) (append_assoc s.pass.told told (told_of e r ∷ []));
+      ∙ ap (λ (told : List Told). record s { pass = record s.pass { told = told } })
+      (append_assoc s.pass.told told (told_of e r ∷ []));
   asked = asked_more next [] told (told_of e r) so_far.asked n;
 }
 
 -- the end, and a refusal
-pub ended : {A : Type 0} (next : List Told → Option Event) (s t : SessionValue) (told : List Told) (a : A) → IsAsking next s t told → next told ≡ None → AsksJust next s (Ok a) t
+pub ended : {A : Type 0} (next : List Told → Option Event) (s t : SessionValue) (told : List Told) (a : A)
+    → IsAsking next s t told → next told ≡ None
+    → AsksJust next s (Ok a) t
 ended next s t told a so_far n = record { told = told; list = so_far.list; asked = so_far.asked; ended = n }
 
-pub refused : {A : Type 0} (next : List Told → Option Event) (s t u : SessionValue) (told : List Told) (e : Event) (refusal : Refusal) → IsAsking next s t told
-    → next told ≡ Some e → Gains t e (Err refusal) u → IsTold t e (Err refusal) → AsksJust {A = A} next s (Err refusal) u
+-- an exchange ends with an error if the service refuses what is asked next
+pub refused : {A : Type 0} (next : List Told → Option Event) (s t u : SessionValue) (told : List Told) (e : Event)
+    (refusal : Refusal)
+    → IsAsking next s t told
+    → next told ≡ Some e → Gains t e (Err refusal) u → IsTold t e (Err refusal)
+    → AsksJust {A = A} next s (Err refusal) u
 refused next s t u told e refusal so_far n same is = record {
   told = told;
   list = same ∙ so_far.list;
@@ -67,44 +82,61 @@ one_longer xs x i is = length-append xs (x ∷ []) ∙ ap (λ (n : ℕ). n + 1) 
 
 -- ---- bytes for the switch
 
+-- so many configuration bytes were asked, and each was answered
 pub record IsConfiguring (bytes : List ℕ) (s t : SessionValue) (i : ℕ) : Type 0 where
   pub told : List Told
   pub so_far : IsAsking (next_config bytes) s t told
   pub count : length told ≡ i
 
-config_next : (bytes : List ℕ) (told : List Told) (i : ℕ) → length told ≡ i → i < length bytes → next_config bytes told ≡ Some (event.Config (get_or bytes i 0))
+config_next : (bytes : List ℕ) (told : List Told) (i : ℕ) → length told ≡ i → i < length bytes
+    → next_config bytes told ≡ Some (event.Config (get_or bytes i 0))
 config_next bytes told i count within =
-    ap (λ (n : ℕ). option_map event.Config (slice_get bytes n)) count ∙ ap (option_map event.Config) (slice_get-get_or bytes i 0 within)
+    ap (λ (n : ℕ). option_map event.Config (slice_get bytes n)) count
+    ∙ ap (option_map event.Config) (slice_get-get_or bytes i 0 within)
 
+-- at the beginning no byte was asked
 pub config_begun : (bytes : List ℕ) (s : SessionValue) → IsConfiguring bytes s s 0
 config_begun bytes s = record { told = []; so_far = begun (next_config bytes) s; count = refl }
 
-pub config_more : (bytes : List ℕ) (s t u : SessionValue) (i : ℕ) (r : Reply) → IsConfiguring bytes s t i → i < length bytes
+-- the next byte is asked, and answered
+pub config_more : (bytes : List ℕ) (s t u : SessionValue) (i : ℕ) (r : Reply) → IsConfiguring bytes s t i
+    → i < length bytes
     → Gains t (event.Config (get_or bytes i 0)) (Ok r) u → IsConfiguring bytes s u (i + 1)
 config_more bytes s t u i r was within gains = record {
   told = was.told ++ told_of (event.Config (get_or bytes i 0)) r ∷ [];
-  so_far = grown (next_config bytes) s t u was.told _ r was.so_far (config_next bytes was.told i was.count within) gains;
+  so_far =
+      grown (next_config bytes) s t u was.told _ r was.so_far (config_next bytes was.told i was.count within) gains;
   count = one_longer was.told _ i was.count;
 }
 
-pub config_ended : {A : Type 0} (bytes : List ℕ) (s t : SessionValue) (a : A) → IsConfiguring bytes s t (length bytes) → AsksJust (next_config bytes) s (Ok a) t
+-- all bytes were asked
+pub config_ended : {A : Type 0} (bytes : List ℕ) (s t : SessionValue) (a : A) → IsConfiguring bytes s t (length bytes)
+    → AsksJust (next_config bytes) s (Ok a) t
 config_ended bytes s t a was =
     ended (next_config bytes) s t was.told a was.so_far
-    (ap (λ (n : ℕ). option_map event.Config (slice_get bytes n)) was.count ∙ ap (option_map event.Config) (slice_get_past bytes (length bytes) (omega arith)))
+    (ap (λ (n : ℕ). option_map event.Config (slice_get bytes n)) was.count
+    ∙ ap (option_map event.Config) (slice_get_past bytes (length bytes) (omega arith)))
 
-pub config_refused : {A : Type 0} (bytes : List ℕ) (s t u : SessionValue) (i : ℕ) (refusal : Refusal) → IsConfiguring bytes s t i → i < length bytes
-    → Gains t (event.Config (get_or bytes i 0)) (Err refusal) u → IsTold t (event.Config (get_or bytes i 0)) (Err refusal) → AsksJust {A = A} (next_config bytes) s (Err refusal) u
+-- the next byte is refused, which ends the line
+pub config_refused : {A : Type 0} (bytes : List ℕ) (s t u : SessionValue) (i : ℕ) (refusal : Refusal)
+    → IsConfiguring bytes s t i
+    → i < length bytes
+    → Gains t (event.Config (get_or bytes i 0)) (Err refusal) u
+    → IsTold t (event.Config (get_or bytes i 0)) (Err refusal) → AsksJust {A = A} (next_config bytes) s (Err refusal) u
 config_refused bytes s t u i refusal was within same is =
-    refused (next_config bytes) s t u was.told _ refusal was.so_far (config_next bytes was.told i was.count within) same is
+    refused (next_config bytes) s t u was.told _ refusal was.so_far (config_next bytes was.told i was.count within)
+    same is
 
 -- ---- bytes for a host
 
-writes_more : (host byte : ℕ) (told : List Told) (r : Reply) → writes_in (told ++ told_of (event.Write host byte) r ∷ []) ≡ writes_in told ++ r ∷ []
+writes_more : (host byte : ℕ) (told : List Told) (r : Reply)
+    → writes_in (told ++ told_of (event.Write host byte) r ∷ []) ≡ writes_in told ++ r ∷ []
 writes_more host byte told r =
     ap replies_told (filter-append (λ t. is_write t.event) told (told_of (event.Write host byte) r ∷ []))
     ∙ map-append (λ t. t.reply) (filter (λ t. is_write t.event) told) (told_of (event.Write host byte) r ∷ [])
 
-reads_more : (host : ℕ) (told : List Told) (r : Reply) → reads_in (told ++ told_of (event.Read host) r ∷ []) ≡ reads_in told ++ r ∷ []
+reads_more : (host : ℕ) (told : List Told) (r : Reply)
+    → reads_in (told ++ told_of (event.Read host) r ∷ []) ≡ reads_in told ++ r ∷ []
 reads_more host told r =
     ap replies_told (filter-append (λ t. is_read t.event) told (told_of (event.Read host) r ∷ []))
     ∙ map-append (λ t. t.reply) (filter (λ t. is_read t.event) told) (told_of (event.Read host) r ∷ [])
@@ -116,45 +148,70 @@ pub record IsWriting (host : ℕ) (bytes : List ℕ) (s t : SessionValue) (i : �
   pub room : list_any had_no_room (writes_in told) ≡ false
   pub count : length (writes_in told) ≡ i
 
-write_next : (host : ℕ) (bytes : List ℕ) (told : List Told) (i : ℕ) → list_any had_no_room (writes_in told) ≡ false → length (writes_in told) ≡ i → i < length bytes
+write_next : (host : ℕ) (bytes : List ℕ) (told : List Told) (i : ℕ)
+    → list_any had_no_room (writes_in told) ≡ false → length (writes_in told) ≡ i
+    → i < length bytes
     → next_write host bytes told ≡ Some (event.Write host (get_or bytes i 0))
 write_next host bytes told i room count within =
-    rw room (ap (λ (n : ℕ). option_map (event.Write host) (slice_get bytes n)) count ∙ ap (option_map (event.Write host)) (slice_get-get_or bytes i 0 within))
+    rw room (ap (λ (n : ℕ). option_map (event.Write host) (slice_get bytes n)) count
+    ∙ ap (option_map (event.Write host)) (slice_get-get_or bytes i 0 within))
 
+-- at the beginning no byte was written
 pub write_begun : (host : ℕ) (bytes : List ℕ) (s : SessionValue) → IsWriting host bytes s s 0
 write_begun host bytes s = record { told = []; so_far = begun (next_write host bytes) s; room = refl; count = refl }
 
-pub write_more : (host : ℕ) (bytes : List ℕ) (s t u : SessionValue) (i : ℕ) (r : Reply) → IsWriting host bytes s t i → i < length bytes
+-- the next byte is written, and the host has room for it
+pub write_more : (host : ℕ) (bytes : List ℕ) (s t u : SessionValue) (i : ℕ) (r : Reply) → IsWriting host bytes s t i
+    → i < length bytes
     → Gains t (event.Write host (get_or bytes i 0)) (Ok r) u → had_no_room r ≡ false → IsWriting host bytes s u (i + 1)
 write_more host bytes s t u i r was within gains roomy =
     let more = writes_more host (get_or bytes i 0) was.told r in record {
       told = was.told ++ told_of (event.Write host (get_or bytes i 0)) r ∷ [];
-      so_far = grown (next_write host bytes) s t u was.told _ r was.so_far (write_next host bytes was.told i was.room was.count within) gains;
-      room = ap (list_any had_no_room) more ∙ list_any-append had_no_room (writes_in was.told) (r ∷ []) ∙ rw was.room (rw roomy refl);
+      so_far =
+          grown (next_write host bytes) s t u was.told _ r was.so_far
+          (write_next host bytes was.told i was.room was.count within) gains;
+      room =
+          ap (list_any had_no_room) more ∙ list_any-append had_no_room (writes_in was.told) (r ∷ [])
+          ∙ rw was.room (rw roomy refl);
       count = ap length more ∙ one_longer (writes_in was.told) r i was.count;
     }
 
 -- the host was full
-pub write_full : {A : Type 0} (host : ℕ) (bytes : List ℕ) (s t u : SessionValue) (i : ℕ) (r : Reply) (a : A) → IsWriting host bytes s t i → i < length bytes
-    → Gains t (event.Write host (get_or bytes i 0)) (Ok r) u → had_no_room r ≡ true → AsksJust (next_write host bytes) s (Ok a) u
+pub write_full : {A : Type 0} (host : ℕ) (bytes : List ℕ) (s t u : SessionValue) (i : ℕ) (r : Reply) (a : A)
+    → IsWriting host bytes s t i
+    → i < length bytes
+    → Gains t (event.Write host (get_or bytes i 0)) (Ok r) u → had_no_room r ≡ true
+    → AsksJust (next_write host bytes) s (Ok a) u
 write_full host bytes s t u i r a was within gains full =
     let more = writes_more host (get_or bytes i 0) was.told r in
-    let over : list_any had_no_room (writes_in (was.told ++ told_of (event.Write host (get_or bytes i 0)) r ∷ [])) ≡ true =
-    ap (list_any had_no_room) more ∙ list_any-append had_no_room (writes_in was.told) (r ∷ []) ∙ rw was.room (rw full refl) in
+    let over : list_any had_no_room (writes_in (was.told ++ told_of (event.Write host (get_or bytes i 0)) r ∷ []))
+    ≡ true =
+    ap (list_any had_no_room) more ∙ list_any-append had_no_room (writes_in was.told) (r ∷ [])
+    ∙ rw was.room (rw full refl) in
     ended (next_write host bytes) s u _ a
-    (grown (next_write host bytes) s t u was.told _ r was.so_far (write_next host bytes was.told i was.room was.count within) gains)
+    (grown (next_write host bytes) s t u was.told _ r was.so_far
+    (write_next host bytes was.told i was.room was.count within) gains)
     (rw over refl)
 
-pub write_ended : {A : Type 0} (host : ℕ) (bytes : List ℕ) (s t : SessionValue) (a : A) → IsWriting host bytes s t (length bytes) → AsksJust (next_write host bytes) s (Ok a) t
+-- all bytes were written
+pub write_ended : {A : Type 0} (host : ℕ) (bytes : List ℕ) (s t : SessionValue) (a : A)
+    → IsWriting host bytes s t (length bytes)
+    → AsksJust (next_write host bytes) s (Ok a) t
 write_ended host bytes s t a was =
     ended (next_write host bytes) s t was.told a was.so_far
-    (rw was.room (ap (λ (n : ℕ). option_map (event.Write host) (slice_get bytes n)) was.count ∙ ap (option_map (event.Write host)) (slice_get_past bytes (length bytes) (omega arith))))
+    (rw was.room (ap (λ (n : ℕ). option_map (event.Write host) (slice_get bytes n)) was.count
+    ∙ ap (option_map (event.Write host)) (slice_get_past bytes (length bytes) (omega arith))))
 
-pub write_refused : {A : Type 0} (host : ℕ) (bytes : List ℕ) (s t u : SessionValue) (i : ℕ) (refusal : Refusal) → IsWriting host bytes s t i → i < length bytes
-    → Gains t (event.Write host (get_or bytes i 0)) (Err refusal) u → IsTold t (event.Write host (get_or bytes i 0)) (Err refusal)
+-- the next byte is refused, which ends the line
+pub write_refused : {A : Type 0} (host : ℕ) (bytes : List ℕ) (s t u : SessionValue) (i : ℕ) (refusal : Refusal)
+    → IsWriting host bytes s t i
+    → i < length bytes
+    → Gains t (event.Write host (get_or bytes i 0)) (Err refusal) u
+    → IsTold t (event.Write host (get_or bytes i 0)) (Err refusal)
     → AsksJust {A = A} (next_write host bytes) s (Err refusal) u
 write_refused host bytes s t u i refusal was within same is =
-    refused (next_write host bytes) s t u was.told _ refusal was.so_far (write_next host bytes was.told i was.room was.count within) same is
+    refused (next_write host bytes) s t u was.told _ refusal was.so_far
+    (write_next host bytes was.told i was.room was.count within) same is
 
 -- ---- bytes of a host
 
@@ -165,42 +222,61 @@ pub record IsReading (host count : ℕ) (s t : SessionValue) (i : ℕ) : Type 0 
   pub bytes : list_all is_byte (reads_in told) ≡ true
   pub so_many : length (reads_in told) ≡ i
 
-read_next : (host count : ℕ) (told : List Told) (i : ℕ) → list_all is_byte (reads_in told) ≡ true → length (reads_in told) ≡ i → i < count
+read_next : (host count : ℕ) (told : List Told) (i : ℕ)
+    → list_all is_byte (reads_in told) ≡ true → length (reads_in told) ≡ i
+    → i < count
     → next_read host count told ≡ Some (event.Read host)
 read_next host count told i bytes length_is within = rw bytes (rw length_is (rw (lt-ltb i count within) refl))
 
+-- at the beginning nothing was read
 pub read_begun : (host count : ℕ) (s : SessionValue) → IsReading host count s s 0
 read_begun host count s = record { told = []; so_far = begun (next_read host count) s; bytes = refl; so_many = refl }
 
+-- the next read brings a byte
 pub read_more : (host count : ℕ) (s t u : SessionValue) (i : ℕ) (r : Reply) → IsReading host count s t i → i < count
     → Gains t (event.Read host) (Ok r) u → is_byte r ≡ true → IsReading host count s u (i + 1)
 read_more host count s t u i r was within gains byte =
     let more = reads_more host was.told r in record {
       told = was.told ++ told_of (event.Read host) r ∷ [];
-      so_far = grown (next_read host count) s t u was.told _ r was.so_far (read_next host count was.told i was.bytes was.so_many within) gains;
-      bytes = ap (list_all is_byte) more ∙ list_all-append is_byte (reads_in was.told) (r ∷ []) ∙ rw was.bytes (rw byte refl);
+      so_far =
+          grown (next_read host count) s t u was.told _ r was.so_far
+          (read_next host count was.told i was.bytes was.so_many within) gains;
+      bytes =
+          ap (list_all is_byte) more ∙ list_all-append is_byte (reads_in was.told) (r ∷ [])
+          ∙ rw was.bytes (rw byte refl);
       so_many = ap length more ∙ one_longer (reads_in was.told) r i was.so_many;
     }
 
 -- none had come
-pub read_none : {A : Type 0} (host count : ℕ) (s t u : SessionValue) (i : ℕ) (r : Reply) (a : A) → IsReading host count s t i → i < count
+pub read_none : {A : Type 0} (host count : ℕ) (s t u : SessionValue) (i : ℕ) (r : Reply) (a : A)
+    → IsReading host count s t i
+    → i < count
     → Gains t (event.Read host) (Ok r) u → is_byte r ≡ false → AsksJust (next_read host count) s (Ok a) u
 read_none host count s t u i r a was within gains none =
     let more = reads_more host was.told r in
     let over : list_all is_byte (reads_in (was.told ++ told_of (event.Read host) r ∷ [])) ≡ false =
     ap (list_all is_byte) more ∙ list_all-append is_byte (reads_in was.told) (r ∷ []) ∙ rw was.bytes (rw none refl) in
     ended (next_read host count) s u _ a
-    (grown (next_read host count) s t u was.told _ r was.so_far (read_next host count was.told i was.bytes was.so_many within) gains)
+    (grown (next_read host count) s t u was.told _ r was.so_far
+    (read_next host count was.told i was.bytes was.so_many within) gains)
     (rw over refl)
 
-pub read_ended : {A : Type 0} (host count : ℕ) (s t : SessionValue) (a : A) → IsReading host count s t count → AsksJust (next_read host count) s (Ok a) t
+-- so many bytes came as were asked for
+pub read_ended : {A : Type 0} (host count : ℕ) (s t : SessionValue) (a : A) → IsReading host count s t count
+    → AsksJust (next_read host count) s (Ok a) t
 read_ended host count s t a was =
-    ended (next_read host count) s t was.told a was.so_far (rw was.bytes (rw was.so_many (rw (le-ltb count count (omega arith)) refl)))
+    ended (next_read host count) s t was.told a was.so_far
+    (rw was.bytes (rw was.so_many (rw (le-ltb count count (omega arith)) refl)))
 
-pub read_refused : {A : Type 0} (host count : ℕ) (s t u : SessionValue) (i : ℕ) (refusal : Refusal) → IsReading host count s t i → i < count
-    → Gains t (event.Read host) (Err refusal) u → IsTold t (event.Read host) (Err refusal) → AsksJust {A = A} (next_read host count) s (Err refusal) u
+-- the next read is refused, which ends the line
+pub read_refused : {A : Type 0} (host count : ℕ) (s t u : SessionValue) (i : ℕ) (refusal : Refusal)
+    → IsReading host count s t i
+    → i < count
+    → Gains t (event.Read host) (Err refusal) u → IsTold t (event.Read host) (Err refusal)
+    → AsksJust {A = A} (next_read host count) s (Err refusal) u
 read_refused host count s t u i refusal was within same is =
-    refused (next_read host count) s t u was.told _ refusal was.so_far (read_next host count was.told i was.bytes was.so_many within) same is
+    refused (next_read host count) s t u was.told _ refusal was.so_far
+    (read_next host count was.told i was.bytes was.so_many within) same is
 
 -- the same of all bytes
 pub record IsCollecting (host : ℕ) (s t : SessionValue) : Type 0 where
@@ -208,28 +284,43 @@ pub record IsCollecting (host : ℕ) (s t : SessionValue) : Type 0 where
   pub so_far : IsAsking (next_collect host) s t told
   pub bytes : list_all is_byte (reads_in told) ≡ true
 
+-- at the beginning nothing was read
 pub collect_begun : (host : ℕ) (s : SessionValue) → IsCollecting host s s
 collect_begun host s = record { told = []; so_far = begun (next_collect host) s; bytes = refl }
 
-collect_next : (host : ℕ) (told : List Told) → list_all is_byte (reads_in told) ≡ true → next_collect host told ≡ Some (event.Read host)
+collect_next : (host : ℕ) (told : List Told) → list_all is_byte (reads_in told) ≡ true
+    → next_collect host told ≡ Some (event.Read host)
 collect_next host told bytes = rw bytes refl
 
-pub collect_more : (host : ℕ) (s t u : SessionValue) (r : Reply) → IsCollecting host s t → Gains t (event.Read host) (Ok r) u → is_byte r ≡ true → IsCollecting host s u
+-- the next read brings a byte
+pub collect_more : (host : ℕ) (s t u : SessionValue) (r : Reply)
+    → IsCollecting host s t → Gains t (event.Read host) (Ok r) u → is_byte r ≡ true
+    → IsCollecting host s u
 collect_more host s t u r was gains byte =
     let more = reads_more host was.told r in record {
       told = was.told ++ told_of (event.Read host) r ∷ [];
       so_far = grown (next_collect host) s t u was.told _ r was.so_far (collect_next host was.told was.bytes) gains;
-      bytes = ap (list_all is_byte) more ∙ list_all-append is_byte (reads_in was.told) (r ∷ []) ∙ rw was.bytes (rw byte refl);
+      bytes =
+          ap (list_all is_byte) more ∙ list_all-append is_byte (reads_in was.told) (r ∷ [])
+          ∙ rw was.bytes (rw byte refl);
     }
 
-pub collect_none : {A : Type 0} (host : ℕ) (s t u : SessionValue) (r : Reply) (a : A) → IsCollecting host s t → Gains t (event.Read host) (Ok r) u → is_byte r ≡ false
+-- the next read brings no byte, which ends the line
+pub collect_none : {A : Type 0} (host : ℕ) (s t u : SessionValue) (r : Reply) (a : A)
+    → IsCollecting host s t → Gains t (event.Read host) (Ok r) u
+    → is_byte r ≡ false
     → AsksJust (next_collect host) s (Ok a) u
 collect_none host s t u r a was gains none =
     let more = reads_more host was.told r in
     let over : list_all is_byte (reads_in (was.told ++ told_of (event.Read host) r ∷ [])) ≡ false =
     ap (list_all is_byte) more ∙ list_all-append is_byte (reads_in was.told) (r ∷ []) ∙ rw was.bytes (rw none refl) in
-    ended (next_collect host) s u _ a (grown (next_collect host) s t u was.told _ r was.so_far (collect_next host was.told was.bytes) gains) (rw over refl)
+    ended (next_collect host) s u _ a
+    (grown (next_collect host) s t u was.told _ r was.so_far (collect_next host was.told was.bytes) gains)
+    (rw over refl)
 
+-- the next read is refused, which ends the line
 pub collect_refused : {A : Type 0} (host : ℕ) (s t u : SessionValue) (refusal : Refusal) → IsCollecting host s t
-    → Gains t (event.Read host) (Err refusal) u → IsTold t (event.Read host) (Err refusal) → AsksJust {A = A} (next_collect host) s (Err refusal) u
-collect_refused host s t u refusal was same is = refused (next_collect host) s t u was.told _ refusal was.so_far (collect_next host was.told was.bytes) same is
+    → Gains t (event.Read host) (Err refusal) u → IsTold t (event.Read host) (Err refusal)
+    → AsksJust {A = A} (next_collect host) s (Err refusal) u
+collect_refused host s t u refusal was same is =
+    refused (next_collect host) s t u was.told _ refusal was.so_far (collect_next host was.told was.bytes) same is

@@ -1,5 +1,7 @@
 -- What a line asks, in one or two parts.
-use Rattle.std.proofs.Common.{◌≡◌, Bor, take, drop, map, get_or, ℕ, ◌+◌, ◌-◌, ◌<◌, ◌≤◌, Bool, true, false, ◌||◌, ◌&&◌, List, [], ◌∷◌, ◌++◌, length, Some, None, refl, sym, ap, ◌∙◌, subst, arith, append_assoc, inl, inr}
+use Rattle.std.proofs.Common.{◌≡◌, Bor, take, drop, map, get_or, ℕ, ◌+◌, ◌-◌, ◌<◌, ◌≤◌, Bool, true, false, ◌||◌, ◌&&◌}
+use Rattle.std.proofs.Common.{List, [], ◌∷◌, ◌++◌, length, Some, None, refl, sym, ap, ◌∙◌, subst, arith, append_assoc}
+use Rattle.std.proofs.Common.{inl, inr}
 use Rattle.std.specs.Prelude.{slice_get, nat_lt, Result, Ok, Err, Option, if◌then◌else◌, ⊤}
 use Rattle.std.specs.List.{filter, list_all, list_any}
 use Rattle.std.specs.Option.{option_map, option_or}
@@ -20,7 +22,8 @@ use Rattle.farm_service.specs.declared.told.Told.{Told}
 use Rattle.farm_service.specs.Passes.{SessionValue}
 use Rattle.script_lines.specs.declared.command.Command.{Command}
 use Rattle.script_lines.specs.declared.command.Command.TheVariants as command
-use Rattle.line_answers.specs.Asks.{is_write, is_read, had_no_room, is_byte, replies_told, writes_in, reads_in, next_write, next_boot, next_read, next_event, AreAsked}
+use Rattle.line_answers.specs.Asks.{is_write, is_read, had_no_room, is_byte, replies_told, writes_in, reads_in}
+use Rattle.line_answers.specs.Asks.{next_write, next_boot, next_read, next_event, AreAsked}
 use Rattle.line_answers.proofs.Exchange.{begun}
 use Rattle.line_answers.specs.Lines.{LineHasEnded, IsOfSettling, IsAnsweredLine, AreAnsweredLines}
 use Rattle.line_answers.specs.Results.{line_text}
@@ -28,31 +31,55 @@ use Rattle.line_answers.specs.Sessions.{with_all, HasEnded, AsksJust, AsksLine, 
 
 -- ---- what is asked by one rule is asked by another
 
-asked_as : (f g : List Told → Option Event) → ((told : List Told) (e : Event) → f told ≡ Some e → g told ≡ Some e) → (before told : List Told) → AreAsked f before told → AreAsked g before told
+asked_as : (f g : List Told → Option Event)
+    → ((told : List Told) (e : Event) → f told ≡ Some e → g told ≡ Some e) → (before told : List Told)
+    → AreAsked f before told
+    → AreAsked g before told
 asked_as f g same before [] asked = tt
-asked_as f g same before (t ∷ told) asked = (same before t.event asked.0, asked_as f g same (before ++ t ∷ []) told asked.1)
+asked_as f g same before (t ∷ told) asked =
+    (same before t.event asked.0, asked_as f g same (before ++ t ∷ []) told asked.1)
 
 -- what is asked after other events
-asked_behind : (f g : List Told → Option Event) (first : List Told) → ((told : List Told) (e : Event) → f told ≡ Some e → g (first ++ told) ≡ Some e)
+asked_behind : (f g : List Told → Option Event) (first : List Told)
+    → ((told : List Told) (e : Event) → f told ≡ Some e → g (first ++ told) ≡ Some e)
     → (before told : List Told) → AreAsked f before told → AreAsked g (first ++ before) told
 asked_behind f g first same before [] asked = tt
-asked_behind f g first same before (t ∷ told) asked =
-    (same before t.event asked.0, subst (λ (b : List Told). AreAsked g b told) (sym (append_assoc first before (t ∷ []))) (asked_behind f g first same (before ++ t ∷ []) told asked.1))
+asked_behind f g first same before (t ∷ told) asked = (
+  same before t.event asked.0,
+  subst (λ (b : List Told). AreAsked g b told) (sym (append_assoc first before (t ∷ [])))
+      (asked_behind f g first same (before ++ t ∷ []) told asked.1),
+)
 
-asked_append : (next : List Told → Option Event) (before xs ys : List Told) → AreAsked next before xs → AreAsked next (before ++ xs) ys → AreAsked next before (xs ++ ys)
+asked_append : (next : List Told → Option Event) (before xs ys : List Told)
+    → AreAsked next before xs → AreAsked next (before ++ xs) ys
+    → AreAsked next before (xs ++ ys)
 asked_append next before [] ys some more = subst (λ (b : List Told). AreAsked next b ys) (append-nil before) more
-asked_append next before (x ∷ xs) ys some more =
-    (some.0, asked_append next (before ++ x ∷ []) xs ys some.1 (subst (λ (b : List Told). AreAsked next b ys) (sym (append_assoc before (x ∷ []) xs)) more))
+asked_append next before (x ∷ xs) ys some more = (
+  some.0,
+  asked_append next (before ++ x ∷ []) xs ys some.1
+      (subst (λ (b : List Told). AreAsked next b ys) (sym (append_assoc before (x ∷ []) xs)) more),
+)
 
 -- ---- a line of one part
 
-pub whole : {A : Type 0} (command : Command) (s t : SessionValue) (r : Result A Refusal) → AsksJust (next_event command) s r t → AsksLine command s r t
+-- a command that asks just its events asks its line
+pub whole : {A : Type 0} (command : Command) (s t : SessionValue) (r : Result A Refusal)
+    → AsksJust (next_event command) s r t
+    → AsksLine command s r t
 whole command s t (Ok a) asks = record { told = asks.told; list = asks.list; asked = asks.asked; ended = asks.ended }
-whole command s t (Err refusal) asks = record { told = asks.told; list = asks.list; asked = asks.asked; ended = (asks.ended.0, asks.ended.1, inl asks.ended.2) }
+whole command s t (Err refusal) asks =
+    record {
+      told = asks.told;
+      list = asks.list;
+      asked = asks.asked;
+      ended = (asks.ended.0, asks.ended.1, inl asks.ended.2);
+    }
 
 -- ---- code
 
-same_asks : {A : Type 0} (f g : List Told → Option Event) (s t : SessionValue) (r : Result A Refusal) → ((told : List Told) → g told ≡ f told) → AsksJust f s r t → AsksJust g s r t
+same_asks : {A : Type 0} (f g : List Told → Option Event) (s t : SessionValue) (r : Result A Refusal)
+    → ((told : List Told) → g told ≡ f told) → AsksJust f s r t
+    → AsksJust g s r t
 same_asks f g s t (Ok a) same asks = record {
   told = asks.told;
   list = asks.list;
@@ -66,14 +93,21 @@ same_asks f g s t (Err refusal) same asks = record {
   ended = (asks.ended.0, same asks.told ∙ asks.ended.1, asks.ended.2);
 }
 
-boot_is_written : (host : ℕ) (code : List ℕ) → 2 ≤ length code → length code ≤ 255 → (told : List Told) → next_boot host code told ≡ next_write host (length code ∷ code) told
+boot_is_written : (host : ℕ) (code : List ℕ) → 2 ≤ length code → length code ≤ 255 → (told : List Told)
+    → next_boot host code told ≡ next_write host (length code ∷ code) told
 boot_is_written host code long short told = rw (le-leb 2 (length code) long) (rw (le-leb (length code) 255 short) refl)
 
-pub code_written : {A : Type 0} (host : ℕ) (code : List ℕ) (s t : SessionValue) (r : Result A Refusal) → 2 ≤ length code → length code ≤ 255
+-- a boot writes the length of its code and the code
+pub code_written : {A : Type 0} (host : ℕ) (code : List ℕ) (s t : SessionValue) (r : Result A Refusal) → 2 ≤ length code
+    → length code ≤ 255
     → AsksJust (next_write host (length code ∷ code)) s r t → AsksJust (next_boot host code) s r t
-code_written host code s t r long short asks = same_asks (next_write host (length code ∷ code)) (next_boot host code) s t r (boot_is_written host code long short) asks
+code_written host code s t r long short asks =
+    same_asks (next_write host (length code ∷ code)) (next_boot host code) s t r (boot_is_written host code long short)
+    asks
 
-pub code_refused : {A : Type 0} (host : ℕ) (code : List ℕ) (s : SessionValue) → 2 ≤ length code → length code ≤ 255 → AsksJust {A = A} (next_boot host code) s (Err NoMemory) s
+-- a boot that finds no memory for its message asks nothing
+pub code_refused : {A : Type 0} (host : ℕ) (code : List ℕ) (s : SessionValue) → 2 ≤ length code → length code ≤ 255
+    → AsksJust {A = A} (next_boot host code) s (Err NoMemory) s
 code_refused host code s long short = record {
   told = [];
   list = (begun (next_boot host code) s).list;
@@ -85,36 +119,45 @@ code_refused host code s long short = record {
 
 writes-append : (xs ys : List Told) → writes_in (xs ++ ys) ≡ writes_in xs ++ writes_in ys
 writes-append xs ys =
-    ap replies_told (filter-append (λ t. is_write t.event) xs ys) ∙ map-append (λ t. t.reply) (filter (λ t. is_write t.event) xs) (filter (λ t. is_write t.event) ys)
+    ap replies_told (filter-append (λ t. is_write t.event) xs ys)
+    ∙ map-append (λ t. t.reply) (filter (λ t. is_write t.event) xs) (filter (λ t. is_write t.event) ys)
 
 reads-append : (xs ys : List Told) → reads_in (xs ++ ys) ≡ reads_in xs ++ reads_in ys
 reads-append xs ys =
-    ap replies_told (filter-append (λ t. is_read t.event) xs ys) ∙ map-append (λ t. t.reply) (filter (λ t. is_read t.event) xs) (filter (λ t. is_read t.event) ys)
+    ap replies_told (filter-append (λ t. is_read t.event) xs ys)
+    ∙ map-append (λ t. t.reply) (filter (λ t. is_read t.event) xs) (filter (λ t. is_read t.event) ys)
 
 -- what is written next after these replies to writes
 after_writes : ℕ → List ℕ → Bool → ℕ → Option Event
 after_writes host bytes full count = if full then None else option_map (event.Write host) (slice_get bytes count)
 
-past_end : (host : ℕ) (bytes : List ℕ) (count plus : ℕ) → option_map (event.Write host) (slice_get bytes count) ≡ None → option_map (event.Write host) (slice_get bytes (count + plus)) ≡ None
+past_end : (host : ℕ) (bytes : List ℕ) (count plus : ℕ) → option_map (event.Write host) (slice_get bytes count) ≡ None
+    → option_map (event.Write host) (slice_get bytes (count + plus)) ≡ None
 past_end host bytes count plus over = elim (slice_get_cases bytes count).1 [
   | inl found ↦ grind (arith, over, found.2)
   | inr past ↦ ap (option_map (event.Write host)) (slice_get_past bytes (count + plus) (omega (arith, past.0)))
 ]
 
 -- where nothing is written next after some replies, nothing is after more
-over_after : (host : ℕ) (bytes : List ℕ) (full more : Bool) (count plus : ℕ) → after_writes host bytes full count ≡ None → after_writes host bytes (full || more) (count + plus) ≡ None
+over_after : (host : ℕ) (bytes : List ℕ) (full more : Bool) (count plus : ℕ) → after_writes host bytes full count ≡ None
+    → after_writes host bytes (full || more) (count + plus) ≡ None
 unfolding after_writes
 over_after host bytes true more count plus over = refl
 over_after host bytes false true count plus over = refl
 over_after host bytes false false count plus over = past_end host bytes count plus over
 
-writes_over : (host : ℕ) (bytes : List ℕ) (xs ys : List Told) → next_write host bytes xs ≡ None → next_write host bytes (xs ++ ys) ≡ None
+writes_over : (host : ℕ) (bytes : List ℕ) (xs ys : List Told) → next_write host bytes xs ≡ None
+    → next_write host bytes (xs ++ ys) ≡ None
 unfolding after_writes
 writes_over host bytes xs ys over =
     ap (λ (rs : List Reply). after_writes host bytes (list_any had_no_room rs) (length rs)) (writes-append xs ys)
-    ∙ ap (λ (full : Bool). after_writes host bytes full (length (writes_in xs ++ writes_in ys))) (list_any-append had_no_room (writes_in xs) (writes_in ys))
-    ∙ ap (λ (count : ℕ). after_writes host bytes (list_any had_no_room (writes_in xs) || list_any had_no_room (writes_in ys)) count) (length-append (writes_in xs) (writes_in ys))
-    ∙ over_after host bytes (list_any had_no_room (writes_in xs)) (list_any had_no_room (writes_in ys)) (length (writes_in xs)) (length (writes_in ys)) over
+    ∙ ap (λ (full : Bool). after_writes host bytes full (length (writes_in xs ++ writes_in ys)))
+    (list_any-append had_no_room (writes_in xs) (writes_in ys))
+    ∙ ap (λ (count : ℕ).
+    after_writes host bytes (list_any had_no_room (writes_in xs) || list_any had_no_room (writes_in ys)) count)
+    (length-append (writes_in xs) (writes_in ys))
+    ∙ over_after host bytes (list_any had_no_room (writes_in xs)) (list_any had_no_room (writes_in ys))
+    (length (writes_in xs)) (length (writes_in ys)) over
 
 -- ---- writes are no reads
 
@@ -122,37 +165,49 @@ reads_next : Option Event → Bool
 reads_next None = false
 reads_next (Some e) = is_read e
 
-no_read_next : (host : ℕ) (full : Bool) (byte : Option ℕ) → reads_next (if full then None else option_map (event.Write host) byte) ≡ false
+no_read_next : (host : ℕ) (full : Bool) (byte : Option ℕ)
+    → reads_next (if full then None else option_map (event.Write host) byte) ≡ false
 unfolding reads_next
 no_read_next host true byte = refl
 no_read_next host false None = refl
 no_read_next host false (Some byte) = refl
 
-no_read : (host : ℕ) (full : Bool) (byte : Option ℕ) (e : Event) → (if full then None else option_map (event.Write host) byte) ≡ Some e → is_read e ≡ false
+no_read : (host : ℕ) (full : Bool) (byte : Option ℕ) (e : Event)
+    → (if full then None else option_map (event.Write host) byte) ≡ Some e
+    → is_read e ≡ false
 unfolding reads_next
 no_read host full byte e is = sym (ap reads_next is) ∙ no_read_next host full byte
 
-no_reads : (host : ℕ) (bytes : List ℕ) (before told : List Told) → AreAsked (next_write host bytes) before told → reads_in told ≡ []
+no_reads : (host : ℕ) (bytes : List ℕ) (before told : List Told) → AreAsked (next_write host bytes) before told
+    → reads_in told ≡ []
 no_reads host bytes before [] asked = refl
 no_reads host bytes before (t ∷ told) asked =
-    rw (no_read host (list_any had_no_room (writes_in before)) (slice_get bytes (length (writes_in before))) t.event asked.0) (no_reads host bytes (before ++ t ∷ []) told asked.1)
+    rw (no_read host (list_any had_no_room (writes_in before)) (slice_get bytes (length (writes_in before))) t.event
+    asked.0)
+    (no_reads host bytes (before ++ t ∷ []) told asked.1)
 
 -- ---- a peek
 
 -- after its writes a peek reads
-reads_behind : (host address : ℕ) (xs ys : List Told) → AreAsked (next_write host (1 ∷ bytes_of_word address)) [] xs → next_write host (1 ∷ bytes_of_word address) xs ≡ None
+reads_behind : (host address : ℕ) (xs ys : List Told) → AreAsked (next_write host (1 ∷ bytes_of_word address)) [] xs
+    → next_write host (1 ∷ bytes_of_word address) xs ≡ None
     → next_event (command.Peek host address) (xs ++ ys) ≡ next_read host 4 ys
 reads_behind host address xs ys asked over =
-    ap (λ (first : Option Event). option_or first (next_read host 4 (xs ++ ys))) (writes_over host (1 ∷ bytes_of_word address) xs ys over)
+    ap (λ (first : Option Event). option_or first (next_read host 4 (xs ++ ys)))
+    (writes_over host (1 ∷ bytes_of_word address) xs ys over)
     ∙ ap (λ (rs : List Reply). if list_all is_byte rs && nat_lt (length rs) 4 then Some (event.Read host) else None)
-    (reads-append xs ys ∙ ap (λ (rs : List Reply). rs ++ reads_in ys) (no_reads host (1 ∷ bytes_of_word address) [] xs asked))
+    (reads-append xs ys
+    ∙ ap (λ (rs : List Reply). rs ++ reads_in ys) (no_reads host (1 ∷ bytes_of_word address) [] xs asked))
 
-writes_of_peek : (host address : ℕ) (told : List Told) (e : Event) → next_write host (1 ∷ bytes_of_word address) told ≡ Some e → next_event (command.Peek host address) told ≡ Some e
+writes_of_peek : (host address : ℕ) (told : List Told) (e : Event)
+    → next_write host (1 ∷ bytes_of_word address) told ≡ Some e
+    → next_event (command.Peek host address) told ≡ Some e
 writes_of_peek host address told e is = ap (λ (first : Option Event). option_or first (next_read host 4 told)) is
 
 joined : (s t u : SessionValue) (xs ys : List Told) → t ≡ with_all s xs → u ≡ with_all t ys → u ≡ with_all s (xs ++ ys)
 joined s t u xs ys first second =
-    second ∙ ap (λ (t : SessionValue). with_all t ys) first ∙ ap (λ (told : List Told). record s { pass = record s.pass { told = told } }) (append_assoc s.pass.told xs ys)
+    second ∙ ap (λ (t : SessionValue). with_all t ys) first
+    ∙ ap (λ (told : List Told). record s { pass = record s.pass { told = told } }) (append_assoc s.pass.told xs ys)
 
 peek_end : {A : Type 0} (host address : ℕ) (xs ys : List Told) (u : SessionValue) (r : Result A Refusal)
     → ((told : List Told) → next_event (command.Peek host address) (xs ++ told) ≡ next_read host 4 told)
@@ -160,74 +215,106 @@ peek_end : {A : Type 0} (host address : ℕ) (xs ys : List Told) (u : SessionVal
 peek_end host address xs ys u (Ok a) same over = same ys ∙ over
 peek_end host address xs ys u (Err refusal) same over = (over.0, same ys ∙ over.1, inl over.2)
 
-pub peeked : {A B : Type 0} (host address : ℕ) (s t u : SessionValue) (a : A) (r : Result B Refusal) → AsksJust (next_write host (1 ∷ bytes_of_word address)) s (Ok a) t
+-- a peek writes its message, and then reads four bytes
+pub peeked : {A B : Type 0} (host address : ℕ) (s t u : SessionValue) (a : A) (r : Result B Refusal)
+    → AsksJust (next_write host (1 ∷ bytes_of_word address)) s (Ok a) t
     → AsksJust (next_read host 4) t r u → AsksLine (command.Peek host address) s r u
 peeked host address s t u a r writes reads =
-    let same : (told : List Told) → next_event (command.Peek host address) (writes.told ++ told) ≡ next_read host 4 told =
+    let same : (told : List Told)
+    → next_event (command.Peek host address) (writes.told ++ told) ≡ next_read host 4 told =
     λ told. reads_behind host address writes.told told writes.asked writes.ended in record {
       told = writes.told ++ reads.told;
       list = joined s t u writes.told reads.told writes.list reads.list;
       asked =
           asked_append (next_event (command.Peek host address)) [] writes.told reads.told
-          (asked_as (next_write host (1 ∷ bytes_of_word address)) (next_event (command.Peek host address)) (writes_of_peek host address) [] writes.told writes.asked)
-          (subst (λ (b : List Told). AreAsked (next_event (command.Peek host address)) b reads.told) (append-nil writes.told)
-          (asked_behind (next_read host 4) (next_event (command.Peek host address)) writes.told (λ told e is. same told ∙ is) [] reads.told reads.asked));
+          (asked_as (next_write host (1 ∷ bytes_of_word address)) (next_event (command.Peek host address))
+          (writes_of_peek host address) [] writes.told writes.asked)
+          (subst (λ (b : List Told). AreAsked (next_event (command.Peek host address)) b reads.told)
+          (append-nil writes.told)
+          (asked_behind (next_read host 4) (next_event (command.Peek host address)) writes.told
+          (λ told e is. same told ∙ is) [] reads.told reads.asked));
       ended = peek_end host address writes.told reads.told u r same reads.ended;
     }
 
-pub peek_unwritten : {A B : Type 0} (host address : ℕ) (s t : SessionValue) (refusal : Refusal) → AsksJust {A = A} (next_write host (1 ∷ bytes_of_word address)) s (Err refusal) t
+-- a peek ends if its message is refused
+pub peek_unwritten : {A B : Type 0} (host address : ℕ) (s t : SessionValue) (refusal : Refusal)
+    → AsksJust {A = A} (next_write host (1 ∷ bytes_of_word address)) s (Err refusal) t
     → AsksLine {A = B} (command.Peek host address) s (Err refusal) t
 peek_unwritten host address s t refusal writes = record {
   told = writes.told;
   list = writes.list;
-  asked = asked_as (next_write host (1 ∷ bytes_of_word address)) (next_event (command.Peek host address)) (writes_of_peek host address) [] writes.told writes.asked;
+  asked =
+      asked_as (next_write host (1 ∷ bytes_of_word address)) (next_event (command.Peek host address))
+      (writes_of_peek host address) [] writes.told writes.asked;
   ended = (writes.ended.0, writes_of_peek host address writes.told writes.ended.0 writes.ended.1, inl writes.ended.2);
 }
 
-pub peek_unsettled : {A B : Type 0} (host address : ℕ) (s t : SessionValue) (a : A) (refusal : Refusal) → AsksJust (next_write host (1 ∷ bytes_of_word address)) s (Ok a) t
+-- a peek ends if its domain may not settle
+pub peek_unsettled : {A B : Type 0} (host address : ℕ) (s t : SessionValue) (a : A) (refusal : Refusal)
+    → AsksJust (next_write host (1 ∷ bytes_of_word address)) s (Ok a) t
     → IsOfSettling t refusal → AsksLine {A = B} (command.Peek host address) s (Err refusal) t
 peek_unsettled host address s t a refusal writes is = record {
   told = writes.told;
   list = writes.list;
-  asked = asked_as (next_write host (1 ∷ bytes_of_word address)) (next_event (command.Peek host address)) (writes_of_peek host address) [] writes.told writes.asked;
+  asked =
+      asked_as (next_write host (1 ∷ bytes_of_word address)) (next_event (command.Peek host address))
+      (writes_of_peek host address) [] writes.told writes.asked;
   ended = (
     event.Read host,
-    ap (next_event (command.Peek host address)) (sym (append-nil writes.told)) ∙ reads_behind host address writes.told [] writes.asked writes.ended,
+    ap (next_event (command.Peek host address)) (sym (append-nil writes.told))
+        ∙ reads_behind host address writes.told [] writes.asked writes.ended,
     inr is,
   );
 }
 
 -- ---- the same of results that are known by equations
 
-pub unwritten : {A B : Type 0} (host address : ℕ) (bytes : List ℕ) (s t : SessionValue) (r : Result A Refusal) (q : Result B Refusal) (refusal : Refusal)
-    → bytes ≡ 1 ∷ bytes_of_word address → r ≡ Err refusal → q ≡ Err refusal → AsksJust (next_write host bytes) s r t → AsksLine (command.Peek host address) s q t
+-- the same as `peek_unwritten`, of results that are known by equations
+pub unwritten : {A B : Type 0} (host address : ℕ) (bytes : List ℕ) (s t : SessionValue) (r : Result A Refusal)
+    (q : Result B Refusal) (refusal : Refusal)
+    → bytes ≡ 1 ∷ bytes_of_word address → r ≡ Err refusal → q ≡ Err refusal → AsksJust (next_write host bytes) s r t
+    → AsksLine (command.Peek host address) s q t
 unwritten {A} {B} host address bytes s t r q refusal bytes_are is same asks =
     subst (λ (q : Result B Refusal). AsksLine (command.Peek host address) s q t) (sym same)
     (peek_unwritten host address s t refusal
-    (subst (λ (r : Result A Refusal). AsksJust (next_write host (1 ∷ bytes_of_word address)) s r t) is (subst (λ (bytes : List ℕ). AsksJust (next_write host bytes) s r t) bytes_are asks)))
+    (subst (λ (r : Result A Refusal). AsksJust (next_write host (1 ∷ bytes_of_word address)) s r t) is
+    (subst (λ (bytes : List ℕ). AsksJust (next_write host bytes) s r t) bytes_are asks)))
 
-pub unsettled : {A B : Type 0} (host address : ℕ) (bytes : List ℕ) (s t : SessionValue) (a : A) (r : Result A Refusal) (q : Result B Refusal) (refusal : Refusal)
-    → bytes ≡ 1 ∷ bytes_of_word address → r ≡ Ok a → q ≡ Err refusal → AsksJust (next_write host bytes) s r t → IsOfSettling t refusal → AsksLine (command.Peek host address) s q t
+-- the same as `peek_unsettled`, of results that are known by equations
+pub unsettled : {A B : Type 0} (host address : ℕ) (bytes : List ℕ) (s t : SessionValue) (a : A) (r : Result A Refusal)
+    (q : Result B Refusal) (refusal : Refusal)
+    → bytes ≡ 1 ∷ bytes_of_word address → r ≡ Ok a → q ≡ Err refusal → AsksJust (next_write host bytes) s r t
+    → IsOfSettling t refusal → AsksLine (command.Peek host address) s q t
 unsettled {A} {B} host address bytes s t a r q refusal bytes_are is same asks settling =
     subst (λ (q : Result B Refusal). AsksLine (command.Peek host address) s q t) (sym same)
     (peek_unsettled host address s t a refusal
-    (subst (λ (r : Result A Refusal). AsksJust (next_write host (1 ∷ bytes_of_word address)) s r t) is (subst (λ (bytes : List ℕ). AsksJust (next_write host bytes) s r t) bytes_are asks))
+    (subst (λ (r : Result A Refusal). AsksJust (next_write host (1 ∷ bytes_of_word address)) s r t) is
+    (subst (λ (bytes : List ℕ). AsksJust (next_write host bytes) s r t) bytes_are asks))
     settling)
 
-pub settled : {A B : Type 0} (host address : ℕ) (bytes : List ℕ) (s t u : SessionValue) (a : A) (r : Result A Refusal) (q : Result B Refusal)
-    → bytes ≡ 1 ∷ bytes_of_word address → r ≡ Ok a → AsksJust (next_write host bytes) s r t → AsksJust (next_read host 4) t q u → AsksLine (command.Peek host address) s q u
+-- the same as `peeked`, of results that are known by equations
+pub settled : {A B : Type 0} (host address : ℕ) (bytes : List ℕ) (s t u : SessionValue) (a : A) (r : Result A Refusal)
+    (q : Result B Refusal)
+    → bytes ≡ 1 ∷ bytes_of_word address → r ≡ Ok a → AsksJust (next_write host bytes) s r t
+    → AsksJust (next_read host 4) t q u → AsksLine (command.Peek host address) s q u
 settled {A} {B} host address bytes s t u a r q bytes_are is writes reads =
     peeked host address s t u a q
-    (subst (λ (r : Result A Refusal). AsksJust (next_write host (1 ∷ bytes_of_word address)) s r t) is (subst (λ (bytes : List ℕ). AsksJust (next_write host bytes) s r t) bytes_are writes))
+    (subst (λ (r : Result A Refusal). AsksJust (next_write host (1 ∷ bytes_of_word address)) s r t) is
+    (subst (λ (bytes : List ℕ). AsksJust (next_write host bytes) s r t) bytes_are writes))
     reads
 
-pub of_command : {A : Type 0} (next : List Told → Option Event) (c d : Command) (s t : SessionValue) (r : Result A Refusal) → c ≡ d
+-- a command asks its line by what it asks next, if that is what the line asks next
+pub of_command : {A : Type 0} (next : List Told → Option Event) (c d : Command) (s t : SessionValue)
+    (r : Result A Refusal)
+    → c ≡ d
     → ((told : List Told) → next_event d told ≡ next told) → AsksJust next s r t → AsksLine c s r t
-of_command next c d s t r is same asks = subst (λ (c : Command). AsksLine c s r t) (sym is) (whole d s t r (same_asks next (next_event d) s t r same asks))
+of_command next c d s t r is same asks =
+    subst (λ (c : Command). AsksLine c s r t) (sym is) (whole d s t r (same_asks next (next_event d) s t r same asks))
 
 -- ---- a line's end is the same for each session of its user
 
-of_user : {A : Type 0} (command : Command) (told : List Told) (s : SessionValue) (before : List Told) (r : Result A Refusal)
+of_user : {A : Type 0} (command : Command) (told : List Told) (s : SessionValue) (before : List Told)
+    (r : Result A Refusal)
     → LineHasEnded command told (with_all s before) r → LineHasEnded command told s r
 of_user command told s before (Ok a) over = over
 of_user (command.Config bytes) told s before (Err refusal) over = over
@@ -239,7 +326,9 @@ of_user (command.Collect host) told s before (Err refusal) over = over
 of_user (command.Reset node) told s before (Err refusal) over = over
 of_user (command.Look node) told s before (Err refusal) over = over
 
-pub answered : (name : List ℕ) (c : Command) (s t : SessionValue) (r : Result ⊤ Refusal) (asks : AsksLine c s r t) (screen more : List ℕ)
+-- a line that is asked and shown is answered
+pub answered : (name : List ℕ) (c : Command) (s t : SessionValue) (r : Result ⊤ Refusal) (asks : AsksLine c s r t)
+    (screen more : List ℕ)
     → more ≡ screen ++ line_text name c (replies_told asks.told) r → IsAnswered name c s t screen more
 answered name c s t r asks screen more is = record {
   told = asks.told;
@@ -249,7 +338,9 @@ answered name c s t r asks screen more is = record {
       record {
         result = r;
         asked = asks.asked;
-        ended = of_user c asks.told s asks.told r (subst (λ (v : SessionValue). LineHasEnded c asks.told v r) asks.list asks.ended);
+        ended =
+            of_user c asks.told s asks.told r
+            (subst (λ (v : SessionValue). LineHasEnded c asks.told v r) asks.list asks.ended);
         is_text = refl;
       };
   text = is;
@@ -257,7 +348,9 @@ answered name c s t r asks screen more is = record {
 
 -- ---- lines one after another
 
-line_of_user : (s : SessionValue) (before : List Told) (name : List ℕ) (c : Command) (told : List Told) (text : List ℕ) → IsAnsweredLine (with_all s before) name c told text → IsAnsweredLine s name c told text
+line_of_user : (s : SessionValue) (before : List Told) (name : List ℕ) (c : Command) (told : List Told) (text : List ℕ)
+    → IsAnsweredLine (with_all s before) name c told text
+    → IsAnsweredLine s name c told text
 line_of_user s before name c told text line = record {
   result = line.result;
   asked = line.asked;
@@ -265,10 +358,20 @@ line_of_user s before name c told text line = record {
   is_text = line.is_text;
 }
 
-lines_more : (s : SessionValue) (name : List ℕ) (commands : List Command) (c : Command) (told some : List Told) (screen line : List ℕ) → AreAnsweredLines s name commands told screen
+lines_more : (s : SessionValue) (name : List ℕ) (commands : List Command) (c : Command) (told some : List Told)
+    (screen line : List ℕ)
+    → AreAnsweredLines s name commands told screen
     → IsAnsweredLine s name c some line → AreAnsweredLines s name (commands ++ c ∷ []) (told ++ some) (screen ++ line)
-lines_more s name [] c told some screen line lines is =
-    (some, [], line, [], ap (λ (before : List Told). before ++ some) lines.0 ∙ sym (append-nil some), ap (λ (before : List ℕ). before ++ line) lines.1 ∙ sym (append-nil line), is, (refl, refl))
+lines_more s name [] c told some screen line lines is = (
+  some,
+  [],
+  line,
+  [],
+  ap (λ (before : List Told). before ++ some) lines.0 ∙ sym (append-nil some),
+  ap (λ (before : List ℕ). before ++ line) lines.1 ∙ sym (append-nil line),
+  is,
+  (refl, refl),
+)
 lines_more s name (first ∷ commands) c told some screen line lines is = (
   lines.0,
   lines.1 ++ some,
@@ -280,47 +383,67 @@ lines_more s name (first ∷ commands) c told some screen line lines is = (
   lines_more s name commands c lines.1 some lines.3 line lines.7 is,
 )
 
+-- no commands show nothing
 pub none_shown : (name : List ℕ) (s : SessionValue) → AreAnswered name [] s s []
 none_shown name s = record { told = []; list = (begun (λ told. None) s).list; lines = (refl, refl) }
 
-pub one_shown : (name : List ℕ) (commands : List Command) (c : Command) (s t u : SessionValue) (screen more : List ℕ) → AreAnswered name commands s t screen
+-- commands and a further one show what the further one shows behind the screen of the others
+pub one_shown : (name : List ℕ) (commands : List Command) (c : Command) (s t u : SessionValue) (screen more : List ℕ)
+    → AreAnswered name commands s t screen
     → IsAnswered name c t u screen more → AreAnswered name (commands ++ c ∷ []) s u more
 one_shown name commands c s t u screen more so_far line =
     let is : IsAnsweredLine s name c line.told line.line =
-    line_of_user s so_far.told name c line.told line.line (subst (λ (v : SessionValue). IsAnsweredLine v name c line.told line.line) so_far.list line.is_line) in record {
+    line_of_user s so_far.told name c line.told line.line
+    (subst (λ (v : SessionValue). IsAnsweredLine v name c line.told line.line) so_far.list line.is_line) in
+    record {
       told = so_far.told ++ line.told;
       list = joined s t u so_far.told line.told so_far.list line.list;
-      lines = subst (λ (text : List ℕ). AreAnsweredLines s name (commands ++ c ∷ []) (so_far.told ++ line.told) text) (sym line.text) (lines_more s name commands c so_far.told line.told screen line.line so_far.lines is);
+      lines =
+          subst (λ (text : List ℕ). AreAnsweredLines s name (commands ++ c ∷ []) (so_far.told ++ line.told) text)
+          (sym line.text) (lines_more s name commands c so_far.told line.told screen line.line so_far.lines is);
     }
 
 -- one command more of those that are lent
-pub lent_more : (name : List ℕ) (commands : List (Bor Command)) (i : ℕ) (d : Bor Command) (command : Bor Command) (s t u : SessionValue) (screen more : List ℕ) → i < length commands → command ≡ get_or commands i d
+pub lent_more : (name : List ℕ) (commands : List (Bor Command)) (i : ℕ) (d : Bor Command) (command : Bor Command)
+    (s t u : SessionValue) (screen more : List ℕ)
+    → i < length commands
+    → command ≡ get_or commands i d
     → AreAnswered name (map (λ c. c.now) (take i commands)) s t screen → IsAnswered name command.now t u screen more
     → AreAnswered name (map (λ c. c.now) (take (i + 1) commands)) s u more
 lent_more name commands i d command s t u screen more within is so_far line =
     subst (λ (cs : List Command). AreAnswered name cs s u more)
-    (sym (ap (map (λ (c : Bor Command). c.now)) (take_more commands i d within) ∙ map-append (λ (c : Bor Command). c.now) (take i commands) (get_or commands i d ∷ [])))
-    (one_shown name (map (λ c. c.now) (take i commands)) (get_or commands i d).now s t u screen more so_far (subst (λ (c : Bor Command). IsAnswered name c.now t u screen more) is line))
+    (sym (ap (map (λ (c : Bor Command). c.now)) (take_more commands i d within)
+    ∙ map-append (λ (c : Bor Command). c.now) (take i commands) (get_or commands i d ∷ [])))
+    (one_shown name (map (λ c. c.now) (take i commands)) (get_or commands i d).now s t u screen more so_far
+    (subst (λ (c : Bor Command). IsAnswered name c.now t u screen more) is line))
 
+-- a session that gained some events, and then others, gained some
 pub gains_more : (s t u : SessionValue) → GainsSome s t → GainsSome t u → GainsSome s u
 gains_more s t u first second = (first.0 ++ second.0, joined s t u first.0 second.0 first.1 second.1)
 
+-- a session that stays gained some, namely none
 pub gains_none : (s : SessionValue) → GainsSome s s
 gains_none s = ([], (begun (λ told. None) s).list)
 
 -- a line whose events are the last of the list
-pub last_answered : {A E : Type 0} (w : Result A E) (name : List ℕ) (c : Command) (s t : SessionValue) (r : Result ⊤ Refusal) (asks : AsksLine c s r t) (before all : List Told)
-    (screen more : List ℕ) → before ≡ s.pass.told → all ≡ t.pass.told → OnOk w (more ≡ screen ++ line_text name c (replies_told (take (length all - length before) (drop (length before) all))) r)
+pub last_answered : {A E : Type 0} (w : Result A E) (name : List ℕ) (c : Command) (s t : SessionValue)
+    (r : Result ⊤ Refusal) (asks : AsksLine c s r t) (before all : List Told)
+    (screen more : List ℕ) → before ≡ s.pass.told → all ≡ t.pass.told
+    → OnOk w (more
+    ≡ screen ++ line_text name c (replies_told (take (length all - length before) (drop (length before) all))) r)
     → OnOk w (IsAnswered name c s t screen more)
 last_answered (Err e) name c s t r asks before all screen more was is shown = tt
 last_answered (Ok a) name c s t r asks before all screen more was is shown =
-    answered name c s t r asks screen more (shown ∙ ap (λ (told : List Told). screen ++ line_text name c (replies_told told) r) last)
+    answered name c s t r asks screen more
+    (shown ∙ ap (λ (told : List Told). screen ++ line_text name c (replies_told told) r) last)
   where
     whole_list : all ≡ s.pass.told ++ asks.told
     whole_list = is ∙ ap (λ (v : SessionValue). v.pass.told) asks.list
 
     behind : drop (length before) all ≡ asks.told
-    behind = ap (λ (xs : List Told). drop (length xs) all) was ∙ ap (drop (length s.pass.told)) whole_list ∙ drop-append_seam s.pass.told asks.told
+    behind =
+        ap (λ (xs : List Told). drop (length xs) all) was ∙ ap (drop (length s.pass.told)) whole_list
+        ∙ drop-append_seam s.pass.told asks.told
 
     so_many : length asks.told ≤ length all - length before
     so_many = omega (arith, ap length whole_list, ap length was, length-append s.pass.told asks.told)

@@ -15,7 +15,7 @@ use std::alloc::Global;
 use std::sync::Wait;
 
 /// How many rounds a settling has at most.
-const ROUNDS: u64 = 10_000;
+pub const ROUNDS: u64 = 10_000;
 
 // Whether a host had no room for a byte.
 fn had_no_room(reply: Reply) -> bool

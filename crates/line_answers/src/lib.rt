@@ -6,6 +6,7 @@ mod line;
 mod quantum;
 mod showing;
 
-pub use asking::settle;
+pub use asking::{ROUNDS, settle};
 pub use line::{answer_line, answer_lines};
 pub use quantum::Quantum;
+pub use showing::write_line;

@@ -257,7 +257,7 @@ fn write_outcome(
 /// Appends the output line of a line: the user's name, the verb, the number of a host or node, and what came of it.
 ///
 /// `NoMemory` too if the line ended because memory ran out, which has no word.
-pub(crate) fn write_line(
+pub fn write_line(
     text: &mut String,
     name: &str,
     command: &Command,

@@ -26,6 +26,18 @@ pub fn tell_wrong_lines(
     text.finish()
 }
 
+/// A line that says where this line of a script is wrong, and what would be right. `fault` is what its reader says of it.
+pub fn tell_wrong_line(
+    alloc: Global,
+    names: &[&str],
+    line: NumberedLine<'_>,
+    fault: LineFault,
+) -> Result<String, AllocError> {
+    let mut text = TextWriter::new(alloc);
+    tell(alloc, &mut text, names, WrongScriptLine { line, fault });
+    text.finish()
+}
+
 fn tell(alloc: Global, text: &mut TextWriter, names: &[&str], wrong: WrongScriptLine<'_>) {
     match words_of(alloc, wrong.line.text) {
         Ok(words) => write_wrong_line(text, names, wrong, words.as_slice()),

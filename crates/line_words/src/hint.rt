@@ -26,7 +26,7 @@ pub enum WordHint {
     Capitals(&'static str),
     /// Names of instructions have no capitals.
     SmallLetters,
-    /// A line begins with a domain's number.
+    /// A line begins with a domain's number, or with a user's name.
     DomainFirst,
     /// The word is a command of a script for `farm`.
     ScriptCommand,
@@ -82,9 +82,8 @@ impl WordHint {
             WordHint::Capitals(_) => "small and capital letters differ",
             WordHint::SmallLetters => "names of instructions are in small letters",
             WordHint::DomainFirst =>
-                "a line begins with a domain's number in the plan, from 0, and not with a verb or a user's name",
-            WordHint::ScriptCommand =>
-                "it is a command of a script for farm, and here writes, read and single events do the same",
+                "a line begins with a domain's number in the plan, from 0, or with a user's name, and not with a verb",
+            WordHint::ScriptCommand => "a user's line has it, which begins with his name",
             WordHint::FewerTimes => "only Steps of one node by the farm may be asked more often",
             WordHint::LinkFirst => "a state of a link stands behind link and the link's number",
             WordHint::Remark => "a remark stands on a line of its own, which begins with #",

@@ -4,7 +4,9 @@ use Rattle.std.proofs.lemmas.Bool.Decides.{nat_tests}
 use Rattle.node_memory.specs.Bytes.{with_byte, byte_at, copied}
 
 -- one that was made
-pub copied-more : (k j : ℕ) (m n : List ℕ) (from to from' to' b : ℕ) → k ≡ suc j → from' ≡ from + 1 → to' ≡ to + 1 → byte_at m from ≡ Ok b → with_byte m to b ≡ Ok n → copied j n from' to' ≡ copied k m from to
+pub copied-more : (k j : ℕ) (m n : List ℕ) (from to from' to' b : ℕ)
+    → k ≡ suc j → from' ≡ from + 1 → to' ≡ to + 1 → byte_at m from ≡ Ok b → with_byte m to b ≡ Ok n
+    → copied j n from' to' ≡ copied k m from to
 copied-more k j m n from to from' to' b e f t read write = rw (e, f, t, read, write) refl
 
 -- what can be read lies inside

@@ -1,5 +1,6 @@
 -- A copy keeps memory's size, and stops at its edge.
-use Rattle.std.proofs.Common.{◌≡◌, ℕ, zero, suc, ◌+◌, ◌<◌, ◌≤◌, List, length, Result, Ok, Err, Bool, true, false, cond, refl, arith, ◌∙◌}
+use Rattle.std.proofs.Common.{◌≡◌, ℕ, zero, suc, ◌+◌, ◌<◌, ◌≤◌, List, length, Result}
+use Rattle.std.proofs.Common.{Ok, Err, Bool, true, false, cond, refl, arith, ◌∙◌}
 use Rattle.std.proofs.lemmas.Bool.Decides.{nat_tests}
 use Rattle.node_memory.specs.Bytes.{with_byte, byte_at, copied, first_address, is_inside}
 use Rattle.node_memory.specs.declared.fault.Fault.{Fault}
@@ -24,13 +25,16 @@ unfolding byte_at
 read_inside m a x h = (grind (arith, nat_tests), grind (arith, nat_tests))
 
 -- the first byte of a copy: not read, not written, or copied
-copied-unread : (c : ℕ) (m : List ℕ) (from to : ℕ) (f : Fault) → byte_at m from ≡ Err f → copied (suc c) m from to ≡ (Err f, m)
+copied-unread : (c : ℕ) (m : List ℕ) (from to : ℕ) (f : Fault) → byte_at m from ≡ Err f
+    → copied (suc c) m from to ≡ (Err f, m)
 copied-unread c m from to f h = rw h refl
 
-copied-unwritten : (c : ℕ) (m : List ℕ) (from to x : ℕ) (f : Fault) → byte_at m from ≡ Ok x → with_byte m to x ≡ Err f → copied (suc c) m from to ≡ (Err f, m)
+copied-unwritten : (c : ℕ) (m : List ℕ) (from to x : ℕ) (f : Fault) → byte_at m from ≡ Ok x → with_byte m to x ≡ Err f
+    → copied (suc c) m from to ≡ (Err f, m)
 copied-unwritten c m from to x f h k = rw (h, k) refl
 
-copied-first : (c : ℕ) (m n : List ℕ) (from to x : ℕ) → byte_at m from ≡ Ok x → with_byte m to x ≡ Ok n → copied (suc c) m from to ≡ copied c n (from + 1) (to + 1)
+copied-first : (c : ℕ) (m n : List ℕ) (from to x : ℕ) → byte_at m from ≡ Ok x → with_byte m to x ≡ Ok n
+    → copied (suc c) m from to ≡ copied c n (from + 1) (to + 1)
 copied-first c m n from to x h k = rw (h, k) refl
 
 -- what holds of a copy that stops at its first byte, and of one that goes on, holds of each
@@ -39,7 +43,8 @@ by_first : (P : Result (Unit {0}) Fault × List ℕ → Type 0) (c : ℕ) (m : L
     → ((x : ℕ) (n : List ℕ) → byte_at m from ≡ Ok x → with_byte m to x ≡ Ok n → P (copied c n (from + 1) (to + 1)))
     → P (copied (suc c) m from to)
 by_first P c m from to stops goes = of_read (byte_at m from) refl where
-  of_write : (x : ℕ) (s : Result (List ℕ) Fault) → byte_at m from ≡ Ok x → with_byte m to x ≡ s → P (copied (suc c) m from to)
+  of_write : (x : ℕ) (s : Result (List ℕ) Fault) → byte_at m from ≡ Ok x → with_byte m to x ≡ s
+      → P (copied (suc c) m from to)
   of_write x (Ok n) h k = rw (copied-first c m n from to x h k) (goes x n h k)
   of_write x (Err f) h k = rw (copied-unwritten c m from to x f h k, write_fault m to x f k) stops
 
@@ -47,6 +52,7 @@ by_first P c m from to stops goes = of_read (byte_at m from) refl where
   of_read (Ok x) h = of_write x (with_byte m to x) h refl
   of_read (Err f) h = rw (copied-unread c m from to f h, read_fault m from f h) stops
 
+-- a copy keeps the length of memory
 pub length-copied : (count : ℕ) (m : List ℕ) (from to : ℕ) → length (copied count m from to).1 ≡ length m
 length-copied zero m from to = refl
 length-copied (suc c) m from to =
@@ -54,7 +60,9 @@ length-copied (suc c) m from to =
     (λ x n h k. length-copied c n (from + 1) (to + 1) ∙ length-with_byte m n to x k)
 
 -- from an address inside or just past memory, with more bytes to copy than there are from it on
-stops_past : (count : ℕ) (m : List ℕ) (from to : ℕ) → from ≤ first_address + length m → first_address + length m < from + count → (copied count m from to).0 ≡ Err OutsideMemory
+stops_past : (count : ℕ) (m : List ℕ) (from to : ℕ)
+    → from ≤ first_address + length m → first_address + length m < from + count
+    → (copied count m from to).0 ≡ Err OutsideMemory
 stops_past zero m from to most past = absurd (omega arith)
 stops_past (suc c) m from to most past =
     by_first (λ r. r.0 ≡ Err OutsideMemory) c m from to refl
@@ -63,7 +71,9 @@ stops_past (suc c) m from to most past =
     let e = length-with_byte m n to x k in
     stops_past c n (from + 1) (to + 1) (omega arith) (omega arith))
 
-pub copied-edge : (count : ℕ) (m : List ℕ) (from to : ℕ) → length m < count → (copied count m from to).0 ≡ Err OutsideMemory
+-- more bytes than memory has can't be copied
+pub copied-edge : (count : ℕ) (m : List ℕ) (from to : ℕ) → length m < count
+    → (copied count m from to).0 ≡ Err OutsideMemory
 copied-edge zero m from to more = absurd (omega arith)
 copied-edge (suc c) m from to more =
     by_first (λ r. r.0 ≡ Err OutsideMemory) c m from to refl

@@ -1,8 +1,11 @@
 -- What was written is read back, and all else stays.
-use Rattle.std.proofs.Common.{◌≡◌, ◌≢◌, ℕ, ◌+◌, ◌-◌, ◌/◌, ◌%◌, ◌^◌, ◌<◌, ◌≤◌, List, length, slice_index, slice_set, Ok, Err, refl, arith, ◌∙◌, ap, get_or-set_other, length-set, ◌⊎◌, inl, inr, Bool, true, false, cond, ◌&&◌, nat_le, nat_lt}
+use Rattle.std.proofs.Common.{◌≡◌, ◌≢◌, ℕ, ◌+◌, ◌-◌, ◌/◌, ◌%◌, ◌^◌, ◌<◌, ◌≤◌, List, length}
+use Rattle.std.proofs.Common.{slice_index, slice_set, Ok, Err, refl, arith, ◌∙◌, ap, get_or-set_other}
+use Rattle.std.proofs.Common.{length-set, ◌⊎◌, inl, inr, Bool, true, false, cond, ◌&&◌, nat_le, nat_lt}
 use Rattle.std.proofs.lemmas.Bool.Decides.{nat_tests}
 use Rattle.std.proofs.lemmas.Grind.{common_steps}
-use Rattle.node_memory.specs.Bytes.{byte_at, with_byte, is_inside, word_at, with_word, word_from, with_word_from, word_offset, holds_word, first_address}
+use Rattle.node_memory.specs.Bytes.{byte_at, with_byte, is_inside, word_at, with_word, word_from}
+use Rattle.node_memory.specs.Bytes.{with_word_from, word_offset, holds_word, first_address}
 use Rattle.node_memory.specs.Words.{aligned}
 use Rattle.node_memory.specs.declared.fault.Fault.{Fault}
 use Rattle.node_memory.specs.declared.fault.Fault.TheVariants.{OutsideMemory}
@@ -30,6 +33,7 @@ written-is false x n h = cc
 inside : (m : List ℕ) (a : ℕ) → holds_word m a ≡ true → (first_address ≤ a) × (word_offset a + 3 < length m)
 inside m a h = (grind (arith, nat_tests), grind (arith, nat_tests))
 
+-- a word that was written is read
 pub word_at-with_word_same : (m n : List ℕ) (a w : ℕ) → w < 2 ^ 32 → with_word m a w ≡ Ok n → word_at n a ≡ Ok w
 unfolding word_at with_word
 word_at-with_word_same m n a w fits h =
@@ -40,18 +44,23 @@ word_at-with_word_same m n a w fits h =
     rw (p.1, stays, word_from-with_same m (word_offset a) w fits within) refl
 
 -- a word elsewhere, if it lies inside
-elsewhere : (t : Bool) (x y : ℕ) → (t ≡ true → x ≡ y) → cond t (Ok x) (Err OutsideMemory) ≡ cond t (Ok y) (Err OutsideMemory)
+elsewhere : (t : Bool) (x y : ℕ) → (t ≡ true → x ≡ y)
+    → cond t (Ok x) (Err OutsideMemory) ≡ cond t (Ok y) (Err OutsideMemory)
 elsewhere true x y h = ap (λ z. Ok z) (h refl)
 elsewhere false x y h = refl
 
-word_from-with_apart : (m : List ℕ) (i j w : ℕ) → (i + 4 ≤ j) ⊎ (j + 4 ≤ i) → word_from (with_word_from m i w) j ≡ word_from m j
+word_from-with_apart : (m : List ℕ) (i j w : ℕ) → (i + 4 ≤ j) ⊎ (j + 4 ≤ i)
+    → word_from (with_word_from m i w) j ≡ word_from m j
 word_from-with_apart m i j w (inl h) = word_from-with_other m i j w h
 word_from-with_apart m i j w (inr h) = word_from-with_before m i j w h
 
-apart_offsets : (a b : ℕ) → a / 4 ≢ b / 4 → first_address ≤ a → first_address ≤ b → (word_offset a + 4 ≤ word_offset b) ⊎ (word_offset b + 4 ≤ word_offset a)
+apart_offsets : (a b : ℕ) → a / 4 ≢ b / 4 → first_address ≤ a → first_address ≤ b
+    → (word_offset a + 4 ≤ word_offset b) ⊎ (word_offset b + 4 ≤ word_offset a)
 apart_offsets a b apart p q = grind arith
 
-pub word_at-with_word_other : (m n : List ℕ) (a b w : ℕ) → a / 4 ≢ b / 4 → with_word m a w ≡ Ok n → word_at n b ≡ word_at m b
+-- a word that was written leaves every other word
+pub word_at-with_word_other : (m n : List ℕ) (a b w : ℕ) → a / 4 ≢ b / 4 → with_word m a w ≡ Ok n
+    → word_at n b ≡ word_at m b
 unfolding word_at with_word
 word_at-with_word_other m n a b w apart h =
     let p = written-is (holds_word m a) (with_word_from m (word_offset a) w) n h in
@@ -59,7 +68,8 @@ word_at-with_word_other m n a b w apart h =
     ap (λ k. nat_le first_address b && nat_lt (word_offset b + 3) k) (length-with m (word_offset a) w) in
     rw (p.1, stays)
     (elsewhere (holds_word m b) _ _
-    (λ t. word_from-with_apart m (word_offset a) (word_offset b) w (apart_offsets a b apart (inside m a p.0).0 (inside m b t).0)))
+    (λ t. word_from-with_apart m (word_offset a) (word_offset b) w
+    (apart_offsets a b apart (inside m a p.0).0 (inside m b t).0)))
 
 -- the four addresses of a word
 pub word_at-same_word : (m : List ℕ) (a b : ℕ) → a / 4 ≡ b / 4 → word_at m a ≡ word_at m b
@@ -79,10 +89,13 @@ byte_of_word m i w within =
     (grind (arith, common_steps), grind (arith, common_steps), grind (arith, common_steps), grind (arith, common_steps))
 
 -- a byte of memory, by its offset
-byte_at-inside : (m : List ℕ) (a i x : ℕ) → first_address ≤ a → a - first_address ≡ i → i < length m → slice_index m i ≡ x → byte_at m a ≡ Ok x
+byte_at-inside : (m : List ℕ) (a i x : ℕ)
+    → first_address ≤ a → a - first_address ≡ i → i < length m → slice_index m i ≡ x
+    → byte_at m a ≡ Ok x
 unfolding byte_at
 byte_at-inside m a i x least e within is = grind (arith, nat_tests)
 
+-- a word that was written has its four bytes, the lowest first
 pub byte_at-with_word : (m n : List ℕ) (a w : ℕ) → with_word m a w ≡ Ok n →
     (byte_at n (aligned a) ≡ Ok (w % 2 ^ 8))
     × (byte_at n (aligned a + 1) ≡ Ok (w / 2 ^ 8 % 2 ^ 8))
@@ -105,18 +118,21 @@ byte_at-with_word m n a w h =
 inside_byte : (m : List ℕ) (a : ℕ) → is_inside m a ≡ true → (first_address ≤ a) × (a - first_address < length m)
 inside_byte m a h = (grind (arith, nat_tests), grind (arith, nat_tests))
 
+-- a byte that is written keeps the length of memory
 pub length-with_byte : (m n : List ℕ) (a x : ℕ) → with_byte m a x ≡ Ok n → length n ≡ length m
 unfolding with_byte
 length-with_byte m n a x h =
     let p = written-is (is_inside m a) (slice_set m (a - first_address) x) n h in
     ap length p.1 ∙ simp length-set
 
+-- a word that is written keeps the length of memory
 pub length-with_word : (m n : List ℕ) (a w : ℕ) → with_word m a w ≡ Ok n → length n ≡ length m
 unfolding with_word
 length-with_word m n a w h =
     let p = written-is (holds_word m a) (with_word_from m (word_offset a) w) n h in
     ap length p.1 ∙ length-with m (word_offset a) w
 
+-- a byte that was written is read
 pub byte_at-with_byte_same : (m n : List ℕ) (a x : ℕ) → with_byte m a x ≡ Ok n → byte_at n a ≡ Ok x
 unfolding with_byte
 byte_at-with_byte_same m n a x h =
@@ -126,6 +142,7 @@ byte_at-with_byte_same m n a x h =
     byte_at-inside n a (a - first_address) x q.0 refl within
     (rw p.1 (let least = q.1 in grind (arith, common_steps)))
 
+-- a byte that was written leaves every other byte
 pub byte_at-with_byte_other : (m n : List ℕ) (a b x : ℕ) → a ≢ b → with_byte m a x ≡ Ok n → byte_at n b ≡ byte_at m b
 unfolding byte_at with_byte
 byte_at-with_byte_other m n a b x apart h =
@@ -135,19 +152,23 @@ byte_at-with_byte_other m n a b x apart h =
     ap (λ k. nat_le first_address b && nat_lt (b - first_address) k) (simp length-set) in
     rw (p.1, stays)
     (elsewhere (is_inside m b) _ _
-    (λ t. let r = inside_byte m b t in get_or-set_other m (a - first_address) (b - first_address) x 0 (λ e. apart (omega arith))))
+    (λ t. let r = inside_byte m b t in
+    get_or-set_other m (a - first_address) (b - first_address) x 0 (λ e. apart (omega arith))))
 
 -- a word is not written where it can't be read
-not_ok : {A : Type 0} (b : Bool) (x : A) (f : Fault) → cond b (Ok x) (Err OutsideMemory) ≡ Err f → (b ≡ false) × (f ≡ OutsideMemory)
+not_ok : {A : Type 0} (b : Bool) (x : A) (f : Fault) → cond b (Ok x) (Err OutsideMemory) ≡ Err f
+    → (b ≡ false) × (f ≡ OutsideMemory)
 not_ok true x f h = cc
 not_ok false x f h = (refl, cc)
 
+-- a word that can't be written can't be read, for the same fault
 pub word_at-unwritten : (m : List ℕ) (a w : ℕ) (f : Fault) → with_word m a w ≡ Err f → word_at m a ≡ Err f
 unfolding word_at with_word
 word_at-unwritten m a w f h =
     let p = not_ok (holds_word m a) (with_word_from m (word_offset a) w) f h in
     rw (p.0, p.1) refl
 
+-- a word that can't be read can't be written, for the same fault
 pub with_word-unread : (m : List ℕ) (a w : ℕ) (f : Fault) → word_at m a ≡ Err f → with_word m a w ≡ Err f
 unfolding word_at with_word
 with_word-unread m a w f h =

@@ -158,10 +158,13 @@ fn write_end(end: TraceEnd, text: &mut TextWriter) {
             text.push_word(address);
             text.push("\n");
         }
-        TraceEnd::Counted(steps) => {
-            text.push("stopped after ");
-            text.push_decimal(steps);
-            text.push(" Steps. --steps N traces more\n");
-        }
+        TraceEnd::Counted(steps) => write_stopped(steps, text),
     }
+}
+
+/// Writes that a trace ends after so many Steps, as was said.
+pub fn write_stopped(steps: u64, text: &mut TextWriter) {
+    text.push("stopped after ");
+    text.push_decimal(steps);
+    text.push(" Steps. --steps N traces more\n");
 }

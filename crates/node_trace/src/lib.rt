@@ -21,7 +21,7 @@ mod snapshot;
 mod tracing;
 mod trial;
 
-pub use crate::boot::{BootTrace, trace_boot, trace_step};
+pub use crate::boot::{BootTrace, trace_boot, trace_step, write_stopped};
 pub use crate::changes::{write_all_registers, write_link_fields};
 pub use crate::fault::TraceFault;
 pub use crate::hosts::LinkInput;

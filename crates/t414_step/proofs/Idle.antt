@@ -1,5 +1,6 @@
 -- A step answers Idle exactly where there is nothing to do.
-use Rattle.std.proofs.Common.{◌≡◌, ℕ, ◌==◌, Bool, true, false, not, ◌&&◌, List, Result, Ok, Err, if◌then◌else◌, refl, ◌∙◌, ap, sym}
+use Rattle.std.proofs.Common.{◌≡◌, ℕ, ◌==◌, Bool, true, false, not, ◌&&◌, List}
+use Rattle.std.proofs.Common.{Result, Ok, Err, if◌then◌else◌, refl, ◌∙◌, ap, sym}
 use Rattle.node_memory.specs.declared.fault.Fault.{Fault}
 use Rattle.node_memory.specs.Bytes.{word_at}
 use Rattle.node_memory.specs.Marks.{not_process}
@@ -17,7 +18,8 @@ use Rattle.t414_step.specs.declared.stepping.Stepped.TheVariants as code
 use Rattle.t414_step.specs.Answers.{step_answer_of, is_idle, tells_idle}
 use Rattle.t414_step.specs.Outcome.{Effect, with_links}
 use Rattle.t414_step.specs.Registers.{has_nothing_to_do}
-use Rattle.t414_step.specs.Step.{StepAnswer, Resumption, Resumed, Nobody, Lost, resumption_by, placed, resumed, resumption, going_on, processed, after_service, byte_answer, byte_done, step}
+use Rattle.t414_step.specs.Step.{StepAnswer, Resumption, Resumed, Nobody, Lost, resumption_by, placed, resumed}
+use Rattle.t414_step.specs.Step.{resumption, going_on, processed, after_service, byte_answer, byte_done, step}
 
 and-false : (a b : Bool) → (a && b && false) ≡ false
 and-false true true = refl
@@ -38,64 +40,88 @@ going-does_something (Resumed s) ls m = no-byte (with_links ls (byte_done s m))
 going-does_something (Nobody s) ls m = refl
 going-does_something (Lost fault) ls m = refl
 
-busy-if : (b : Bool) (x y : StepAnswer) → tells_idle x ≡ false → tells_idle y ≡ false → tells_idle (if b then x else y) ≡ false
+busy-if : (b : Bool) (x y : StepAnswer) → tells_idle x ≡ false → tells_idle y ≡ false
+    → tells_idle (if b then x else y) ≡ false
 busy-if true x y e f = e
 busy-if false x y e f = f
 
-idle-if : (b : Bool) (x y : StepAnswer) (v : Bool) → tells_idle x ≡ false → tells_idle y ≡ v → tells_idle (if b then x else y) ≡ (not b && v)
+idle-if : (b : Bool) (x y : StepAnswer) (v : Bool) → tells_idle x ≡ false → tells_idle y ≡ v
+    → tells_idle (if b then x else y) ≡ (not b && v)
 idle-if true x y v e f = e
 idle-if false x y v e f = f
 
 processed-does_something : (s : Cpu) (ls : FourLinks) (m : List ℕ) → tells_idle (processed true s ls m) ≡ false
 processed-does_something s ls m =
-    busy-if s.running (byte_answer (with_links ls (byte_done s m))) (going_on (resumption s m) true ls m) (no-byte (with_links ls (byte_done s m))) (going-does_something (resumption s m) ls m)
+    busy-if s.running (byte_answer (with_links ls (byte_done s m))) (going_on (resumption s m) true ls m)
+    (no-byte (with_links ls (byte_done s m))) (going-does_something (resumption s m) ls m)
 
-acted-on : (r : Completion (Bool × Queue) FourLinks) (s : Cpu) → does_something r ≡ true → tells_idle (after_service r s) ≡ false
+acted-on : (r : Completion (Bool × Queue) FourLinks) (s : Cpu) → does_something r ≡ true
+    → tells_idle (after_service r s) ≡ false
 acted-on (Gave (true, q) ls m) s e = processed-does_something (record s { queue = q }) ls m
 acted-on (Gave (false, q) ls m) s e = cc
 acted-on (Halted fault ls m) s e = refl
 
-placed-busy : (r : Result ℕ Fault) (w : ℕ) (s : Cpu) (ls : FourLinks) (m : List ℕ) → tells_idle (going_on (placed r w s) false ls m) ≡ false
+placed-busy : (r : Result ℕ Fault) (w : ℕ) (s : Cpu) (ls : FourLinks) (m : List ℕ)
+    → tells_idle (going_on (placed r w s) false ls m) ≡ false
 placed-busy (Ok i) w s ls m = no-byte (with_links ls (byte_done (resumed w i s) m))
 placed-busy (Err fault) w s ls m = refl
 
-followed-busy : (r : Result ℕ Fault) (q : Queue) (s : Cpu) (ls : FourLinks) (m : List ℕ) → tells_idle (going_on (resumption_by (followed r q) s m) false ls m) ≡ false
+followed-busy : (r : Result ℕ Fault) (q : Queue) (s : Cpu) (ls : FourLinks) (m : List ℕ)
+    → tells_idle (going_on (resumption_by (followed r q) s m) false ls m) ≡ false
 followed-busy (Ok next) q s ls m =
-    placed-busy (word_at m (aligned q.front ⊖ 4)) (aligned q.front) (record s { queue = record { front = next; back = q.back } }) ls m
+    placed-busy (word_at m (aligned q.front ⊖ 4)) (aligned q.front)
+    (record s { queue = record { front = next; back = q.back } }) ls m
 followed-busy (Err fault) q s ls m = refl
 
-taken-busy : (b : Bool) (s : Cpu) (ls : FourLinks) (m : List ℕ) → (s.queue.front == not_process) ≡ false → (s.queue.front == s.queue.back) ≡ b → tells_idle (going_on (resumption s m) false ls m) ≡ false
+taken-busy : (b : Bool) (s : Cpu) (ls : FourLinks) (m : List ℕ)
+    → (s.queue.front == not_process) ≡ false → (s.queue.front == s.queue.back) ≡ b
+    → tells_idle (going_on (resumption s m) false ls m) ≡ false
 unfolding after_take
 taken-busy true s ls m e f =
-    rw (e, f) (placed-busy (word_at m (aligned s.queue.front ⊖ 4)) (aligned s.queue.front) (record s { queue = record { front = not_process; back = s.queue.back } }) ls m)
+    rw (e, f)
+    (placed-busy (word_at m (aligned s.queue.front ⊖ 4)) (aligned s.queue.front)
+    (record s { queue = record { front = not_process; back = s.queue.back } }) ls m)
 taken-busy false s ls m e f = rw (e, f) (followed-busy (word_at m (link_of s.queue.front)) s.queue s ls m)
 
-looked : (front : Bool) (s : Cpu) (ls : FourLinks) (m : List ℕ) → (s.queue.front == not_process) ≡ front → tells_idle (going_on (resumption s m) false ls m) ≡ front
+looked : (front : Bool) (s : Cpu) (ls : FourLinks) (m : List ℕ) → (s.queue.front == not_process) ≡ front
+    → tells_idle (going_on (resumption s m) false ls m) ≡ front
 unfolding after_take
 looked true s ls m e = rw e refl
 looked false s ls m e = taken-busy (s.queue.front == s.queue.back) s ls m e refl
 
-unserved : (s : Cpu) (ls : FourLinks) (m : List ℕ) → tells_idle (processed false s ls m) ≡ (not s.running && (s.queue.front == not_process))
+unserved : (s : Cpu) (ls : FourLinks) (m : List ℕ)
+    → tells_idle (processed false s ls m) ≡ (not s.running && (s.queue.front == not_process))
 unserved s ls m =
-    idle-if s.running (byte_answer (with_links ls (byte_done s m))) (going_on (resumption s m) false ls m) (s.queue.front == not_process)
+    idle-if s.running (byte_answer (with_links ls (byte_done s m))) (going_on (resumption s m) false ls m)
+    (s.queue.front == not_process)
     (no-byte (with_links ls (byte_done s m))) (looked (s.queue.front == not_process) s ls m refl)
 
-rests-by : ServiceActsOnWork → ServiceLeavesTheRest → (work : Bool) (s : Cpu) (ls : FourLinks) (m : List ℕ) → any_has_work ls ≡ work → tells_idle (step s ls m) ≡ has_nothing_to_do s ls
+rests-by : ServiceActsOnWork
+    → ServiceLeavesTheRest → (work : Bool) (s : Cpu) (ls : FourLinks) (m : List ℕ) → any_has_work ls ≡ work
+    → tells_idle (step s ls m) ≡ has_nothing_to_do s ls
 unfolding step
 rests-by acts_on rests true s ls m e =
-    let busy : tells_idle (after_service (serve_all ls s.queue m) s) ≡ false = acted-on (serve_all ls s.queue m) s (acts_on ls s.queue m ∙ e) in
+    let busy : tells_idle (after_service (serve_all ls s.queue m) s) ≡ false =
+    acted-on (serve_all ls s.queue m) s (acts_on ls s.queue m ∙ e) in
     rw (busy, e) (sym (and-false (not s.running) (s.queue.front == not_process)))
 rests-by acts_on rests false s ls m e =
     rw (rests ls s.queue m e, unserved s ls m, e) (sym (and-true (not s.running) (s.queue.front == not_process)))
 
-pub tells_idle-step : ServiceActsOnWork → ServiceLeavesTheRest → (s : Cpu) (ls : FourLinks) (m : List ℕ) → tells_idle (step s ls m) ≡ has_nothing_to_do s ls
+-- a step says that it is idle just if there is nothing to do
+pub tells_idle-step : ServiceActsOnWork → ServiceLeavesTheRest → (s : Cpu) (ls : FourLinks) (m : List ℕ)
+    → tells_idle (step s ls m) ≡ has_nothing_to_do s ls
 tells_idle-step acts_on rests s ls m = rests-by acts_on rests _ s ls m refl
 
-tells_idle-answered : (r : Stepped) (s : Cpu) (ls : FourLinks) (m : List ℕ) → is_idle r ≡ tells_idle (step_answer_of r s ls m)
+tells_idle-answered : (r : Stepped) (s : Cpu) (ls : FourLinks) (m : List ℕ)
+    → is_idle r ≡ tells_idle (step_answer_of r s ls m)
 tells_idle-answered code.Ran s ls m = refl
 tells_idle-answered code.Idle s ls m = refl
 tells_idle-answered (code.Fault fault) s ls m = refl
 
 -- so the code's answer tells whether there was
-pub is_idle-step : ServiceActsOnWork → ServiceLeavesTheRest → (r : Stepped) (s t : Cpu) (ls ks : FourLinks) (m n : List ℕ) → step_answer_of r t ks n ≡ step s ls m → is_idle r ≡ has_nothing_to_do s ls
-is_idle-step acts_on rests r s t ls ks m n e = tells_idle-answered r t ks n ∙ (ap tells_idle e ∙ tells_idle-step acts_on rests s ls m)
+pub is_idle-step : ServiceActsOnWork
+    → ServiceLeavesTheRest → (r : Stepped) (s t : Cpu) (ls ks : FourLinks) (m n : List ℕ)
+    → step_answer_of r t ks n ≡ step s ls m
+    → is_idle r ≡ has_nothing_to_do s ls
+is_idle-step acts_on rests r s t ls ks m n e =
+    tells_idle-answered r t ks n ∙ (ap tells_idle e ∙ tells_idle-step acts_on rests s ls m)

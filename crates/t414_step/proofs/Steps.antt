@@ -1,5 +1,6 @@
 -- Steps counted one by one, and those of a process whose bytes follow one another.
-use Rattle.std.proofs.Common.{◌≡◌, ℕ, zero, suc, ◌+◌, ◌<◌, ◌==◌, Bool, true, false, if◌then◌else◌, List, Option, Some, None, Ok, refl, ◌∙◌, ap, sym, arith, add-one}
+use Rattle.std.proofs.Common.{◌≡◌, ℕ, zero, suc, ◌+◌, ◌<◌, ◌==◌, Bool, true, false, if◌then◌else◌}
+use Rattle.std.proofs.Common.{List, Option, Some, None, Ok, refl, ◌∙◌, ap, sym, arith, add-one}
 use Rattle.std.proofs.Math.Nat.{add-zero, add-suc}
 use Rattle.link_channels.specs.declared.link.FourLinks.{FourLinks}
 use Rattle.link_channels.specs.Laws.{ServiceLeavesTheRest}
@@ -7,67 +8,88 @@ use Rattle.link_channels.specs.Links.{any_has_work}
 use Rattle.t414_step.specs.declared.cpu.Cpu.{Cpu}
 use Rattle.t414_step.specs.Outcome.{Outcome, Went, with_links}
 use Rattle.t414_step.specs.Rows.{slice}
-use Rattle.t414_step.specs.Step.{StepAnswer, Ran, Idle, Broke, Resumed, Nobody, Resumption, resuming, resumption, going_on, byte_answer, byte_done, step}
-use Rattle.t414_step.specs.Steps.{steps, then_step}
+use Rattle.t414_step.specs.Step.{StepAnswer, Ran, Idle, Broke, Resumed, Nobody, Resumption}
+use Rattle.t414_step.specs.Step.{resuming, resumption, going_on, byte_answer, byte_done, step}
+use Rattle.t414_step.specs.Steps.{nth_step, then_step}
 
-pub steps-zero : (s : Cpu) (ls : FourLinks) (m : List ℕ) → steps zero s ls m ≡ Some (Ran s ls m)
-unfolding steps
+-- no steps leave the processor as it is
+pub steps-zero : (s : Cpu) (ls : FourLinks) (m : List ℕ) → nth_step zero s ls m ≡ Some (Ran s ls m)
+unfolding nth_step
 steps-zero s ls m = refl
 
-pub steps-suc : (k : ℕ) (s : Cpu) (ls : FourLinks) (m : List ℕ) → steps (suc k) s ls m ≡ then_step (steps k s ls m)
-unfolding steps
+-- one more step follows those before it
+pub steps-suc : (k : ℕ) (s : Cpu) (ls : FourLinks) (m : List ℕ)
+    → nth_step (suc k) s ls m ≡ then_step (nth_step k s ls m)
+unfolding nth_step
 steps-suc k s ls m = refl
 
 -- one more step after steps that ran
-pub steps-more : (k : ℕ) (s t : Cpu) (ls ks : FourLinks) (m n : List ℕ) (answer : StepAnswer) → steps k s ls m ≡ Some (Ran t ks n) → step t ks n ≡ answer
-    → steps (k + 1) s ls m ≡ Some answer
+pub steps-more : (k : ℕ) (s t : Cpu) (ls ks : FourLinks) (m n : List ℕ) (answer : StepAnswer)
+    → nth_step k s ls m ≡ Some (Ran t ks n) → step t ks n ≡ answer
+    → nth_step (k + 1) s ls m ≡ Some answer
 steps-more k s t ls ks m n answer e f =
-    ap (λ (i : ℕ). steps i s ls m) (add-one k) ∙ steps-suc k s ls m ∙ ap then_step e ∙ ap (λ (a : StepAnswer). Some a) f
+    ap (λ (i : ℕ). nth_step i s ls m) (add-one k) ∙ steps-suc k s ls m ∙ ap then_step e
+    ∙ ap (λ (a : StepAnswer). Some a) f
 
-pub one-step : (s : Cpu) (ls : FourLinks) (m : List ℕ) (answer : StepAnswer) → step s ls m ≡ answer → steps 1 s ls m ≡ Some answer
+-- one step answers as the step does
+pub one-step : (s : Cpu) (ls : FourLinks) (m : List ℕ) (answer : StepAnswer) → step s ls m ≡ answer
+    → nth_step 1 s ls m ≡ Some answer
 one-step s ls m answer e = steps-more 0 s s ls ls m m answer (steps-zero s ls m) e
 
 -- steps after steps that ran
-pub steps-add : (j k : ℕ) (s t : Cpu) (ls ks : FourLinks) (m n : List ℕ) → steps j s ls m ≡ Some (Ran t ks n) → steps (j + k) s ls m ≡ steps k t ks n
-steps-add j zero s t ls ks m n e = ap (λ (i : ℕ). steps i s ls m) (add-zero j) ∙ e ∙ sym (steps-zero t ks n)
+pub steps-add : (j k : ℕ) (s t : Cpu) (ls ks : FourLinks) (m n : List ℕ) → nth_step j s ls m ≡ Some (Ran t ks n)
+    → nth_step (j + k) s ls m ≡ nth_step k t ks n
+steps-add j zero s t ls ks m n e = ap (λ (i : ℕ). nth_step i s ls m) (add-zero j) ∙ e ∙ sym (steps-zero t ks n)
 steps-add j (suc k) s t ls ks m n e =
-    ap (λ (i : ℕ). steps i s ls m) (add-suc j k) ∙ steps-suc (j + k) s ls m ∙ ap then_step (steps-add j k s t ls ks m n e) ∙ sym (steps-suc k t ks n)
+    ap (λ (i : ℕ). nth_step i s ls m) (add-suc j k) ∙ steps-suc (j + k) s ls m
+    ∙ ap then_step (steps-add j k s t ls ks m n e) ∙ sym (steps-suc k t ks n)
 
 -- if the first step of both is the same, so are those after it
-pub same-first : (k : ℕ) (s t : Cpu) (ls : FourLinks) (m : List ℕ) → step s ls m ≡ step t ls m → 0 < k → steps k s ls m ≡ steps k t ls m
+pub same-first : (k : ℕ) (s t : Cpu) (ls : FourLinks) (m : List ℕ) → step s ls m ≡ step t ls m → 0 < k
+    → nth_step k s ls m ≡ nth_step k t ls m
 same-first zero s t ls m e some = absurd (omega arith)
 same-first (suc zero) s t ls m e some = one-step s ls m (step t ls m) e ∙ sym (one-step t ls m (step t ls m) refl)
 same-first (suc (suc k)) s t ls m e some =
-    steps-suc (suc k) s ls m ∙ ap then_step (same-first (suc k) s t ls m e (omega arith)) ∙ sym (steps-suc (suc k) t ls m)
+    steps-suc (suc k) s ls m ∙ ap then_step (same-first (suc k) s t ls m e (omega arith))
+    ∙ sym (steps-suc (suc k) t ls m)
 
 processed-if : (b : Bool) (x y : StepAnswer) → b ≡ true → (if b then x else y) ≡ x
 processed-if true x y e = refl
 processed-if false x y e = cc
 
 -- the step of a processor that runs, if no link has work
-pub byte-step : ServiceLeavesTheRest → (s : Cpu) (ls : FourLinks) (m : List ℕ) → any_has_work ls ≡ false → s.running ≡ true
+pub byte-step : ServiceLeavesTheRest
+    → (s : Cpu) (ls : FourLinks) (m : List ℕ) → any_has_work ls ≡ false → s.running ≡ true
     → step s ls m ≡ byte_answer (with_links ls (byte_done s m))
 unfolding step
 byte-step rests s ls m rest runs =
-    rw (rests ls s.queue m rest) (processed-if s.running (byte_answer (with_links ls (byte_done s m))) (going_on (resumption s m) false ls m) runs)
+    rw (rests ls s.queue m rest)
+    (processed-if s.running (byte_answer (with_links ls (byte_done s m))) (going_on (resumption s m) false ls m) runs)
 
 processed-else : (b : Bool) (x y : StepAnswer) → b ≡ false → (if b then x else y) ≡ y
 processed-else true x y e = cc
 processed-else false x y e = refl
 
 -- the step of one with no current process, if no link has work
-pub looking-step : ServiceLeavesTheRest → (s : Cpu) (ls : FourLinks) (m : List ℕ) (r : Resumption) → any_has_work ls ≡ false → s.running ≡ false → r ≡ resumption s m
+pub looking-step : ServiceLeavesTheRest
+    → (s : Cpu) (ls : FourLinks) (m : List ℕ) (r : Resumption) → any_has_work ls ≡ false → s.running ≡ false
+    → r ≡ resumption s m
     → step s ls m ≡ going_on r false ls m
 unfolding step
 looking-step rests s ls m r rest stands e =
     rw (rests ls s.queue m rest)
-    (processed-else s.running (byte_answer (with_links ls (byte_done s m))) (going_on (resumption s m) false ls m) stands ∙ sym (ap (λ (x : Resumption). going_on x false ls m) e))
+    (processed-else s.running (byte_answer (with_links ls (byte_done s m)))
+    (going_on (resumption s m) false ls m) stands
+    ∙ sym (ap (λ (x : Resumption). going_on x false ls m) e))
 
 -- an instruction byte is one more step, if no link has work
-pub byte-more : ServiceLeavesTheRest → (k : ℕ) (s t : Cpu) (ls : FourLinks) (m n : List ℕ) (o : Outcome) → any_has_work ls ≡ false → steps k s ls m ≡ Some (Ran t ls n) → t.running ≡ true → o ≡ byte_done t n
-    → steps (k + 1) s ls m ≡ Some (byte_answer (with_links ls o))
+pub byte-more : ServiceLeavesTheRest
+    → (k : ℕ) (s t : Cpu) (ls : FourLinks) (m n : List ℕ) (o : Outcome) → any_has_work ls ≡ false
+    → nth_step k s ls m ≡ Some (Ran t ls n) → t.running ≡ true → o ≡ byte_done t n
+    → nth_step (k + 1) s ls m ≡ Some (byte_answer (with_links ls o))
 byte-more rests k s t ls m n o rest e runs f =
-    steps-more k s t ls ls m n (byte_answer (with_links ls o)) e (byte-step rests t ls n rest runs ∙ ap (λ (x : Outcome). byte_answer (with_links ls x)) (sym f))
+    steps-more k s t ls ls m n (byte_answer (with_links ls o)) e
+    (byte-step rests t ls n rest runs ∙ ap (λ (x : Outcome). byte_answer (with_links ls x)) (sym f))
 
 -- a process that has had fewer bytes isn't sliced
 pub unsliced : (s : Cpu) (m : List ℕ) → s.bytes < 1024 → slice s m ≡ Went s m
@@ -77,25 +99,10 @@ unsliced s m few = let ne : (s.bytes == 1024) ≡ false = grind arith in rw ne r
 pub recounted : (s : Cpu) (b : ℕ) → s.bytes ≡ b → s ≡ record s { bytes = b }
 recounted s b e = rw (sym e) refl
 
--- what came before a step
-pub record RanBefore (o : Option StepAnswer) (answer : StepAnswer) : Type 0 where
-  pub cpu : Cpu
-  pub links : FourLinks
-  pub memory : List ℕ
-  pub is : o ≡ Some (Ran cpu links memory)
-  pub next : step cpu links memory ≡ answer
-
-before : (o : Option StepAnswer) (answer : StepAnswer) → then_step o ≡ Some answer → RanBefore o answer
-before (Some (Ran s ls m)) answer e = record { cpu = s; links = ls; memory = m; is = refl; next = cc }
-before (Some (Idle s ls m)) answer e = cc
-before (Some (Broke fault ls m)) answer e = cc
-before None answer e = cc
-
-pub ran-before : (k : ℕ) (s : Cpu) (ls : FourLinks) (m : List ℕ) (answer : StepAnswer) → steps (suc k) s ls m ≡ Some answer → RanBefore (steps k s ls m) answer
-ran-before k s ls m answer e = before (steps k s ls m) answer (sym (steps-suc k s ls m) ∙ e)
-
 -- a process that is taken from the queue steps as if it had been there
-pub resumed-step : ServiceLeavesTheRest → (s t : Cpu) (ls : FourLinks) (m : List ℕ) → any_has_work ls ≡ false → s.running ≡ false → Resumed t ≡ resumption s m → t.running ≡ true
+pub resumed-step : ServiceLeavesTheRest
+    → (s t : Cpu) (ls : FourLinks) (m : List ℕ) → any_has_work ls ≡ false → s.running ≡ false
+    → Resumed t ≡ resumption s m → t.running ≡ true
     → step s ls m ≡ step t ls m
 resumed-step rests s t ls m rest stands e runs =
     looking-step rests s ls m (Resumed t) rest stands e ∙ sym (byte-step rests t ls m rest runs)
@@ -105,6 +112,7 @@ pub took-one : (b : Bool) (t : Cpu) (r : Resumption) → b ≡ true → resuming
 took-one true t r is e = e
 took-one false t r is e = cc
 
+-- if a look finds no process, nobody is resumed
 pub took-none : (b : Bool) (t : Cpu) (r : Resumption) → b ≡ false → resuming (Ok b) t ≡ r → Nobody t ≡ r
 took-none true t r is e = cc
 took-none false t r is e = e

@@ -23,5 +23,5 @@ turned_back (Ok false) s m = Went s m
 turned_back (Err fault) s m = Stopped fault m
 
 -- whether there is a current process, and its count of bytes, stay
-abbrev pub AreKept : Cpu → Cpu → Type 0
-AreKept s t = (t.running ≡ s.running) × (t.bytes ≡ s.bytes)
+abbrev pub KeepsTurn : Cpu → Cpu → Type 0
+KeepsTurn s t = (t.running ≡ s.running) × (t.bytes ≡ s.bytes)

@@ -12,6 +12,6 @@ then_step (Some (Broke fault ls m)) = None
 then_step None = None
 
 -- what the last of so many steps answers, each of which but the last ran; none if one before it didn't
-unfoldable pub steps : ℕ → Cpu → FourLinks → List ℕ → Option StepAnswer
-steps zero s ls m = Some (Ran s ls m)
-steps (suc k) s ls m = then_step (steps k s ls m)
+unfoldable pub nth_step : ℕ → Cpu → FourLinks → List ℕ → Option StepAnswer
+nth_step zero s ls m = Some (Ran s ls m)
+nth_step (suc k) s ls m = then_step (nth_step k s ls m)

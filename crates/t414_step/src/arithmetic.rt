@@ -8,7 +8,7 @@ use node_memory::{Fault, add_checked, mul_checked, signed, sub_checked};
 #[tactic(auto, unfolding(crate::specs::Rows::row))]
 impl Cpu {
     ghost use Rattle.t414_decode.specs.declared.instruction.PlainOperation.TheVariants as op;
-    ghost use Rattle.t414_step.specs.Next.{AreKept};
+    ghost use Rattle.t414_step.specs.Next.{KeepsTurn};
     ghost use Rattle.t414_step.specs.Outcome.{plain_outcome, Went};
     ghost use Rattle.t414_step.specs.Rows.{row};
 
@@ -16,7 +16,7 @@ impl Cpu {
     #[inline(always)]
     pub(crate) fn reverse(&mut self)
         ensures answer { (m : List ℕ) → Went self.new m ≡ row op.Reverse self.old m }
-        ensures kept { AreKept self.old self.new }
+        ensures kept { KeepsTurn self.old self.new }
     {
         let a = self.a;
         self.a = self.b;
@@ -27,7 +27,7 @@ impl Cpu {
     #[inline(always)]
     pub(crate) fn byte_subscript(&mut self)
         ensures answer { (m : List ℕ) → Went self.new m ≡ row op.ByteSubscript self.old m }
-        ensures kept { AreKept self.old self.new }
+        ensures kept { KeepsTurn self.old self.new }
     {
         self.binary(self.a.wrapping_add(self.b));
     }
@@ -36,7 +36,7 @@ impl Cpu {
     #[inline(always)]
     pub(crate) fn difference(&mut self)
         ensures answer { (m : List ℕ) → Went self.new m ≡ row op.Difference self.old m }
-        ensures kept { AreKept self.old self.new }
+        ensures kept { KeepsTurn self.old self.new }
     {
         self.binary(self.b.wrapping_sub(self.a));
     }
@@ -45,7 +45,7 @@ impl Cpu {
     #[inline(always)]
     pub(crate) fn add(&mut self) -> Result<(), Fault>
         ensures answer { (m : List ℕ) → plain_outcome result self.new m ≡ row op.Add self.old m }
-        ensures kept { AreKept self.old self.new }
+        ensures kept { KeepsTurn self.old self.new }
     {
         let (sum, overflows) = add_checked(self.b, self.a);
         self.binary(sum);
@@ -56,7 +56,7 @@ impl Cpu {
     #[inline(always)]
     pub(crate) fn product(&mut self)
         ensures answer { (m : List ℕ) → Went self.new m ≡ row op.Product self.old m }
-        ensures kept { AreKept self.old self.new }
+        ensures kept { KeepsTurn self.old self.new }
     {
         self.binary(self.b.wrapping_mul(self.a));
     }
@@ -65,7 +65,7 @@ impl Cpu {
     #[inline(always)]
     pub(crate) fn greater_than(&mut self)
         ensures answer { (m : List ℕ) → Went self.new m ≡ row op.GreaterThan self.old m }
-        ensures kept { AreKept self.old self.new }
+        ensures kept { KeepsTurn self.old self.new }
     {
         self.binary(u32::from(signed(self.a) < signed(self.b)));
     }
@@ -74,7 +74,7 @@ impl Cpu {
     #[inline(always)]
     pub(crate) fn word_subscript(&mut self)
         ensures answer { (m : List ℕ) → Went self.new m ≡ row op.WordSubscript self.old m }
-        ensures kept { AreKept self.old self.new }
+        ensures kept { KeepsTurn self.old self.new }
     {
         self.binary(self.a.wrapping_add(4u32.wrapping_mul(self.b)));
     }
@@ -83,7 +83,7 @@ impl Cpu {
     #[inline(always)]
     pub(crate) fn subtract(&mut self) -> Result<(), Fault>
         ensures answer { (m : List ℕ) → plain_outcome result self.new m ≡ row op.Subtract self.old m }
-        ensures kept { AreKept self.old self.new }
+        ensures kept { KeepsTurn self.old self.new }
     {
         let (rest, overflows) = sub_checked(self.b, self.a);
         self.binary(rest);
@@ -94,7 +94,7 @@ impl Cpu {
     #[inline(always)]
     pub(crate) fn sum(&mut self)
         ensures answer { (m : List ℕ) → Went self.new m ≡ row op.Sum self.old m }
-        ensures kept { AreKept self.old self.new }
+        ensures kept { KeepsTurn self.old self.new }
     {
         self.binary(self.b.wrapping_add(self.a));
     }
@@ -103,7 +103,7 @@ impl Cpu {
     #[inline(always)]
     pub(crate) fn multiply(&mut self) -> Result<(), Fault>
         ensures answer { (m : List ℕ) → plain_outcome result self.new m ≡ row op.Multiply self.old m }
-        ensures kept { AreKept self.old self.new }
+        ensures kept { KeepsTurn self.old self.new }
     {
         let (product, overflows) = mul_checked(self.b, self.a);
         self.binary(product);
@@ -130,7 +130,7 @@ impl Cpu {
     #[inline(always)]
     pub(crate) fn minimum_integer(&mut self)
         ensures answer { (m : List ℕ) → Went self.new m ≡ row op.MinimumInteger self.old m }
-        ensures kept { AreKept self.old self.new }
+        ensures kept { KeepsTurn self.old self.new }
     {
         self.push(0x8000_0000);
     }

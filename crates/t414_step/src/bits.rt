@@ -7,7 +7,7 @@ use crate::cpu::Cpu;
 #[tactic(auto, unfolding(crate::specs::Rows::row))]
 impl Cpu {
     ghost use Rattle.t414_decode.specs.declared.instruction.PlainOperation.TheVariants as op;
-    ghost use Rattle.t414_step.specs.Next.{AreKept};
+    ghost use Rattle.t414_step.specs.Next.{KeepsTurn};
     ghost use Rattle.t414_step.specs.Outcome.{Went};
     ghost use Rattle.t414_step.specs.Rows.{row};
 
@@ -15,7 +15,7 @@ impl Cpu {
     #[inline(always)]
     pub(crate) fn and(&mut self)
         ensures answer { (m : List ℕ) → Went self.new m ≡ row op.And self.old m }
-        ensures kept { AreKept self.old self.new }
+        ensures kept { KeepsTurn self.old self.new }
     {
         self.binary(self.b & self.a);
     }
@@ -24,7 +24,7 @@ impl Cpu {
     #[inline(always)]
     pub(crate) fn or(&mut self)
         ensures answer { (m : List ℕ) → Went self.new m ≡ row op.Or self.old m }
-        ensures kept { AreKept self.old self.new }
+        ensures kept { KeepsTurn self.old self.new }
     {
         self.binary(self.b | self.a);
     }
@@ -33,7 +33,7 @@ impl Cpu {
     #[inline(always)]
     pub(crate) fn exclusive_or(&mut self)
         ensures answer { (m : List ℕ) → Went self.new m ≡ row op.ExclusiveOr self.old m }
-        ensures kept { AreKept self.old self.new }
+        ensures kept { KeepsTurn self.old self.new }
     {
         self.binary(self.b ^ self.a);
     }
@@ -42,7 +42,7 @@ impl Cpu {
     #[inline(always)]
     pub(crate) fn not(&mut self)
         ensures answer { (m : List ℕ) → Went self.new m ≡ row op.Not self.old m }
-        ensures kept { AreKept self.old self.new }
+        ensures kept { KeepsTurn self.old self.new }
     {
         self.a = !self.a;
     }
@@ -51,7 +51,7 @@ impl Cpu {
     #[inline(always)]
     pub(crate) fn shift_left(&mut self)
         ensures answer { (m : List ℕ) → Went self.new m ≡ row op.ShiftLeft self.old m }
-        ensures kept { AreKept self.old self.new }
+        ensures kept { KeepsTurn self.old self.new }
     {
         self.binary(self.b.checked_shl(self.a).unwrap_or(0));
     }
@@ -60,7 +60,7 @@ impl Cpu {
     #[inline(always)]
     pub(crate) fn shift_right(&mut self)
         ensures answer { (m : List ℕ) → Went self.new m ≡ row op.ShiftRight self.old m }
-        ensures kept { AreKept self.old self.new }
+        ensures kept { KeepsTurn self.old self.new }
     {
         self.binary(self.b.checked_shr(self.a).unwrap_or(0));
     }

@@ -8,7 +8,7 @@ use node_memory::{Fault, Memory, signed};
 #[tactic(auto, unfolding(crate::specs::Rows::row))]
 impl Cpu {
     ghost use Rattle.t414_decode.specs.declared.instruction.PlainOperation.TheVariants as op;
-    ghost use Rattle.t414_step.specs.Next.{AreKept, turned_back};
+    ghost use Rattle.t414_step.specs.Next.{KeepsTurn, turned_back};
     ghost use Rattle.t414_step.specs.Outcome.{plain_outcome, Went};
     ghost use Rattle.t414_step.specs.Rows.{row};
 
@@ -26,7 +26,7 @@ impl Cpu {
     #[inline(always)]
     pub(crate) fn return_from_call(&mut self, memory: &Memory) -> Result<(), Fault>
         ensures answer { plain_outcome result self.new memory.now ≡ row op.Return self.old memory.now }
-        ensures kept { AreKept self.old self.new }
+        ensures kept { KeepsTurn self.old self.new }
     {
         self.instruction = memory.word(self.workspace)?;
         self.set_workspace(self.workspace.wrapping_add(16));
@@ -37,7 +37,7 @@ impl Cpu {
     #[inline(always)]
     pub(crate) fn turn_back(&mut self, memory: &mut Memory) -> Result<bool, Fault>
         ensures answer { turned_back result self.new memory.new ≡ row op.LoopEnd self.old memory.old }
-        ensures kept { AreKept self.old self.new }
+        ensures kept { KeepsTurn self.old self.new }
     {
         let counter = self.b.wrapping_add(4);
         let count = memory.word(counter)?;

@@ -8,7 +8,7 @@ use node_memory::{Fault, Memory, add_checked};
 #[tactic(auto, unfolding(crate::specs::Rows::direct))]
 impl Cpu {
     ghost use Rattle.t414_decode.specs.declared.instruction.Function.TheVariants as function;
-    ghost use Rattle.t414_step.specs.Next.{AreKept};
+    ghost use Rattle.t414_step.specs.Next.{KeepsTurn};
     ghost use Rattle.t414_step.specs.Outcome.{plain_outcome, Went};
     ghost use Rattle.t414_step.specs.Rows.{direct, error_if, save, slice};
 
@@ -16,7 +16,7 @@ impl Cpu {
     #[inline(always)]
     pub(crate) fn raise_if(&mut self, raised: bool) -> Result<(), Fault>
         ensures answer { (m : List ℕ) → plain_outcome result self.new m ≡ error_if raised self.old m }
-        ensures kept { AreKept self.old self.new }
+        ensures kept { KeepsTurn self.old self.new }
     {
         if raised {
             if self.halt_on_error {
@@ -53,7 +53,7 @@ impl Cpu {
     #[inline(always)]
     pub(crate) fn jump(&mut self, operand: u32)
         ensures answer { (m : List ℕ) → slice self.new m ≡ direct function.Jump operand self.old m }
-        ensures kept { AreKept self.old self.new }
+        ensures kept { KeepsTurn self.old self.new }
     {
         self.instruction = self.instruction.wrapping_add(operand);
     }
@@ -62,7 +62,7 @@ impl Cpu {
     #[inline(always)]
     pub(crate) fn load_local_pointer(&mut self, operand: u32)
         ensures answer { (m : List ℕ) → Went self.new m ≡ direct function.LoadLocalPointer operand self.old m }
-        ensures kept { AreKept self.old self.new }
+        ensures kept { KeepsTurn self.old self.new }
     {
         self.push(self.local(operand));
     }
@@ -71,7 +71,7 @@ impl Cpu {
     #[inline(always)]
     pub(crate) fn load_local(&mut self, memory: &Memory, operand: u32) -> Result<(), Fault>
         ensures answer { plain_outcome result self.new memory.now ≡ direct function.LoadLocal operand self.old memory.now }
-        ensures kept { AreKept self.old self.new }
+        ensures kept { KeepsTurn self.old self.new }
     {
         let word = memory.word(self.local(operand))?;
         self.push(word);
@@ -82,7 +82,7 @@ impl Cpu {
     #[inline(always)]
     pub(crate) fn store_local(&mut self, memory: &mut Memory, operand: u32) -> Result<(), Fault>
         ensures answer { plain_outcome result self.new memory.new ≡ direct function.StoreLocal operand self.old memory.old }
-        ensures kept { AreKept self.old self.new }
+        ensures kept { KeepsTurn self.old self.new }
     {
         memory.set_word(self.local(operand), self.a)?;
         self.discard();
@@ -93,7 +93,7 @@ impl Cpu {
     #[inline(always)]
     pub(crate) fn add_constant(&mut self, operand: u32) -> Result<(), Fault>
         ensures answer { (m : List ℕ) → plain_outcome result self.new m ≡ direct function.AddConstant operand self.old m }
-        ensures kept { AreKept self.old self.new }
+        ensures kept { KeepsTurn self.old self.new }
     {
         let (sum, overflows) = add_checked(self.a, operand);
         self.a = sum;
@@ -104,7 +104,7 @@ impl Cpu {
     #[inline(always)]
     pub(crate) fn call(&mut self, memory: &mut Memory, operand: u32) -> Result<(), Fault>
         ensures answer { plain_outcome result self.new memory.new ≡ direct function.Call operand self.old memory.old }
-        ensures kept { AreKept self.old self.new }
+        ensures kept { KeepsTurn self.old self.new }
     {
         let workspace = self.workspace;
         memory.set_word(workspace.wrapping_sub(4), self.c)?;
@@ -121,7 +121,7 @@ impl Cpu {
     #[inline(always)]
     pub(crate) fn conditional_jump(&mut self, operand: u32)
         ensures answer { (m : List ℕ) → Went self.new m ≡ direct function.ConditionalJump operand self.old m }
-        ensures kept { AreKept self.old self.new }
+        ensures kept { KeepsTurn self.old self.new }
     {
         if self.a == 0 {
             self.instruction = self.instruction.wrapping_add(operand);
@@ -134,7 +134,7 @@ impl Cpu {
     #[inline(always)]
     pub(crate) fn prefix(&mut self, operand: u32)
         ensures answer { (m : List ℕ) → Went self.new m ≡ direct function.Prefix operand self.old m }
-        ensures kept { AreKept self.old self.new }
+        ensures kept { KeepsTurn self.old self.new }
     {
         self.operand = operand << 4;
     }
@@ -143,7 +143,7 @@ impl Cpu {
     #[inline(always)]
     pub(crate) fn negative_prefix(&mut self, operand: u32)
         ensures answer { (m : List ℕ) → Went self.new m ≡ direct function.NegativePrefix operand self.old m }
-        ensures kept { AreKept self.old self.new }
+        ensures kept { KeepsTurn self.old self.new }
     {
         self.operand = !operand << 4;
     }
@@ -152,7 +152,7 @@ impl Cpu {
     #[inline(always)]
     pub(crate) fn load_non_local(&mut self, memory: &Memory, operand: u32) -> Result<(), Fault>
         ensures answer { plain_outcome result self.new memory.now ≡ direct function.LoadNonLocal operand self.old memory.now }
-        ensures kept { AreKept self.old self.new }
+        ensures kept { KeepsTurn self.old self.new }
     {
         self.a = memory.word(self.beyond(operand))?;
         Ok(())
@@ -162,7 +162,7 @@ impl Cpu {
     #[inline(always)]
     pub(crate) fn load_constant(&mut self, operand: u32)
         ensures answer { (m : List ℕ) → Went self.new m ≡ direct function.LoadConstant operand self.old m }
-        ensures kept { AreKept self.old self.new }
+        ensures kept { KeepsTurn self.old self.new }
     {
         self.push(operand);
     }
@@ -171,7 +171,7 @@ impl Cpu {
     #[inline(always)]
     pub(crate) fn load_non_local_pointer(&mut self, operand: u32)
         ensures answer { (m : List ℕ) → Went self.new m ≡ direct function.LoadNonLocalPointer operand self.old m }
-        ensures kept { AreKept self.old self.new }
+        ensures kept { KeepsTurn self.old self.new }
     {
         self.a = self.beyond(operand);
     }
@@ -180,7 +180,7 @@ impl Cpu {
     #[inline(always)]
     pub(crate) fn adjust_workspace(&mut self, operand: u32)
         ensures answer { (m : List ℕ) → Went self.new m ≡ direct function.AdjustWorkspace operand self.old m }
-        ensures kept { AreKept self.old self.new }
+        ensures kept { KeepsTurn self.old self.new }
     {
         self.set_workspace(self.local(operand));
     }
@@ -189,7 +189,7 @@ impl Cpu {
     #[inline(always)]
     pub(crate) fn equals_constant(&mut self, operand: u32)
         ensures answer { (m : List ℕ) → Went self.new m ≡ direct function.EqualsConstant operand self.old m }
-        ensures kept { AreKept self.old self.new }
+        ensures kept { KeepsTurn self.old self.new }
     {
         self.a = u32::from(self.a == operand);
     }
@@ -198,7 +198,7 @@ impl Cpu {
     #[inline(always)]
     pub(crate) fn store_non_local(&mut self, memory: &mut Memory, operand: u32) -> Result<(), Fault>
         ensures answer { plain_outcome result self.new memory.new ≡ direct function.StoreNonLocal operand self.old memory.old }
-        ensures kept { AreKept self.old self.new }
+        ensures kept { KeepsTurn self.old self.new }
     {
         memory.set_word(self.beyond(operand), self.b)?;
         self.discard_two();

@@ -27,7 +27,7 @@ macro_rules! next {
 impl Cpu {
     ghost use Rattle.t414_decode.specs.Codes.{operation_of};
     ghost use Rattle.t414_step.specs.ChannelRows.{channel_row};
-    ghost use Rattle.t414_step.specs.Next.{AreKept, outcome_of};
+    ghost use Rattle.t414_step.specs.Next.{KeepsTurn, outcome_of};
     ghost use Rattle.t414_step.specs.Outcome.{plain_outcome, finished, with_links};
     ghost use Rattle.t414_step.specs.Rows.{row, operate, direct};
     ghost use Rattle.t414_step.specs.Step.{byte_done};
@@ -125,7 +125,7 @@ impl Cpu {
     #[inline(always)]
     fn perform(&mut self, memory: &mut Memory, operation: PlainOperation) -> Next
         ensures answer { outcome_of result self.new memory.new ≡ row operation self.old memory.old }
-        ensures kept { AreKept self.old self.new }
+        ensures kept { KeepsTurn self.old self.new }
     {
         match operation {
             PlainOperation::Reverse => next!(self.reverse()),
@@ -179,7 +179,7 @@ impl Cpu {
     #[inline(always)]
     fn operate(&mut self, memory: &mut Memory, code: u32) -> Next
         ensures answer { outcome_of result self.new memory.new ≡ operate (operation_of code) code self.old memory.old }
-        ensures kept { AreKept self.old self.new }
+        ensures kept { KeepsTurn self.old self.new }
     {
         match operation(code) {
             Some(Operation::Plain(operation)) => self.perform(memory, operation),
@@ -192,7 +192,7 @@ impl Cpu {
     #[inline(always)]
     fn apply(&mut self, memory: &mut Memory, function: Function, operand: u32) -> Next
         ensures answer { outcome_of result self.new memory.new ≡ direct function operand self.old memory.old }
-        ensures kept { AreKept self.old self.new }
+        ensures kept { KeepsTurn self.old self.new }
     {
         match function {
             Function::Jump => {

@@ -8,7 +8,7 @@ use node_memory::{Fault, signed};
 #[tactic(auto, unfolding(crate::specs::Rows::row))]
 impl Cpu {
     ghost use Rattle.t414_decode.specs.declared.instruction.PlainOperation.TheVariants as op;
-    ghost use Rattle.t414_step.specs.Next.{AreKept};
+    ghost use Rattle.t414_step.specs.Next.{KeepsTurn};
     ghost use Rattle.t414_step.specs.Outcome.{plain_outcome, Went};
     ghost use Rattle.t414_step.specs.Rows.{row};
 
@@ -65,7 +65,7 @@ impl Cpu {
     #[inline(always)]
     pub(crate) fn check_subscript_from_zero(&mut self) -> Result<(), Fault>
         ensures answer { (m : List ℕ) → plain_outcome result self.new m ≡ row op.CheckSubscriptFromZero self.old m }
-        ensures kept { AreKept self.old self.new }
+        ensures kept { KeepsTurn self.old self.new }
     {
         let raised = self.a <= self.b;
         self.discard();

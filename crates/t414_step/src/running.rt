@@ -6,7 +6,7 @@ ghost use Rattle.t414_step.specs.Answers.{step_answer_of};
 ghost use Rattle.t414_step.specs.Next.{outcome_of};
 ghost use Rattle.t414_step.specs.Outcome.{with_links};
 ghost use Rattle.t414_step.specs.Step.{byte_answer, step};
-ghost use Rattle.t414_step.specs.Steps.{steps};
+ghost use Rattle.t414_step.specs.Steps.{nth_step};
 ghost use Rattle.t414_step.specs.declared.stepping.Stepped.TheVariants as code;
 
 use crate::cpu::Cpu;
@@ -26,12 +26,13 @@ fn counted(before: u32, more: u64) -> u32
 impl Cpu {
     // Instruction bytes up to the nth, or to the first that asks for more than the loop does: how many were begun, and
     // what the last of them came to. The loop takes the address of no register.
+    // Six clauses: three say when it may be called, and three what it answers.
     #[inline(always)]
     fn run_bytes(&mut self, memory: &mut Memory, links: &Links, most: u64) -> (u64, Next)
         requires running { self.old.running ≡ true }
         requires rest { any_has_work links.now ≡ false }
         requires some { 0 < most }
-        ensures answer { steps result.0 self.old links.now memory.old ≡ Some (byte_answer (with_links links.now (outcome_of result.1 self.new memory.new))) }
+        ensures answer { nth_step result.0 self.old links.now memory.old ≡ Some (byte_answer (with_links links.now (outcome_of result.1 self.new memory.new))) }
         ensures some { 0 < result.0 }
         ensures most { result.0 ≤ most }
     {
@@ -67,7 +68,7 @@ impl Cpu {
     #[inline(always)]
     fn run_on(&mut self, memory: &mut Memory, links: &mut Links, most: u64) -> (u64, Stepped)
         requires some { 0 < most }
-        ensures answer { steps result.0 self.old links.old memory.old ≡ Some (step_answer_of result.1 self.new links.new memory.new) }
+        ensures answer { nth_step result.0 self.old links.old memory.old ≡ Some (step_answer_of result.1 self.new links.new memory.new) }
         ensures some { 0 < result.0 }
         ensures most { result.0 ≤ most }
     {
@@ -97,7 +98,7 @@ impl Cpu {
 /// of them answered. It is `Ran` if there was none.
 #[inline(never)]
 pub fn run(cpu: &mut Cpu, memory: &mut Memory, links: &mut Links, most: u64) -> (u64, Stepped)
-    ensures answer { steps result.0 cpu.old links.old memory.old ≡ Some (step_answer_of result.1 cpu.new links.new memory.new) }
+    ensures answer { nth_step result.0 cpu.old links.old memory.old ≡ Some (step_answer_of result.1 cpu.new links.new memory.new) }
     ensures most { result.0 ≤ most }
     ensures all { result.1 ≡ code.Ran → result.0 ≡ most }
     ensures some { ¬ (result.1 ≡ code.Ran) → 0 < result.0 }

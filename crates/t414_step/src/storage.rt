@@ -8,7 +8,7 @@ use node_memory::{Fault, Memory};
 #[tactic(auto, unfolding(crate::specs::Rows::row))]
 impl Cpu {
     ghost use Rattle.t414_decode.specs.declared.instruction.PlainOperation.TheVariants as op;
-    ghost use Rattle.t414_step.specs.Next.{AreKept};
+    ghost use Rattle.t414_step.specs.Next.{KeepsTurn};
     ghost use Rattle.t414_step.specs.Outcome.{plain_outcome, Went};
     ghost use Rattle.t414_step.specs.Rows.{row};
 
@@ -16,7 +16,7 @@ impl Cpu {
     #[inline(always)]
     pub(crate) fn load_byte(&mut self, memory: &Memory) -> Result<(), Fault>
         ensures answer { plain_outcome result self.new memory.now ≡ row op.LoadByte self.old memory.now }
-        ensures kept { AreKept self.old self.new }
+        ensures kept { KeepsTurn self.old self.new }
     {
         self.a = u32::from(memory.byte(self.a)?);
         Ok(())
@@ -26,7 +26,7 @@ impl Cpu {
     #[inline(always)]
     pub(crate) fn store_byte(&mut self, memory: &mut Memory) -> Result<(), Fault>
         ensures answer { plain_outcome result self.new memory.new ≡ row op.StoreByte self.old memory.old }
-        ensures kept { AreKept self.old self.new }
+        ensures kept { KeepsTurn self.old self.new }
     {
         memory.set_byte(self.a, (self.b % 0x100) as u8)?;
         self.discard_two();

@@ -5,5 +5,7 @@ use Rattle.farm_replay.proofs.Lines.{AreLinesSoFar}
 use Rattle.farm_replay.proofs.replaying.answer_requests.Given as goal
 
 abbrev pub invariant-loop-request : goal.invariant-loop-request
-invariant-loop-request l =
-    (length l.lines.items ≡ l.request-index) × AreLinesSoFar (places_of l.plan) (map asked_by (take l.request-index l.requests)) (map string_bytes l.lines.items) l.farm.farm
+invariant-loop-request g l =
+    (length l.lines.items ≡ l.request-index)
+    × AreLinesSoFar (places_of l.plan) (map asked_by (take l.request-index l.requests)) (map string_bytes l.lines.items)
+    l.farm.farm

@@ -4,9 +4,11 @@ use Rattle.line_answers.proofs.asking.configure_all.Goals as goal
 
 pub loop-byte-preserved : goal.loop-byte-preserved
 loop-byte-preserved g c =
-    config_more c.args.bytes.now c.args.session.now c.loop-byte.session c.configure.new.self c.loop-byte.byte-index c.in_ok-configure.field-0 c.loop-byte.invariant (search rules) c.in_ok-configure.ensures.list
+    config_more c.args.bytes.now c.args.session.now c.loop-byte.session c.configure.new.self c.loop-byte.byte-index
+    c.in_ok-configure.field-0 c.loop-byte.invariant (search rules) c.in_ok-configure.ensures.list
 
 pub returns : goal.returns
 returns g c =
     config_ended c.args.bytes.now c.args.session.now c.loop-byte.session tt
-    (subst (λ (i : ℕ). IsConfiguring c.args.bytes.now c.args.session.now c.loop-byte.session i) (search rules) c.loop-byte.invariant)
+    (subst (λ (i : ℕ). IsConfiguring c.args.bytes.now c.args.session.now c.loop-byte.session i) (search rules)
+    c.loop-byte.invariant)

@@ -7,12 +7,19 @@ use Rattle.line_answers.proofs.asking.read_all.Goals as goal
 use Rattle.line_answers.proofs.asking.read_all.Goals.{in-None, in-Some+in_ok-read+then-not-is_byte}
 
 pub loop-preserved : goal.loop-preserved
-loop-preserved g c = (tt, tt, collect_more c.args.host c.args.session.now c.loop.session c.read.new.self c.in_ok-read.field-0 c.loop.invariant.2 c.in_ok-read.ensures.list (search rules))
+loop-preserved g c = (
+  tt,
+  tt,
+  collect_more c.args.host c.args.session.now c.loop.session c.read.new.self c.in_ok-read.field-0 c.loop.invariant.2
+      c.in_ok-read.ensures.list (search rules),
+)
 
 pub returns : goal.returns
 returns g c = elim c.match-next.branch [
   | in-None w ↦ search rules
   | in-Some+in_ok-read+then-not-is_byte w ↦
-      subst (λ (v : SessionValue). AsksJust {A = Unit {0}} (next_collect c.args.host) c.args.session.now (Ok tt) v) (sym w.session-is)
-      (collect_none c.args.host c.args.session.now c.loop.session w.read.new.self w.in_ok-read.field-0 tt c.loop.invariant.2 w.in_ok-read.ensures.list (search rules))
+      subst (λ (v : SessionValue). AsksJust {A = Unit {0}} (next_collect c.args.host) c.args.session.now (Ok tt) v)
+      (sym w.session-is)
+      (collect_none c.args.host c.args.session.now c.loop.session w.read.new.self w.in_ok-read.field-0 tt
+      c.loop.invariant.2 w.in_ok-read.ensures.list (search rules))
 ]

@@ -4,15 +4,18 @@ use Rattle.line_answers.proofs.asking.read_up_to.Goals as goal
 
 pub returns-then-not-is_byte : goal.returns-then-not-is_byte
 returns-then-not-is_byte g c =
-    read_none c.args.host c.args.count c.args.session.now c.loop-index.session c.read.new.self c.loop-index._index c.in_ok-read.field-0 tt c.loop-index.invariant (search rules)
+    read_none c.args.host c.args.count c.args.session.now c.loop-index.session c.read.new.self c.loop-index._index
+    c.in_ok-read.field-0 tt c.loop-index.invariant (search rules)
     c.in_ok-read.ensures.list (search rules)
 
 pub loop-index-preserved : goal.loop-index-preserved
 loop-index-preserved g c =
-    read_more c.args.host c.args.count c.args.session.now c.loop-index.session c.read.new.self c.loop-index._index c.in_ok-read.field-0 c.loop-index.invariant (search rules)
+    read_more c.args.host c.args.count c.args.session.now c.loop-index.session c.read.new.self c.loop-index._index
+    c.in_ok-read.field-0 c.loop-index.invariant (search rules)
     c.in_ok-read.ensures.list (search rules)
 
 pub returns : goal.returns
 returns g c =
     read_ended c.args.host c.args.count c.args.session.now c.loop-index.session tt
-    (subst (λ (i : ℕ). IsReading c.args.host c.args.count c.args.session.now c.loop-index.session i) (search rules) c.loop-index.invariant)
+    (subst (λ (i : ℕ). IsReading c.args.host c.args.count c.args.session.now c.loop-index.session i) (search rules)
+    c.loop-index.invariant)

@@ -4,15 +4,18 @@ use Rattle.line_answers.proofs.asking.write_all.Goals as goal
 
 pub returns-then-had_no_room : goal.returns-then-had_no_room
 returns-then-had_no_room g c =
-    write_full c.args.host c.args.bytes.now c.args.session.now c.loop-byte.session c.write.new.self c.loop-byte.byte-index c.in_ok-write.field-0 tt c.loop-byte.invariant (search rules)
+    write_full c.args.host c.args.bytes.now c.args.session.now c.loop-byte.session c.write.new.self
+    c.loop-byte.byte-index c.in_ok-write.field-0 tt c.loop-byte.invariant (search rules)
     c.in_ok-write.ensures.list (search rules)
 
 pub loop-byte-preserved : goal.loop-byte-preserved
 loop-byte-preserved g c =
-    write_more c.args.host c.args.bytes.now c.args.session.now c.loop-byte.session c.write.new.self c.loop-byte.byte-index c.in_ok-write.field-0 c.loop-byte.invariant (search rules)
+    write_more c.args.host c.args.bytes.now c.args.session.now c.loop-byte.session c.write.new.self
+    c.loop-byte.byte-index c.in_ok-write.field-0 c.loop-byte.invariant (search rules)
     c.in_ok-write.ensures.list (search rules)
 
 pub returns : goal.returns
 returns g c =
     write_ended c.args.host c.args.bytes.now c.args.session.now c.loop-byte.session tt
-    (subst (λ (i : ℕ). IsWriting c.args.host c.args.bytes.now c.args.session.now c.loop-byte.session i) (search rules) c.loop-byte.invariant)
+    (subst (λ (i : ℕ). IsWriting c.args.host c.args.bytes.now c.args.session.now c.loop-byte.session i) (search rules)
+    c.loop-byte.invariant)

@@ -4,5 +4,6 @@ use Rattle.line_answers.proofs.line.answer_line.Goals as goal
 
 pub returns-clause-line : goal.returns-clause-line
 returns-clause-line g c =
-    last_answered c.write_line.result c.args.name.now c.args.command.now c.args.session.now c.ask_line-ended.new.session c.ask_line-ended.result c.ask_line-ended.ensures
+    last_answered c.write_line.result c.args.name.now c.args.command.now c.args.session.now c.ask_line-ended.new.session
+    c.ask_line-ended.result c.ask_line-ended.ensures
     c.told-before.result.now c.told.result.now _ _ c.told-before.ensures c.told.ensures c.write_line.ensures

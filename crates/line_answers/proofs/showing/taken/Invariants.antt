@@ -5,4 +5,5 @@ use Rattle.line_answers.specs.Results.{is_written}
 use Rattle.line_answers.proofs.showing.taken.Given as goal
 
 abbrev pub invariant-loop-it : goal.invariant-loop-it
-invariant-loop-it l = (l.count ≡ length (filter is_written (replies_told (take l.it-index l.told)))) × (l.count ≤ l.it-index)
+invariant-loop-it l =
+    (l.count ≡ length (filter is_written (replies_told (take l.it-index l.told)))) × (l.count ≤ l.it-index)

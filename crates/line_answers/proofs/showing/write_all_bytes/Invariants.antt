@@ -6,4 +6,6 @@ use Rattle.line_answers.specs.Results.{bytes_in}
 use Rattle.line_answers.proofs.showing.write_all_bytes.Given as goal
 
 abbrev pub invariant-loop-it : goal.invariant-loop-it
-invariant-loop-it l = string_bytes l.text ≡ string_bytes l.fn.text ++ flat_map byte_text (bytes_in (replies_told (take l.it-index l.told)))
+invariant-loop-it l =
+    string_bytes l.text
+    ≡ string_bytes l.fn.text ++ flat_map byte_text (bytes_in (replies_told (take l.it-index l.told)))

@@ -7,6 +7,9 @@ pub loop-rest-preserved : goal.loop-rest-preserved
 loop-rest-preserved c =
     let lines = c.loop-rest.lines.items in (
       rw c.in_ok-push.ensures.items (search (rules, c.split_line.ensures.rest, c.loop-rest.invariant)),
-      rw c.in_ok-push.ensures.items (one_more (λ k line. IsLine c.args.text.now k line.text.now) lines _ c.loop-rest.invariant.1 (search (rules, c.loop-rest.invariant.0))),
-      rw c.in_ok-push.ensures.items (one_more (λ k line. line.number ≡ k + 1) lines _ c.loop-rest.invariant.2 (search rules)),
+      rw c.in_ok-push.ensures.items
+          (one_more (λ k line. IsLine c.args.text.now k line.text.now) lines _ c.loop-rest.invariant.1
+          (search (rules, c.loop-rest.invariant.0))),
+      rw c.in_ok-push.ensures.items
+          (one_more (λ k line. line.number ≡ k + 1) lines _ c.loop-rest.invariant.2 (search rules)),
     )

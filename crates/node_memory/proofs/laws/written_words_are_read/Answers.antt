@@ -1,4 +1,5 @@
-use Rattle.node_memory.proofs.Writes.{word_at-with_word_same, word_at-with_word_other, word_at-same_word, byte_at-with_word, length-with_word, word_at-unwritten, with_word-unread}
+use Rattle.node_memory.proofs.Writes.{word_at-with_word_same, word_at-with_word_other, word_at-same_word}
+use Rattle.node_memory.proofs.Writes.{byte_at-with_word, length-with_word, word_at-unwritten, with_word-unread}
 use Rattle.node_memory.proofs.laws.written_words_are_read.Goals as goal
 
 pub returns-clause-read : goal.returns-clause-read

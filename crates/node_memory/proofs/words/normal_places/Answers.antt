@@ -8,7 +8,8 @@ use Rattle.node_memory.proofs.words.normal_places.Goals as goal
 at_top : (a r j : ℕ) → r + suc j ≡ 64 → 2 ^ j ≤ a → a < 2 ^ suc j → (2 ^ 63 ≤ a * 2 ^ r) × (a * 2 ^ r < 2 ^ 64)
 at_top a r j e least most =
     let p : 2 ^ j * 2 ^ r ≡ 2 ^ 63 = sym (pow-add 2 j r) ∙ (let e : j + r ≡ 63 = omega arith in ap (λ k. 2 ^ k) e) in
-    let q : 2 ^ suc j * 2 ^ r ≡ 2 ^ 64 = sym (pow-add 2 (suc j) r) ∙ (let e : suc j + r ≡ 64 = omega arith in ap (λ k. 2 ^ k) e) in
+    let q : 2 ^ suc j * 2 ^ r ≡ 2 ^ 64 =
+    sym (pow-add 2 (suc j) r) ∙ (let e : suc j + r ≡ 64 = omega arith in ap (λ k. 2 ^ k) e) in
     let h = mul-le-mul_right (2 ^ r) least in
     let k = mul-lt-mul_of_pos_right most (pow_pos r) in
     (omega arith, omega arith)

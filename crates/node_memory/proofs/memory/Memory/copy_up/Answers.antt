@@ -16,7 +16,9 @@ loop-i-preserved c =
     let whole = length_memory c.self.inside.kept.items c.self.inside.size c.self.invariant.within in
     record {
       rest =
-          copied-more (c.args.count - c.loop-i.i) (c.args.count - (c.loop-i.i + 1)) m n (c.args.from + c.loop-i.i) (c.args.to + c.loop-i.i) _ _ c.in_ok-byte.byte (omega arith) (omega arith) (omega arith) read written ∙ c.loop-i.invariant.rest;
+          copied-more (c.args.count - c.loop-i.i) (c.args.count - (c.loop-i.i + 1)) m n (c.args.from + c.loop-i.i)
+          (c.args.to + c.loop-i.i) _ _ c.in_ok-byte.byte (omega arith) (omega arith) (omega arith) read written
+          ∙ c.loop-i.invariant.rest;
       from_fits = omega arith;
       to_fits = omega arith;
     }

@@ -2,7 +2,7 @@ use Rattle.std.proofs.Common.{◌≡◌, ◌+◌, min, Some, ◌∙◌, ap, sym,
 use Rattle.t414_step.specs.Next.{outcome_of}
 use Rattle.t414_step.specs.Outcome.{Went, with_links}
 use Rattle.t414_step.specs.Step.{Ran, byte_answer}
-use Rattle.t414_step.specs.Steps.{steps}
+use Rattle.t414_step.specs.Steps.{nth_step}
 use Rattle.t414_step.specs.declared.cpu.Cpu.{Cpu}
 use Rattle.t414_step.proofs.Steps.{steps-zero, byte-more, unsliced, recounted}
 use Rattle.t414_step.proofs.cpu.Cpu.run_bytes.Goals.{in-Byte, in-Jumped}
@@ -19,12 +19,18 @@ loop-done-init c = record {
 pub loop-done-preserved : goal.loop-done-preserved
 loop-done-preserved c =
     let new : c.do_byte.new.self.bytes ≡ min (c.loop-done.self.bytes + 1) 1024 = c.do_byte.ensures.counted in
-    let old : min c.loop-done.self.bytes 1024 ≡ min (c.args.self.now.bytes + c.loop-done.done) 1024 = c.loop-done.invariant.counted in
-    let ran : steps (c.loop-done.done + 1) c.args.self.now c.args.links.now c.args.memory.now ≡ Some (Ran c.do_byte.new.self c.args.links.now c.do_byte.new.memory) =
+    let old : min c.loop-done.self.bytes 1024 ≡ min (c.args.self.now.bytes + c.loop-done.done) 1024 =
+    c.loop-done.invariant.counted in
+    let ran : nth_step (c.loop-done.done + 1) c.args.self.now c.args.links.now c.args.memory.now
+    ≡ Some (Ran c.do_byte.new.self c.args.links.now c.do_byte.new.memory) =
     elim c.match-do_byte.branch [
-      | in-Byte w ↦ byte-more c.services_act_on_work.ensures.rest c.loop-done.done c.args.self.now c.loop-done.self c.args.links.now c.args.memory.now c.loop-done.memory (Went c.do_byte.new.self c.do_byte.new.memory)
+      | in-Byte w ↦
+          byte-more c.services_act_on_work.ensures.rest c.loop-done.done c.args.self.now c.loop-done.self
+          c.args.links.now c.args.memory.now c.loop-done.memory (Went c.do_byte.new.self c.do_byte.new.memory)
           c.requires.rest c.loop-done.invariant.ran c.loop-done.invariant.running w.in-Byte.ensures.answer
-      | in-Jumped w ↦ byte-more c.services_act_on_work.ensures.rest c.loop-done.done c.args.self.now c.loop-done.self c.args.links.now c.args.memory.now c.loop-done.memory (Went c.do_byte.new.self c.do_byte.new.memory)
+      | in-Jumped w ↦
+          byte-more c.services_act_on_work.ensures.rest c.loop-done.done c.args.self.now c.loop-done.self
+          c.args.links.now c.args.memory.now c.loop-done.memory (Went c.do_byte.new.self c.do_byte.new.memory)
           c.requires.rest c.loop-done.invariant.ran c.loop-done.invariant.running
           (sym (unsliced c.do_byte.new.self c.do_byte.new.memory (omega arith)) ∙ w.in-Jumped.ensures.answer)
     ] in
@@ -38,8 +44,13 @@ loop-done-preserved c =
 pub returns-in_default-clause-answer : goal.returns-in_default-clause-answer
 returns-in_default-clause-answer c =
     let new : c.do_byte.new.self.bytes ≡ min (c.loop-done.self.bytes + 1) 1024 = c.do_byte.ensures.counted in
-    let old : min c.loop-done.self.bytes 1024 ≡ min (c.args.self.now.bytes + c.loop-done.done) 1024 = c.loop-done.invariant.counted in
+    let old : min c.loop-done.self.bytes 1024 ≡ min (c.args.self.now.bytes + c.loop-done.done) 1024 =
+    c.loop-done.invariant.counted in
     let same : c.do_byte.new.self.bytes ≡ c.counted-self.result = omega arith in
-    byte-more c.services_act_on_work.ensures.rest c.loop-done.done c.args.self.now c.loop-done.self c.args.links.now c.args.memory.now c.loop-done.memory
-    (outcome_of c.do_byte.result c.do_byte.new.self c.do_byte.new.memory) c.requires.rest c.loop-done.invariant.ran c.loop-done.invariant.running c.do_byte.ensures.answer
-    ∙ ap (λ (s : Cpu). Some (byte_answer (with_links c.args.links.now (outcome_of c.do_byte.result s c.do_byte.new.memory)))) (recounted c.do_byte.new.self c.counted-self.result same)
+    byte-more c.services_act_on_work.ensures.rest c.loop-done.done c.args.self.now c.loop-done.self c.args.links.now
+    c.args.memory.now c.loop-done.memory
+    (outcome_of c.do_byte.result c.do_byte.new.self c.do_byte.new.memory) c.requires.rest c.loop-done.invariant.ran
+    c.loop-done.invariant.running c.do_byte.ensures.answer
+    ∙ ap (λ (s : Cpu). Some (byte_answer
+    (with_links c.args.links.now (outcome_of c.do_byte.result s c.do_byte.new.memory))))
+    (recounted c.do_byte.new.self c.counted-self.result same)

@@ -1,0 +1,50 @@
+-- How the domains of a farm go on by calls, and what a line shows of that.
+use Rattle.std.specs.Prelude.{◌≡◌, ℕ, List, All, ⊤}
+use Rattle.domain_core.specs.declared.event.By.TheVariants.{Farm as ByTheFarm}
+use Rattle.domain_core.specs.PrivateFarm.{Answer, Call}
+use Rattle.domain_core.specs.Domain.{DomainValue}
+use Rattle.farm_core.specs.Places.{Place}
+use Rattle.farm_core.specs.Whole.{Farm, whole_after, whole_opening}
+use Rattle.farm_core.specs.Domains.{IsMadeOf}
+use Rattle.farm_core.specs.Laws.{caller_answers_from}
+use Rattle.farm_core.specs.PlainFarm.{places_in, states_in, IsMadeOfDomains}
+use Rattle.farm_replay.specs.Plain.{Asked, Calls, Looks, Opens, Else, IsShownIn}
+
+-- the whole farm answers calls so, and is then made of these domains
+pub record IsRunTo (plan : List Place) (farm : Farm) (calls : List (ℕ × Call)) (told : List Answer) (new : List DomainValue) : Type 0 where
+  pub told_is : told ≡ caller_answers_from plan farm calls
+  pub made : IsMadeOf plan (whole_after plan farm calls) (states_in new)
+
+-- the same of every whole farm that is made of the domains before
+pub record HaveRun (old new : List DomainValue) (calls : List (ℕ × Call)) (told : List Answer) : Type 0 where
+  pub places : places_in new ≡ places_in old
+  pub each : (farm : Farm) → IsMadeOfDomains farm old → IsRunTo (places_in old) farm calls told new
+
+-- the domains are those of an opened farm
+pub record IsOpenedFarm (plan : List Place) (domains : List DomainValue) : Type 0 where
+  pub places : places_in domains ≡ plan
+  pub made : IsMadeOf plan (whole_opening plan) (states_in domains)
+
+-- a call of a domain for which the farm asks
+abbrev pub IsOfTheFarm : ℕ → ℕ × Call → Type 0
+IsOfTheFarm domain call = (call.0 ≡ domain) × (call.1.by ≡ ByTheFarm)
+
+-- the domains have gone on by calls of one of them, for which the farm asked, whatever they were answered
+pub record HasGoneOn (domain : ℕ) (old new : List DomainValue) : Type 0 where
+  pub calls : List (ℕ × Call)
+  pub told : List Answer
+  pub run : HaveRun old new calls told
+  pub farms : All (IsOfTheFarm domain) calls
+
+-- domains are called so, and the line shows the answers
+pub record ShowsRun (calls : List (ℕ × Call)) (old new : List DomainValue) (line : List ℕ) : Type 0 where
+  pub told : List Answer
+  pub run : HaveRun old new calls told
+  pub shown : IsShownIn line told
+
+-- what is asked does this to the domains, and a line shows the answers to calls
+abbrev pub ShowsAsked : List Place → Asked → List DomainValue → List DomainValue → List ℕ → Type 0
+ShowsAsked plan (Calls calls) old new line = ShowsRun calls old new line
+ShowsAsked plan Looks old new line = new ≡ old
+ShowsAsked plan Opens old new line = IsOpenedFarm plan new
+ShowsAsked plan Else old new line = ⊤

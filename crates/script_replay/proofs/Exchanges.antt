@@ -1,0 +1,267 @@
+-- What a line asks, event by event, and in one or two parts.
+use Rattle.std.proofs.Common.{◌≡◌, ℕ, Bool, true, false, List, [], ◌∷◌, ◌++◌, Some, None, Ok, Err}
+use Rattle.std.proofs.Common.{Result, Option, OnErr, refl, sym, ap, ◌∙◌, subst, append_assoc, inl, inr}
+use Rattle.std.proofs.lemmas.List.{append-nil, map-append}
+use Rattle.domain_core.specs.declared.event.Event.{Event}
+use Rattle.domain_core.specs.declared.event.Reply.{Reply}
+use Rattle.domain_core.specs.declared.event.Refusal.{Refusal}
+use Rattle.domain_core.specs.declared.event.Refusal.TheVariants.{NoSuch, JournalFull, NoMemory}
+use Rattle.domain_core.specs.Domain.{DomainValue, UnlessNoMemory}
+use Rattle.domain_core.specs.PrivateFarm.{Answer, Call}
+use Rattle.farm_core.specs.Laws.{RunsAddUp}
+use Rattle.farm_service.specs.declared.told.Told.{Told}
+use Rattle.farm_replay.specs.Runs.{HaveRun, HasGoneOn}
+use Rattle.script_replay.proofs.Runs.{no_calls, more_calls, gone_nowhere}
+use Rattle.line_answers.specs.Asks.{next_event, AreAsked}
+use Rattle.script_replay.specs.declared.asks.UserLine.{UserLine}
+use Rattle.script_replay.specs.Lines.{call_of_line, calls_of_line, answers_told, AsksOn}
+use Rattle.script_replay.specs.Lines.{IsStoppedBy, IsAtEnd, HasStopped, is_peek, GoesOnIf, HasEndedOn, AsksWhole}
+
+-- an event with its reply
+abbrev pub told_of : Event → Reply → Told
+told_of event reply = record { event = event; reply = reply }
+
+asked_more : (next : List Told → Option Event) (before told : List Told) (t : Told)
+    → AreAsked next before told → next (before ++ told) ≡ Some t.event
+    → AreAsked next before (told ++ t ∷ [])
+asked_more next before [] t a n = (subst (λ (b : List Told). next b ≡ Some t.event) (append-nil before) n, tt)
+asked_more next before (u ∷ told) t a n = (
+  a.0,
+  asked_more next (before ++ u ∷ []) told t a.1
+      (subst (λ (b : List Told). next b ≡ Some t.event) (sym (append_assoc before (u ∷ []) told)) n),
+)
+
+asked_append : (next : List Told → Option Event) (before xs ys : List Told)
+    → AreAsked next before xs → AreAsked next (before ++ xs) ys
+    → AreAsked next before (xs ++ ys)
+asked_append next before [] ys some more = subst (λ (b : List Told). AreAsked next b ys) (append-nil before) more
+asked_append next before (x ∷ xs) ys some more = (
+  some.0,
+  asked_append next (before ++ x ∷ []) xs ys some.1
+      (subst (λ (b : List Told). AreAsked next b ys) (sym (append_assoc before (x ∷ []) xs)) more),
+)
+
+-- before anything is asked
+pub asks_nothing : (l : UserLine) (told : List Told) (domains : List DomainValue) → AsksOn l told told domains domains
+asks_nothing l told domains = record { more = []; list = sym (append-nil told); asked = tt; run = no_calls domains }
+
+-- one event more
+pub asks_more : RunsAddUp
+    → (l : UserLine) (before told after : List Told) (a b c : List DomainValue) (e : Event) (r : Reply)
+    → AsksOn l before told a b → next_event l.command told ≡ Some e → after ≡ told ++ told_of e r ∷ []
+    → HaveRun b c (call_of_line l e ∷ []) (Ok r ∷ [])
+    → AsksOn l before after a c
+asks_more law l before told after a b c e r was n is one =
+    let t = told_of e r in
+    let calls : calls_of_line l (was.more ++ t ∷ []) ≡ calls_of_line l was.more ++ call_of_line l e ∷ [] =
+    map-append (λ (t : Told). call_of_line l t.event) was.more (t ∷ []) in
+    let answers : answers_told (was.more ++ t ∷ []) ≡ answers_told was.more ++ Ok r ∷ [] =
+    map-append (λ (t : Told). let answer : Answer = Ok t.reply in answer) was.more (t ∷ []) in
+    let both =
+    more_calls law a b c (calls_of_line l was.more) (call_of_line l e ∷ [])
+    (answers_told was.more) (Ok r ∷ []) was.run one in
+    record {
+      more = was.more ++ t ∷ [];
+      list = is ∙ ap (λ (xs : List Told). xs ++ t ∷ []) was.list ∙ append_assoc before was.more (t ∷ []);
+      asked =
+          asked_more (next_event l.command) before was.more t was.asked
+          (subst (λ (xs : List Told). next_event l.command xs ≡ Some e) was.list n);
+      run = subst (λ (asked : List (ℕ × Call)). HaveRun a c asked (answers_told (was.more ++ t ∷ []))) (sym calls)
+          (subst (λ (told : List Answer). HaveRun a c (calls_of_line l was.more ++ call_of_line l e ∷ []) told)
+          (sym answers) both);
+    }
+
+-- ---- how it stops
+
+-- a line of which nothing more is asked is at its end, whether or not it stops before it reads
+pub at_end : (stops : Bool) (l : UserLine) (told : List Told) → next_event l.command told ≡ None → IsAtEnd stops l told
+at_end true l told none = tt
+at_end false l told none = none
+
+-- a line that stops before it reads may stop anywhere
+pub before_reads : (stops : Bool) (l : UserLine) (told : List Told) → stops ≡ true → IsAtEnd stops l told
+before_reads stops l told is = subst (λ (s : Bool). IsAtEnd s l told) (sym is) tt
+
+-- what is asked next is refused, which changes nothing
+pub refused_next : (l : UserLine) (told : List Told) (old new : List DomainValue) (e : Event) (refusal : Refusal)
+    → next_event l.command told ≡ Some e → new ≡ old
+    → UnlessNoMemory (Err refusal) (HaveRun old new (call_of_line l e ∷ []) (Err refusal ∷ []))
+    → IsStoppedBy l told new refusal
+refused_next l told old new e NoSuch n same run =
+    record {
+      event = e;
+      next = n;
+      run =
+          subst (λ (d : List DomainValue). HaveRun d new (call_of_line l e ∷ []) (Err NoSuch ∷ [])) (sym same) run;
+    }
+refused_next l told old new e JournalFull n same run =
+    record {
+      event = e;
+      next = n;
+      run =
+          subst (λ (d : List DomainValue). HaveRun d new (call_of_line l e ∷ []) (Err JournalFull ∷ []))
+          (sym same) run;
+    }
+refused_next l told old new e NoMemory n same run = tt
+
+-- what was asked stands if the domains stay then
+pub asks_still : (l : UserLine) (before after : List Told) (a b c : List DomainValue)
+    → AsksOn l before after a b → c ≡ b
+    → AsksOn l before after a c
+asks_still l before after a b c asks same = subst (AsksOn l before after a) (sym same) asks
+
+-- ---- a whole line
+
+stays_if : (goes : Bool) (domain : ℕ) (domains : List DomainValue) → GoesOnIf goes domain domains domains
+stays_if true domain domains = gone_nowhere domain domains
+stays_if false domain domains = refl
+
+ended : {A : Type 0} (l : UserLine) (told : List Told) (domains : List DomainValue) (r : Result A Refusal)
+    → HasStopped false l told domains r
+    → HasEndedOn l told domains r
+ended l told domains (Ok a) stopped = stopped
+ended l told domains (Err refusal) stopped = inl stopped
+
+-- a line of one part
+pub one_part : {A : Type 0} (l : UserLine) (none told : List Told)
+    (old new : List DomainValue) (r : Result A Refusal)
+    → none ≡ [] → AsksOn l none told old new → HasEndedOn l told new r
+    → AsksWhole l told old new r
+one_part l none told old new r is asks over =
+    let own : AsksOn l [] told old new = subst (λ (before : List Told). AsksOn l before told old new) is asks in
+    record {
+      first = own.more;
+      second = [];
+      before = new;
+      after = new;
+      list = own.list ∙ sym (append-nil own.more);
+      asked = subst (AreAsked (next_event l.command) []) (sym own.list) own.asked;
+      begun = own.run;
+      between = stays_if (is_peek l.command) l.domain new;
+      finished = no_calls new;
+      ended = over;
+    }
+
+-- the same of a line that stopped as `ask_on` does
+pub one_part_ended : {A : Type 0} (l : UserLine) (none told : List Told)
+    (old new : List DomainValue) (r : Result A Refusal)
+    → none ≡ [] → AsksOn l none told old new → HasStopped false l told new r
+    → AsksWhole l told old new r
+one_part_ended l none told old new r is asks stopped =
+    one_part l none told old new r is asks (ended l told new r stopped)
+
+-- the same of a line that was refused
+pub one_part_refused : {A : Type 0} (l : UserLine) (none told : List Told)
+    (old new : List DomainValue) (refusal : Refusal)
+    → none ≡ []
+    → AsksOn l none told old new
+    → IsStoppedBy l told new refusal → AsksWhole {A = A} l told old new (Err refusal)
+one_part_refused l none told old new refusal is asks stopped =
+    one_part l none told old new (Err refusal) is asks (inl stopped)
+
+goes_if : (goes : Bool) (domain : ℕ) (old new : List DomainValue) → goes ≡ true → HasGoneOn domain old new
+    → GoesOnIf goes domain old new
+goes_if goes domain old new is gone = subst (λ (g : Bool). GoesOnIf g domain old new) (sym is) gone
+
+-- a peek whose domain can't go on
+pub unsettled : {A : Type 0} (l : UserLine) (none told : List Told)
+    (old mid new : List DomainValue) (refusal : Refusal)
+    → none ≡ [] → is_peek l.command ≡ true
+    → AsksOn l none told old mid
+    → HasGoneOn l.domain mid new → AsksWhole {A = A} l told old new (Err refusal)
+unsettled l none told old mid new refusal is peeks asks gone =
+    let own : AsksOn l [] told old mid = subst (λ (before : List Told). AsksOn l before told old mid) is asks in
+    record {
+      first = own.more;
+      second = [];
+      before = mid;
+      after = new;
+      list = own.list ∙ sym (append-nil own.more);
+      asked = subst (AreAsked (next_event l.command) []) (sym own.list) own.asked;
+      begun = own.run;
+      between = goes_if (is_peek l.command) l.domain mid new peeks gone;
+      finished = no_calls new;
+      ended = inr peeks;
+    }
+
+-- a peek of two parts
+pub two_parts : {A : Type 0} (l : UserLine) (none half told : List Told)
+    (old mid on new : List DomainValue) (r : Result A Refusal)
+    → none ≡ [] → is_peek l.command ≡ true → AsksOn l none half old mid → HasGoneOn l.domain mid on
+    → AsksOn l half told on new → HasStopped false l told new r
+    → AsksWhole l told old new r
+two_parts l none half told old mid on new r is peeks asks gone rest stopped =
+    let own : AsksOn l [] half old mid = subst (λ (before : List Told). AsksOn l before half old mid) is asks in
+    let list : told ≡ own.more ++ rest.more = rest.list ∙ ap (λ (xs : List Told). xs ++ rest.more) own.list in
+    record {
+      first = own.more;
+      second = rest.more;
+      before = mid;
+      after = on;
+      list = list;
+      asked = subst (AreAsked (next_event l.command) []) (sym list)
+          (asked_append (next_event l.command) [] own.more rest.more own.asked
+          (subst (λ (b : List Told). AreAsked (next_event l.command) b rest.more) own.list rest.asked));
+      begun = own.run;
+      between = goes_if (is_peek l.command) l.domain mid on peeks gone;
+      finished = rest.run;
+      ended = ended l told new r stopped;
+    }
+
+-- ---- the same of results that are known by equations
+
+-- a line stops at its end if the code finds no next event
+pub stops_at_end : (stops : Bool) (l : UserLine) (told : List Told) (o : Option Event)
+    → o ≡ next_event l.command told → o ≡ None
+    → IsAtEnd stops l told
+stops_at_end stops l told o next none = at_end stops l told (sym next ∙ none)
+
+-- a line stops if the farm refuses the event that the code finds
+pub stops_refused : (l : UserLine) (told : List Told) (old new : List DomainValue) (o : Option Event) (e : Event)
+    (r : Answer) (refusal : Refusal)
+    → o ≡ next_event l.command told → o ≡ Some e → r ≡ Err refusal → OnErr r (new ≡ old)
+    → UnlessNoMemory r (HaveRun old new (call_of_line l e ∷ []) (r ∷ []))
+    → IsStoppedBy l told new refusal
+stops_refused l told old new o e (Ok x) refusal next is refused same run = absurd cc
+stops_refused l told old new o e (Err x) refusal next is refused same run =
+    let equal : x ≡ refusal = same_error x refusal refused in
+    subst (IsStoppedBy l told new) equal (refused_next l told old new e x (sym next ∙ is) same run)
+  where
+    error_in : Answer → Refusal
+    error_in (Ok reply) = NoMemory
+    error_in (Err refusal) = refusal
+
+    same_error : (x y : Refusal) → (let r : Answer = Err x in r) ≡ Err y → x ≡ y
+    same_error x y same = ap error_in same
+
+-- a peek that is refused before it reads asks all that it asks
+pub peeks_refused : {A B : Type 0} (l : UserLine) (none told : List Told) (old new : List DomainValue)
+    (r : Result B Refusal) (stops : Bool) (refusal : Refusal)
+    → none ≡ [] → r ≡ Err refusal
+    → AsksOn l none told old new
+    → HasStopped stops l told new r → AsksWhole {A = A} l told old new (Err refusal)
+peeks_refused l none told old new (Ok x) stops refusal is refused asks stopped = absurd cc
+peeks_refused {A} {B} l none told old new (Err x) stops refusal is refused asks stopped =
+    one_part_refused l none told old new refusal is asks (subst (IsStoppedBy l told new) (ap error_in refused) stopped)
+  where
+    error_in : Result B Refusal → Refusal
+    error_in (Ok x) = NoMemory
+    error_in (Err refusal) = refusal
+
+-- a peek whose domain may not go on asks all that it asks
+pub peeks_unsettled : {A : Type 0} (l : UserLine) (none told : List Told) (old mid new : List DomainValue)
+    (refusal : Refusal) (peeks : Bool)
+    → none ≡ [] → peeks ≡ is_peek l.command
+    → peeks ≡ true
+    → AsksOn l none told old mid → HasGoneOn l.domain mid new → AsksWhole {A = A} l told old new (Err refusal)
+peeks_unsettled l none told old mid new refusal peeks is peek it asks gone =
+    unsettled l none told old mid new refusal is (sym peek ∙ it) asks gone
+
+-- a peek that is asked in two parts asks all that it asks
+pub peeks_whole : {A : Type 0} (l : UserLine) (none half told : List Told) (old mid on new : List DomainValue)
+    (r : Result A Refusal) (peeks : Bool)
+    → none ≡ [] → peeks ≡ is_peek l.command → peeks ≡ true → AsksOn l none half old mid → HasGoneOn l.domain mid on
+    → AsksOn l half told on new → HasStopped false l told new r
+    → AsksWhole l told old new r
+peeks_whole l none half told old mid on new r peeks is peek it asks gone rest stopped =
+    two_parts l none half told old mid on new r is (sym peek ∙ it) asks gone rest stopped

@@ -1,0 +1,40 @@
+-- Runs of calls, one after another.
+use Rattle.std.proofs.Common.{ℕ, List, [], ◌++◌, refl, sym, ◌∙◌, subst}
+use Rattle.std.proofs.lemmas.List.Elements.{All-from_recursion}
+use Rattle.domain_core.specs.PrivateFarm.{Answer, Call}
+use Rattle.domain_core.specs.Domain.{DomainValue}
+use Rattle.farm_core.specs.Whole.{Farm, whole_after}
+use Rattle.farm_core.specs.Domains.{IsMadeOf}
+use Rattle.farm_core.specs.Laws.{RunsAddUp}
+use Rattle.farm_core.specs.PlainFarm.{places_in, states_in}
+use Rattle.farm_replay.specs.Runs.{IsRunTo, HaveRun, IsOfTheFarm, HasGoneOn}
+
+-- no call leaves the domains as they are
+pub no_calls : (domains : List DomainValue) → HaveRun domains domains [] []
+no_calls domains = record { places = refl; each = λ farm made. record { told_is = refl; made = made } }
+
+-- a run of calls and then of others is the run of all
+pub more_calls : RunsAddUp
+    → (a b c : List DomainValue) (calls later : List (ℕ × Call)) (told after : List Answer) → HaveRun a b calls told
+    → HaveRun b c later after
+    → HaveRun a c (calls ++ later) (told ++ after)
+more_calls law a b c calls later told after one two = record {
+  places = two.places ∙ one.places;
+  each = λ farm made.
+      let plan = places_in a in
+      let first = one.each farm made in
+      let half : Farm = whole_after plan farm calls in
+      let then =
+      subst (λ p. IsRunTo p half later after c) one.places
+      (two.each half (subst (λ p. IsMadeOf p half (states_in b)) (sym one.places) first.made)) in
+      let both = law plan farm calls later in
+      record {
+        told_is = (λ i. first.told_is i ++ then.told_is i) ∙ sym both.told;
+        made = subst (λ f. IsMadeOf plan f (states_in c)) (sym both.left) then.made;
+      };
+}
+
+-- domains that stay have gone on, by no call
+pub gone_nowhere : (domain : ℕ) (domains : List DomainValue) → HasGoneOn domain domains domains
+gone_nowhere domain domains =
+    record { calls = []; told = []; run = no_calls domains; farms = All-from_recursion (IsOfTheFarm domain) [] tt }

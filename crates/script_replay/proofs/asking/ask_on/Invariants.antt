@@ -1,0 +1,5 @@
+use Rattle.script_replay.specs.Lines.{AsksOn}
+use Rattle.script_replay.proofs.asking.ask_on.Given as goal
+
+abbrev pub invariant-loop : goal.invariant-loop
+invariant-loop l = AsksOn l.line l.initial.told.items l.told.items l.initial.farm.farm l.farm.farm

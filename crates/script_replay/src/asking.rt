@@ -1,0 +1,72 @@
+//! What a user's line asks of his domain, on a farm on one thread.
+ghost use Rattle.std.specs.Prelude.{◌≡◌, [], IfOk};
+ghost use Rattle.script_replay.specs.Lines.{AsksOn, AsksWhole, HasStopped};
+
+use crate::asks::UserLine;
+use crate::next::{is_peek, is_read, next_event};
+use domain_core::{By, Refusal};
+use farm_core::laws::runs_add_up;
+use farm_replay::{AskFault, OpenFarm};
+use farm_service::Told;
+use line_answers::ROUNDS;
+use step_meter::{StepMeter, StepsEnd};
+
+/// How many Steps a node does at a time while a domain settles, as in the program unless it is told otherwise.
+pub(crate) const QUANTUM: u64 = 256;
+
+// Asks what a line asks behind the events that were answered, up to its end or, if that is so said, before it reads. Each
+// event is listed with its reply. The first refusal ends it.
+#[tactic(auto, using(crate::proofs::Exchanges::asks_nothing, crate::proofs::Exchanges::asks_still, crate::proofs::Exchanges::stops_at_end, crate::proofs::Exchanges::before_reads, crate::proofs::Exchanges::stops_refused))]
+fn ask_on(
+    farm: &mut OpenFarm,
+    line: &UserLine<'_>,
+    stops_to_read: bool,
+    told: &mut Vec<Told>,
+) -> Result<(), Refusal>
+    ensures asked { AsksOn line.now told.old.items told.new.items farm.old.farm farm.new.farm }
+    ensures ended { HasStopped stops_to_read line.now told.new.items farm.new.farm result }
+{
+    // A run of calls and then of others is the run of all.
+    runs_add_up();
+    for _ in 0..u64::MAX {
+        let Some(event) = next_event(&line.command, told.as_slice()) else {
+            return Ok(());
+        };
+        if stops_to_read && is_read(event) {
+            return Ok(());
+        }
+        told.reserve(1)?;
+        let reply = farm.ask(line.domain, By::User(line.user), event)?;
+        told.push_reserved(Told { event, reply });
+    }
+    Err(Refusal::NoMemory)
+}
+
+/// Asks what a line asks, and lists each event with its reply. A peek lets its domain settle before it reads. The first
+/// refusal ends the line, and what was taken before it stands.
+///
+/// # Errors
+///
+/// `StepsEnd` if a peek's domain wants more Steps than the meter allows.
+#[tactic(auto, using(crate::proofs::Exchanges::one_part_ended, crate::proofs::Exchanges::peeks_refused, crate::proofs::Exchanges::peeks_unsettled, crate::proofs::Exchanges::peeks_whole))]
+pub(crate) fn ask_line<M: StepMeter>(
+    farm: &mut OpenFarm,
+    line: &UserLine<'_>,
+    told: &mut Vec<Told>,
+    meter: &mut M,
+) -> Result<Result<(), Refusal>, StepsEnd>
+    requires { told.old.items ≡ [] }
+    ensures { IfOk result (λ ended. AsksWhole line.now told.new.items farm.old.farm farm.new.farm ended) }
+{
+    if !is_peek(&line.command) {
+        return Ok(ask_on(farm, line, false, told));
+    }
+    if let Err(refusal) = ask_on(farm, line, true, told) {
+        return Ok(Err(refusal));
+    }
+    match farm.settle(line.domain, QUANTUM, ROUNDS, meter) {
+        Ok(_) => Ok(ask_on(farm, line, false, told)),
+        Err(AskFault::Refused(refusal)) => Ok(Err(refusal)),
+        Err(AskFault::Steps(end)) => Err(end),
+    }
+}

@@ -1,0 +1,26 @@
+//! What a line asks.
+
+use farm_replay::RepeatedRequest;
+use script_lines::Command;
+
+/// A line of a user, as the program has them.
+#[derive(Drop)]
+pub struct UserLine<'a> {
+    /// His name.
+    pub name: &'a str,
+    /// The number of his domain in the plan.
+    pub domain: u8,
+    /// His number in the domain.
+    pub user: u8,
+    /// What the line asks.
+    pub command: Command,
+}
+
+/// A line of a text for a farm.
+#[derive(Drop)]
+pub enum AskedLine<'a> {
+    /// It asks the farm as the lab does.
+    OfLab(RepeatedRequest),
+    /// A user asks his domain.
+    OfUser(UserLine<'a>),
+}

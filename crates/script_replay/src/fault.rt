@@ -1,0 +1,110 @@
+//! Why a text isn't replayed or run.
+
+use farm_records::HeadFault;
+use farm_replay::FarmStop;
+use line_words::{NumberedLineFault, WrongLine};
+use plan_checker::PlanFault;
+use plan_faults::PlanRefusal;
+use std::alloc::{AllocError, AllocFailed};
+use step_meter::StepsEnd;
+use thiserror::Error;
+
+/// Why a text isn't replayed. None of its lines is answered then.
+#[derive(Debug, Drop, Error)]
+pub enum ReplayFault {
+    /// The plan that begins at this line is refused.
+    #[error("plan: {number}: {fault}, in the plan that begins at line {line} (`lab plan` says where)", number = .fault.number())]
+    Plan { fault: PlanFault, line: u64 },
+    /// The plan that begins at this line is refused, and no line divides it from what stands behind it.
+    #[error("plan: {number}: {fault}, in the plan that begins at line {line} (no line behind it is just ---, so all was read as the plan)", number = .fault.number())]
+    NoMark { fault: PlanFault, line: u64 },
+    /// A line of the whole text is wrong.
+    #[error("{0}")]
+    Line(WrongLine),
+    /// A user's line is wrong, with what is told of it.
+    #[error("{0}")]
+    OfUser(String),
+    /// More Steps are wanted than may be done.
+    #[error("{0}")]
+    Steps(StepsEnd),
+    #[error("memory")]
+    Memory(#[from(alloc)] AllocError),
+}
+
+impl ReplayFault {
+    /// The plan that begins at this line is refused, and a mark stands behind it or doesn't.
+    pub(crate) fn of_plan(fault: PlanFault, line: u64, is_marked: bool) -> ReplayFault {
+        match fault {
+            PlanFault::NoMemory => ReplayFault::Memory(AllocError),
+            _ if is_marked => ReplayFault::Plan { fault, line },
+            _ => ReplayFault::NoMark { fault, line },
+        }
+    }
+}
+
+impl From<NumberedLineFault> for ReplayFault {
+    fn from(fault: NumberedLineFault) -> ReplayFault {
+        match fault {
+            NumberedLineFault::Wrong(line) => ReplayFault::Line(line),
+            NumberedLineFault::Memory(error) => ReplayFault::Memory(error),
+        }
+    }
+}
+
+impl From<FarmStop> for ReplayFault {
+    fn from(stop: FarmStop) -> ReplayFault {
+        match stop {
+            FarmStop::Steps(end) => ReplayFault::Steps(end),
+            FarmStop::Memory(error) => ReplayFault::Memory(error),
+        }
+    }
+}
+
+/// Why a script isn't run. None of its lines is answered then.
+#[derive(Debug, Drop, Error)]
+pub enum RunFault {
+    /// The plan is refused, with the place and the reason.
+    #[error("{0}")]
+    Plan(PlanRefusal),
+    /// Lines are wrong, with what is told of each.
+    #[error("{0}")]
+    Lines(String),
+    /// The plan has no domain of this number.
+    #[error("the plan has no domain {0}")]
+    Domain(u8),
+    /// The head of the domain's record can't be made.
+    #[error("{0}")]
+    Head(HeadFault),
+    /// More Steps are wanted than may be done.
+    #[error("{0}")]
+    Steps(StepsEnd),
+    #[error("memory")]
+    Memory(#[from(alloc)] AllocError),
+}
+
+impl From<PlanRefusal> for RunFault {
+    fn from(refusal: PlanRefusal) -> RunFault {
+        match refusal {
+            PlanRefusal::NoMemory => RunFault::Memory(AllocError),
+            refusal => RunFault::Plan(refusal),
+        }
+    }
+}
+
+impl From<HeadFault> for RunFault {
+    fn from(fault: HeadFault) -> RunFault {
+        match fault {
+            HeadFault::Memory(error) => RunFault::Memory(error),
+            fault => RunFault::Head(fault),
+        }
+    }
+}
+
+impl From<FarmStop> for RunFault {
+    fn from(stop: FarmStop) -> RunFault {
+        match stop {
+            FarmStop::Steps(end) => RunFault::Steps(end),
+            FarmStop::Memory(error) => RunFault::Memory(error),
+        }
+    }
+}

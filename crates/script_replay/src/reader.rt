@@ -1,0 +1,136 @@
+//! Reading lines of users.
+
+use crate::asks::{AskedLine, UserLine};
+use crate::users::{PlanUser, names_of, user_called};
+use lab_script::{Expanded, LoadedFile, expanded_line};
+use line_faults::tell_wrong_line;
+use line_words::{NumberedLine, numbered_lines};
+use plan_checker::AcceptedPlan;
+use script_lines::{LineFault, LineWords, Unread, parse_request};
+use std::alloc::{AllocError, Global};
+
+/// A user, with the name as it stands in his line.
+#[derive(Clone, Copy)]
+pub(crate) struct NamedUser<'a> {
+    name: &'a str,
+    user: PlanUser,
+}
+
+/// What the lines of a plan's users are read with.
+#[derive(Drop)]
+pub(crate) struct LineReader<'p> {
+    alloc: Global,
+    plan: &'p AcceptedPlan,
+    names: Vec<&'p str>,
+    files: &'p [LoadedFile<'p>],
+}
+
+impl<'p> LineReader<'p> {
+    /// A reader for the users of this plan, whose lines may load these files.
+    pub(crate) fn new(
+        alloc: Global,
+        plan: &'p AcceptedPlan,
+        files: &'p [LoadedFile<'p>],
+    ) -> Result<LineReader<'p>, AllocError> {
+        Ok(LineReader {
+            alloc,
+            plan,
+            names: names_of(alloc, plan)?,
+            files,
+        })
+    }
+
+    /// The user whose name a line begins with.
+    pub(crate) fn user_of<'a>(&self, line: &'a [u8]) -> Option<NamedUser<'a>> {
+        let mut words = LineWords::of(line);
+        let name = words.take()?;
+        let Ok(name) = std::str::from_utf8(name) else {
+            return None;
+        };
+        let user = user_called(self.plan, name)?;
+        Some(NamedUser { name, user })
+    }
+
+    /// Adds what a line of this user asks: one line of the program, or those for which it stands if it helps. What is told of
+    /// it if it is wrong.
+    pub(crate) fn read<'a>(
+        &self,
+        user: NamedUser<'a>,
+        line: NumberedLine<'_>,
+        asked: &mut Vec<AskedLine<'a>>,
+    ) -> Result<Option<String>, AllocError> {
+        let Some(expanded) = self.expanded(line)? else {
+            return self.read_plain(user, line, asked);
+        };
+        let Expanded { text, wrong } = expanded;
+        if !wrong.is_empty() {
+            return Ok(Some(wrong));
+        }
+        self.read_all(user, line.number, text.as_bytes(), asked)
+    }
+
+    /// What is told of a line that begins with no user's name.
+    pub(crate) fn tell_no_user(&self, line: NumberedLine<'_>) -> Result<String, AllocError> {
+        tell_wrong_line(self.alloc, self.names.as_slice(), line, LineFault::User)
+    }
+
+    // The plain lines for which a line stands, if it helps.
+    fn expanded(&self, line: NumberedLine<'_>) -> Result<Option<Expanded>, AllocError> {
+        match std::str::from_utf8(line.text) {
+            Ok(text) => expanded_line(self.alloc, line.number, text, self.files),
+            Err(_) => Ok(None),
+        }
+    }
+
+    // Adds the plain lines of a text, which stand for the line of this number.
+    fn read_all<'a>(
+        &self,
+        user: NamedUser<'a>,
+        number: u64,
+        text: &[u8],
+        asked: &mut Vec<AskedLine<'a>>,
+    ) -> Result<Option<String>, AllocError> {
+        for line in &numbered_lines(self.alloc, text)? {
+            let line = NumberedLine {
+                number,
+                text: line.text,
+            };
+            let wrong = self.read_plain(user, line, asked)?;
+            if wrong.is_some() {
+                return Ok(wrong);
+            }
+        }
+        Ok(None)
+    }
+
+    fn read_plain<'a>(
+        &self,
+        user: NamedUser<'a>,
+        line: NumberedLine<'_>,
+        asked: &mut Vec<AskedLine<'a>>,
+    ) -> Result<Option<String>, AllocError> {
+        match plain_line(self.alloc, user, line.text) {
+            Ok(line) => {
+                asked.push(AskedLine::OfUser(line))?;
+                Ok(None)
+            }
+            Err(Unread::Faulty(fault)) => {
+                let names = self.names.as_slice();
+                Ok(Some(tell_wrong_line(self.alloc, names, line, fault)?))
+            }
+            Err(Unread::NoMemory) => Err(AllocError),
+        }
+    }
+}
+
+// What a plain line asks, which begins with the name of this user.
+fn plain_line<'a>(alloc: Global, user: NamedUser<'a>, line: &[u8]) -> Result<UserLine<'a>, Unread> {
+    let mut words = LineWords::of(line);
+    let _ = words.take();
+    Ok(UserLine {
+        name: user.name,
+        domain: user.user.domain,
+        user: user.user.user,
+        command: parse_request(alloc, words)?,
+    })
+}

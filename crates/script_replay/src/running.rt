@@ -1,0 +1,158 @@
+//! A script of the program, on one thread.
+
+use crate::answering::{AnsweredLines, answer_asked_lines};
+use crate::asks::AskedLine;
+use crate::fault::RunFault;
+use crate::reader::LineReader;
+use crate::recording::record_of;
+use farm_replay::FarmStop;
+use lab_script::LoadedFile;
+use line_words::numbered_lines;
+use plan_checker::AcceptedPlan;
+use plan_faults::accepted;
+use script_text::{TextWriter, divide, is_passed_over};
+use std::alloc::{AllocError, Global};
+use step_meter::StepMeter;
+
+/// How many wrong lines are told.
+const MOST_TOLD: u64 = 100;
+
+/// Runs the script of a text, which stands behind its plan and a line `---`, and gives the output lines of each user, in the
+/// order of the plan. Lines that help may load these files.
+///
+/// # Errors
+///
+/// `Plan` if the plan is refused; `Lines` with what is told of each line that is wrong, which count from behind the mark; `Steps`
+/// if more Steps are wanted than the meter allows; `Memory` if memory is wanted anywhere.
+pub fn run_script<M: StepMeter>(
+    alloc: Global,
+    text: &[u8],
+    files: &[LoadedFile<'_>],
+    meter: &mut M,
+) -> Result<String, RunFault> {
+    let (plan, script) = divide(text, b"---");
+    let plan = accepted(alloc, plan)?;
+    let asked = read_lines(alloc, &plan, script, files)?;
+    Ok(screens_of(alloc, &plan, asked.as_slice(), meter)?)
+}
+
+/// Runs the script of a text as above, and gives the record of the domain of this number in the plan.
+///
+/// # Errors
+///
+/// Those of `run_script`; `Domain` if the plan has no such domain, and `Head` if its head can't be made, which never happens.
+pub fn record_script<M: StepMeter>(
+    alloc: Global,
+    text: &[u8],
+    files: &[LoadedFile<'_>],
+    domain: u8,
+    meter: &mut M,
+) -> Result<String, RunFault> {
+    let (plan, script) = divide(text, b"---");
+    let plan = accepted(alloc, plan)?;
+    if domain >= plan.domains() {
+        return Err(RunFault::Domain(domain));
+    }
+    let asked = read_lines(alloc, &plan, script, files)?;
+    let AnsweredLines { texts: _, farm } = answer_asked_lines(
+        alloc,
+        &plan,
+        asked.as_slice(),
+        meter,
+    )?;
+    Ok(record_of(alloc, &plan, domain, &farm)?)
+}
+
+// What is told of wrong lines.
+#[derive(Drop)]
+struct WrongLines {
+    text: TextWriter,
+    count: u64,
+}
+
+impl WrongLines {
+    fn add(&mut self, told: &str) {
+        if self.count < MOST_TOLD {
+            self.text.push(told);
+        }
+        self.count = self.count.saturating_add(1);
+    }
+
+    // All that is told, or nothing if no line is wrong.
+    fn finish(mut self) -> Result<String, AllocError> {
+        let more = self.count.saturating_sub(MOST_TOLD);
+        if more > 0 {
+            self.text.push("and ");
+            self.text.push_decimal(more);
+            self.text.push(if more == 1 {
+                " more line is wrong\n"
+            } else {
+                " more lines are wrong\n"
+            });
+        }
+        let WrongLines { text, count: _ } = self;
+        text.finish()
+    }
+}
+
+// What the lines of a script ask.
+fn read_lines<'a>(
+    alloc: Global,
+    plan: &AcceptedPlan,
+    script: &'a [u8],
+    files: &[LoadedFile<'_>],
+) -> Result<Vec<AskedLine<'a>>, RunFault> {
+    let reader = LineReader::new(alloc, plan, files)?;
+    let mut asked = Vec::new(alloc);
+    let mut wrong = WrongLines {
+        text: TextWriter::new(alloc),
+        count: 0,
+    };
+    for line in &numbered_lines(alloc, script)? {
+        if is_passed_over(line.text) {
+            continue;
+        }
+        let told = match reader.user_of(line.text) {
+            Some(user) => reader.read(user, *line, &mut asked)?,
+            None => Some(reader.tell_no_user(*line)?),
+        };
+        if let Some(told) = told {
+            wrong.add(told.as_str());
+        }
+    }
+    let wrong = wrong.finish()?;
+    if wrong.is_empty() {
+        Ok(asked)
+    } else {
+        Err(RunFault::Lines(wrong))
+    }
+}
+
+// The output lines of each user, in the order of the plan.
+fn screens_of<M: StepMeter>(
+    alloc: Global,
+    plan: &AcceptedPlan,
+    asked: &[AskedLine<'_>],
+    meter: &mut M,
+) -> Result<String, FarmStop> {
+    let answered = answer_asked_lines(alloc, plan, asked, meter)?;
+    let mut screens = TextWriter::new(alloc);
+    for domain in 0..plan.domains() {
+        for user in 0..plan.users(domain) {
+            for (line, text) in asked.iter().zip(answered.texts.iter()) {
+                if is_of(line, domain, user) {
+                    screens.push(text.as_str());
+                }
+            }
+        }
+    }
+    Ok(screens.finish()?)
+}
+
+// Whether a line is of the user of this number in this domain.
+fn is_of(line: &AskedLine<'_>, domain: u8, user: u8) -> bool {
+    match line {
+        AskedLine::OfUser(line) => line.domain == domain && line.user == user,
+        AskedLine::OfLab(_) => false,
+    }
+}

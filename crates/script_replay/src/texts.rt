@@ -1,0 +1,337 @@
+//! Texts of farms and lines.
+
+use crate::answering::{AnsweredLines, answer_asked_lines};
+use crate::asks::AskedLine;
+use crate::fault::ReplayFault;
+use crate::reader::LineReader;
+use crossbar::{PORTS, Word};
+use farm_replay::{AnsweredRequests, FarmStop, RepeatedRequest, answer_requests, read_request};
+use lab_script::{LoadedFile, file_loaded};
+use line_words::{
+    Answered, NumberedLine, NumberedLineFault, Question, numbered_lines, read_questions,
+};
+use plan_checker::{AcceptedPlan, PlanFault, check, read_plan};
+use script_text::{TextWriter, divide, is_passed_over};
+use std::alloc::{AllocError, Global};
+use step_meter::StepMeter;
+
+/// What divides one farm of a text from the next.
+const BETWEEN_FARMS: &[u8] = b"===";
+
+/// What divides a plan from the lines that ask its farm.
+const AFTER_THE_PLAN: &[u8] = b"---";
+
+/// What divides what a line asks from the answer that it expects.
+const BEFORE_ANSWERS: &str = " = ";
+
+// What the lines of a farm ask.
+#[derive(Drop)]
+enum FarmLines<'a> {
+    // All are the lab's own, one for each line.
+    OfLab(Vec<RepeatedRequest>),
+    // Some are of users, which may stand for several each.
+    Mixed {
+        asked: Vec<AskedLine<'a>>,
+        counts: Vec<usize>,
+    },
+}
+
+// A farm of a text: its plan, its lines, and what they ask.
+#[derive(Drop)]
+struct FarmText<'a> {
+    plan: AcceptedPlan,
+    questions: Vec<Question<'a>>,
+    lines: FarmLines<'a>,
+}
+
+/// A farm after the lines of its text.
+#[derive(Drop)]
+pub struct ReplayedFarm {
+    /// The plan that it stands under.
+    pub plan: AcceptedPlan,
+    /// The switch words of the 32 physical outputs.
+    pub words: [Word; PORTS as usize],
+}
+
+/// What came of a text.
+#[derive(Drop)]
+pub struct Replayed<'a> {
+    /// The answers to the lines of all farms, in order.
+    pub answers: Vec<Answered<'a>>,
+    /// The last farm, as its lines left it.
+    pub last: Option<ReplayedFarm>,
+}
+
+/// The names of the files that the lines of a text load, in their order.
+pub fn files_loaded(alloc: Global, text: &[u8]) -> Result<Vec<&str>, AllocError> {
+    let mut names = Vec::new(alloc);
+    for line in &numbered_lines(alloc, text)? {
+        if let Some(name) = file_of_line(line.text) {
+            names.push(name)?;
+        }
+    }
+    Ok(names)
+}
+
+fn file_of_line(line: &[u8]) -> Option<&str> {
+    match std::str::from_utf8(line) {
+        Ok(text) if !is_passed_over(line) => file_loaded(asked_part(text)),
+        _ => None,
+    }
+}
+
+// What a line asks, without the answer that it expects.
+fn asked_part(line: &str) -> &str {
+    match line.split_once(BEFORE_ANSWERS) {
+        Some((asked, _)) => asked,
+        None => line,
+    }
+}
+
+/// Replays a text: for each of its farms, which stand between lines `===`, a plan, a line `---`, and lines that ask. All
+/// is read before any line asks; then each line has its answer, in order. A line that begins with the name of a user of the
+/// plan is a line of the program, which may load these files.
+///
+/// # Errors
+///
+/// The first fault of the text: `Plan` or `NoMark` if a plan is refused, and `Line` or `OfUser` if a line asks nothing that
+/// there is; `Steps` if more Steps are wanted than the meter allows; `Memory` if memory runs out anywhere.
+pub fn replay<'a, M: StepMeter>(
+    alloc: Global,
+    text: &'a [u8],
+    files: &[LoadedFile<'_>],
+    meter: &mut M,
+) -> Result<Replayed<'a>, ReplayFault> {
+    let farms = read_farms(alloc, text, files)?;
+    let mut replayed = Replayed {
+        answers: Vec::new(alloc),
+        last: None,
+    };
+    for farm in farms {
+        replayed.last = Some(play(alloc, farm, &mut replayed.answers, meter)?);
+    }
+    Ok(replayed)
+}
+
+fn read_farms<'a>(
+    alloc: Global,
+    text: &'a [u8],
+    files: &[LoadedFile<'_>],
+) -> Result<Vec<FarmText<'a>>, ReplayFault> {
+    let mut farms = Vec::new(alloc);
+    let mut before = 0;
+    let mut rest = text;
+    for _ in 0..=text.len() {
+        let (farm, after) = divide(rest, BETWEEN_FARMS);
+        farms.push(read_farm(alloc, farm, before, files)?)?;
+        if farm.len() == rest.len() {
+            break;
+        }
+        before = lines_with_mark(farm, before);
+        rest = after;
+    }
+    Ok(farms)
+}
+
+// How many lines of the whole text stand before what follows the mark behind this part of it.
+fn lines_with_mark(part: &[u8], before: u64) -> u64 {
+    let lines = part.iter().filter(|byte| **byte == b'\n').count() as u64;
+    lines.saturating_add(before).saturating_add(1)
+}
+
+// A farm whose plan begins after so many lines of the text.
+fn read_farm<'a>(
+    alloc: Global,
+    text: &'a [u8],
+    before: u64,
+    files: &[LoadedFile<'_>],
+) -> Result<FarmText<'a>, ReplayFault> {
+    let (plan_text, rest) = divide(text, AFTER_THE_PLAN);
+    let plan = match accepted_plan(alloc, plan_text) {
+        Ok(plan) => plan,
+        Err(fault) => {
+            let is_marked = plan_text.len() < text.len();
+            return Err(ReplayFault::of_plan(fault, before.saturating_add(1), is_marked));
+        }
+    };
+    let questions = read_questions(alloc, rest, lines_with_mark(plan_text, before))?;
+    let lines = read_lines(alloc, &plan, questions.as_slice(), files)?;
+    Ok(FarmText {
+        plan,
+        questions,
+        lines,
+    })
+}
+
+// The plan of a text, if it is accepted.
+fn accepted_plan(alloc: Global, text: &[u8]) -> Result<AcceptedPlan, PlanFault> {
+    check(alloc, read_plan(alloc, text)?)
+}
+
+fn read_lines<'a>(
+    alloc: Global,
+    plan: &AcceptedPlan,
+    questions: &[Question<'a>],
+    files: &[LoadedFile<'_>],
+) -> Result<FarmLines<'a>, ReplayFault> {
+    let reader = LineReader::new(alloc, plan, files)?;
+    let is_mixed = questions
+        .iter()
+        .any(|it| reader.user_of(it.text.as_bytes()).is_some());
+    if is_mixed {
+        read_mixed(alloc, &reader, questions)
+    } else {
+        Ok(FarmLines::OfLab(read_requests(alloc, questions)?))
+    }
+}
+
+fn read_requests(
+    alloc: Global,
+    questions: &[Question<'_>],
+) -> Result<Vec<RepeatedRequest>, NumberedLineFault> {
+    let mut requests = Vec::new(alloc);
+    for question in questions {
+        requests.push(read_question(alloc, question)?)?;
+    }
+    Ok(requests)
+}
+
+fn read_question(
+    alloc: Global,
+    question: &Question<'_>,
+) -> Result<RepeatedRequest, NumberedLineFault> {
+    match read_request(alloc, question.text) {
+        Ok(request) => Ok(request),
+        Err(fault) => Err(fault.at(question.line)),
+    }
+}
+
+fn read_mixed<'a>(
+    alloc: Global,
+    reader: &LineReader<'_>,
+    questions: &[Question<'a>],
+) -> Result<FarmLines<'a>, ReplayFault> {
+    let mut asked = Vec::new(alloc);
+    let mut counts = Vec::new(alloc);
+    for question in questions {
+        let before = asked.len();
+        read_line(alloc, reader, question, &mut asked)?;
+        counts.push(asked.len().saturating_sub(before))?;
+    }
+    Ok(FarmLines::Mixed { asked, counts })
+}
+
+// Adds what a line asks.
+fn read_line<'a>(
+    alloc: Global,
+    reader: &LineReader<'_>,
+    question: &Question<'a>,
+    asked: &mut Vec<AskedLine<'a>>,
+) -> Result<(), ReplayFault> {
+    let line = NumberedLine {
+        number: question.line,
+        text: question.text.as_bytes(),
+    };
+    let Some(user) = reader.user_of(line.text) else {
+        asked.push(AskedLine::OfLab(read_question(alloc, question)?))?;
+        return Ok(());
+    };
+    match reader.read(user, line, asked)? {
+        Some(told) => Err(ReplayFault::OfUser(told)),
+        None => Ok(()),
+    }
+}
+
+// Asks the farm of a text its lines, and gives it as they left it.
+fn play<'a, M: StepMeter>(
+    alloc: Global,
+    farm: FarmText<'a>,
+    answers: &mut Vec<Answered<'a>>,
+    meter: &mut M,
+) -> Result<ReplayedFarm, FarmStop> {
+    let FarmText {
+        plan,
+        questions,
+        lines,
+    } = farm;
+    let words = match lines {
+        FarmLines::OfLab(requests) => {
+            play_requests(
+                alloc,
+                &plan,
+                questions.as_slice(),
+                requests.as_slice(),
+                answers,
+                meter,
+            )?
+        }
+        FarmLines::Mixed { asked, counts } => {
+            let AnsweredLines { texts, mut farm } = answer_asked_lines(
+                alloc,
+                &plan,
+                asked.as_slice(),
+                meter,
+            )?;
+            let texts = texts.as_slice();
+            share_out(
+                alloc,
+                questions.as_slice(),
+                counts.as_slice(),
+                texts,
+                answers,
+            )?;
+            farm.words()
+        }
+    };
+    Ok(ReplayedFarm { plan, words })
+}
+
+fn play_requests<'a, M: StepMeter>(
+    alloc: Global,
+    plan: &AcceptedPlan,
+    questions: &[Question<'a>],
+    requests: &[RepeatedRequest],
+    answers: &mut Vec<Answered<'a>>,
+    meter: &mut M,
+) -> Result<[Word; PORTS as usize], FarmStop> {
+    let AnsweredRequests { lines, words } = answer_requests(alloc, plan, requests, meter)?;
+    for (question, answer) in questions.iter().zip(lines) {
+        answers.push(Answered {
+            question: *question,
+            answer,
+        })?;
+    }
+    Ok(words)
+}
+
+// Gives each line as many of the texts as it asked for.
+fn share_out<'a>(
+    alloc: Global,
+    questions: &[Question<'a>],
+    counts: &[usize],
+    texts: &[String],
+    answers: &mut Vec<Answered<'a>>,
+) -> Result<(), AllocError> {
+    let mut rest = texts;
+    for (question, count) in questions.iter().zip(counts.iter()) {
+        let (own, after) = rest.split_at(rest.len().min(*count));
+        rest = after;
+        answers.push(Answered {
+            question: *question,
+            answer: joined(alloc, own)?,
+        })?;
+    }
+    Ok(())
+}
+
+// Texts one after another, without the last line feed.
+fn joined(alloc: Global, texts: &[String]) -> Result<String, AllocError> {
+    let mut all = TextWriter::new(alloc);
+    for (place, text) in texts.iter().enumerate() {
+        if place > 0 {
+            all.push("\n");
+        }
+        all.push(text.as_str().strip_suffix("\n").unwrap_or(text.as_str()));
+    }
+    all.finish()
+}
