@@ -135,7 +135,7 @@ impl Subcommand {
                 "Draws the switch, or a domain's network, in SVG after the events of a text as replay reads it"
             }
             Subcommand::Trace => {
-                "Traces a node alone: reads lines that set it and let it do Steps"
+                "Traces a node alone, or all nodes of a plan's domain: reads lines that set a node and let it do Steps"
             }
             Subcommand::Assemble => {
                 "Prints a program as code in hexadecimal digits: reads its text, an instruction a line"

@@ -198,7 +198,7 @@ impl LabFailure {
         }
     }
 
-    /// Writes the text, and gives the status. Where the text can't be written the status stays.
+    /// Writes the text, and gives the status. If the text can't be written, the status stays.
     pub fn tell<E: Write>(&self, alloc: Global, errors: &mut E) -> u8 {
         match format!(in alloc; "{self}") {
             Ok(text) => {
