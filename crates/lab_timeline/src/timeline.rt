@@ -62,6 +62,13 @@ fn work_of(call: SaidCall) -> u64 {
     (call.times / STEPS_AS_ONE).saturating_add(1)
 }
 
+// Tells the meter of the Steps of a call.
+fn note_steps<M: StepMeter>(call: SaidCall, meter: &mut M) {
+    if let Event::Step(_) = call.event {
+        meter.note(call.times);
+    }
+}
+
 // How much is done from one kept moment to the next.
 fn gap_of(lines: &[RecordedLine]) -> u64
     ensures { 1 ≤ result }
@@ -119,9 +126,7 @@ impl Keeping {
             let call = SaidCall { times, ..here.rest };
             told = Some(here.follow_some(times)?);
             self.note(here, work_of(call))?;
-            if let Event::Step(_) = call.event {
-                meter.note(times);
-            }
+            note_steps(call, meter);
         }
         let Some(reply) = told else {
             return Err(LineStop::Follow(FollowFault::NoEvent));

@@ -6,11 +6,11 @@ use Rattle.lab_timeline.proofs.timeline.Keeping.do_lines.Given as goal
 
 -- between lines: what was done and what was kept so far is of the record
 abbrev pub invariant-loop-here : goal.invariant-loop-here
-invariant-loop-here l = record {
+invariant-loop-here g l = record {
   progress : IsProgress l.fn.plan (said_by l.lines) l.here;
   rest : l.here.rest.times ≡ 0;
   kept : All (IsProgress l.fn.plan (said_by l.lines)) l.self.kept.items;
 }
 
 abbrev pub decreases-loop-here : goal.decreases-loop-here
-decreases-loop-here l = length l.lines - l.here.next
+decreases-loop-here g l = length l.lines - l.here.next
