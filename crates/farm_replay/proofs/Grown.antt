@@ -32,7 +32,7 @@ use Rattle.farm_core.specs.Domains.{IsMadeOf, EachCallIsPrivate}
 use Rattle.farm_core.specs.Laws.{caller_answers_from}
 use Rattle.farm_core.specs.Merges.{own_place}
 use Rattle.farm_core.specs.PlainFarm.{places_in, states_in, recorded_in, OthersStay, IsCalledAt, IsCommittedAt}
-use Rattle.farm_replay.specs.Answering.{StayIfUnrecorded, step_calls, nth_steps}
+use Rattle.farm_replay.specs.Answering.{StayIfUnrecorded, step_calls, steps_answers}
 use Rattle.farm_replay.specs.Runs.{HaveRun}
 
 -- ---- lists
@@ -253,7 +253,7 @@ run_calls domain node (suc k) last =
     (run_calls domain node k last)
 
 run_replies : (node k : ℕ) (last : Stepped)
-    → replies_of (journal.steps ByTheFarm node (suc k) last) ≡ nth_steps k last
+    → replies_of (journal.steps ByTheFarm node (suc k) last) ≡ steps_answers k last
 run_replies node zero last = refl
 run_replies node (suc k) last =
     ap (λ (rest : List Answer). let a : Answer = Ok (reply.Stepped Ran) in a ∷ rest) (run_replies node k last)
@@ -263,7 +263,7 @@ pub steps_run : EachCallIsPrivate
     → (domain node before : ℕ) (last : Stepped) (old new : List DomainValue) (t : TicketValue) → Changes domain old new
     → IsCommittedAt t (Ok Done) (slice_get old domain) (slice_get new domain)
     → t.number ≡ node → t.steps ≡ before + 1 → t.last ≡ Some last
-    → HaveRun old new (step_calls domain node (before + 1)) (nth_steps before last)
+    → HaveRun old new (step_calls domain node (before + 1)) (steps_answers before last)
 steps_run law domain node before last old new t is committed number steps answer =
     let one : before + 1 ≡ suc before = omega arith in
     let count : t.steps ≡ suc before = steps ∙ one in
@@ -273,9 +273,9 @@ steps_run law domain node before last old new t is committed number steps answer
     ≡ step_calls domain node (before + 1) =
     ap (λ (more : List AnsweredCall). in_domain domain (calls_of more)) told ∙ run_calls domain node before last
     ∙ ap (step_calls domain node) (sym one) in
-    let replies : replies_of (ticket.steps_told t.number t.steps t.last) ≡ nth_steps before last =
+    let replies : replies_of (ticket.steps_told t.number t.steps t.last) ≡ steps_answers before last =
     ap replies_of told ∙ run_replies node before last in
-    subst (λ (asked : List (ℕ × Call)). HaveRun old new asked (nth_steps before last)) calls
+    subst (λ (asked : List (ℕ × Call)). HaveRun old new asked (steps_answers before last)) calls
     (subst (λ (answers : List Answer).
     HaveRun old new (in_domain domain (calls_of (ticket.steps_told t.number t.steps t.last))) answers)
     replies

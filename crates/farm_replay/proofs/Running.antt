@@ -27,7 +27,7 @@ use Rattle.farm_replay.specs.Kept.{KeptList, HoldsTexts}
 use Rattle.farm_replay.specs.Listing.{IsListing}
 use Rattle.farm_replay.specs.Plain.{Asked, Calls, Looks, Opens, Else, asked_times, answer_words, event_calls}
 use Rattle.farm_replay.specs.declared.bursts.DoneSteps.{DoneSteps}
-use Rattle.farm_replay.specs.Answering.{HaveStepped, ShowsCall, step_calls, nth_steps}
+use Rattle.farm_replay.specs.Answering.{HaveStepped, ShowsCall, step_calls, steps_answers}
 use Rattle.farm_replay.specs.Answering.{HasAnswers, AnswersCalls, AnswersAsked}
 use Rattle.farm_replay.specs.Runs.{IsRunTo, HaveRun, HasGoneOn, IsOfTheFarm, ShowsRun, ShowsAsked}
 
@@ -118,7 +118,7 @@ gone_by_steps domain node most None old new stepped =
     record { calls = []; told = []; run = stepped; farms = All-from_recursion (IsOfTheFarm domain) [] tt }
 gone_by_steps domain node most (Some done) old new stepped = record {
   calls = step_calls domain node (done.before + 1);
-  told = nth_steps done.before done.last;
+  told = steps_answers done.before done.last;
   run = stepped.1;
   farms = steps_of_the_farm domain node (done.before + 1);
 }
@@ -218,13 +218,13 @@ answers_call call old new text l m shows more = record {
 -- Steps that are done at once
 pub answers_steps : (domain node before : ℕ) (last : Stepped) (ran text : List ℕ) (old new : List DomainValue)
     (k l m : KeptList)
-    → HaveRun old new (step_calls domain node (before + 1)) (nth_steps before last)
+    → HaveRun old new (step_calls domain node (before + 1)) (steps_answers before last)
     → ran ≡ stepped_text Ran → text ≡ stepped_text last
     → ((texts : List (List ℕ)) → HoldsTexts texts k → HoldsTexts (texts ++ replicate before ran) l)
     → ((texts : List (List ℕ)) → HoldsTexts texts l → HoldsTexts (texts ++ text ∷ []) m)
     → AnswersCalls (step_calls domain node (before + 1)) old new k m
 answers_steps domain node before last ran text old new k l m run first second many one = record {
-  told = nth_steps before last;
+  told = steps_answers before last;
   run = run;
   gains = λ earlier has.
       let rans : List Answer = replicate before (Ok (reply.Stepped Ran)) in

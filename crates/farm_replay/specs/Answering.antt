@@ -32,14 +32,14 @@ abbrev pub step_calls : ℕ → ℕ → ℕ → List (ℕ × Call)
 step_calls domain node count = repeat count (event_calls domain ByTheFarm (Step node ∷ []))
 
 -- what they are told if all but the last ran
-abbrev pub nth_steps : ℕ → Stepped → List Answer
-nth_steps before last = replicate before (Ok (reply.Stepped Ran)) ++ Ok (reply.Stepped last) ∷ []
+abbrev pub steps_answers : ℕ → Stepped → List Answer
+steps_answers before last = replicate before (Ok (reply.Stepped Ran)) ++ Ok (reply.Stepped last) ∷ []
 
 -- Steps of a node were done, so many at most, or none
 abbrev pub HaveStepped : ℕ → ℕ → ℕ → Option DoneSteps → List DomainValue → List DomainValue → Type 0
 HaveStepped domain node most None old new = HaveRun old new [] []
 HaveStepped domain node most (Some done) old new =
-    (done.before < most) × HaveRun old new (step_calls domain node (done.before + 1)) (nth_steps done.before done.last)
+    (done.before < most) × HaveRun old new (step_calls domain node (done.before + 1)) (steps_answers done.before done.last)
 
 -- the list has these answers, in words
 pub record HasAnswers (told : List Answer) (l : KeptList) : Type 0 where

@@ -5,4 +5,4 @@ mod form;
 mod told;
 mod wrong;
 
-pub use told::{tell_wrong_line, tell_wrong_lines};
+pub use told::{WrongLines, tell_wrong_line, tell_wrong_lines};

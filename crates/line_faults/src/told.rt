@@ -7,7 +7,48 @@ use script_text::TextWriter;
 use std::alloc::{AllocError, Global};
 
 /// How many wrong lines are told.
-const MOST_TOLD: usize = 100;
+const MOST_TOLD: u64 = 100;
+
+/// What is told of the lines that are wrong: the first 100 of them, and how many more there are.
+#[derive(Drop)]
+pub struct WrongLines {
+    text: TextWriter,
+    count: u64,
+}
+
+impl WrongLines {
+    /// No line is wrong yet.
+    pub fn new(alloc: Global) -> WrongLines {
+        WrongLines {
+            text: TextWriter::new(alloc),
+            count: 0,
+        }
+    }
+
+    /// One more line is wrong, of which this is told.
+    pub fn add(&mut self, told: &str) {
+        if self.count < MOST_TOLD {
+            self.text.push(told);
+        }
+        self.count = self.count.saturating_add(1);
+    }
+
+    /// All that is told, which is nothing if no line is wrong.
+    pub fn finish(mut self) -> Result<String, AllocError> {
+        let more = self.count.saturating_sub(MOST_TOLD);
+        if more > 0 {
+            self.text.push("and ");
+            self.text.push_decimal(more);
+            self.text.push(if more == 1 {
+                " more line is wrong\n"
+            } else {
+                " more lines are wrong\n"
+            });
+        }
+        let WrongLines { text, count: _ } = self;
+        text.finish()
+    }
+}
 
 /// A line for each line of a script that is wrong, the first 100 of them, and how many more there are. `names` are those of
 /// the users. Which lines are wrong is decided by `read_script`.
@@ -16,14 +57,14 @@ pub fn tell_wrong_lines(
     names: &[&str],
     script: &[u8],
 ) -> Result<String, AllocError> {
-    let lines = numbered_lines(alloc, script)?;
-    let wrong = wrong_lines(alloc, names, lines.as_slice())?;
-    let mut text = TextWriter::new(alloc);
-    for line in wrong.iter().take(MOST_TOLD) {
-        tell(alloc, &mut text, names, *line);
+    let mut wrong = WrongLines::new(alloc);
+    for line in &numbered_lines(alloc, script)? {
+        if let Some(fault) = fault_of_line(alloc, names, line.text)? {
+            let told = tell_wrong_line(alloc, names, *line, fault)?;
+            wrong.add(told.as_str());
+        }
     }
-    write_more(&mut text, wrong.len().saturating_sub(MOST_TOLD));
-    text.finish()
+    wrong.finish()
 }
 
 /// A line that says where this line of a script is wrong, and what would be right. `fault` is what its reader says of it.
@@ -34,15 +75,14 @@ pub fn tell_wrong_line(
     fault: LineFault,
 ) -> Result<String, AllocError> {
     let mut text = TextWriter::new(alloc);
-    tell(alloc, &mut text, names, WrongScriptLine { line, fault });
+    let words = words_of(alloc, line.text)?;
+    write_wrong_line(
+        &mut text,
+        names,
+        WrongScriptLine { line, fault },
+        words.as_slice(),
+    );
     text.finish()
-}
-
-fn tell(alloc: Global, text: &mut TextWriter, names: &[&str], wrong: WrongScriptLine<'_>) {
-    match words_of(alloc, wrong.line.text) {
-        Ok(words) => write_wrong_line(text, names, wrong, words.as_slice()),
-        Err(error) => text.keep_failure(Err(error)),
-    }
 }
 
 fn words_of(alloc: Global, line: &[u8]) -> Result<Vec<&[u8]>, AllocError> {
@@ -51,32 +91,6 @@ fn words_of(alloc: Global, line: &[u8]) -> Result<Vec<&[u8]>, AllocError> {
         words.push(word)?;
     }
     Ok(words)
-}
-
-fn write_more(text: &mut TextWriter, count: usize) {
-    if count > 0 {
-        text.push("and ");
-        text.push_decimal(count as u64);
-        text.push(if count == 1 {
-            " more line is wrong\n"
-        } else {
-            " more lines are wrong\n"
-        });
-    }
-}
-
-fn wrong_lines<'a>(
-    alloc: Global,
-    names: &[&str],
-    lines: &[NumberedLine<'a>],
-) -> Result<Vec<WrongScriptLine<'a>>, AllocError> {
-    let mut wrong = Vec::new(alloc);
-    for line in lines {
-        if let Some(fault) = fault_of_line(alloc, names, line.text)? {
-            wrong.push(WrongScriptLine { line: *line, fault })?;
-        }
-    }
-    Ok(wrong)
 }
 
 // What is wrong with a line, if something is.

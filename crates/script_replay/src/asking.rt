@@ -28,6 +28,7 @@ fn ask_on(
 {
     // A run of calls and then of others is the run of all.
     runs_add_up();
+    // So many events are never asked: the bound shows that the loop ends.
     for _ in 0..u64::MAX {
         let Some(event) = next_event(&line.command, told.as_slice()) else {
             return Ok(());

@@ -70,7 +70,7 @@ pub enum RunFault {
     #[error("{0}")]
     Lines(String),
     /// The plan has no domain of this number.
-    #[error("the plan has no domain {0}")]
+    #[error("the farm has no domain {0}")]
     Domain(u8),
     /// The head of the domain's record can't be made.
     #[error("{0}")]

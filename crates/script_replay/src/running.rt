@@ -7,15 +7,13 @@ use crate::reader::LineReader;
 use crate::recording::record_of;
 use farm_replay::FarmStop;
 use lab_script::LoadedFile;
+use line_faults::WrongLines;
 use line_words::numbered_lines;
 use plan_checker::AcceptedPlan;
 use plan_faults::accepted;
 use script_text::{TextWriter, divide, is_passed_over};
-use std::alloc::{AllocError, Global};
+use std::alloc::Global;
 use step_meter::StepMeter;
-
-/// How many wrong lines are told.
-const MOST_TOLD: u64 = 100;
 
 /// Runs the script of a text, which stands behind its plan and a line `---`, and gives the output lines of each user, in the
 /// order of the plan. Lines that help may load these files.
@@ -63,38 +61,6 @@ pub fn record_script<M: StepMeter>(
     Ok(record_of(alloc, &plan, domain, &farm)?)
 }
 
-// What is told of wrong lines.
-#[derive(Drop)]
-struct WrongLines {
-    text: TextWriter,
-    count: u64,
-}
-
-impl WrongLines {
-    fn add(&mut self, told: &str) {
-        if self.count < MOST_TOLD {
-            self.text.push(told);
-        }
-        self.count = self.count.saturating_add(1);
-    }
-
-    // All that is told, or nothing if no line is wrong.
-    fn finish(mut self) -> Result<String, AllocError> {
-        let more = self.count.saturating_sub(MOST_TOLD);
-        if more > 0 {
-            self.text.push("and ");
-            self.text.push_decimal(more);
-            self.text.push(if more == 1 {
-                " more line is wrong\n"
-            } else {
-                " more lines are wrong\n"
-            });
-        }
-        let WrongLines { text, count: _ } = self;
-        text.finish()
-    }
-}
-
 // What the lines of a script ask.
 fn read_lines<'a>(
     alloc: Global,
@@ -104,10 +70,7 @@ fn read_lines<'a>(
 ) -> Result<Vec<AskedLine<'a>>, RunFault> {
     let reader = LineReader::new(alloc, plan, files)?;
     let mut asked = Vec::new(alloc);
-    let mut wrong = WrongLines {
-        text: TextWriter::new(alloc),
-        count: 0,
-    };
+    let mut wrong = WrongLines::new(alloc);
     for line in &numbered_lines(alloc, script)? {
         if is_passed_over(line.text) {
             continue;

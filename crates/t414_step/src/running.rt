@@ -96,6 +96,8 @@ impl Cpu {
 
 /// Steps up to the nth, or to the first that doesn't answer `Ran`: how many were done, with that one, and what the last
 /// of them answered. It is `Ran` if there was none.
+///
+/// Source: as `step`, of which these are so many, one after another.
 #[inline(never)]
 pub fn run(cpu: &mut Cpu, memory: &mut Memory, links: &mut Links, most: u64) -> (u64, Stepped)
     ensures answer { nth_step result.0 cpu.old links.old memory.old ≡ Some (step_answer_of result.1 cpu.new links.new memory.new) }
