@@ -1,12 +1,14 @@
 //! A record is read, and what its nodes wait for is told.
 
-use crate::fault::WhyFault;
-use crate::following::{Follower, follow_record};
+use crate::fault::RecordStop;
+use crate::following::Follower;
+use crate::lines::follow_record;
 use crate::record::read_record;
 use crate::telling::{Chosen, write_causes};
 use domain_core::NoMemory;
 use script_text::TextWriter;
 use std::alloc::Global;
+use step_meter::StepMeter;
 
 /// Of so many processes that wait at channels in a node's memory is told, if the record isn't at hand.
 const MOST_INSIDE: usize = 100;
@@ -16,11 +18,17 @@ const MOST_INSIDE: usize = 100;
 ///
 /// # Errors
 ///
-/// `NoMark` if no line `---` stands in the text; `Plan` and `Domains` if what stands before it is no plan of one domain; `Wrong` and
-/// `Line` with the first line that isn't one of this domain's record; `Memory`.
-pub fn explain_record(alloc: Global, text: &[u8], most: u64) -> Result<String, WhyFault> {
+/// `Record` with `NoMark` if no line `---` stands in the text, with `Plan` and `Domains` if what stands before it is no plan of one
+/// domain, with `Wrong` and `Line` and the first line that isn't one of this domain's record, and with `Memory`; `Steps` if its
+/// lines have more Steps than the meter allows.
+pub fn explain_record<M: StepMeter>(
+    alloc: Global,
+    text: &[u8],
+    most: u64,
+    meter: &mut M,
+) -> Result<String, RecordStop> {
     let record = read_record(alloc, text, most)?;
-    let follower = follow_record(alloc, &record.plan, record.lines.as_slice())?;
+    let follower = follow_record(alloc, &record.plan, record.lines.as_slice(), meter)?;
     let mut told = TextWriter::new(alloc);
     told.push("after ");
     told.push_decimal(follower.recorded());

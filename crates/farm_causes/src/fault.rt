@@ -4,6 +4,7 @@ use domain_core::Refusal;
 use line_words::{NumberedLineFault, WordFault, WordMistake, WrongLine};
 use plan_checker::PlanFault;
 use std::alloc::{AllocError, AllocFailed};
+use step_meter::StepsEnd;
 use thiserror::Error;
 
 /// Why a line of a record isn't done.
@@ -104,5 +105,67 @@ impl From<NumberedLineFault> for WhyFault {
             NumberedLineFault::Wrong(wrong) => WhyFault::Wrong(wrong),
             NumberedLineFault::Memory(error) => WhyFault::Memory(error),
         }
+    }
+}
+
+/// Why a line of a record isn't done, if its Steps are counted.
+#[derive(Clone, Copy, Debug, Error)]
+pub enum LineStop {
+    /// The domain doesn't do it, or answers otherwise.
+    #[error("{0}")]
+    Follow(FollowFault),
+    /// It has more Steps than may be done.
+    #[error("{0}")]
+    Steps(StepsEnd),
+}
+
+impl LineStop {
+    /// The line of this number isn't done.
+    pub fn at(self, number: u64) -> RecordStop {
+        match self {
+            LineStop::Follow(fault) => RecordStop::Record(WhyFault::of_line(number, fault)),
+            LineStop::Steps(end) => RecordStop::Steps(end),
+        }
+    }
+}
+
+impl From<FollowFault> for LineStop {
+    fn from(fault: FollowFault) -> LineStop {
+        LineStop::Follow(fault)
+    }
+}
+
+impl From<StepsEnd> for LineStop {
+    fn from(end: StepsEnd) -> LineStop {
+        LineStop::Steps(end)
+    }
+}
+
+impl From<AllocError> for LineStop {
+    fn from(error: AllocError) -> LineStop {
+        LineStop::Follow(FollowFault::Memory(error))
+    }
+}
+
+/// Why the lines of a record aren't done, if their Steps are counted.
+#[derive(Clone, Copy, Debug, Error)]
+pub enum RecordStop {
+    /// It is no record, or a line of it isn't what its domain answers.
+    #[error("{0}")]
+    Record(WhyFault),
+    /// Its lines have more Steps than may be done.
+    #[error("{0}")]
+    Steps(StepsEnd),
+}
+
+impl From<WhyFault> for RecordStop {
+    fn from(fault: WhyFault) -> RecordStop {
+        RecordStop::Record(fault)
+    }
+}
+
+impl From<AllocError> for RecordStop {
+    fn from(error: AllocError) -> RecordStop {
+        RecordStop::Record(WhyFault::Memory(error))
     }
 }

@@ -1,6 +1,6 @@
 //! A domain is led to a moment by the lines of its record.
 
-ghost use Rattle.std.specs.Prelude.{◌≡◌, ◌<◌, ◌∷◌, [], IfOk, IfSome, OnOk, None, Some, ◌↔◌, length, map, slice_get};
+ghost use Rattle.std.specs.Prelude.{◌≡◌, ◌<◌, ◌∷◌, [], IfOk, IfSome, OnOk, None, ◌↔◌, length, slice_get};
 ghost use Rattle.std.specs.Option.{option_copied};
 ghost use Rattle.plan_rules.specs.Part.{part_of};
 ghost use Rattle.domain_core.specs.MachineValue.{machine_of};
@@ -8,10 +8,10 @@ ghost use Rattle.domain_core.specs.Moments.{state_at};
 ghost use Rattle.domain_core.specs.PortStates.{IsPortState};
 ghost use Rattle.domain_core.specs.PrivateFarm.{opening};
 ghost use Rattle.farm_causes.specs.Causes.{IsCause};
-ghost use Rattle.farm_causes.specs.Following.{calls_said, all_said, MovesOn, IsMomentAfter};
+ghost use Rattle.farm_causes.specs.Following.{calls_said, MovesOn, IsMomentAfter};
 
 use crate::cause::Cause;
-use crate::fault::{FollowFault, WhyFault};
+use crate::fault::{FollowFault, LineStop};
 use crate::finding::cause_in;
 use crate::glance::{code_end_of, glance_before, note_event};
 use crate::line::{RecordedLine, SaidCall};
@@ -25,6 +25,7 @@ use plan_checker::AcceptedPlan;
 use plan_rules::Part;
 use std::alloc::Global;
 use std::marker::Model;
+use step_meter::StepMeter;
 use t414_step::Stepped;
 
 /// A domain at the moment to which its record leads, and what was noted on the way.
@@ -160,22 +161,30 @@ impl Follower {
 
     /// Does what a line says, compares what the domain answers with what it says, and gives the answer, of several Steps that of
     /// each. After an error nothing is said of the moment.
-    pub fn answer(&mut self, line: &RecordedLine) -> Result<Reply, FollowFault>
+    pub fn answer<M: StepMeter>(
+        &mut self,
+        line: &RecordedLine,
+        meter: &mut M,
+    ) -> Result<Reply, LineStop>
         ensures { IfOk result (λ reply. MovesOn self.old (calls_said line.now.call) self.new) }
     {
-        let reply = self.follow_call(line.call)?;
+        let reply = self.follow_said(line.call, meter)?;
         if is_told(self.alloc, line, reply)? {
             Ok(reply)
         } else {
-            Err(FollowFault::Differs)
+            Err(LineStop::Follow(FollowFault::Differs))
         }
     }
 
     /// The same, without the answer.
-    pub fn follow(&mut self, line: &RecordedLine) -> Result<(), FollowFault>
+    pub fn follow<M: StepMeter>(
+        &mut self,
+        line: &RecordedLine,
+        meter: &mut M,
+    ) -> Result<(), LineStop>
         ensures { OnOk result (MovesOn self.old (calls_said line.now.call) self.new) }
     {
-        let _reply = self.answer(line)?;
+        let _reply = self.answer(line, meter)?;
         Ok(())
     }
 
@@ -217,26 +226,4 @@ impl Follower {
     {
         self.moment.port_state(port)
     }
-}
-
-/// The only domain of a plan, led from its opening by the lines of its record.
-///
-/// # Errors
-///
-/// `Line` with the first line whose event the domain refuses, doesn't record or answers otherwise; `Memory`.
-pub fn follow_record(
-    alloc: Global,
-    plan: &AcceptedPlan,
-    lines: &[RecordedLine],
-) -> Result<Follower, WhyFault>
-    requires { length plan.now ≡ 1 }
-    ensures { IfOk result (λ f. IsMomentAfter plan.now 0 (all_said (map (λ l. l.call) lines.now)) f) }
-{
-    let mut follower = Follower::open(alloc, plan, 0)?;
-    for line in lines {
-        if let Err(fault) = follower.follow(line) {
-            return Err(WhyFault::of_line(line.number, fault));
-        }
-    }
-    Ok(follower)
 }

@@ -1,9 +1,8 @@
 -- A domain whose journal has grown, as a run of the whole farm.
-use Rattle.std.proofs.Common.{rules, ◌≡◌, ◌≢◌, inl, inr, ℕ, zero, suc, ◌+◌, List, [], ◌∷◌, ◌++◌, Option, Some, None}
-use Rattle.std.proofs.Common.{Result, Ok, Err, map, length, replicate, slice_get, slice_set, option_map, All, refl, sym}
+use Rattle.std.proofs.Common.{◌≡◌, ◌≢◌, inl, inr, ℕ, zero, suc, ◌+◌, List, [], ◌∷◌, ◌++◌, Option, Some, None}
+use Rattle.std.proofs.Common.{Result, Ok, Err, map, length, slice_get, slice_set, option_map, All, refl, sym}
 use Rattle.std.proofs.Common.{ap, ◌∙◌, subst, arith}
 use Rattle.std.specs.Prelude.{OnErr}
-use Rattle.std.specs.List.{repeat}
 use Rattle.std.proofs.lemmas.Bool.{cases_eq}
 use Rattle.std.proofs.lemmas.List.{map-append, append_cancel_left, length-append}
 use Rattle.std.proofs.lemmas.List.Elements.{All-get_or}
@@ -11,12 +10,10 @@ use Rattle.std.proofs.lemmas.Option.{slice_get-map, slice_get_within, get_or_fro
 use Rattle.plan_rules.specs.Part.{PartData}
 use Rattle.t414_step.specs.declared.stepping.Stepped.{Stepped}
 use Rattle.t414_step.specs.declared.stepping.Stepped.TheVariants.{Ran}
-use Rattle.domain_core.specs.declared.domain.Committed.{Committed}
 use Rattle.domain_core.specs.declared.domain.Committed.TheVariants.{Done}
 use Rattle.domain_core.specs.declared.event.By.TheVariants.{Farm as ByTheFarm}
 use Rattle.domain_core.specs.declared.event.Event.TheVariants.{Step}
 use Rattle.domain_core.specs.declared.event.Refusal.{Refusal}
-use Rattle.domain_core.specs.declared.event.Refusal.TheVariants.{NoSuch}
 use Rattle.domain_core.specs.declared.event.Reply.{Reply}
 use Rattle.domain_core.specs.declared.event.Reply.TheVariants as reply
 use Rattle.domain_core.specs.PrivateFarm.{State, Call, Answer, next, answers, after, opening}

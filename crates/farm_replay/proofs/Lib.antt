@@ -1,3 +1,4 @@
+mod Bursting
 mod Groups
 mod Running
 mod Grown

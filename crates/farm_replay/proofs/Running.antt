@@ -1,6 +1,6 @@
 -- Runs of calls, one after another, and the answers that a list gains by them.
 use Rattle.std.proofs.Common.{rules, arith, ◌≡◌, ◌+◌, ◌<◌, ℕ, zero, suc, List, [], ◌∷◌, ◌++◌, All, map, replicate, true}
-use Rattle.std.proofs.Common.{eqb, Option, Some, None, add-one, Ok, Err, Result, IfOk, OnOk, refl, sym, ap, ◌∙◌, subst}
+use Rattle.std.proofs.Common.{eqb, Option, Some, None, add-one, Ok, Err, Result, OnOk, refl, sym, ap, ◌∙◌, subst}
 use Rattle.std.proofs.Common.{append_assoc, take, get_or, length}
 use Rattle.std.proofs.lemmas.Bool.{eqb-true}
 use Rattle.std.proofs.lemmas.List.{map-append, take_more}

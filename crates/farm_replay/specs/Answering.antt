@@ -1,8 +1,9 @@
 -- How a list of answers goes on with the domains of a farm.
-use Rattle.std.specs.Prelude.{◌≡◌, ◌+◌, ◌<◌, ℕ, List, [], ◌∷◌, ◌++◌, map, replicate, Option, Some, None, Ok, ⊤, slice_get}
+use Rattle.std.specs.Prelude.{◌≡◌, ◌+◌, ◌<◌, ℕ, true, List, [], ◌∷◌, ◌++◌, map, replicate, Option, Some, None, IfSome, Ok, ⊤, slice_get}
 use Rattle.std.specs.List.{repeat}
 use Rattle.t414_step.specs.declared.stepping.Stepped.{Stepped}
 use Rattle.t414_step.specs.declared.stepping.Stepped.TheVariants.{Ran}
+use Rattle.bootstrap.specs.Step.{is_quiet}
 use Rattle.domain_core.specs.declared.event.By.{By}
 use Rattle.domain_core.specs.declared.event.By.TheVariants.{Farm as ByTheFarm}
 use Rattle.domain_core.specs.declared.event.Event.{Event}
@@ -11,7 +12,7 @@ use Rattle.domain_core.specs.declared.event.Reply.TheVariants as reply
 use Rattle.domain_core.specs.PrivateFarm.{Answer, Call}
 use Rattle.domain_core.specs.Domain.{DomainValue}
 use Rattle.farm_core.specs.Places.{Place}
-use Rattle.farm_core.specs.PlainFarm.{states_in, recorded_in}
+use Rattle.farm_core.specs.PlainFarm.{states_in, recorded_in, node_in}
 use Rattle.farm_replay.specs.Kept.{KeptList, HoldsTexts}
 use Rattle.farm_replay.specs.Runs.{HaveRun, IsOpenedFarm}
 use Rattle.farm_replay.specs.declared.bursts.DoneSteps.{DoneSteps}
@@ -40,6 +41,10 @@ abbrev pub HaveStepped : ℕ → ℕ → ℕ → Option DoneSteps → List Domai
 HaveStepped domain node most None old new = HaveRun old new [] []
 HaveStepped domain node most (Some done) old new =
     (done.before < most) × HaveRun old new (step_calls domain node (done.before + 1)) (steps_answers done.before done.last)
+
+-- the node is there, and its next Step would not be recorded
+abbrev pub IsAtRest : Option DomainValue → ℕ → Type 0
+IsAtRest found node = IfSome (node_in found node) (λ n. is_quiet n ≡ true)
 
 -- the list has these answers, in words
 pub record HasAnswers (told : List Answer) (l : KeptList) : Type 0 where

@@ -1,8 +1,10 @@
 //! Steps of a node that are done at once.
-ghost use Rattle.std.specs.Prelude.{◌≡◌, ◌+◌, ◌≤◌, IfOk, OnErr};
-ghost use Rattle.farm_replay.specs.Answering.{HaveStepped};
+ghost use Rattle.std.specs.Prelude.{◌≡◌, ◌+◌, ◌<◌, ◌≤◌, None, IfOk, OnErr, OnOk, slice_get};
+ghost use Rattle.domain_core.specs.Ticket.{Bursts};
+ghost use Rattle.farm_replay.specs.Answering.{HaveStepped, IsAtRest};
 
 use crate::fault::{AskFault, FarmStop};
+use bootstrap::steps_add_up;
 use domain_core::{Committed, NoMemory, Refusal, Ticket};
 use farm_core::PlainFarm;
 use farm_core::laws::each_call_is_private;
@@ -29,9 +31,12 @@ pub fn run_ticket<M: StepMeter>(
     most: u64,
     meter: &mut M,
 ) -> Result<(), StepsEnd>
+    ensures steps { OnOk result (Bursts most ticket.old ticket.new) }
     ensures number { ticket.new.number ≡ ticket.old.number }
     ensures most { ticket.new.steps ≤ ticket.old.steps + most }
 {
+    // Steps after Steps are as many as both.
+    steps_add_up();
     let mut left = most;
     while left > 0 {
         let some = meter.allow(left)?;
@@ -41,14 +46,14 @@ pub fn run_ticket<M: StepMeter>(
         meter.note(done);
         left -= done;
         if done < some {
-            break;
+            return Ok(());
         }
     }
     Ok(())
 }
 
 /// Does Steps of a node, for which the farm asks: so many at most, up to the first that would not be recorded. `None` if
-/// there are none.
+/// none was asked for, or the first of them would not be recorded.
 ///
 /// # Errors
 ///
@@ -63,6 +68,7 @@ pub fn try_burst<M: StepMeter>(
     meter: &mut M,
 ) -> Result<Option<DoneSteps>, AskFault>
     ensures steps { IfOk result (λ done. HaveStepped domain node most done farm.old farm.new) }
+    ensures none { IfOk result (λ done. done ≡ None → 0 < most → IsAtRest (slice_get farm.old domain) node) }
     ensures unchanged { OnErr result (farm.new ≡ farm.old) }
 {
     // Each call of the whole farm is one of a domain alone.

@@ -3,7 +3,10 @@
 use crate::assembly::AssemblyOptions;
 use crate::debugging::Debugging;
 use crate::failure::LabFailure;
+use crate::film::Showing;
+use crate::rows::RowFiles;
 use crate::scripts::ScriptUse;
+use crate::why::Explaining;
 use clap::error::ErrorKind;
 use clap::{Arg, ArgAction, ArgMatches, Command, value_parser};
 use lab_debug::ProgramOf;
@@ -29,11 +32,11 @@ pub enum LabRequest<'a> {
     /// The text of `--help`.
     Help(String),
     /// To compare files of rows with what they expect.
-    Rows(Vec<&'a str>),
-    /// To say why the nodes of the record in a file wait, after its first so many events.
-    Why(&'a str, u64),
-    /// To show a span of the record in a file as a page.
-    Film(&'a str, Span),
+    Rows(RowFiles<'a>),
+    /// To say why the nodes of a record wait.
+    Why(Explaining<'a>),
+    /// To show a span of a record as a page.
+    Film(Showing<'a>),
     /// To do something with the script in a file, or on standard input.
     Script(Option<&'a str>, ScriptUse),
     /// To look through a record by commands.
@@ -272,16 +275,22 @@ fn with_arguments<'a>(
         Subcommand::Assemble => command
             .arg(listing_argument(alloc))?
             .arg(pokes_argument(alloc)),
-        Subcommand::Rows => command.arg(files_argument(alloc)),
+        Subcommand::Rows => command
+            .arg(files_argument(alloc))?
+            .arg(steps_argument(alloc)),
         Subcommand::Replay => command.arg(steps_argument(alloc)),
         Subcommand::Draw => command
             .arg(domain_argument(alloc))?
             .arg(steps_argument(alloc)),
-        Subcommand::Why => command.arg(record_argument(alloc))?.arg(at_argument(alloc)),
+        Subcommand::Why => command
+            .arg(record_argument(alloc))?
+            .arg(at_argument(alloc))?
+            .arg(steps_argument(alloc)),
         Subcommand::Film => command
             .arg(record_argument(alloc))?
             .arg(from_argument(alloc))?
-            .arg(count_argument(alloc)),
+            .arg(count_argument(alloc))?
+            .arg(steps_argument(alloc)),
         Subcommand::Expand => command.arg(script_argument(alloc)),
         Subcommand::Run => command
             .arg(script_argument(alloc))?
@@ -487,9 +496,12 @@ fn read_matches<'a>(alloc: Global, matches: &ArgMatches<'a>) -> Result<LabReques
         Subcommand::Trace => read_trace(alloc, matches)?,
         Subcommand::Assemble => LabRequest::Read(Reading::Assemble(read_options(matches))),
         Subcommand::Disassemble => LabRequest::Read(Reading::Disassemble),
-        Subcommand::Rows => LabRequest::Rows(read_files(alloc, matches)?),
-        Subcommand::Why => read_why(matches)?,
-        Subcommand::Film => read_film(matches)?,
+        Subcommand::Rows => LabRequest::Rows(RowFiles {
+            files: read_files(alloc, matches)?,
+            most: steps_of(matches),
+        }),
+        Subcommand::Why => LabRequest::Why(read_why(matches)?),
+        Subcommand::Film => LabRequest::Film(read_film(matches)?),
         Subcommand::Expand => LabRequest::Script(matches.get_str("script"), ScriptUse::Expand),
         Subcommand::Run => LabRequest::Script(matches.get_str("script"), run_of(matches)),
         Subcommand::Debug => LabRequest::Debug(read_debugging(alloc, matches)?),
@@ -520,19 +532,23 @@ fn read_options<'a>(matches: &ArgMatches<'a>) -> AssemblyOptions<'a> {
     }
 }
 
-fn read_why<'a>(matches: &ArgMatches<'a>) -> Result<LabRequest<'a>, LabFailure> {
-    let record = matches.get_str("record").ok_or(LabFailure::Subcommand)?;
-    let most = matches.get_one::<u64>("at").unwrap_or(u64::MAX);
-    Ok(LabRequest::Why(record, most))
+fn read_why<'a>(matches: &ArgMatches<'a>) -> Result<Explaining<'a>, LabFailure> {
+    Ok(Explaining {
+        record: matches.get_str("record").ok_or(LabFailure::Subcommand)?,
+        events: matches.get_one::<u64>("at").unwrap_or(u64::MAX),
+        most: steps_of(matches),
+    })
 }
 
-fn read_film<'a>(matches: &ArgMatches<'a>) -> Result<LabRequest<'a>, LabFailure> {
-    let record = matches.get_str("record").ok_or(LabFailure::Subcommand)?;
-    let span = Span {
-        from: matches.get_one::<u64>("from").unwrap_or(0),
-        count: matches.get_one::<u64>("count").unwrap_or(USUAL_COUNT),
-    };
-    Ok(LabRequest::Film(record, span))
+fn read_film<'a>(matches: &ArgMatches<'a>) -> Result<Showing<'a>, LabFailure> {
+    Ok(Showing {
+        record: matches.get_str("record").ok_or(LabFailure::Subcommand)?,
+        span: Span {
+            from: matches.get_one::<u64>("from").unwrap_or(0),
+            count: matches.get_one::<u64>("count").unwrap_or(USUAL_COUNT),
+        },
+        most: steps_of(matches),
+    })
 }
 
 fn read_debugging<'a>(

@@ -1,6 +1,6 @@
 //! Why the lab ends without its output.
 
-use farm_causes::WhyFault;
+use farm_causes::{RecordStop, WhyFault};
 use lab_debug::DebugFault;
 use line_words::{NumberedLineFault, WrongLine};
 use node_trace::{BootFault, TraceFault};
@@ -278,11 +278,12 @@ impl From<RunFault> for LabFailure {
     }
 }
 
-impl From<WhyFault> for LabFailure {
-    fn from(fault: WhyFault) -> LabFailure {
-        match fault {
-            WhyFault::Memory(_) => LabFailure::Memory,
-            fault => LabFailure::Record(fault),
+impl From<RecordStop> for LabFailure {
+    fn from(stop: RecordStop) -> LabFailure {
+        match stop {
+            RecordStop::Record(WhyFault::Memory(_)) => LabFailure::Memory,
+            RecordStop::Record(fault) => LabFailure::Record(fault),
+            RecordStop::Steps(end) => LabFailure::Steps(end),
         }
     }
 }

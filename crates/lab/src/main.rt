@@ -52,10 +52,10 @@ fn report(rt: &HostRuntime) -> Result<Report, LabFailure> {
     match read_words(alloc, words.as_slice())? {
         LabRequest::Help(text) => Ok(Report { text, status: 0 }),
         LabRequest::Boot(options) => report_booted(rt, &options),
-        LabRequest::Rows(files) => report_rows(rt, files.as_slice()),
+        LabRequest::Rows(asked) => report_rows(rt, &asked),
         LabRequest::Debug(asked) => report_debugging(rt, &asked),
-        LabRequest::Why(record, most) => report_why(rt, record, most),
-        LabRequest::Film(record, span) => report_film(rt, record, span),
+        LabRequest::Why(asked) => report_why(rt, asked),
+        LabRequest::Film(asked) => report_film(rt, asked),
         LabRequest::Script(script, what) => report_script(rt, script, what),
         LabRequest::Read(reading) => {
             let text = read_whole(alloc, &mut rt.reader())?;

@@ -13,11 +13,20 @@ use script_replay::Replayed;
 use script_text::TextWriter;
 use std::fs;
 
+/// Which rows are compared.
+#[derive(Drop)]
+pub struct RowFiles<'a> {
+    /// The files in which they stand.
+    pub files: Vec<&'a str>,
+    /// How many Steps may be done for all of them, or any number.
+    pub most: Option<u64>,
+}
+
 /// Compares the rows of files. Each wrong row has a line that names its file and line, what it asked, the answer and
 /// what was expected; each file has a line that counts. The status is 1 if a row is wrong or a file has none.
-pub fn report_rows(rt: &HostRuntime, files: &[&str]) -> Result<Report, LabFailure> {
-    let mut meter = TerminalMeter::begin(rt, None);
-    let report = report_files(rt, files, &mut meter);
+pub fn report_rows(rt: &HostRuntime, asked: &RowFiles) -> Result<Report, LabFailure> {
+    let mut meter = TerminalMeter::begin(rt, asked.most);
+    let report = report_files(rt, asked.files.as_slice(), &mut meter);
     meter.wipe();
     report
 }

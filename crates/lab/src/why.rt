@@ -1,17 +1,36 @@
 //! Why the nodes of a record wait.
 
 use crate::failure::LabFailure;
+use crate::meter::TerminalMeter;
 use crate::reports::Report;
-use farm_causes::explain_record;
+use farm_causes::{RecordStop, explain_record};
 use std::fs;
 
-/// Says why each node waits, halted or runs on, after the first `most` events of the record in a file.
-pub fn report_why(rt: &HostRuntime, record: &str, most: u64) -> Result<Report, LabFailure> {
-    match fs::read(rt, record) {
+/// What is explained of a record.
+#[derive(Clone, Copy)]
+pub struct Explaining<'a> {
+    /// The file of the record.
+    pub record: &'a str,
+    /// After how many of its events, or at its end if it has fewer.
+    pub events: u64,
+    /// How many Steps may be done to get there, or any number.
+    pub most: Option<u64>,
+}
+
+/// Says why each node waits, halted or runs on, at this moment of a record.
+pub fn report_why(rt: &HostRuntime, asked: Explaining) -> Result<Report, LabFailure> {
+    match fs::read(rt, asked.record) {
         Ok(bytes) => Ok(Report {
-            text: explain_record(rt.alloc(), bytes.as_slice(), most)?,
+            text: explain(rt, bytes.as_slice(), asked)?,
             status: 0,
         }),
-        Err(error) => Err(LabFailure::of_input(&error).in_file(rt.alloc(), record)),
+        Err(error) => Err(LabFailure::of_input(&error).in_file(rt.alloc(), asked.record)),
     }
+}
+
+fn explain(rt: &HostRuntime, text: &[u8], asked: Explaining) -> Result<String, RecordStop> {
+    let mut meter = TerminalMeter::begin(rt, asked.most);
+    let told = explain_record(rt.alloc(), text, asked.events, &mut meter);
+    meter.wipe();
+    told
 }

@@ -1,7 +1,6 @@
 //! Why the debugger ends before its input does.
 
 use farm_causes::WhyFault;
-use lab_timeline::OpenFault;
 use script_text::WriteFailed;
 use std::alloc::{AllocError, AllocFailed};
 use std::io;
@@ -33,11 +32,11 @@ impl From<WhyFault> for DebugFault {
     }
 }
 
-impl From<OpenFault> for DebugFault {
-    fn from(fault: OpenFault) -> DebugFault {
+impl From<RecordStop> for DebugFault {
+    fn from(fault: RecordStop) -> DebugFault {
         match fault {
-            OpenFault::Record(fault) => DebugFault::from(fault),
-            OpenFault::Steps(end) => DebugFault::Steps(end),
+            RecordStop::Record(fault) => DebugFault::from(fault),
+            RecordStop::Steps(end) => DebugFault::Steps(end),
         }
     }
 }

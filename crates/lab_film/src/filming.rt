@@ -8,10 +8,11 @@ use crate::plan::plan_told;
 use crate::shot::{Shot, shot_of};
 use crate::steps::{check_steps, next_steps, part_of_line};
 use crate::told::{LineFrames, json_text, line_told};
-use farm_causes::{FollowFault, Follower, RecordedLine, WhyFault, read_record};
+use farm_causes::{FollowFault, Follower, LineStop, RecordStop, RecordedLine, read_record};
 use plan_checker::AcceptedPlan;
 use script_text::TextWriter;
 use std::alloc::Global;
+use step_meter::StepMeter;
 
 /// How many frames a film has at most unless it is said.
 pub const USUAL_COUNT: u64 = 100_000;
@@ -59,18 +60,19 @@ impl Filming {
     }
 
     // Does so many Steps of a line, or the event that it asks.
-    fn show_part(
+    fn show_part<M: StepMeter>(
         &mut self,
         line: &RecordedLine,
         steps: u64,
         frames: &mut LineFrames,
-    ) -> Result<(), FollowFault> {
+        meter: &mut M,
+    ) -> Result<(), LineStop> {
         let part = part_of_line(line, steps);
         let Shot {
             reply,
             found,
             frame,
-        } = shot_of(self.alloc, &mut self.follower, &part)?;
+        } = shot_of(self.alloc, &mut self.follower, &part, meter)?;
         frames.found = found;
         frames.reply = Some(reply);
         let changes = self.turn_to(frame)?;
@@ -79,11 +81,12 @@ impl Filming {
     }
 
     // The frames of a line, as many as may follow. So many of its Steps are done already. Whether all of it is shown is told too.
-    fn frames_of(
+    fn frames_of<M: StepMeter>(
         &mut self,
         line: &RecordedLine,
         done: u64,
-    ) -> Result<(LineFrames, bool), FollowFault> {
+        meter: &mut M,
+    ) -> Result<(LineFrames, bool), LineStop> {
         check_steps(self.alloc, line)?;
         let times = line.call.times.saturating_sub(done);
         let mut frames = LineFrames {
@@ -97,21 +100,22 @@ impl Filming {
                 break;
             }
             let steps = next_steps(shown, times);
-            self.show_part(line, steps, &mut frames)?;
+            self.show_part(line, steps, &mut frames, meter)?;
             shown += steps;
         }
         Ok((frames, shown >= times))
     }
 
     // Writes the frames of a line, and tells whether all of it is shown.
-    fn show_line(
+    fn show_line<M: StepMeter>(
         &mut self,
         line: &RecordedLine,
         done: u64,
         text: &mut TextWriter,
-    ) -> Result<bool, FollowFault> {
+        meter: &mut M,
+    ) -> Result<bool, LineStop> {
         let alloc = self.alloc;
-        let (frames, is_whole) = self.frames_of(line, done)?;
+        let (frames, is_whole) = self.frames_of(line, done, meter)?;
         let told = line_told(alloc, line, done, frames)?;
         text.push(json_text(serde_json::to_string(alloc, &told))?.as_str());
         Ok(is_whole)
@@ -137,32 +141,47 @@ fn beginning_of(lines: &[RecordedLine], from: u64) -> Beginning {
 }
 
 // The domain where the film begins.
-fn follow_to(
+fn follow_to<M: StepMeter>(
     alloc: Global,
     plan: &AcceptedPlan,
     lines: &[RecordedLine],
     start: Beginning,
-) -> Result<Follower, WhyFault>
+    meter: &mut M,
+) -> Result<Follower, RecordStop>
     requires { length plan.now ≡ 1 }
 {
     let mut follower = Follower::open(alloc, plan, 0)?;
     for line in lines.iter().take(start.lines) {
-        at_line(line, follower.follow(line))?;
+        at_line(line, follower.follow(line, meter))?;
     }
-    if let Some(line) = lines.get(start.lines) {
-        if start.events > 0 {
-            at_line(line, check_steps(alloc, line))?;
-            at_line(line, follower.follow(&part_of_line(line, start.events)))?;
-        }
+    if let Some(line) = lines.get(start.lines)
+        && start.events > 0
+    {
+        at_line(
+            line,
+            follow_part(alloc, &mut follower, line, start.events, meter),
+        )?;
     }
     Ok(follower)
 }
 
-// A fault with the line at which it came.
-fn at_line<T>(line: &RecordedLine, done: Result<T, FollowFault>) -> Result<T, WhyFault> {
+// Does so many of the Steps of a line.
+fn follow_part<M: StepMeter>(
+    alloc: Global,
+    follower: &mut Follower,
+    line: &RecordedLine,
+    steps: u64,
+    meter: &mut M,
+) -> Result<(), LineStop> {
+    check_steps(alloc, line)?;
+    follower.follow(&part_of_line(line, steps), meter)
+}
+
+// What ended it, with the line at which that came.
+fn at_line<T>(line: &RecordedLine, done: Result<T, LineStop>) -> Result<T, RecordStop> {
     match done {
         Ok(value) => Ok(value),
-        Err(fault) => Err(WhyFault::of_line(line.number, fault)),
+        Err(stop) => Err(stop.at(line.number)),
     }
 }
 
@@ -172,7 +191,7 @@ fn begin(
     follower: Follower,
     most: u64,
     text: &mut TextWriter,
-) -> Result<Filming, WhyFault> {
+) -> Result<Filming, RecordStop> {
     let mut follower = follower;
     let mut known = KnownCode::none(alloc, follower.part().nodes().len())?;
     let last = frame_of(alloc, &mut follower)?;
@@ -188,19 +207,20 @@ fn begin(
 }
 
 // Writes lines with their frames, and tells whether more follows.
-fn show_lines(
+fn show_lines<M: StepMeter>(
     filming: &mut Filming,
     lines: &[RecordedLine],
     start: Beginning,
     text: &mut TextWriter,
-) -> Result<bool, WhyFault> {
+    meter: &mut M,
+) -> Result<bool, RecordStop> {
     let mut done = start.events;
     for (place, line) in lines.iter().skip(start.lines).enumerate() {
         if filming.left == 0 {
             return Ok(true);
         }
         text.push(if place == 0 { "\n" } else { ",\n" });
-        if !at_line(line, filming.show_line(line, done, text))? {
+        if !at_line(line, filming.show_line(line, done, text, meter))? {
             return Ok(true);
         }
         done = 0;
@@ -209,21 +229,22 @@ fn show_lines(
 }
 
 // Writes the frames of a span.
-fn show_span(
+fn show_span<M: StepMeter>(
     alloc: Global,
     plan: &AcceptedPlan,
     lines: &[RecordedLine],
     span: Span,
     text: &mut TextWriter,
-) -> Result<(), WhyFault>
+    meter: &mut M,
+) -> Result<(), RecordStop>
     requires { length plan.now ≡ 1 }
 {
     let start = beginning_of(lines, span.from);
-    let follower = follow_to(alloc, plan, lines, start)?;
+    let follower = follow_to(alloc, plan, lines, start, meter)?;
     text.push(",\"first\":");
     let mut filming = begin(alloc, follower, span.count, text)?;
     text.push(",\"lines\":[");
-    let goes_on = show_lines(&mut filming, lines, start, text)?;
+    let goes_on = show_lines(&mut filming, lines, start, text, meter)?;
     text.push(if goes_on {
         "\n],\"goes_on\":true}"
     } else {
@@ -238,8 +259,14 @@ fn show_span(
 ///
 /// # Errors
 ///
-/// Those of `read_record`; `Line` with the first line that the domain refuses, doesn't record or answers otherwise.
-pub fn film_of(alloc: Global, text: &[u8], span: Span) -> Result<String, WhyFault> {
+/// `Record` with those of `read_record`, and with `Line` and the first line that the domain refuses, doesn't record or answers
+/// otherwise; `Steps` if more Steps are wanted than the meter allows.
+pub fn film_of<M: StepMeter>(
+    alloc: Global,
+    text: &[u8],
+    span: Span,
+    meter: &mut M,
+) -> Result<String, RecordStop> {
     let record = read_record(alloc, text, u64::MAX)?;
     let mut film = TextWriter::new(alloc);
     film.push("{\"plan\":");
@@ -256,6 +283,7 @@ pub fn film_of(alloc: Global, text: &[u8], span: Span) -> Result<String, WhyFaul
         record.lines.as_slice(),
         span,
         &mut film,
+        meter,
     )?;
     Ok(film.finish()?)
 }

@@ -6,8 +6,9 @@ ghost use Rattle.lab_film.specs.Frames.{Shows};
 use crate::frame::{Frame, frame_of};
 use bootstrap::Packet;
 use domain_core::{Event, Reply};
-use farm_causes::{FollowFault, Follower, RecordedLine};
+use farm_causes::{Follower, LineStop, RecordedLine};
 use std::alloc::Global;
+use step_meter::StepMeter;
 
 /// A packet that a Move found at its port, and the outputs that the port drove then, as a mask.
 #[derive(Clone, Copy, Debug, PartialEq, Eq)]
@@ -48,16 +49,17 @@ fn packet_at(follower: &mut Follower, event: Event) -> Option<FoundPacket>
 /// # Errors
 ///
 /// Those of `Follower::answer`; `Memory` where the frame can't be copied.
-pub fn shot_of(
+pub fn shot_of<M: StepMeter>(
     alloc: Global,
     follower: &mut Follower,
     line: &RecordedLine,
-) -> Result<Shot, FollowFault>
+    meter: &mut M,
+) -> Result<Shot, LineStop>
     ensures moves { IfOk result (λ shot. MovesOn follower.old (calls_said line.now.call) follower.new) }
     ensures shows { IfOk result (λ shot. Shows follower.new shot.frame) }
 {
     let found = packet_at(follower, line.call.event);
-    let reply = follower.answer(line)?;
+    let reply = follower.answer(line, meter)?;
     let frame = frame_of(alloc, follower)?;
     Ok(Shot {
         reply,

@@ -7,10 +7,12 @@ ghost use Rattle.farm_causes.specs.Following.{all_said};
 ghost use Rattle.lab_timeline.specs.Timeline.{said_by, IsMomentAt};
 ghost use Rattle.lab_timeline.specs.Advance.{IsProgress, GoesOn, KeepsOf, IsOfKept, Begins};
 
-use crate::fault::{LineStop, OpenFault};
 use crate::progress::Progress;
 use domain_core::{Event, NoMemory, PortState};
-use farm_causes::{FollowFault, Follower, Record, RecordedLine, SaidCall, is_told, read_record};
+use farm_causes::{
+    FollowFault, Follower, LineStop, Record, RecordStop, RecordedLine, SaidCall, is_told,
+    read_record,
+};
 use plan_checker::AcceptedPlan;
 use std::alloc::Global;
 use std::marker::Model;
@@ -146,7 +148,7 @@ impl Keeping {
         plan: &AcceptedPlan,
         lines: &[RecordedLine],
         meter: &mut M,
-    ) -> Result<Progress, OpenFault>
+    ) -> Result<Progress, RecordStop>
         requires one { length plan.now ≡ 1 }
         requires none { All (IsProgress plan.now (said_by lines.now)) self.old.kept.items }
         ensures progress { IfOk result (λ here. IsProgress plan.now (said_by lines.now) here) }
@@ -206,7 +208,7 @@ impl<'a> Timeline<'a> {
         alloc: Global,
         text: &'a [u8],
         meter: &mut M,
-    ) -> Result<Timeline<'a>, OpenFault>
+    ) -> Result<Timeline<'a>, RecordStop>
         ensures end { IfOk result (λ t. IsMomentAt t.plan t.lines (length (all_said t.lines)) t.here) }
     {
         let Record {

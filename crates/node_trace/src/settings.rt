@@ -255,27 +255,11 @@ const FIELDS: [(&str, SettingField); 22] = [
     ("output", SettingField::AtLink(LinkField::Output)),
 ];
 
-// The states of a node, as they are told.
-const NODE_STATES: [&str; 15] = [
-    "Iptr",
-    "W",
-    "A",
-    "B",
-    "C",
-    "O",
-    "Front",
-    "Back",
-    "Error",
-    "HaltOnError",
-    "running",
-    "bytes",
-    "word",
-    "code",
-    "link",
-];
+// How many of these states aren't those of a link.
+const OF_THE_NODE: usize = 15;
 
-// The same, and those of a link.
-const ALL_STATES: [&str; 24] = [
+// The states of a node, as they are told: its own, and then those of a link.
+const STATES: [&str; 24] = [
     "Iptr",
     "W",
     "A",
@@ -304,7 +288,11 @@ const ALL_STATES: [&str; 24] = [
 
 // What may stand where a setting is read.
 fn wanted_setting(has_link: bool, is_code: bool) -> Wanted {
-    let names: &'static [&'static str] = if has_link { &ALL_STATES } else { &NODE_STATES };
+    let names: &'static [&'static str] = if has_link {
+        &STATES
+    } else {
+        &STATES[..OF_THE_NODE]
+    };
     if is_code {
         Wanted::Word(WordRole::InstructionOrState, WordForm::InstructionOr(names))
     } else {

@@ -1,7 +1,9 @@
 use Rattle.std.proofs.Common.{◌≡◌, ◌+◌, ◌<◌, Ok, slice_get, sym, ap, ◌∙◌, subst, arith, rules}
+use Rattle.std.proofs.lemmas.Option.{none-some}
 use Rattle.domain_core.specs.declared.domain.Committed.{Committed}
 use Rattle.domain_core.specs.Ticket.{TicketValue, fresh_ticket, steps_told}
 use Rattle.farm_core.specs.PlainFarm.{IsCommittedAt}
+use Rattle.farm_replay.proofs.Bursting.{without_last, rests}
 use Rattle.farm_replay.proofs.Grown.{steps_run, no_steps_run, none_told}
 use Rattle.farm_replay.proofs.bursts.try_burst.Goals as goal
 
@@ -26,6 +28,10 @@ returns-in_default-2 g c =
           committed
           (none_told c.run_ticket.new.ticket.number c.run_ticket.new.ticket.steps c.run_ticket.new.ticket.last
           (search rules));
+      none =
+          λ is. rests c.args.most c.args.domain c.args.node (slice_get c.args.farm.now c.args.domain)
+          c.in_ok-ticket.ticket c.run_ticket.new.ticket c.in_ok-ticket.ensures.ticket.0 c.in_ok-ticket.ensures.ticket.1
+          c.in_ok-run_ticket.ensures.steps (search rules);
       unchanged = tt;
     }
 
@@ -49,6 +55,13 @@ returns-in_default-2-2 g c =
           })
           committed
           (ap (steps_told c.run_ticket.new.ticket.number c.run_ticket.new.ticket.steps)
+          (sym c.last-last.ensures ∙ c.in_default-2.is-0));
+      none =
+          λ is. rests c.args.most c.args.domain c.args.node (slice_get c.args.farm.now c.args.domain)
+          c.in_ok-ticket.ticket c.run_ticket.new.ticket c.in_ok-ticket.ensures.ticket.0 c.in_ok-ticket.ensures.ticket.1
+          c.in_ok-run_ticket.ensures.steps
+          (without_last c.args.most c.in_ok-ticket.ticket c.run_ticket.new.ticket c.in_ok-run_ticket.ensures.steps
+          (ap (λ (t : TicketValue). t.steps) c.in_ok-ticket.ensures.ticket.1)
           (sym c.last-last.ensures ∙ c.in_default-2.is-0));
       unchanged = tt;
     }
@@ -82,5 +95,6 @@ returns g c =
             (c.run_ticket.ensures.number ∙ ap (λ (t : TicketValue). t.number) fresh) count
             (sym c.last-last.ensures ∙ c.in-Some-Some.is-0),
       );
+      none = λ is. absurd (none-some (record { before = c.in-Some-Some.before; last = c.in-Some-Some.last }) (sym is));
       unchanged = tt;
     }

@@ -1,4 +1,4 @@
-use Rattle.std.proofs.Common.{◌≡◌, ◌<◌, Vec, Global, length, ap, ◌∙◌, subst}
+use Rattle.std.proofs.Common.{◌<◌, Vec, Global, length, ap, ◌∙◌, subst}
 use Rattle.domain_core.specs.declared.journal.Entry.{Entry}
 use Rattle.farm_replay.proofs.Entries.{one_more_entry, no_entry_behind}
 use Rattle.farm_replay.proofs.open_farm.OpenFarm.entries.Goals as goal
