@@ -1,5 +1,5 @@
 -- Steps of one line that are done in pieces: the contract of `Follower::follow_counted`.
-use Rattle.std.specs.Prelude.{◌≡◌, ◌+◌, ◌++◌, ℕ, List, replicate}
+use Rattle.std.specs.Prelude.{◌≡◌, ◌+◌, ℕ, List, replicate}
 use Rattle.std.proofs.Common.{ap, subst, ◌∙◌}
 use Rattle.std.proofs.lemmas.List.{replicate-append-replicate}
 use Rattle.domain_core.specs.declared.event.By.TheVariants.{Farm}

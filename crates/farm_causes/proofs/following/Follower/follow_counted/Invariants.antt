@@ -2,13 +2,13 @@ use Rattle.std.proofs.Common.{◌-◌, ◌≤◌}
 use Rattle.domain_core.specs.declared.event.By.TheVariants.{Farm}
 use Rattle.domain_core.specs.declared.event.Event.TheVariants.{Step}
 use Rattle.farm_causes.specs.Following.{calls_said, MovesOn}
-use Rattle.farm_causes.proofs.lines.Follower.follow_counted.Given as goal
+use Rattle.farm_causes.proofs.following.Follower.follow_counted.Given as goal
 
 -- the Steps that aren't left were done
 abbrev pub invariant-loop-left : goal.invariant-loop-left
 invariant-loop-left g l = record {
   on :
-    MovesOn l.fn.self (calls_said (record { times = l.fn.times - l.left; by = Farm; event = Step l.fn.node })) l.self;
+      MovesOn l.fn.self (calls_said (record { times = l.fn.times - l.left; by = Farm; event = Step l.fn.node })) l.self;
   within : l.left ≤ l.fn.times;
 }
 
