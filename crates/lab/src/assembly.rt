@@ -86,13 +86,19 @@ fn answer_all<'a>(
 ) -> Result<Vec<Answered<'a>>, LabFailure> {
     let mut answers = Vec::new(alloc);
     for question in questions {
-        let answer = answer_row(alloc, question.text)?;
-        answers.push(Answered {
-            question: *question,
-            answer,
-        })?;
+        add_answer(alloc, &mut answers, *question)?;
     }
     Ok(answers)
+}
+
+fn add_answer<'a>(
+    alloc: Global,
+    answers: &mut Vec<Answered<'a>>,
+    question: Question<'a>,
+) -> Result<(), LabFailure> {
+    let answer = answer_row(alloc, question.text)?;
+    answers.push(Answered { question, answer })?;
+    Ok(())
 }
 
 fn answer_row(alloc: Global, row: &str) -> Result<String, LabFailure> {
@@ -106,12 +112,21 @@ fn answer_row(alloc: Global, row: &str) -> Result<String, LabFailure> {
 // The code of a program in digits, or that its disassembly isn't the same code.
 fn answer_program(alloc: Global, row: &str) -> Result<String, LabFailure> {
     let code = code_of(alloc, lines_of(alloc, row)?.as_bytes())?;
-    let disassembled = code_as_text(alloc, code.as_slice())?;
-    let again = code_of(alloc, disassembled.as_bytes())?;
-    if again == code {
-        return Ok(hexadecimal(alloc, code.as_slice())?);
+    answer_code(alloc, code.as_slice())
+}
+
+fn answer_code(alloc: Global, code: &[u8]) -> Result<String, LabFailure> {
+    if is_disassembled(alloc, code)? {
+        return Ok(hexadecimal(alloc, code)?);
     }
     Ok(String::from_str(alloc, "its disassembly is other code")?)
+}
+
+// Whether the disassembly of code is assembled as the same code.
+fn is_disassembled(alloc: Global, code: &[u8]) -> Result<bool, LabFailure> {
+    let text = code_as_text(alloc, code)?;
+    let again = code_of(alloc, text.as_bytes())?;
+    Ok(again.as_slice() == code)
 }
 
 // The lines that ` / ` divides.

@@ -11,14 +11,21 @@ use std::fs;
 
 /// Traces a node that is booted with the code of the words, or with that of the program in a file.
 pub fn report_booted(rt: &HostRuntime, options: &BootOptions) -> Result<Report, LabFailure> {
-    let text = match &options.code {
+    let text = trace_booted(rt, options)?;
+    Ok(Report { text, status: 0 })
+}
+
+fn trace_booted(rt: &HostRuntime, options: &BootOptions) -> Result<String, LabFailure> {
+    match &options.code {
         BootedCode::Bytes(code) => {
             let until = address_of(options.until)?;
-            trace_code(rt, options, code.as_slice(), until, &[])?
+            trace_code(rt, options, code.as_slice(), until, &[])
         }
-        BootedCode::Program(file) => trace_program(rt, options, &read_program(rt, file)?)?,
-    };
-    Ok(Report { text, status: 0 })
+        BootedCode::Program(file) => {
+            let program = read_program(rt, file)?;
+            trace_program(rt, options, &program)
+        }
+    }
 }
 
 // The program in a file, if a boot takes its code.
@@ -47,17 +54,23 @@ fn trace_program(
     options: &BootOptions,
     program: &Program,
 ) -> Result<String, LabFailure> {
-    let alloc = rt.alloc();
-    let labelled = match options.until {
-        Some(word) => program.address_of(alloc, word)?,
-        None => None,
-    };
-    let until = match labelled {
-        Some(address) => Some(address),
-        None => address_of(options.until)?,
-    };
-    let lines = program.lines(alloc)?;
+    let until = address_in(rt.alloc(), program, options.until)?;
+    let lines = program.lines(rt.alloc())?;
     trace_code(rt, options, program.code(), until, lines.as_slice())
+}
+
+// The address that a word says, if there is a word: that of a label of the program, or its own.
+fn address_in(
+    alloc: Global,
+    program: &Program,
+    word: Option<&str>,
+) -> Result<Option<u32>, LabFailure> {
+    if let Some(label) = word
+        && let Some(address) = program.address_of(alloc, label)?
+    {
+        return Ok(Some(address));
+    }
+    address_of(word)
 }
 
 fn trace_code(

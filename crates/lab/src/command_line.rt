@@ -1,5 +1,9 @@
 //! What the words of the command line ask.
 
+use crate::arguments::{
+    AT, Argument, BOOT, BOOTED, COUNT, DRAWN_DOMAIN, FILES, FROM, INPUT, LISTING, PLAN, POKES,
+    PROGRAM, RECORD, RECORDED_DOMAIN, SCRIPT, STEPS, TRACED_DOMAIN, TRACED_STEPS, UNTIL, arg_of,
+};
 use crate::assembly::AssemblyOptions;
 use crate::debugging::Debugging;
 use crate::failure::LabFailure;
@@ -8,7 +12,7 @@ use crate::rows::RowFiles;
 use crate::scripts::ScriptUse;
 use crate::why::Explaining;
 use clap::error::ErrorKind;
-use clap::{Arg, ArgAction, ArgMatches, Command, value_parser};
+use clap::{ArgMatches, Command};
 use lab_debug::ProgramOf;
 use lab_film::{Span, USUAL_COUNT};
 use node_trace::{LinkInput, LinkNumber, link_of};
@@ -125,6 +129,23 @@ impl Subcommand {
         )
     }
 
+    // What may stand behind it.
+    fn arguments(self) -> &'static [Argument] {
+        match self {
+            Subcommand::Replay => &REPLAY_ARGUMENTS,
+            Subcommand::Draw => &DRAW_ARGUMENTS,
+            Subcommand::Trace => &TRACE_ARGUMENTS,
+            Subcommand::Assemble => &ASSEMBLE_ARGUMENTS,
+            Subcommand::Rows => &ROWS_ARGUMENTS,
+            Subcommand::Why => &WHY_ARGUMENTS,
+            Subcommand::Film => &FILM_ARGUMENTS,
+            Subcommand::Expand => &EXPAND_ARGUMENTS,
+            Subcommand::Run => &RUN_ARGUMENTS,
+            Subcommand::Debug => &DEBUG_ARGUMENTS,
+            Subcommand::Plan | Subcommand::Disassemble => &[],
+        }
+    }
+
     // What the help says of it.
     fn about(self) -> &'static str {
         match self {
@@ -168,18 +189,33 @@ impl Subcommand {
     }
 }
 
-/// The options of the subcommands that read standard input.
-const OPTIONS: [&str; 9] = [
-    "--boot",
-    "--program",
-    "--plan",
-    "--steps",
-    "--until",
-    "--input",
-    "--domain",
-    "--listing",
-    "--pokes",
+const REPLAY_ARGUMENTS: [Argument; 1] = [STEPS];
+
+const DRAW_ARGUMENTS: [Argument; 2] = [DRAWN_DOMAIN, STEPS];
+
+const TRACE_ARGUMENTS: [Argument; 7] = [
+    BOOT,
+    BOOTED,
+    PLAN,
+    TRACED_DOMAIN,
+    TRACED_STEPS,
+    UNTIL,
+    INPUT,
 ];
+
+const ASSEMBLE_ARGUMENTS: [Argument; 2] = [LISTING, POKES];
+
+const ROWS_ARGUMENTS: [Argument; 2] = [FILES, STEPS];
+
+const WHY_ARGUMENTS: [Argument; 3] = [RECORD, AT, STEPS];
+
+const FILM_ARGUMENTS: [Argument; 4] = [RECORD, FROM, COUNT, STEPS];
+
+const EXPAND_ARGUMENTS: [Argument; 1] = [SCRIPT];
+
+const RUN_ARGUMENTS: [Argument; 3] = [SCRIPT, RECORDED_DOMAIN, STEPS];
+
+const DEBUG_ARGUMENTS: [Argument; 3] = [RECORD, PROGRAM, STEPS];
 
 const SUBCOMMANDS: [(&str, Subcommand); 12] = [
     ("replay", Subcommand::Replay),
@@ -234,15 +270,26 @@ fn file_named<S: AsStr>(words: &[S]) -> Option<(&'static str, &str)> {
         return None;
     };
     let name = name.as_str();
-    let (subcommand, kind) = SUBCOMMANDS.iter().find(|entry| entry.0 == name)?;
+    let (name, subcommand) = SUBCOMMANDS.iter().find(|entry| entry.0 == name)?;
+    let file = file_behind(*subcommand, behind)?;
+    Some((*name, file))
+}
+
+// The last of the words behind a subcommand, if it is no option, and each of them that is one may stand there.
+fn file_behind<S: AsStr>(subcommand: Subcommand, behind: &[S]) -> Option<&str> {
     let last = behind.last()?.as_str();
-    let is_known = behind.iter().all(|word| is_known_option(word.as_str()));
-    (kind.reads_input() && is_known && !last.starts_with("-")).then_some((*subcommand, last))
+    let is_known = behind
+        .iter()
+        .all(|word| is_known(subcommand, word.as_str()));
+    (subcommand.reads_input() && is_known && !last.starts_with("-")).then_some(last)
 }
 
 // Whether a word is an option of a subcommand, or none at all.
-fn is_known_option(word: &str) -> bool {
-    !word.starts_with("-") || OPTIONS.iter().any(|option| *option == word)
+fn is_known(subcommand: Subcommand, word: &str) -> bool {
+    match word.strip_prefix("--") {
+        Some(name) => subcommand.arguments().iter().any(|it| it.is(name)),
+        None => !word.starts_with("-"),
+    }
 }
 
 fn lab_command<'a>(alloc: Global) -> Result<Command<'a>, AllocError> {
@@ -251,234 +298,23 @@ fn lab_command<'a>(alloc: Global) -> Result<Command<'a>, AllocError> {
         .after_help(AFTER_HELP)
         .subcommand_required(true);
     for (name, subcommand) in &SUBCOMMANDS {
-        lab = lab.subcommand(with_arguments(alloc, name, *subcommand)?)?;
+        let subcommand = subcommand_of(alloc, name, *subcommand)?;
+        lab = lab.subcommand(subcommand)?;
     }
     Ok(lab)
 }
 
 // A subcommand with its arguments.
-fn with_arguments<'a>(
+fn subcommand_of<'a>(
     alloc: Global,
     name: &'static str,
     subcommand: Subcommand,
 ) -> Result<Command<'a>, AllocError> {
-    let command = Command::new(alloc, name).about(subcommand.about());
-    match subcommand {
-        Subcommand::Trace => command
-            .arg(boot_argument(alloc))?
-            .arg(booted_argument(alloc))?
-            .arg(plan_argument(alloc))?
-            .arg(traced_domain_argument(alloc))?
-            .arg(traced_argument(alloc))?
-            .arg(until_argument(alloc))?
-            .arg(input_argument(alloc)),
-        Subcommand::Assemble => command
-            .arg(listing_argument(alloc))?
-            .arg(pokes_argument(alloc)),
-        Subcommand::Rows => command
-            .arg(files_argument(alloc))?
-            .arg(steps_argument(alloc)),
-        Subcommand::Replay => command.arg(steps_argument(alloc)),
-        Subcommand::Draw => command
-            .arg(domain_argument(alloc))?
-            .arg(steps_argument(alloc)),
-        Subcommand::Why => command
-            .arg(record_argument(alloc))?
-            .arg(at_argument(alloc))?
-            .arg(steps_argument(alloc)),
-        Subcommand::Film => command
-            .arg(record_argument(alloc))?
-            .arg(from_argument(alloc))?
-            .arg(count_argument(alloc))?
-            .arg(steps_argument(alloc)),
-        Subcommand::Expand => command.arg(script_argument(alloc)),
-        Subcommand::Run => command
-            .arg(script_argument(alloc))?
-            .arg(recorded_argument(alloc))?
-            .arg(steps_argument(alloc)),
-        Subcommand::Debug => command
-            .arg(record_argument(alloc))?
-            .arg(program_argument(alloc))?
-            .arg(steps_argument(alloc)),
-        Subcommand::Plan | Subcommand::Disassemble => Ok(command),
+    let mut command = Command::new(alloc, name).about(subcommand.about());
+    for argument in subcommand.arguments() {
+        command = command.arg(arg_of(alloc, *argument))?;
     }
-}
-
-fn boot_argument<'a>(alloc: Global) -> Arg<'a> {
-    Arg::new(alloc, "boot")
-        .long("boot")
-        .value_name("HEX")
-        .help("Boots a node with this code and traces it, in place of reading lines")
-        .action(ArgAction::Set)
-}
-
-fn booted_argument<'a>(alloc: Global) -> Arg<'a> {
-    Arg::new(alloc, "program")
-        .long("program")
-        .value_name("FILE")
-        .help("The same with the code of the program in this file; its labels and lines are shown")
-        .action(ArgAction::Set)
-}
-
-fn plan_argument<'a>(alloc: Global) -> Arg<'a> {
-    Arg::new(alloc, "plan")
-        .long("plan")
-        .value_name("SCRIPT")
-        .help(
-            "Runs the plan and script in this file, and traces all nodes of a domain and the packets between them",
-        )
-        .action(ArgAction::Set)
-}
-
-fn traced_domain_argument<'a>(alloc: Global) -> Arg<'a> {
-    Arg::new(alloc, "domain")
-        .long("domain")
-        .value_name("D")
-        .help("The number of the domain that --plan traces, 0 unless given")
-        .action(ArgAction::Set)
-        .value_parser(value_parser!(u8))
-}
-
-fn traced_argument<'a>(alloc: Global) -> Arg<'a> {
-    Arg::new(alloc, "steps")
-        .long("steps")
-        .value_name("N")
-        .help(
-            "How many Steps are traced at most of booted code or of a plan, 1000 unless given; how many the lines may do in all",
-        )
-        .action(ArgAction::Set)
-        .value_parser(value_parser!(u64))
-}
-
-fn steps_argument<'a>(alloc: Global) -> Arg<'a> {
-    Arg::new(alloc, "steps")
-        .long("steps")
-        .value_name("N")
-        .help("How many Steps may be done in all; more end it with status 7")
-        .action(ArgAction::Set)
-        .value_parser(value_parser!(u64))
-}
-
-fn until_argument<'a>(alloc: Global) -> Arg<'a> {
-    Arg::new(alloc, "until")
-        .long("until")
-        .value_name("ADDRESS")
-        .help(
-            "Stops the trace of booted code before the instruction at this address, or at this label of the program",
-        )
-        .action(ArgAction::Set)
-}
-
-fn input_argument<'a>(alloc: Global) -> Arg<'a> {
-    Arg::new(alloc, "input")
-        .long("input")
-        .value_name("LINK:HEX")
-        .help(
-            "Sends these bytes to the booted code by this link, each when the one before it is taken",
-        )
-        .action(ArgAction::Append)
-}
-
-fn domain_argument<'a>(alloc: Global) -> Arg<'a> {
-    Arg::new(alloc, "domain")
-        .long("domain")
-        .value_name("D")
-        .help(
-            "Draws the network of this domain, its nodes, hosts and wires, in place of the switch",
-        )
-        .action(ArgAction::Set)
-        .value_parser(value_parser!(u8))
-}
-
-fn files_argument<'a>(alloc: Global) -> Arg<'a> {
-    Arg::new(alloc, "file")
-        .value_name("FILE")
-        .help(
-            "Files of rows: plans if the name ends with .plans, programs if it ends with .assembly, wrong lines if it ends with .mistakes, for replay if it ends with .replay, and else for trace",
-        )
-        .required(true)
-        .num_args(1..)
-        .action(ArgAction::Append)
-}
-
-fn record_argument<'a>(alloc: Global) -> Arg<'a> {
-    Arg::new(alloc, "record")
-        .value_name("RECORD")
-        .help("The record of a domain, as live --record writes it")
-        .required(true)
-        .action(ArgAction::Set)
-}
-
-fn script_argument<'a>(alloc: Global) -> Arg<'a> {
-    Arg::new(alloc, "script")
-        .value_name("SCRIPT")
-        .help(
-            "The file of the plan and the script, in place of standard input; the files that it loads stand beside it",
-        )
-        .action(ArgAction::Set)
-}
-
-fn recorded_argument<'a>(alloc: Global) -> Arg<'a> {
-    Arg::new(alloc, "record")
-        .long("record")
-        .value_name("D")
-        .help("Prints the record of the domain of this number in the plan, and not the answers")
-        .action(ArgAction::Set)
-        .value_parser(value_parser!(u8))
-}
-
-fn at_argument<'a>(alloc: Global) -> Arg<'a> {
-    Arg::new(alloc, "at")
-        .long("at")
-        .value_name("N")
-        .help("Looks after the first N events of the record, and not at its end")
-        .action(ArgAction::Set)
-        .value_parser(value_parser!(u64))
-}
-
-fn from_argument<'a>(alloc: Global) -> Arg<'a> {
-    Arg::new(alloc, "from")
-        .long("from")
-        .value_name("N")
-        .help("Begins after the first N events of the record")
-        .default_value("0")
-        .action(ArgAction::Set)
-        .value_parser(value_parser!(u64))
-}
-
-fn count_argument<'a>(alloc: Global) -> Arg<'a> {
-    Arg::new(alloc, "count")
-        .long("count")
-        .value_name("N")
-        .help("How many frames are shown at most")
-        .default_value("100000")
-        .action(ArgAction::Set)
-        .value_parser(value_parser!(u64))
-}
-
-fn program_argument<'a>(alloc: Global) -> Arg<'a> {
-    Arg::new(alloc, "program")
-        .long("program")
-        .value_name("K FILE")
-        .help("Takes the labels and lines of node K from its program in this file")
-        .num_args(2)
-        .action(ArgAction::Append)
-}
-
-fn listing_argument<'a>(alloc: Global) -> Arg<'a> {
-    Arg::new(alloc, "listing")
-        .long("listing")
-        .help("Prints addresses and bytes beside the text")
-        .action(ArgAction::SetTrue)
-}
-
-fn pokes_argument<'a>(alloc: Global) -> Arg<'a> {
-    Arg::new(alloc, "pokes")
-        .long("pokes")
-        .value_name("HOST USER")
-        .help("Prints the lines of a script by which this user loads the code at this host")
-        .num_args(2)
-        .action(ArgAction::Append)
+    Ok(command)
 }
 
 fn read_matches<'a>(alloc: Global, matches: &ArgMatches<'a>) -> Result<LabRequest<'a>, LabFailure> {
@@ -555,28 +391,44 @@ fn read_debugging<'a>(
     alloc: Global,
     matches: &ArgMatches<'a>,
 ) -> Result<Debugging<'a>, LabFailure> {
-    let mut programs = Vec::new(alloc);
-    for words in matches.get_strs("program").unwrap_or(&[]).chunks(2) {
-        match words {
-            [node, file] => programs.push(program_of(node, file)?)?,
-            _ => return Err(LabFailure::Program),
-        }
-    }
+    let record = matches.get_str("record").ok_or(LabFailure::Subcommand)?;
     Ok(Debugging {
-        record: matches.get_str("record").ok_or(LabFailure::Subcommand)?,
-        programs,
+        record,
+        programs: read_programs(alloc, matches)?,
         most: steps_of(matches),
     })
 }
 
+fn read_programs<'a>(
+    alloc: Global,
+    matches: &ArgMatches<'a>,
+) -> Result<Vec<ProgramOf<'a>>, LabFailure> {
+    let mut programs = Vec::new(alloc);
+    for words in matches.get_strs("program").unwrap_or(&[]).chunks(2) {
+        add_program(&mut programs, words)?;
+    }
+    Ok(programs)
+}
+
+fn add_program<'a>(programs: &mut Vec<ProgramOf<'a>>, words: &[&'a str]) -> Result<(), LabFailure> {
+    let Some(program) = program_of(words) else {
+        return Err(LabFailure::Program);
+    };
+    programs.push(program)?;
+    Ok(())
+}
+
 // The program of a node, by the number of the node and the file.
-fn program_of<'a>(node: &str, file: &'a str) -> Result<ProgramOf<'a>, LabFailure> {
+fn program_of<'a>(words: &[&'a str]) -> Option<ProgramOf<'a>> {
+    let [node, file] = words else {
+        return None;
+    };
     match decimal_number(node) {
-        Some(number) if number < 256 => Ok(ProgramOf {
+        Some(number) if number < 256 => Some(ProgramOf {
             node: number as u8,
-            file,
+            file: *file,
         }),
-        _ => Err(LabFailure::Program),
+        _ => None,
     }
 }
 

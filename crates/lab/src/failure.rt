@@ -84,59 +84,67 @@ fn write_length<W: fmt::Write>(f: &mut fmt::Formatter<W>, count: usize) -> fmt::
     f.write_str("\n")
 }
 
+// A line that says this.
+fn write_line<W: fmt::Write, T: fmt::Display>(f: &mut fmt::Formatter<W>, told: &T) -> fmt::Result {
+    write!(f, "{told}\n")
+}
+
+// The text of a failure of which there is only one.
+fn text_of(failure: &LabFailure) -> &'static str {
+    match failure {
+        LabFailure::Arguments => "error: an argument isn't UTF-8\n",
+        LabFailure::Subcommand => "error: a subcommand is missing\n",
+        LabFailure::Code => {
+            "error: the code is not hexadecimal digits, two for each byte (`lab assemble` prints them of a program)\n"
+        }
+        LabFailure::Program => "error: --program takes the number of a node, and a file\n",
+        LabFailure::TwoCodes => {
+            "error: --boot, --program and --plan each say what is traced: write one of them\n"
+        }
+        LabFailure::TraceOptions => {
+            "error: --until and --input go with --boot or --program, and --domain with --plan\n"
+        }
+        LabFailure::Address => {
+            "error: --until takes an address, one to eight hexadecimal digits, or a label of --program: --until 8000004c\n"
+        }
+        LabFailure::Input => {
+            "error: --input takes a link, 0 to 3, a colon and bytes in hexadecimal digits: --input 1:0a0b\n"
+        }
+        LabFailure::Head => "the head of the record doesn't read as its plan\n",
+        LabFailure::Unread => "it can't be read\n",
+        LabFailure::Memory => "memory\n",
+        _ => "io\n",
+    }
+}
+
 /// The text for standard error.
 impl fmt::Display for LabFailure {
     fn fmt<W: fmt::Write>(&self, f: &mut fmt::Formatter<W>) -> fmt::Result {
         match self {
             LabFailure::Words(error) => write!(f, "{error}"),
-            LabFailure::Arguments => f.write_str("error: an argument isn't UTF-8\n"),
-            LabFailure::Subcommand => f.write_str("error: a subcommand is missing\n"),
             LabFailure::FileName { subcommand, file } => write!(
                 f,
                 "error: lab {subcommand} reads standard input: lab {subcommand} < {file}\n"
-            ),
-            LabFailure::Code => f.write_str(
-                "error: the code is not hexadecimal digits, two for each byte (`lab assemble` prints them of a program)\n",
             ),
             LabFailure::Booted(count) => {
                 f.write_str("error: ")?;
                 write_length(f, *count)
             }
-            LabFailure::Program => f.write_str(
-                "error: --program takes the number of a node, and a file\n",
-            ),
-            LabFailure::TwoCodes => f.write_str(
-                "error: --boot, --program and --plan each say what is traced: write one of them\n",
-            ),
-            LabFailure::TraceOptions => f.write_str(
-                "error: --until and --input go with --boot or --program, and --domain with --plan\n",
-            ),
-            LabFailure::Address => f.write_str(
-                "error: --until takes an address, one to eight hexadecimal digits, or a label of --program: --until 8000004c\n",
-            ),
-            LabFailure::Input => f.write_str(
-                "error: --input takes a link, 0 to 3, a colon and bytes in hexadecimal digits: --input 1:0a0b\n",
-            ),
-            LabFailure::ReplayedPlan(fault) => write!(f, "{fault}\n"),
-            LabFailure::RefusedPlan(refusal) => write!(f, "{refusal}\n"),
-            LabFailure::Line(wrong) => write!(f, "{wrong}\n"),
-            LabFailure::Record(fault) => write!(f, "{fault}\n"),
-            LabFailure::Text(fault) => write!(f, "{fault}\n"),
-            LabFailure::Script(told) => write!(f, "{told}"),
+            LabFailure::ReplayedPlan(fault) => write_line(f, fault),
+            LabFailure::RefusedPlan(refusal) => write_line(f, refusal),
+            LabFailure::Line(wrong) => write_line(f, wrong),
+            LabFailure::Record(fault) => write_line(f, fault),
+            LabFailure::Text(fault) => write_line(f, fault),
+            LabFailure::Script(told) => f.write_str(told.as_str()),
             LabFailure::Domain(domain) => write!(f, "the farm has no domain {domain}\n"),
             LabFailure::Length(count) => write_length(f, *count),
-            LabFailure::Poked(count) => {
-                write!(
-                    f,
-                    "the code has {count} bytes, and 1 to 65456 can be poked\n"
-                )
-            }
-            LabFailure::Steps(end) => write!(f, "{end}\n"),
-            LabFailure::Head => f.write_str("the head of the record doesn't read as its plan\n"),
-            LabFailure::Unread => f.write_str("it can't be read\n"),
-            LabFailure::OfFile { text, .. } => write!(f, "{text}"),
-            LabFailure::Memory => f.write_str("memory\n"),
-            LabFailure::Io => f.write_str("io\n"),
+            LabFailure::Poked(count) => write!(
+                f,
+                "the code has {count} bytes, and 1 to 65456 can be poked\n"
+            ),
+            LabFailure::Steps(end) => write_line(f, end),
+            LabFailure::OfFile { text, .. } => f.write_str(text.as_str()),
+            failure => f.write_str(text_of(failure)),
         }
     }
 }

@@ -1,6 +1,7 @@
 //! The lab: replays events on a farm, traces a node, and compares worked rows with their answers.
 #![tactic(auto)]
 
+mod arguments;
 mod assembly;
 mod booting;
 mod command_line;

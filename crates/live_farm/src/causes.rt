@@ -1,5 +1,5 @@
 //! Why the nodes of a domain do no more than they do: what it answered is done again on a domain apart.
-ghost use Rattle.std.specs.Prelude.{IfOk};
+ghost use Rattle.std.specs.Prelude.{◌<◌, IfOk, length};
 ghost use Rattle.farm_causes.specs.Following.{IsReached};
 
 use crate::record::PIECE;
@@ -7,6 +7,7 @@ use domain_core::{Entry, Mark, NoMemory};
 use farm_causes::laws::moments_go_on;
 use farm_causes::{FollowFault, Follower, explain_moment};
 use farm_service::Service;
+use plan_checker::AcceptedPlan;
 use std::alloc::Global;
 use std::sync::Wait;
 
@@ -28,6 +29,20 @@ struct Shadow {
 }
 
 impl Shadow {
+    // The domain of this number of a plan as it is opened.
+    fn open(alloc: Global, plan: &AcceptedPlan, domain: u8) -> Result<Shadow, NoMemory>
+        requires { domain < length plan.now }
+        ensures { IfOk result (λ it. IsReached plan.now domain it.follower) }
+    {
+        let room = Vec::with_capacity(alloc, PIECE)?;
+        Ok(Shadow {
+            follower: Follower::open(alloc, plan, domain)?,
+            mark: Mark::start(),
+            room,
+            left: MOST_AGAIN,
+        })
+    }
+
     // Follows the next piece of the journal, until so many events are recorded; whether more may follow.
     fn follow_piece<R: Wait>(
         &mut self,
@@ -60,6 +75,26 @@ impl Shadow {
         self.left = self.left.saturating_sub(done).saturating_sub(entries);
         Ok(true)
     }
+
+    // Follows the journal until so many events are recorded, or as far as is done again at once.
+    fn follow<R: Wait>(
+        &mut self,
+        rt: &R,
+        service: &Service,
+        domain: u8,
+        end: u64,
+    ) -> Result<(), FollowFault>
+        requires { IsReached service.now.plan domain self.old.follower }
+        ensures { IfOk result (λ _. IsReached service.now.plan domain self.new.follower) }
+    {
+        // Each piece counts, so there are fewer.
+        for _piece in 0..MOST_AGAIN {
+            if !self.follow_piece(rt, service, domain, end)? {
+                break;
+            }
+        }
+        Ok(())
+    }
 }
 
 // The domain of this number of a service's plan, led from its opening up to so many events, or as far as is done again at once.
@@ -75,18 +110,8 @@ fn follow_journal<R: Wait>(
     if domain >= service.plan().domains() {
         return Err(FollowFault::NoSuch);
     }
-    let mut shadow = Shadow {
-        follower: Follower::open(alloc, service.plan(), domain)?,
-        mark: Mark::start(),
-        room: Vec::with_capacity(alloc, PIECE)?,
-        left: MOST_AGAIN,
-    };
-    // Each piece counts, so there are fewer.
-    for _piece in 0..MOST_AGAIN {
-        if !shadow.follow_piece(rt, service, domain, end)? {
-            break;
-        }
-    }
+    let mut shadow = Shadow::open(alloc, service.plan(), domain)?;
+    shadow.follow(rt, service, domain, end)?;
     let Shadow { follower, .. } = shadow;
     Ok(follower)
 }

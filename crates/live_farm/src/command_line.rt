@@ -65,58 +65,92 @@ fn settings_in(alloc: Global, matches: &ArgMatches) -> Result<LiveSettings, Allo
     })
 }
 
+// An option that takes a value.
+fn value_option<'a>(alloc: Global, name: &'a str, value: &'a str, help: &'a str) -> Arg<'a> {
+    Arg::new(alloc, name)
+        .long(name)
+        .value_name(value)
+        .help(help)
+        .action(ArgAction::Set)
+}
+
+// An option of records, which goes with `--record` alone.
+fn record_flag<'a>(alloc: Global, name: &'a str, help: &'a str) -> Result<Arg<'a>, AllocError> {
+    Arg::new(alloc, name)
+        .long(name)
+        .help(help)
+        .action(ArgAction::SetTrue)
+        .requires_arg("record")
+}
+
+fn plan_argument<'a>(alloc: Global) -> Arg<'a> {
+    Arg::new(alloc, "plan")
+        .value_name("PLAN")
+        .help("The file of the plan")
+        .required(true)
+        .action(ArgAction::Set)
+}
+
+fn workers_option<'a>(alloc: Global) -> Arg<'a> {
+    value_option(
+        alloc,
+        "workers",
+        "N",
+        "How many workers step the nodes, 1 to 8",
+    )
+    .default_value("2")
+    .value_parser(value_parser!(u8).range(1..=8))
+}
+
+fn quantum_option<'a>(alloc: Global) -> Arg<'a> {
+    value_option(
+        alloc,
+        "quantum",
+        "N",
+        "How many Steps a node does at a time while packets move, 1 to 4096",
+    )
+    .default_value("256")
+    .value_parser(value_parser!(u16).range(1..=4096))
+}
+
+fn record_option<'a>(alloc: Global) -> Arg<'a> {
+    value_option(
+        alloc,
+        "record",
+        "DIR",
+        "Records what each domain answers in files of this folder",
+    )
+}
+
+// The same command with the options of records.
+fn with_records<'a>(alloc: Global, command: Command<'a>) -> Result<Command<'a>, AllocError> {
+    command
+        .arg(record_option(alloc))?
+        .arg(record_flag(alloc, "resume", "Goes on with the records that are there")?)?
+        .arg(record_flag(
+            alloc,
+            "sync",
+            "Each answer waits until its record is on the disk",
+        )?)
+}
+
+fn live_command<'a>(alloc: Global) -> Result<Command<'a>, AllocError> {
+    let command = Command::new(alloc, "live")
+        .about("Answers lines on a farm of T414 processors as they come")
+        .after_help(AFTER_HELP)
+        .arg(plan_argument(alloc))?
+        .arg(workers_option(alloc))?
+        .arg(quantum_option(alloc))?;
+    with_records(alloc, command)
+}
+
 /// Reads the words of the command line, of which the first is the program's name: the plan's path; `--workers N`, 1 to 8,
 /// default 2; `--quantum N`, 1 to 4,096, default 256; `--record DIR`, and with it `--resume` and `--sync`. The error is `clap`'s: `--help` is one, and want of memory another.
 pub fn live_settings<S: AsStr>(alloc: Global, words: &[S]) -> Result<LiveSettings, clap::Error>
     ensures { IfOk result IsInRange }
 {
-    let path = Arg::new(alloc, "plan")
-        .value_name("PLAN")
-        .help("The file of the plan")
-        .required(true)
-        .action(ArgAction::Set);
-    let workers = Arg::new(alloc, "workers")
-        .long("workers")
-        .value_name("N")
-        .help("How many workers step the nodes, 1 to 8")
-        .default_value("2")
-        .action(ArgAction::Set)
-        .value_parser(value_parser!(u8).range(1..=8));
-    let quantum = Arg::new(alloc, "quantum")
-        .long("quantum")
-        .value_name("N")
-        .help("How many Steps a node does at a time while packets move, 1 to 4096")
-        .default_value("256")
-        .action(ArgAction::Set)
-        .value_parser(value_parser!(u16).range(1..=4096));
-    let command = Command::new(alloc, "live")
-        .about("Answers lines on a farm of T414 processors as they come")
-        .after_help(AFTER_HELP)
-        .arg(path)?
-        .arg(workers)?
-        .arg(quantum)?;
-    let matches = with_records(alloc, command)?.try_get_matches_from(words)?;
+    let matches = live_command(alloc)?.try_get_matches_from(words)?;
     Ok(settings_in(alloc, &matches)?)
-}
-
-// The same command with the options of records.
-fn with_records<'a>(alloc: Global, command: Command<'a>) -> Result<Command<'a>, clap::Error> {
-    let record = Arg::new(alloc, "record")
-        .long("record")
-        .value_name("DIR")
-        .help("Records what each domain answers in files of this folder")
-        .action(ArgAction::Set);
-    let resume = Arg::new(alloc, "resume")
-        .long("resume")
-        .help("Goes on with the records that are there")
-        .action(ArgAction::SetTrue)
-        .requires_arg("record")?;
-    let sync = Arg::new(alloc, "sync")
-        .long("sync")
-        .help("Each answer waits until its record is on the disk")
-        .action(ArgAction::SetTrue)
-        .requires_arg("record")?;
-    Ok(command.arg(record)?.arg(resume)?.arg(sync)?)
 }
 
 // The parser gives a number in its range, or the default.

@@ -77,6 +77,18 @@ fn join<'a>(
     group.add(name, service.session(pass))
 }
 
+// Gives each group a station.
+fn add_stations<'a>(
+    alloc: Global,
+    groups: Vec<DomainUsers<'a>>,
+    crew: &mut Crew<'a>,
+) -> Result<(), NoMemory> {
+    for group in groups {
+        crew.stations.push(Station::new(alloc, group)?)?;
+    }
+    Ok(())
+}
+
 impl<'a> Crew<'a> {
     /// The users of a service, by the passes of its opening.
     pub fn new(
@@ -94,9 +106,7 @@ impl<'a> Crew<'a> {
         for pass in users {
             join(service, &mut groups, &mut crew, pass)?;
         }
-        for group in groups {
-            crew.stations.push(Station::new(alloc, group)?)?;
-        }
+        add_stations(alloc, groups, &mut crew)?;
         Ok(crew)
     }
 

@@ -1,6 +1,6 @@
 use Rattle.farm_causes.specs.Following.{IsReached}
-use Rattle.live_farm.proofs.causes.follow_journal.Given as goal
+use Rattle.live_farm.proofs.causes.Shadow.follow.Given as goal
 
 -- the follower is at some moment of the domain
 abbrev pub invariant-loop-piece : goal.invariant-loop-piece
-invariant-loop-piece g l = IsReached l.fn.service.plan l.fn.domain l.shadow.follower
+invariant-loop-piece g l = IsReached l.fn.service.plan l.fn.domain l.self.follower
