@@ -250,14 +250,30 @@ fn done(domain: &mut Plain, work: TimedWork, count: u64) -> Result<u64, Refusal>
     }
 }
 
-/// Does COUNT rounds of each of those that are asked for.
-pub fn measure(rt: &impl Print, alloc: Global, selection: Selection<'_>) -> io::Result<()> {
-    let mut domain = opened(alloc).map_err(failed)?;
+// The same, with the name of the work and how many rounds were done.
+fn print_done(
+    rt: &impl Print,
+    domain: &mut Plain,
+    name: &str,
+    work: TimedWork,
+    count: u64,
+) -> io::Result<()> {
+    let done = done(domain, work, count).map_err(refused)?;
+    println!(rt; "{name}: {done}")
+}
+
+// Does COUNT rounds of each of those that are asked for, on this domain.
+fn measure_on(rt: &impl Print, domain: &mut Plain, selection: Selection<'_>) -> io::Result<()> {
     for (name, work) in WORKS {
         if selection.runs(name) {
-            let done = done(&mut domain, work, selection.count).map_err(refused)?;
-            println!(rt; "{name}: {done}")?;
+            print_done(rt, domain, name, work, selection.count)?;
         }
     }
     Ok(())
+}
+
+/// Does COUNT rounds of each of those that are asked for.
+pub fn measure(rt: &impl Print, alloc: Global, selection: Selection<'_>) -> io::Result<()> {
+    let mut domain = opened(alloc).map_err(failed)?;
+    measure_on(rt, &mut domain, selection)
 }

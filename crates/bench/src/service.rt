@@ -265,14 +265,19 @@ fn measure_turns<R: Print + Threads + Wait + Sync>(
                 limit: MOST_EVENTS,
             };
             let done = turns(rt, alloc, size, workers.clamp(1, 8), selection.count)?;
-            if selection.name.is_some() {
-                println!(rt; "{name}: {done}")?;
-            } else {
-                println!(rt; "{name}")?;
-            }
+            print_turns(rt, name, done, selection)?;
         }
     }
     Ok(())
+}
+
+// How many turns were done differs from run to run, so it is printed only of a work that was chosen.
+fn print_turns(rt: &impl Print, name: &str, done: u64, selection: Selection<'_>) -> io::Result<()> {
+    if selection.name.is_some() {
+        println!(rt; "{name}: {done}")
+    } else {
+        println!(rt; "{name}")
+    }
 }
 
 /// Does COUNT rounds of each of those that are asked for.

@@ -144,9 +144,19 @@ pub fn measure<R: Print + Threads>(
     selection: Selection<'_>,
 ) -> io::Result<()> {
     let plan = plan_of(alloc, BOB_AT_PORT_8).map_err(failed)?;
-    let (table, mut seat, operator) = opened(alloc, &plan).map_err(failed)?;
+    measure_shared(rt, alloc, &plan, selection)?;
+    measure_plain(rt, &plan, selection)
+}
+
+// The same of outputs that are shared.
+fn measure_shared<R: Print + Threads>(
+    rt: &R,
+    alloc: Global,
+    plan: &AcceptedPlan,
+    selection: Selection<'_>,
+) -> io::Result<()> {
+    let (table, mut seat, operator) = opened(alloc, plan).map_err(failed)?;
     measure_outputs(rt, &mut seat, ["seat-loads", "seat-stores"], selection)?;
-    measure_plain(rt, &plan, selection)?;
     if selection.runs("surveys-beside-stores") {
         let (word, rises) = both(rt, &table, seat, operator, selection.count);
         println!(rt; "surveys-beside-stores: word {word}, counts rise {rises}")?;
