@@ -2,12 +2,12 @@
 
 use crate::command_line::{BootOptions, BootedCode};
 use crate::failure::LabFailure;
+use crate::files::read_file;
 use crate::meter::TerminalMeter;
 use crate::reports::Report;
 use node_trace::{BootTrace, Program, ProgramLine, trace_boot};
 use script_text::hexadecimal_word;
 use std::alloc::Global;
-use std::fs;
 
 /// Traces a node that is booted with the code of the words, or with that of the program in a file.
 pub fn report_booted(rt: &HostRuntime, options: &BootOptions) -> Result<Report, LabFailure> {
@@ -30,13 +30,10 @@ fn trace_booted(rt: &HostRuntime, options: &BootOptions) -> Result<String, LabFa
 
 // The program in a file, if a boot takes its code.
 fn read_program(rt: &HostRuntime, file: &str) -> Result<Program, LabFailure> {
-    let alloc = rt.alloc();
-    match fs::read(rt, file) {
-        Ok(text) => match booted_program(alloc, text) {
-            Ok(program) => Ok(program),
-            Err(failure) => Err(failure.in_file(alloc, file)),
-        },
-        Err(error) => Err(LabFailure::of_input(&error).in_file(alloc, file)),
+    let text = read_file(rt, file)?;
+    match booted_program(rt.alloc(), text) {
+        Ok(program) => Ok(program),
+        Err(failure) => Err(failure.in_file(rt.alloc(), file)),
     }
 }
 

@@ -322,26 +322,35 @@ fn read_matches<'a>(alloc: Global, matches: &ArgMatches<'a>) -> Result<LabReques
         return Err(LabFailure::Subcommand);
     };
     let subcommand = value_named(&SUBCOMMANDS, name).ok_or(LabFailure::Subcommand)?;
-    Ok(match subcommand {
-        Subcommand::Replay => LabRequest::Read(Reading::Replay(steps_of(matches))),
-        Subcommand::Plan => LabRequest::Read(Reading::Plan),
-        Subcommand::Draw => LabRequest::Read(Reading::Draw(Drawing {
-            domain: matches.get_one::<u8>("domain"),
-            most: steps_of(matches),
-        })),
-        Subcommand::Trace => read_trace(alloc, matches)?,
-        Subcommand::Assemble => LabRequest::Read(Reading::Assemble(read_options(matches))),
-        Subcommand::Disassemble => LabRequest::Read(Reading::Disassemble),
-        Subcommand::Rows => LabRequest::Rows(RowFiles {
-            files: read_files(alloc, matches)?,
-            most: steps_of(matches),
-        }),
-        Subcommand::Why => LabRequest::Why(read_why(matches)?),
-        Subcommand::Film => LabRequest::Film(read_film(matches)?),
-        Subcommand::Expand => LabRequest::Script(matches.get_str("script"), ScriptUse::Expand),
-        Subcommand::Run => LabRequest::Script(matches.get_str("script"), run_of(matches)),
-        Subcommand::Debug => LabRequest::Debug(read_debugging(alloc, matches)?),
-    })
+    match subcommand {
+        Subcommand::Replay => Ok(LabRequest::Read(Reading::Replay(steps_of(matches)))),
+        Subcommand::Plan => Ok(LabRequest::Read(Reading::Plan)),
+        Subcommand::Draw => Ok(LabRequest::Read(Reading::Draw(drawing_of(matches)))),
+        Subcommand::Trace => read_trace(alloc, matches),
+        Subcommand::Assemble => Ok(LabRequest::Read(Reading::Assemble(read_options(matches)))),
+        Subcommand::Disassemble => Ok(LabRequest::Read(Reading::Disassemble)),
+        Subcommand::Rows => read_rows(alloc, matches),
+        Subcommand::Why => read_why(matches),
+        Subcommand::Film => read_film(matches),
+        Subcommand::Expand => Ok(LabRequest::Script(matches.get_str("script"), ScriptUse::Expand)),
+        Subcommand::Run => Ok(LabRequest::Script(matches.get_str("script"), run_of(matches))),
+        Subcommand::Debug => read_debugging(alloc, matches),
+    }
+}
+
+fn drawing_of(matches: &ArgMatches) -> Drawing {
+    Drawing {
+        domain: matches.get_one::<u8>("domain"),
+        most: steps_of(matches),
+    }
+}
+
+fn read_rows<'a>(alloc: Global, matches: &ArgMatches<'a>) -> Result<LabRequest<'a>, LabFailure> {
+    let files = Vec::from_slice(alloc, matches.get_strs("file").unwrap_or(&[]))?;
+    Ok(LabRequest::Rows(RowFiles {
+        files,
+        most: steps_of(matches),
+    }))
 }
 
 // What `run` does with a script.
@@ -368,35 +377,46 @@ fn read_options<'a>(matches: &ArgMatches<'a>) -> AssemblyOptions<'a> {
     }
 }
 
-fn read_why<'a>(matches: &ArgMatches<'a>) -> Result<Explaining<'a>, LabFailure> {
-    Ok(Explaining {
-        record: matches.get_str("record").ok_or(LabFailure::Subcommand)?,
-        events: matches.get_one::<u64>("at").unwrap_or(u64::MAX),
-        most: steps_of(matches),
-    })
+// The file of a record, which the parser has found.
+fn record_of<'a>(matches: &ArgMatches<'a>) -> Result<&'a str, LabFailure> {
+    match matches.get_str("record") {
+        Some(record) => Ok(record),
+        None => Err(LabFailure::Subcommand),
+    }
 }
 
-fn read_film<'a>(matches: &ArgMatches<'a>) -> Result<Showing<'a>, LabFailure> {
-    Ok(Showing {
-        record: matches.get_str("record").ok_or(LabFailure::Subcommand)?,
+fn read_why<'a>(matches: &ArgMatches<'a>) -> Result<LabRequest<'a>, LabFailure> {
+    let record = record_of(matches)?;
+    Ok(LabRequest::Why(Explaining {
+        record,
+        events: matches.get_one::<u64>("at").unwrap_or(u64::MAX),
+        most: steps_of(matches),
+    }))
+}
+
+fn read_film<'a>(matches: &ArgMatches<'a>) -> Result<LabRequest<'a>, LabFailure> {
+    let record = record_of(matches)?;
+    Ok(LabRequest::Film(Showing {
+        record,
         span: Span {
             from: matches.get_one::<u64>("from").unwrap_or(0),
             count: matches.get_one::<u64>("count").unwrap_or(USUAL_COUNT),
         },
         most: steps_of(matches),
-    })
+    }))
 }
 
 fn read_debugging<'a>(
     alloc: Global,
     matches: &ArgMatches<'a>,
-) -> Result<Debugging<'a>, LabFailure> {
-    let record = matches.get_str("record").ok_or(LabFailure::Subcommand)?;
-    Ok(Debugging {
+) -> Result<LabRequest<'a>, LabFailure> {
+    let record = record_of(matches)?;
+    let programs = read_programs(alloc, matches)?;
+    Ok(LabRequest::Debug(Debugging {
         record,
-        programs: read_programs(alloc, matches)?,
+        programs,
         most: steps_of(matches),
-    })
+    }))
 }
 
 fn read_programs<'a>(
@@ -432,64 +452,61 @@ fn program_of<'a>(words: &[&'a str]) -> Option<ProgramOf<'a>> {
     }
 }
 
-fn read_files<'a>(alloc: Global, matches: &ArgMatches<'a>) -> Result<Vec<&'a str>, AllocError> {
-    Vec::from_slice(alloc, matches.get_strs("file").unwrap_or(&[]))
+// Whether a word says with which code a node is booted.
+fn is_booted(matches: &ArgMatches) -> bool {
+    matches.get_str("boot").is_some() || matches.get_str("program").is_some()
+}
+
+// Refuses options of `trace` that don't go together.
+fn check_trace(matches: &ArgMatches) -> Result<(), LabFailure> {
+    let is_planned = matches.get_str("plan").is_some();
+    let has_both = matches.get_str("boot").is_some() && matches.get_str("program").is_some();
+    let needs_boot = matches.get_str("until").is_some() || matches.get_strs("input").is_some();
+    let needs_plan = matches.get_one::<u8>("domain").is_some();
+    if has_both || is_planned && is_booted(matches) {
+        return Err(LabFailure::TwoCodes);
+    }
+    if needs_boot && !is_booted(matches) || needs_plan && !is_planned {
+        return Err(LabFailure::TraceOptions);
+    }
+    Ok(())
 }
 
 fn read_trace<'a>(alloc: Global, matches: &ArgMatches<'a>) -> Result<LabRequest<'a>, LabFailure> {
-    let until = matches.get_str("until");
-    let inputs = read_inputs(alloc, matches)?;
-    let domain = matches.get_one::<u8>("domain");
-    let traced = traced_of(alloc, matches)?;
-    let is_booted = matches!(traced, Traced::Code(_));
-    if !is_booted && (until.is_some() || !inputs.is_empty()) {
-        return Err(LabFailure::TraceOptions);
-    }
-    if domain.is_some() && !matches!(traced, Traced::Script(_)) {
-        return Err(LabFailure::TraceOptions);
+    check_trace(matches)?;
+    if is_booted(matches) {
+        return read_boot(alloc, matches);
     }
     let steps = steps_of(matches);
-    Ok(match traced {
-        Traced::Lines => LabRequest::Read(Reading::Trace(steps)),
-        Traced::Script(file) => LabRequest::Script(
-            Some(file),
+    Ok(match matches.get_str("plan") {
+        Some(script) => LabRequest::Script(
+            Some(script),
             ScriptUse::Trace {
-                domain: domain.unwrap_or(0),
+                domain: matches.get_one::<u8>("domain").unwrap_or(0),
                 steps: steps.unwrap_or(USUAL_STEPS),
             },
         ),
-        Traced::Code(code) => LabRequest::Boot(BootOptions {
-            code,
-            steps: steps.unwrap_or(USUAL_STEPS),
-            until,
-            inputs,
-        }),
+        None => LabRequest::Read(Reading::Trace(steps)),
     })
 }
 
-// What is traced.
-#[derive(Drop)]
-enum Traced<'a> {
-    Lines,
-    Script(&'a str),
-    Code(BootedCode<'a>),
+fn read_boot<'a>(alloc: Global, matches: &ArgMatches<'a>) -> Result<LabRequest<'a>, LabFailure> {
+    let code = booted_code(alloc, matches)?;
+    let inputs = read_inputs(alloc, matches)?;
+    Ok(LabRequest::Boot(BootOptions {
+        code,
+        steps: steps_of(matches).unwrap_or(USUAL_STEPS),
+        until: matches.get_str("until"),
+        inputs,
+    }))
 }
 
-fn traced_of<'a>(alloc: Global, matches: &ArgMatches<'a>) -> Result<Traced<'a>, LabFailure> {
-    let given = (
-        matches.get_str("boot"),
-        matches.get_str("program"),
-        matches.get_str("plan"),
-    );
-    match given {
-        (None, None, None) => Ok(Traced::Lines),
-        (Some(digits), None, None) => Ok(Traced::Code(BootedCode::Bytes(read_code(
-            alloc, digits,
-        )?))),
-        (None, Some(file), None) => Ok(Traced::Code(BootedCode::Program(file))),
-        (None, None, Some(file)) => Ok(Traced::Script(file)),
-        _ => Err(LabFailure::TwoCodes),
+fn booted_code<'a>(alloc: Global, matches: &ArgMatches<'a>) -> Result<BootedCode<'a>, LabFailure> {
+    if let Some(file) = matches.get_str("program") {
+        return Ok(BootedCode::Program(file));
     }
+    let digits = matches.get_str("boot").unwrap_or("");
+    Ok(BootedCode::Bytes(read_code(alloc, digits)?))
 }
 
 fn read_code(alloc: Global, digits: &str) -> Result<Vec<u8>, LabFailure> {

@@ -1,6 +1,7 @@
 //! A record is looked through by commands.
 
 use crate::failure::LabFailure;
+use crate::files::read_file;
 use crate::meter::TerminalMeter;
 use crate::reports::Report;
 use lab_debug::{DebugFault, Debugger, ProgramOf, ProgramTexts, debug};
@@ -33,29 +34,35 @@ impl ProgramTexts for Files<'_> {
 
 /// Reads commands from standard input to its end, and shows what they ask of the record in a file.
 pub fn report_debugging(rt: &HostRuntime, asked: &Debugging) -> Result<Report, LabFailure> {
-    let alloc = rt.alloc();
-    let record = match fs::read(rt, asked.record) {
-        Ok(record) => record,
-        Err(error) => return Err(LabFailure::of_input(&error).in_file(alloc, asked.record)),
-    };
-    let mut input = match BufReader::new(alloc, rt.reader()) {
-        Ok(input) => input,
-        Err(error) => return Err(LabFailure::of_input(&error)),
-    };
-    let mut debugger = opened(rt, record.as_slice(), asked.most)?;
+    let record = read_file(rt, asked.record)?;
+    look_through(rt, asked, record.as_slice())?;
+    Ok(Report {
+        text: String::new(rt.alloc()),
+        status: 0,
+    })
+}
+
+fn look_through(rt: &HostRuntime, asked: &Debugging, record: &[u8]) -> Result<(), DebugFault> {
+    let mut debugger = opened(rt, record, asked.most)?;
+    do_commands(rt, asked, &mut debugger)
+}
+
+// Does the commands on standard input.
+fn do_commands(
+    rt: &HostRuntime,
+    asked: &Debugging,
+    debugger: &mut Debugger,
+) -> Result<(), DebugFault> {
+    let mut input = BufReader::new(rt.alloc(), rt.reader())?;
     debug(
-        alloc,
-        &mut debugger,
+        rt.alloc(),
+        debugger,
         asked.programs.as_slice(),
         &Files(rt),
         &mut input,
         &mut rt.stdout(),
         rt.stdin().is_terminal(),
-    )?;
-    Ok(Report {
-        text: String::new(alloc),
-        status: 0,
-    })
+    )
 }
 
 /// A record at its end, if it has no more Steps than these.

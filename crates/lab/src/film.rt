@@ -1,11 +1,11 @@
 //! A record as a page to look at.
 
 use crate::failure::LabFailure;
+use crate::files::read_file;
 use crate::meter::TerminalMeter;
 use crate::reports::Report;
 use farm_causes::RecordStop;
 use lab_film::{Span, film_of, page_of};
-use std::fs;
 
 /// What is shown of a record.
 #[derive(Clone, Copy)]
@@ -20,22 +20,16 @@ pub struct Showing<'a> {
 
 /// The page that shows a span of a record.
 pub fn report_film(rt: &HostRuntime, asked: Showing) -> Result<Report, LabFailure> {
-    let alloc = rt.alloc();
-    match fs::read(rt, asked.record) {
-        Ok(bytes) => {
-            let film = film(rt, bytes.as_slice(), asked)?;
-            Ok(Report {
-                text: page_of(alloc, film.as_str())?,
-                status: 0,
-            })
-        }
-        Err(error) => Err(LabFailure::of_input(&error).in_file(alloc, asked.record)),
-    }
+    let record = read_file(rt, asked.record)?;
+    Ok(Report {
+        text: show(rt, record.as_slice(), asked)?,
+        status: 0,
+    })
 }
 
-fn film(rt: &HostRuntime, text: &[u8], asked: Showing) -> Result<String, RecordStop> {
+fn show(rt: &HostRuntime, record: &[u8], asked: Showing) -> Result<String, RecordStop> {
     let mut meter = TerminalMeter::begin(rt, asked.most);
-    let film = film_of(rt.alloc(), text, asked.span, &mut meter);
+    let film = film_of(rt.alloc(), record, asked.span, &mut meter);
     meter.wipe();
-    film
+    Ok(page_of(rt.alloc(), film?.as_str())?)
 }

@@ -7,6 +7,7 @@ mod booting;
 mod command_line;
 mod debugging;
 mod failure;
+mod files;
 mod film;
 mod meter;
 mod mistakes;
@@ -48,19 +49,26 @@ fn words_of(rt: &HostRuntime) -> Result<Vec<String>, LabFailure> {
 
 // What goes to standard output, and the status.
 fn report(rt: &HostRuntime) -> Result<Report, LabFailure> {
-    let alloc = rt.alloc();
     let words = words_of(rt)?;
-    match read_words(alloc, words.as_slice())? {
-        LabRequest::Help(text) => Ok(Report { text, status: 0 }),
-        LabRequest::Boot(options) => report_booted(rt, &options),
-        LabRequest::Rows(asked) => report_rows(rt, &asked),
-        LabRequest::Debug(asked) => report_debugging(rt, &asked),
-        LabRequest::Why(asked) => report_why(rt, asked),
-        LabRequest::Film(asked) => report_film(rt, asked),
-        LabRequest::Script(script, what) => report_script(rt, script, what),
+    let request = read_words(rt.alloc(), words.as_slice())?;
+    answer(rt, &request)
+}
+
+fn answer(rt: &HostRuntime, request: &LabRequest) -> Result<Report, LabFailure> {
+    match request {
+        LabRequest::Help(text) => Ok(Report {
+            text: String::from_str(rt.alloc(), text.as_str())?,
+            status: 0,
+        }),
+        LabRequest::Boot(options) => report_booted(rt, options),
+        LabRequest::Rows(asked) => report_rows(rt, asked),
+        LabRequest::Debug(asked) => report_debugging(rt, asked),
+        LabRequest::Why(asked) => report_why(rt, *asked),
+        LabRequest::Film(asked) => report_film(rt, *asked),
+        LabRequest::Script(script, what) => report_script(rt, *script, *what),
         LabRequest::Read(reading) => {
-            let text = read_whole(alloc, &mut rt.reader())?;
-            report_of(rt, &reading, text.as_slice())
+            let text = read_whole(rt.alloc(), &mut rt.reader())?;
+            report_of(rt, reading, text.as_slice())
         }
     }
 }

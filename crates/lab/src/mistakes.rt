@@ -17,13 +17,19 @@ pub fn try_lines(alloc: Global, text: &[u8]) -> Result<Vec<Answered<'_>>, LabFai
     let questions = read_questions(alloc, text, 0)?;
     let mut answers = Vec::new(alloc);
     for question in &questions {
-        let answer = tell_mistake(alloc, question)?;
-        answers.push(Answered {
-            question: *question,
-            answer,
-        })?;
+        add_answer(alloc, &mut answers, *question)?;
     }
     Ok(answers)
+}
+
+fn add_answer<'a>(
+    alloc: Global,
+    answers: &mut Vec<Answered<'a>>,
+    question: Question<'a>,
+) -> Result<(), LabFailure> {
+    let answer = tell_mistake(alloc, &question)?;
+    answers.push(Answered { question, answer })?;
+    Ok(())
 }
 
 // What is told of the line of a row.

@@ -2,6 +2,7 @@
 
 use crate::assembly::try_programs;
 use crate::failure::LabFailure;
+use crate::files::read_file;
 use crate::meter::TerminalMeter;
 use crate::mistakes::try_lines;
 use crate::plans::try_plans;
@@ -11,7 +12,6 @@ use line_words::Answered;
 use node_trace::trace;
 use script_replay::Replayed;
 use script_text::TextWriter;
-use std::fs;
 
 /// Which rows are compared.
 #[derive(Drop)]
@@ -54,13 +54,10 @@ fn report_file(
     meter: &mut TerminalMeter,
     text: &mut TextWriter,
 ) -> Result<bool, LabFailure> {
-    let alloc = rt.alloc();
-    match fs::read(rt, file) {
-        Ok(bytes) => match answer_rows(rt, file, bytes.as_slice(), meter) {
-            Ok(answers) => Ok(compare(text, file, answers.as_slice())),
-            Err(failure) => Err(failure.in_file(alloc, file)),
-        },
-        Err(error) => Err(LabFailure::of_input(&error).in_file(alloc, file)),
+    let rows = read_file(rt, file)?;
+    match answer_rows(rt, file, rows.as_slice(), meter) {
+        Ok(answers) => Ok(compare(text, file, answers.as_slice())),
+        Err(failure) => Err(failure.in_file(rt.alloc(), file)),
     }
 }
 
@@ -73,8 +70,7 @@ fn answer_rows<'a>(
 ) -> Result<Vec<Answered<'a>>, LabFailure> {
     let alloc = rt.alloc();
     if file.ends_with(".replay") {
-        let Replayed { answers, last: _ } = replayed(rt, folder_of(file), text, meter)?;
-        Ok(answers)
+        answer_replayed(rt, file, text, meter)
     } else if file.ends_with(".plans") {
         Ok(try_plans(alloc, text)?)
     } else if file.ends_with(".assembly") {
@@ -84,6 +80,16 @@ fn answer_rows<'a>(
     } else {
         Ok(trace(alloc, text, meter)?)
     }
+}
+
+fn answer_replayed<'a>(
+    rt: &HostRuntime,
+    file: &str,
+    text: &'a [u8],
+    meter: &mut TerminalMeter,
+) -> Result<Vec<Answered<'a>>, LabFailure> {
+    let Replayed { answers, last: _ } = replayed(rt, folder_of(file), text, meter)?;
+    Ok(answers)
 }
 
 // Notes the wrong rows of a file and how many it has, and tells whether there are rows and all are right.

@@ -2,6 +2,7 @@
 
 use crate::debugging::opened;
 use crate::failure::LabFailure;
+use crate::files::read_file;
 use crate::meter::TerminalMeter;
 use crate::reports::Report;
 use lab_script::{Expanded, LoadedFile, expand, files_named};
@@ -31,10 +32,10 @@ pub fn report_script(
     what: ScriptUse,
 ) -> Result<Report, LabFailure> {
     match script {
-        Some(path) => match fs::read(rt, path) {
-            Ok(text) => report_text(rt, folder_of(path), text.as_slice(), what),
-            Err(error) => Err(LabFailure::of_input(&error).in_file(rt.alloc(), path)),
-        },
+        Some(path) => {
+            let text = read_file(rt, path)?;
+            report_text(rt, folder_of(path), text.as_slice(), what)
+        }
         None => {
             let text = read_whole(rt.alloc(), &mut rt.reader())?;
             report_text(rt, None, text.as_slice(), what)
@@ -134,13 +135,13 @@ pub fn read_files<'a>(
 ) -> Result<Vec<LoadedFile<'a>>, LabFailure> {
     let mut files = Vec::new(rt.alloc());
     for name in names {
-        files.push(read_file(rt, folder, *name)?)?;
+        files.push(loaded_file(rt, folder, *name)?)?;
     }
     Ok(files)
 }
 
 // A file with what stands in it, if it can be read.
-fn read_file<'a>(
+fn loaded_file<'a>(
     rt: &HostRuntime,
     folder: Option<&str>,
     name: &'a str,

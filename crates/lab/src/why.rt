@@ -1,10 +1,10 @@
 //! Why the nodes of a record wait.
 
 use crate::failure::LabFailure;
+use crate::files::read_file;
 use crate::meter::TerminalMeter;
 use crate::reports::Report;
 use farm_causes::{RecordStop, explain_record};
-use std::fs;
 
 /// What is explained of a record.
 #[derive(Clone, Copy)]
@@ -19,13 +19,11 @@ pub struct Explaining<'a> {
 
 /// Says why each node waits, halted or runs on, at this moment of a record.
 pub fn report_why(rt: &HostRuntime, asked: Explaining) -> Result<Report, LabFailure> {
-    match fs::read(rt, asked.record) {
-        Ok(bytes) => Ok(Report {
-            text: explain(rt, bytes.as_slice(), asked)?,
-            status: 0,
-        }),
-        Err(error) => Err(LabFailure::of_input(&error).in_file(rt.alloc(), asked.record)),
-    }
+    let record = read_file(rt, asked.record)?;
+    Ok(Report {
+        text: explain(rt, record.as_slice(), asked)?,
+        status: 0,
+    })
 }
 
 fn explain(rt: &HostRuntime, text: &[u8], asked: Explaining) -> Result<String, RecordStop> {

@@ -340,21 +340,35 @@ impl<'a, F: Files<File = File>> RecordFolder<'a, F> {
         errors: &mut E,
     ) -> Result<DomainRecord<RecordFile<'a, F>>, LiveFailure> {
         let PlannedRecord { stem, head, found } = planned;
-        let (mut file, is_empty) = match found {
-            Some(found) => {
-                self.mend(&found, errors)?;
-                (
-                    self.file_of(stem, found.number, found.file)?,
-                    found.whole == 0,
-                )
-            }
-            None => (self.first_file(stem)?, true),
-        };
-        if is_empty && let Err(error) = file.write(head.as_str()) {
-            let path = record_path(self.alloc, file.stem.as_str(), file.number)?;
-            return Err(LiveFailure::of_file(self.alloc, path.as_str(), error));
+        let is_empty = found.as_ref().is_none_or(|found| found.whole == 0);
+        let mut file = self.next_file(stem, found, errors)?;
+        if is_empty {
+            self.begin(&mut file, head.as_str())?;
         }
         Ok(DomainRecord::of(self.alloc, file, head, domain.journal())?)
+    }
+
+    // Opens the file of a domain's record.
+    fn next_file<E: Write>(
+        &self,
+        stem: String,
+        found: Option<FoundRecord>,
+        errors: &mut E,
+    ) -> Result<RecordFile<'a, F>, LiveFailure> {
+        let Some(found) = found else {
+            return self.first_file(stem);
+        };
+        self.mend(&found, errors)?;
+        Ok(self.file_of(stem, found.number, found.file)?)
+    }
+
+    // Writes the head of a record.
+    fn begin(&self, file: &mut RecordFile<'a, F>, head: &str) -> Result<(), LiveFailure> {
+        let Err(error) = file.write(head) else {
+            return Ok(());
+        };
+        let path = record_path(self.alloc, file.stem.as_str(), file.number)?;
+        Err(LiveFailure::of_file(self.alloc, path.as_str(), error))
     }
 
     // Looks for the records of all domains.
@@ -365,13 +379,24 @@ impl<'a, F: Files<File = File>> RecordFolder<'a, F> {
     ) -> Result<Vec<PlannedRecord>, LiveFailure> {
         let mut planned = Vec::new(self.alloc);
         for number in 0..histories.plan().domains() {
-            let RecordName { head, name } = record_name(self.alloc, histories.plan(), number)?;
-            let Some(domain) = histories.domains.get_mut(usize::from(number)) else {
-                break;
-            };
-            planned.push(self.plan_record(head, name.as_str(), resumes, domain)?)?;
+            self.plan_next(&mut planned, histories, number, resumes)?;
         }
         Ok(planned)
+    }
+
+    // Looks for the record of the domain of this number.
+    fn plan_next(
+        &self,
+        planned: &mut Vec<PlannedRecord>,
+        histories: &mut Histories,
+        number: u8,
+        resumes: bool,
+    ) -> Result<(), LiveFailure> {
+        let RecordName { head, name } = record_name(self.alloc, histories.plan(), number)?;
+        if let Some(domain) = histories.domains.get_mut(usize::from(number)) {
+            planned.push(self.plan_record(head, name.as_str(), resumes, domain)?)?;
+        }
+        Ok(())
     }
 
     /// Opens the records of all domains. If the farm resumes, the newest record of each domain is done again on it first. No file
@@ -390,10 +415,21 @@ impl<'a, F: Files<File = File>> RecordFolder<'a, F> {
         let planned = self.plan_records(histories, resumes)?;
         let mut records = Vec::with_capacity(self.alloc, planned.len())?;
         for (domain, planned) in histories.domains.iter().zip(planned) {
-            let record = self.open_record(planned, domain, errors)?;
-            records.push(Mutex::new(record))?;
+            self.open_next(&mut records, planned, domain, errors)?;
         }
         Ok(records)
+    }
+
+    fn open_next<E: Write>(
+        &self,
+        records: &mut FileRecords<'a, F>,
+        planned: PlannedRecord,
+        domain: &SeatedDomain,
+        errors: &mut E,
+    ) -> Result<(), LiveFailure> {
+        let record = self.open_record(planned, domain, errors)?;
+        records.push(Mutex::new(record))?;
+        Ok(())
     }
 }
 
