@@ -1,7 +1,7 @@
 //! A node that is booted with code, and traced.
 
 use crate::command_line::{BootOptions, BootedCode};
-use crate::failure::LabFailure;
+use crate::failure::{ArgumentFault, LabFailure};
 use crate::files::read_file;
 use crate::meter::TerminalMeter;
 use crate::reports::Report;
@@ -67,7 +67,7 @@ fn address_in(
     {
         return Ok(Some(address));
     }
-    address_of(word)
+    Ok(address_of(word)?)
 }
 
 fn trace_code(
@@ -91,11 +91,11 @@ fn trace_code(
 }
 
 // The address that a word says, if there is a word.
-fn address_of(word: Option<&str>) -> Result<Option<u32>, LabFailure> {
+fn address_of(word: Option<&str>) -> Result<Option<u32>, ArgumentFault> {
     match word {
         Some(word) => match hexadecimal_word(word) {
             Some(address) => Ok(Some(address)),
-            None => Err(LabFailure::Address),
+            None => Err(ArgumentFault::Address),
         },
         None => Ok(None),
     }

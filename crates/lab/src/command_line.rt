@@ -6,7 +6,7 @@ use crate::arguments::{
 };
 use crate::assembly::AssemblyOptions;
 use crate::debugging::Debugging;
-use crate::failure::LabFailure;
+use crate::failure::{ArgumentFault, LabFailure};
 use crate::film::Showing;
 use crate::rows::RowFiles;
 use crate::scripts::ScriptUse;
@@ -319,9 +319,9 @@ fn subcommand_of<'a>(
 
 fn read_matches<'a>(alloc: Global, matches: &ArgMatches<'a>) -> Result<LabRequest<'a>, LabFailure> {
     let Some((name, matches)) = matches.subcommand() else {
-        return Err(LabFailure::Subcommand);
+        return Err(LabFailure::Argument(ArgumentFault::Subcommand));
     };
-    let subcommand = value_named(&SUBCOMMANDS, name).ok_or(LabFailure::Subcommand)?;
+    let subcommand = value_named(&SUBCOMMANDS, name).ok_or(ArgumentFault::Subcommand)?;
     match subcommand {
         Subcommand::Replay => Ok(LabRequest::Read(Reading::Replay(steps_of(matches)))),
         Subcommand::Plan => Ok(LabRequest::Read(Reading::Plan)),
@@ -378,10 +378,10 @@ fn read_options<'a>(matches: &ArgMatches<'a>) -> AssemblyOptions<'a> {
 }
 
 // The file of a record, which the parser has found.
-fn record_of<'a>(matches: &ArgMatches<'a>) -> Result<&'a str, LabFailure> {
+fn record_of<'a>(matches: &ArgMatches<'a>) -> Result<&'a str, ArgumentFault> {
     match matches.get_str("record") {
         Some(record) => Ok(record),
-        None => Err(LabFailure::Subcommand),
+        None => Err(ArgumentFault::Subcommand),
     }
 }
 
@@ -432,7 +432,7 @@ fn read_programs<'a>(
 
 fn add_program<'a>(programs: &mut Vec<ProgramOf<'a>>, words: &[&'a str]) -> Result<(), LabFailure> {
     let Some(program) = program_of(words) else {
-        return Err(LabFailure::Program);
+        return Err(LabFailure::Argument(ArgumentFault::Program));
     };
     programs.push(program)?;
     Ok(())
@@ -458,16 +458,16 @@ fn is_booted(matches: &ArgMatches) -> bool {
 }
 
 // Refuses options of `trace` that don't go together.
-fn check_trace(matches: &ArgMatches) -> Result<(), LabFailure> {
+fn check_trace(matches: &ArgMatches) -> Result<(), ArgumentFault> {
     let is_planned = matches.get_str("plan").is_some();
     let has_both = matches.get_str("boot").is_some() && matches.get_str("program").is_some();
     let needs_boot = matches.get_str("until").is_some() || matches.get_strs("input").is_some();
     let needs_plan = matches.get_one::<u8>("domain").is_some();
     if has_both || is_planned && is_booted(matches) {
-        return Err(LabFailure::TwoCodes);
+        return Err(ArgumentFault::TwoCodes);
     }
     if needs_boot && !is_booted(matches) || needs_plan && !is_planned {
-        return Err(LabFailure::TraceOptions);
+        return Err(ArgumentFault::TraceOptions);
     }
     Ok(())
 }
@@ -514,7 +514,7 @@ fn read_code(alloc: Global, digits: &str) -> Result<Vec<u8>, LabFailure> {
         Ok(code) if (2..=255).contains(&code.len()) => Ok(code),
         Ok(code) => Err(LabFailure::Booted(code.len())),
         Err(HexFault::NoMemory) => Err(LabFailure::Memory),
-        Err(HexFault::NotHex) => Err(LabFailure::Code),
+        Err(HexFault::NotHex) => Err(LabFailure::Argument(ArgumentFault::Code)),
     }
 }
 
@@ -528,12 +528,12 @@ fn read_inputs(alloc: Global, matches: &ArgMatches) -> Result<Vec<LinkInput>, La
 
 // A link and bytes, `1:0a0b`.
 fn read_input(alloc: Global, word: &str) -> Result<LinkInput, LabFailure> {
-    let (link, digits) = word.split_once(':').ok_or(LabFailure::Input)?;
-    let link = read_link(link).ok_or(LabFailure::Input)?;
+    let (link, digits) = word.split_once(':').ok_or(ArgumentFault::Input)?;
+    let link = read_link(link).ok_or(ArgumentFault::Input)?;
     match bytes_of(alloc, digits) {
         Ok(bytes) => Ok(LinkInput { link, bytes }),
         Err(HexFault::NoMemory) => Err(LabFailure::Memory),
-        Err(HexFault::NotHex) => Err(LabFailure::Input),
+        Err(HexFault::NotHex) => Err(LabFailure::Argument(ArgumentFault::Input)),
     }
 }
 

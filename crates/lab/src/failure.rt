@@ -12,34 +12,50 @@ use std::fmt;
 use std::io::{self, Write};
 use step_meter::StepsEnd;
 use t414_assembly::TextFault;
+use thiserror::Error;
+
+/// What is wrong with words that the parser takes.
+#[derive(Clone, Copy, Debug, Error)]
+pub enum ArgumentFault {
+    #[error("an argument isn't UTF-8")]
+    Arguments,
+    /// The words name no subcommand.
+    #[error("a subcommand is missing")]
+    Subcommand,
+    /// The code of `--boot` isn't hexadecimal digits.
+    #[error("the code is not hexadecimal digits, two for each byte (`lab assemble` prints them of a program)")]
+    Code,
+    /// What stands behind `--program` is no node and file.
+    #[error("--program takes the number of a node, and a file")]
+    Program,
+    /// More than one of `--boot`, `--program` and `--plan` stand there.
+    #[error("--boot, --program and --plan each say what is traced: write one of them")]
+    TwoCodes,
+    /// Other options of `trace` stand there than go with what is traced.
+    #[error("--until and --input go with --boot or --program, and --domain with --plan")]
+    TraceOptions,
+    /// `--until` is no address, and no label of a program.
+    #[error("--until takes an address, one to eight hexadecimal digits, or a label of --program: --until 8000004c")]
+    Address,
+    /// `--input` is no link with bytes.
+    #[error("--input takes a link, 0 to 3, a colon and bytes in hexadecimal digits: --input 1:0a0b")]
+    Input,
+}
 
 /// Why the lab ends without its output.
 #[derive(Drop)]
 pub enum LabFailure {
     /// `clap` refuses the words.
     Words(clap::Error),
-    Arguments,
-    /// The words name no subcommand.
-    Subcommand,
+    /// Words that the parser takes are wrong.
+    Argument(ArgumentFault),
     /// The words name a file, and this subcommand reads standard input.
     FileName {
         subcommand: &'static str,
         file: String,
     },
-    /// The code of `--boot` isn't hexadecimal digits.
-    Code,
-    /// What stands behind `--program` is no node and file.
-    Program,
     /// The code of `--boot` has so many bytes.
     Booted(usize),
-    /// More than one of `--boot`, `--program` and `--plan` stand there.
-    TwoCodes,
-    /// Other options of `trace` stand there than go with what is traced.
-    TraceOptions,
-    /// `--until` is no address, and no label of a program.
-    Address,
-    /// `--input` is no link with bytes.
-    Input,
     /// A plan of a text for replay is refused.
     ReplayedPlan(ReplayFault),
     /// A plan is refused, with the place and the reason.
@@ -89,39 +105,12 @@ fn write_line<W: fmt::Write, T: fmt::Display>(f: &mut fmt::Formatter<W>, told: &
     write!(f, "{told}\n")
 }
 
-// The text of a failure of which there is only one.
-fn text_of(failure: &LabFailure) -> &'static str {
-    match failure {
-        LabFailure::Arguments => "error: an argument isn't UTF-8\n",
-        LabFailure::Subcommand => "error: a subcommand is missing\n",
-        LabFailure::Code => {
-            "error: the code is not hexadecimal digits, two for each byte (`lab assemble` prints them of a program)\n"
-        }
-        LabFailure::Program => "error: --program takes the number of a node, and a file\n",
-        LabFailure::TwoCodes => {
-            "error: --boot, --program and --plan each say what is traced: write one of them\n"
-        }
-        LabFailure::TraceOptions => {
-            "error: --until and --input go with --boot or --program, and --domain with --plan\n"
-        }
-        LabFailure::Address => {
-            "error: --until takes an address, one to eight hexadecimal digits, or a label of --program: --until 8000004c\n"
-        }
-        LabFailure::Input => {
-            "error: --input takes a link, 0 to 3, a colon and bytes in hexadecimal digits: --input 1:0a0b\n"
-        }
-        LabFailure::Head => "the head of the record doesn't read as its plan\n",
-        LabFailure::Unread => "it can't be read\n",
-        LabFailure::Memory => "memory\n",
-        _ => "io\n",
-    }
-}
-
 /// The text for standard error.
 impl fmt::Display for LabFailure {
     fn fmt<W: fmt::Write>(&self, f: &mut fmt::Formatter<W>) -> fmt::Result {
         match self {
             LabFailure::Words(error) => write!(f, "{error}"),
+            LabFailure::Argument(fault) => write!(f, "error: {fault}\n"),
             LabFailure::FileName { subcommand, file } => write!(
                 f,
                 "error: lab {subcommand} reads standard input: lab {subcommand} < {file}\n"
@@ -144,7 +133,10 @@ impl fmt::Display for LabFailure {
             ),
             LabFailure::Steps(end) => write_line(f, end),
             LabFailure::OfFile { text, .. } => f.write_str(text.as_str()),
-            failure => f.write_str(text_of(failure)),
+            LabFailure::Head => f.write_str("the head of the record doesn't read as its plan\n"),
+            LabFailure::Unread => f.write_str("it can't be read\n"),
+            LabFailure::Memory => f.write_str("memory\n"),
+            LabFailure::Io => f.write_str("io\n"),
         }
     }
 }
@@ -154,7 +146,7 @@ impl LabFailure {
     pub fn of_arguments(error: &io::Error) -> LabFailure {
         match error.kind() {
             io::ErrorKind::OutOfMemory => LabFailure::Memory,
-            _ => LabFailure::Arguments,
+            _ => LabFailure::Argument(ArgumentFault::Arguments),
         }
     }
 
@@ -179,16 +171,9 @@ impl LabFailure {
     fn status(&self) -> u8 {
         match self {
             LabFailure::Words(_)
-            | LabFailure::Arguments
-            | LabFailure::Subcommand
+            | LabFailure::Argument(_)
             | LabFailure::FileName { .. }
-            | LabFailure::Code
-            | LabFailure::Booted(_)
-            | LabFailure::TwoCodes
-            | LabFailure::TraceOptions
-            | LabFailure::Address
-            | LabFailure::Input
-            | LabFailure::Program => 2,
+            | LabFailure::Booted(_) => 2,
             LabFailure::ReplayedPlan(_) | LabFailure::RefusedPlan(_) => 3,
             LabFailure::Record(WhyFault::Plan(_) | WhyFault::Domains(_)) => 3,
             LabFailure::Record(_)
@@ -319,7 +304,9 @@ impl From<PlanRefusal> for LabFailure {
 impl From<BootFault> for LabFailure {
     fn from(fault: BootFault) -> LabFailure {
         match fault {
-            BootFault::TooShort | BootFault::TooLong => LabFailure::Code,
+            BootFault::TooShort | BootFault::TooLong => {
+                LabFailure::Argument(ArgumentFault::Code)
+            }
             BootFault::NoMemory => LabFailure::Memory,
         }
     }
@@ -331,5 +318,11 @@ impl From<TextFault> for LabFailure {
             TextFault::Memory(_) => LabFailure::Memory,
             fault => LabFailure::Text(fault),
         }
+    }
+}
+
+impl From<ArgumentFault> for LabFailure {
+    fn from(fault: ArgumentFault) -> LabFailure {
+        LabFailure::Argument(fault)
     }
 }
