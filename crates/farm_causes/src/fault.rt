@@ -64,13 +64,13 @@ pub enum WhyFault {
     #[error("plan: {0}: `lab plan` says where and why")]
     Plan(u8),
     /// Its plan has so many domains.
-    #[error("the plan of a record has one domain, and this one has {0}")]
+    #[error("the plan of a record has one domain, and this one has {0} (of a script, `lab run SCRIPT --record D` prints the record of domain D)")]
     Domains(u8),
     /// The line of this number in the whole text isn't done.
     #[error("line {number}: {fault}")]
     Line { number: u64, fault: FollowFault },
     /// A line of the whole text has a mistake.
-    #[error("{0}")]
+    #[error("{0}; a record has lines as `0 write 0 05 @0 = written` (of a script, `lab run SCRIPT --record D` prints the record of domain D)")]
     Wrong(WrongLine),
     #[error("memory")]
     Memory(#[from(alloc)] AllocError),

@@ -137,9 +137,21 @@ impl Scene<'_> {
         }
     }
 
-    // Says why nothing waits at a device.
-    fn write_silence(&self, source: Device, text: &mut TextWriter) {
-        let awaits = match source {
+    // Says why nothing waits at a device, and where its last byte is, if that isn't acknowledged.
+    fn write_silence(&mut self, source: Device, text: &mut TextWriter) {
+        text.push("Of ");
+        push_device(text, source);
+        if self.awaits(source) {
+            text.push(" a byte isn't acknowledged yet.\n");
+            self.write_sent(source, text);
+        } else {
+            text.push(" nothing waits there.\n");
+        }
+    }
+
+    // Whether a device awaits an acknowledge.
+    fn awaits(&self, source: Device) -> bool {
+        match source {
             Device::Host(number) => match self.moment.host(number) {
                 Some(host) => host.end().output.awaits,
                 None => false,
@@ -148,14 +160,7 @@ impl Scene<'_> {
                 Some(home) => home.links().at(link).end.output.awaits,
                 None => false,
             },
-        };
-        text.push("Of ");
-        push_device(text, source);
-        text.push(if awaits {
-            " a byte isn't acknowledged yet.\n"
-        } else {
-            " nothing waits there.\n"
-        });
+        }
     }
 
     // Says so if an acknowledge of a link was lost at its port.

@@ -213,6 +213,7 @@ impl Scene<'_> {
         };
         if !inside.iter().any(|wait| !is_at_link(&waits, wait.process)) && !is_waited_for(&waits) {
             text.push(" has ended: no process is left.\n");
+            self.write_untaken(number, text);
             return Ok(());
         }
         text.push(" rests.\n");
@@ -223,6 +224,22 @@ impl Scene<'_> {
         }
         self.write_inside(number, &waits, inside.as_slice(), text);
         Ok(())
+    }
+
+    // The bytes that came to the links of a node which has ended.
+    fn write_untaken(&self, number: u8, text: &mut TextWriter) {
+        let Some(node) = self.moment.node(number) else {
+            return;
+        };
+        for link in LinkNumber::all() {
+            if node.links().at(link).end.input.buffer.is_some() {
+                text.push("  Link ");
+                text.push_decimal(u64::from(number_of(link)));
+                text.push(
+                    " holds a byte that nobody will take: reset the node before you boot it again.\n",
+                );
+            }
+        }
     }
 
     // Who waits at channels in memory.

@@ -19,6 +19,11 @@ fn explanation_of(alloc: Global, text: &[u8]) -> Result<String, AllocError> {
             tell_wrong_lines(alloc, names.as_slice(), script)
         }
         Err(PlanRefusal::NoMemory) => Err(AllocError),
+        Err(refusal) if plan.len() == text.len() => {
+            format!(in alloc;
+                "{refusal} (no line behind it is just ---, so all was read as the plan)\n"
+            )
+        }
         Err(refusal) => format!(in alloc; "{refusal}\n"),
     }
 }

@@ -23,7 +23,7 @@ pub enum ArgumentFault {
     #[error("a subcommand is missing")]
     Subcommand,
     /// The code of `--boot` isn't hexadecimal digits.
-    #[error("the code is not hexadecimal digits, two for each byte (`lab assemble` prints them of a program)")]
+    #[error("the code is not hexadecimal digits, two for each byte and no 0x before them (`lab assemble` prints them of a program)")]
     Code,
     /// What stands behind `--program` is no node and file.
     #[error("--program takes the number of a node, and a file")]
@@ -60,6 +60,10 @@ pub enum LabFailure {
     ReplayedPlan(ReplayFault),
     /// A plan is refused, with the place and the reason.
     RefusedPlan(PlanRefusal),
+    /// The same, and no line divides it from what stands behind it.
+    UnmarkedPlan(PlanRefusal),
+    /// No line divides a plan from a script.
+    NoMark,
     /// A line has a mistake.
     Line(WrongLine),
     /// A text is no record, or can't be followed.
@@ -100,6 +104,24 @@ fn write_length<W: fmt::Write>(f: &mut fmt::Formatter<W>, count: usize) -> fmt::
     f.write_str("\n")
 }
 
+// What is said of a file that is named where standard input is read.
+fn write_file_name<W: fmt::Write>(
+    f: &mut fmt::Formatter<W>,
+    subcommand: &str,
+    file: &str,
+) -> fmt::Result {
+    write!(
+        f,
+        "error: lab {subcommand} reads standard input: lab {subcommand} < {file}"
+    )?;
+    if subcommand == "trace" {
+        f.write_str(
+            ", or --program before the file of a program, or --plan before that of a script",
+        )?;
+    }
+    f.write_str("\n")
+}
+
 // A line that says this.
 fn write_line<W: fmt::Write, T: fmt::Display>(f: &mut fmt::Formatter<W>, told: &T) -> fmt::Result {
     write!(f, "{told}\n")
@@ -111,9 +133,10 @@ impl fmt::Display for LabFailure {
         match self {
             LabFailure::Words(error) => write!(f, "{error}"),
             LabFailure::Argument(fault) => write!(f, "error: {fault}\n"),
-            LabFailure::FileName { subcommand, file } => write!(
+            LabFailure::FileName { subcommand, file } => write_file_name(
                 f,
-                "error: lab {subcommand} reads standard input: lab {subcommand} < {file}\n"
+                subcommand,
+                file.as_str(),
             ),
             LabFailure::Booted(count) => {
                 f.write_str("error: ")?;
@@ -121,6 +144,13 @@ impl fmt::Display for LabFailure {
             }
             LabFailure::ReplayedPlan(fault) => write_line(f, fault),
             LabFailure::RefusedPlan(refusal) => write_line(f, refusal),
+            LabFailure::UnmarkedPlan(refusal) => write!(
+                f,
+                "{refusal} (no line behind it is just ---, so all was read as the plan)\n"
+            ),
+            LabFailure::NoMark => {
+                f.write_str("no line is just ---: it stands between a plan and its script\n")
+            }
             LabFailure::Line(wrong) => write_line(f, wrong),
             LabFailure::Record(fault) => write_line(f, fault),
             LabFailure::Text(fault) => write_line(f, fault),
@@ -174,9 +204,12 @@ impl LabFailure {
             | LabFailure::Argument(_)
             | LabFailure::FileName { .. }
             | LabFailure::Booted(_) => 2,
-            LabFailure::ReplayedPlan(_) | LabFailure::RefusedPlan(_) => 3,
+            LabFailure::ReplayedPlan(_)
+            | LabFailure::RefusedPlan(_)
+            | LabFailure::UnmarkedPlan(_) => 3,
             LabFailure::Record(WhyFault::Plan(_) | WhyFault::Domains(_)) => 3,
             LabFailure::Record(_)
+            | LabFailure::NoMark
             | LabFailure::Line(_)
             | LabFailure::Text(_)
             | LabFailure::Script(_)
@@ -262,6 +295,7 @@ impl From<RunFault> for LabFailure {
     fn from(fault: RunFault) -> LabFailure {
         match fault {
             RunFault::Plan(refusal) => LabFailure::RefusedPlan(refusal),
+            RunFault::NoMark(refusal) => LabFailure::UnmarkedPlan(refusal),
             RunFault::Lines(told) => LabFailure::Script(told),
             RunFault::Steps(end) => LabFailure::Steps(end),
             RunFault::Domain(domain) => LabFailure::Domain(domain),

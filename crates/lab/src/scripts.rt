@@ -7,7 +7,7 @@ use crate::meter::TerminalMeter;
 use crate::reports::Report;
 use lab_script::{Expanded, LoadedFile, expand, files_named};
 use script_replay::{record_script, run_script};
-use script_text::{TextWriter, read_whole};
+use script_text::{TextWriter, divide, read_whole};
 use std::alloc::{AllocError, Global};
 use std::fs;
 
@@ -61,7 +61,7 @@ fn report_text(
     let files = read_files(rt, folder, names.as_slice())?;
     let files = files.as_slice();
     match what {
-        ScriptUse::Expand => report_expansion(expand(rt.alloc(), text, files)?),
+        ScriptUse::Expand => report_expansion(rt.alloc(), text, files),
         ScriptUse::Run(most) => report_run(rt, text, files, most),
         ScriptUse::Record { domain, most } => Ok(Report {
             text: record_of(rt, text, files, domain, most)?,
@@ -118,8 +118,15 @@ fn report_trace(
     })
 }
 
-fn report_expansion(expanded: Expanded) -> Result<Report, LabFailure> {
-    let Expanded { text, wrong } = expanded;
+fn report_expansion(
+    alloc: Global,
+    text: &[u8],
+    files: &[LoadedFile],
+) -> Result<Report, LabFailure> {
+    if divide(text, b"---").0.len() == text.len() {
+        return Err(LabFailure::NoMark);
+    }
+    let Expanded { text, wrong } = expand(alloc, text, files)?;
     if wrong.is_empty() {
         Ok(Report { text, status: 0 })
     } else {

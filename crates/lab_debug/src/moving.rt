@@ -136,16 +136,17 @@ impl<'a> Debugger<'a> {
             Address::Number(number) => return Ok(Some(number)),
             Address::Label(label) => label,
         };
-        let found = match self.program(node) {
-            Some(program) => program.address_of(self.alloc, label)?,
-            None => None,
-        };
-        if found.is_none() {
-            text.push("no label `");
-            text.push(label);
-            text.push("` is known of node ");
-            text.push_decimal(u64::from(node));
+        let Some(program) = self.program(node) else {
+            write_unknown(text, label, node);
             text.push(": try program K FILE\n");
+            return Ok(None);
+        };
+        let found = program.address_of(self.alloc, label)?;
+        if found.is_none() {
+            write_unknown(text, label, node);
+            text.push(
+                " (def and local name no labels, and an address begins with a digit, as 0f)\n",
+            );
         }
         Ok(found)
     }
@@ -418,4 +419,12 @@ enum NodeView {
     Registers,
     Queue,
     Links,
+}
+
+// Begins what is said of a label that a node hasn't.
+fn write_unknown(text: &mut TextWriter, label: &str, node: u8) {
+    text.push("no label `");
+    text.push(label);
+    text.push("` is known of node ");
+    text.push_decimal(u64::from(node));
 }

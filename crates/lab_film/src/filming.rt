@@ -75,6 +75,12 @@ impl Filming {
         } = shot_of(self.alloc, &mut self.follower, &part, meter)?;
         frames.found = found;
         frames.reply = Some(reply);
+        self.add_frame(frame, frames)?;
+        Ok(())
+    }
+
+    // Adds what changed.
+    fn add_frame(&mut self, frame: Frame, frames: &mut LineFrames) -> Result<(), FollowFault> {
         let changes = self.turn_to(frame)?;
         frames.then.push(changes)?;
         Ok(())

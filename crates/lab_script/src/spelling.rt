@@ -34,6 +34,10 @@ pub fn spell_out(
 
 fn spell_join(expansion: &mut Expansion, line: HelpLine<'_>) {
     let (first, second) = line.halves();
+    if second.contains(" ") {
+        refuse_words(&mut expansion.wrong, line);
+        return;
+    }
     match (number_up_to(first, 31), number_up_to(second, 31)) {
         (Some(first), Some(second)) => {
             expansion.text.push(line.user);
@@ -109,6 +113,17 @@ fn is_host(expansion: &mut Expansion, line: HelpLine<'_>, word: &str) -> bool {
     is_number
 }
 
+// Tells that there are more words than the line should have.
+fn refuse_words(text: &mut TextWriter, line: HelpLine<'_>) {
+    line.write_head(text);
+    text.push("too many words: ");
+    line.write_form(text);
+    if line.rest.ends_with(" ") {
+        text.push(" (a blank stands at the end of the line)");
+    }
+    text.push("\n");
+}
+
 // Tells what is wrong with a word; or, if it is missing, what the line should be.
 fn refuse(text: &mut TextWriter, line: HelpLine<'_>, word: &str, wrong: &str) {
     line.write_head(text);
@@ -120,6 +135,9 @@ fn refuse(text: &mut TextWriter, line: HelpLine<'_>, word: &str, wrong: &str) {
         let written = write!(text.as_mut_string(), "{shown}");
         text.keep_failure(written);
         text.push(wrong);
+        if word.ends_with(" ") {
+            text.push(" (a blank stands at the end of the line)");
+        }
     }
     text.push("\n");
 }

@@ -9,6 +9,9 @@ pub const VERBS: WordForm = WordForm::OneOf(&[
     "config", "write", "boot", "poke", "peek", "collect", "reset", "look",
 ]);
 
+/// The same, with those of lines that help, which not every program takes.
+pub const VERBS_THAT_HELP: [&str; 4] = ["load", "join", "send", "text"];
+
 /// What a word behind a verb stands for.
 #[derive(Clone, Copy)]
 pub enum ScriptArgument {

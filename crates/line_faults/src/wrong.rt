@@ -1,6 +1,6 @@
 //! A wrong line of a script, and what is told of it.
 
-use crate::form::{ScriptArgument, VERBS, arguments_of, write_form};
+use crate::form::{ScriptArgument, VERBS, VERBS_THAT_HELP, arguments_of, write_form};
 use line_words::{MetText, NumberedLine, ShownWord, Wanted, WordForm, WordHint, WordRole};
 use script_lines::LineFault;
 use script_text::TextWriter;
@@ -59,8 +59,19 @@ fn write_wrong_user(text: &mut TextWriter, names: &[&str], word: &[u8]) {
             text.push(*name);
             text.push(")");
         }
+        None if !arguments_of(word).is_empty() || helping_verb(word).is_some() => {
+            text.push(" (a line begins with the name of its user, and then comes the verb)");
+        }
         None => write_hint(text, word, Wanted::Word(WordRole::User, WordForm::Asker)),
     }
+}
+
+// The verb of a line that helps which a word is, in small letters or capitals.
+fn helping_verb(word: &[u8]) -> Option<&'static str> {
+    VERBS_THAT_HELP
+        .iter()
+        .find(|verb| verb.as_bytes().eq_ignore_ascii_case(word))
+        .copied()
 }
 
 // The first names, and how many more there are.
@@ -89,7 +100,14 @@ fn write_wrong_verb(text: &mut TextWriter, words: &[&[u8]]) {
     write_met(text, *word);
     text.push(" is no verb: ");
     write_verbs(text);
-    write_hint(text, *word, Wanted::Word(WordRole::NodeVerb, VERBS));
+    match helping_verb(*word) {
+        Some(verb) => {
+            text.push(" (");
+            text.push(verb);
+            text.push(" helps, in small letters, in `lab run`; `lab expand` spells its line out)");
+        }
+        None => write_hint(text, *word, Wanted::Word(WordRole::NodeVerb, VERBS)),
+    }
 }
 
 fn write_verbs(text: &mut TextWriter) {
@@ -115,7 +133,11 @@ fn write_wrong_arguments(text: &mut TextWriter, words: &[&[u8]]) {
             "too many words: "
         });
         write_form(text, user, verb);
-        write_hint_of_words(text, arguments);
+        if arguments.last().is_some_and(|word| word.is_empty()) {
+            text.push(" (a blank stands at the end of the line)");
+        } else {
+            write_hint_of_words(text, arguments);
+        }
     }
 }
 

@@ -66,6 +66,9 @@ pub enum RunFault {
     /// The plan is refused, with the place and the reason.
     #[error("{0}")]
     Plan(PlanRefusal),
+    /// The same, and no line divides it from what stands behind it.
+    #[error("{0} (no line behind it is just ---, so all was read as the plan)")]
+    NoMark(PlanRefusal),
     /// Lines are wrong, with what is told of each.
     #[error("{0}")]
     Lines(String),
@@ -82,11 +85,13 @@ pub enum RunFault {
     Memory(#[from(alloc)] AllocError),
 }
 
-impl From<PlanRefusal> for RunFault {
-    fn from(refusal: PlanRefusal) -> RunFault {
+impl RunFault {
+    /// The plan is refused, and a mark stands behind it or doesn't.
+    pub(crate) fn of_plan(refusal: PlanRefusal, is_marked: bool) -> RunFault {
         match refusal {
             PlanRefusal::NoMemory => RunFault::Memory(AllocError),
-            refusal => RunFault::Plan(refusal),
+            refusal if is_marked => RunFault::Plan(refusal),
+            refusal => RunFault::NoMark(refusal),
         }
     }
 }

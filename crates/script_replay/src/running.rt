@@ -29,7 +29,7 @@ pub fn run_script<M: StepMeter>(
     meter: &mut M,
 ) -> Result<String, RunFault> {
     let (plan, script) = divide(text, b"---");
-    let plan = accepted(alloc, plan)?;
+    let plan = plan_of(alloc, plan, plan.len() < text.len())?;
     let asked = read_lines(alloc, &plan, script, files)?;
     Ok(screens_of(alloc, &plan, asked.as_slice(), meter)?)
 }
@@ -47,7 +47,7 @@ pub fn record_script<M: StepMeter>(
     meter: &mut M,
 ) -> Result<String, RunFault> {
     let (plan, script) = divide(text, b"---");
-    let plan = accepted(alloc, plan)?;
+    let plan = plan_of(alloc, plan, plan.len() < text.len())?;
     if domain >= plan.domains() {
         return Err(RunFault::Domain(domain));
     }
@@ -59,6 +59,14 @@ pub fn record_script<M: StepMeter>(
         meter,
     )?;
     Ok(record_of(alloc, &plan, domain, &farm)?)
+}
+
+// The plan of a text, behind which a mark stands or doesn't.
+fn plan_of(alloc: Global, text: &[u8], is_marked: bool) -> Result<AcceptedPlan, RunFault> {
+    match accepted(alloc, text) {
+        Ok(plan) => Ok(plan),
+        Err(refusal) => Err(RunFault::of_plan(refusal, is_marked)),
+    }
 }
 
 // What the lines of a script ask.
