@@ -3,7 +3,7 @@
 use crate::passage::{Arrival, SentByte, Supply, arrival_at, is_in_mask, sent_byte, supply_of};
 use crate::telling::Scene;
 use crate::words::{push_device, push_link, push_lost, push_move};
-use domain_core::Device;
+use domain_core::{Device, Moved};
 use link_channels::LinkNumber;
 use os_link::Packet;
 use script_text::TextWriter;
@@ -124,28 +124,42 @@ impl Scene<'_> {
                 text.push(" of ");
                 push_link(text, link);
                 text.push(". ");
-                match (source, packet) {
-                    (Some(source), Some(packet)) => {
-                        push_waiting(text, source, packet);
-                        push_move(text, input, moved);
-                    }
-                    (Some(source), None) => self.write_silence(source, text),
-                    (None, _) => text.push("No device is joined there.\n"),
+                if self.write_source(input, source, packet, moved, text) {
+                    self.write_own_loss(port, link, text);
                 }
-                self.write_own_loss(port, link, text);
             }
         }
     }
 
-    // Says why nothing waits at a device, and where its last byte is, if that isn't acknowledged.
-    fn write_silence(&mut self, source: Device, text: &mut TextWriter) {
-        text.push("Of ");
-        push_device(text, source);
-        if self.awaits(source) {
-            text.push(" a byte isn't acknowledged yet.\n");
-            self.write_sent(source, text);
-        } else {
-            text.push(" nothing waits there.\n");
+    // Says what waits at an input, or where the last byte is of the device that is joined there. Whether nothing was said of an
+    // acknowledge.
+    fn write_source(
+        &mut self,
+        input: u8,
+        source: Option<Device>,
+        packet: Option<Packet>,
+        moved: Moved,
+        text: &mut TextWriter,
+    ) -> bool {
+        let Some(source) = source else {
+            text.push("No device is joined there.\n");
+            return true;
+        };
+        match packet {
+            Some(packet) => {
+                push_waiting(text, source, packet);
+                push_move(text, input, moved);
+                true
+            }
+            None if self.awaits(source) => {
+                push_awaiting(text, source);
+                self.write_sent(source, text);
+                false
+            }
+            None => {
+                push_silence(text, source);
+                true
+            }
         }
     }
 
@@ -185,4 +199,18 @@ fn push_waiting(text: &mut TextWriter, source: Device, packet: Packet) {
     text.push(" of ");
     push_device(text, source);
     text.push(" waits there");
+}
+
+// That a device's last byte isn't acknowledged.
+fn push_awaiting(text: &mut TextWriter, source: Device) {
+    text.push("Of ");
+    push_device(text, source);
+    text.push(" a byte isn't acknowledged yet.\n");
+}
+
+// That a device has nothing to send.
+fn push_silence(text: &mut TextWriter, source: Device) {
+    text.push("Of ");
+    push_device(text, source);
+    text.push(" nothing waits there.\n");
 }
