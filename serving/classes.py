@@ -1,18 +1,23 @@
 """A class: its folders and sheets, its farms, and what its students have done."""
 import argparse
+import difflib
 import json
 import os
+import shlex
+import socket
 import subprocess
 import sys
 import time
 
-from .folder import TOP, Refused, is_locked, program, ready, socket_path
+from .folder import TOP, Refused, is_locked, mode_of, program, ready, socket_path
 from .plans import Machine, farms_of, plan_of, students_of
-from .sheets import count, sheet
+from .sheets import Ways, count, sheet
 from .status import ask_operator, rows_of, table
 
 FILE = "class.json"
 STOP_SECONDS = 90
+# The rights of a socket by which other accounts than its owner open it.
+OTHERS = 0o022
 # The status of a program that Ctrl-C has ended.
 INTERRUPTED = 130
 
@@ -22,19 +27,33 @@ def save(path, text):
         it.write(text)
 
 
-def connect_command():
-    """What a student types for a terminal."""
-    installed = os.path.join(os.path.dirname(os.path.dirname(TOP)), "bin", "connect")
-    return installed if os.path.exists(installed) else os.path.join(TOP, "connect")
+def installed(*path):
+    """The path of a file below the folder where all was installed; none if it isn't there."""
+    it = os.path.join(os.path.dirname(os.path.dirname(TOP)), *path)
+    return it if os.path.exists(it) else None
+
+
+def ways_of(mode):
+    """How students of this machine come in. Over a network they come as accounts of their own, so these must have a right to
+    the sockets."""
+    return Ways(installed("bin", "connect") or os.path.join(TOP, "connect"),
+                installed("share", "doc", "nadzsumek", "guides", "USER.md") or os.path.join(TOP, "docs", "guides", "USER.md"),
+                socket.gethostname() if mode & OTHERS else None)
+
+
+def check_free(folder):
+    """Refuses a folder that has a class."""
+    if os.path.exists(os.path.join(folder, FILE)):
+        raise Refused(f"there is a class in {os.path.abspath(folder)} already: take another folder. Or begin again: class stop "
+                      f"{shlex.quote(folder)}, and then remove the folder, with all that its students did")
 
 
 def make(words):
     """Writes the folders, plans and sheets of a class."""
     folder, machine = os.path.abspath(words.DIR), Machine(words.nodes, words.hosts, words.memory, words.limit)
     machine.check()
-    students = students_of(words.students)
-    if os.path.exists(os.path.join(folder, FILE)):
-        raise Refused(f"there is a class in {folder} already: take another folder")
+    (students, notes), ways = students_of(words.students), ways_of(words.mode)
+    check_free(words.DIR)
     farms = {f"farm-{at}": names for at, names in enumerate(farms_of([*students], machine), 1)}
     for farm in farms:
         for name in farms[farm]:
@@ -45,9 +64,10 @@ def make(words):
         os.makedirs(place, exist_ok=True)
         save(os.path.join(place, "plan.toml"), plan_of(names, machine))
         for name in names:
-            save(os.path.join(folder, "sheets", f"{name}.txt"), sheet(students[name], name, machine, place, connect_command()))
-    rights = ["--mode", words.mode] + (["--group", words.group] if words.group else [])
+            save(os.path.join(folder, "sheets", f"{name}.txt"), sheet(students[name], name, machine, place, ways))
+    rights = ["--mode", f"{words.mode:03o}"] + (["--group", words.group] if words.group else [])
     save(os.path.join(folder, FILE), json.dumps({"farms": farms, "rights": rights}, indent=1) + "\n")
+    print("".join(f"note: {it}\n" for it in notes), end="")
     print(f"{count(len(students), 'student')} in {count(len(farms), 'farm')}, each with {count(machine.ports(), 'port')}; "
           f"their sheets are in {os.path.join(words.DIR, 'sheets')}")
     return 0
@@ -126,18 +146,29 @@ class --students NAMES.txt --nodes N [--hosts H] [--memory M] [--limit L] [--mod
     it.add_argument("--hosts", type=int, default=1, metavar="H", help="how many hosts, 1 to 4, default 1")
     it.add_argument("--memory", type=int, default=4096, metavar="M", help="how many bytes each node has, default 4096")
     it.add_argument("--limit", type=int, default=10 ** 9, metavar="L", help="how many events are recorded, default 1000000000")
-    it.add_argument("--mode", default="600", metavar="M", help="the mode of the students' sockets, default 600")
+    it.add_argument("--mode", type=mode_of, default=0o600, metavar="M", help="the mode of the students' sockets, default 600")
     it.add_argument("--group", metavar="G", help="the group of the students' sockets; %%u in it stands for the user's name")
     it.add_argument("DIR", help="the folder of the class")
     return it.parse_args(given)
 
 
+def order(given):
+    """Does what is asked of a class that is there."""
+    first, folder = given[0], given[1] if len(given) == 2 else "course"
+    if first not in ORDERS:
+        near = difflib.get_close_matches(first.lower(), ORDERS, 1, 0.5)
+        more = f"Is it {near[0]}? Try: class {near[0]} {folder}" if near else "A new class wants --students, see class --help"
+        raise Refused(f"there is no subcommand {first}: there are start, stop and status. {more}")
+    if len(given) != 2:
+        raise Refused(f"{first} wants the folder of the class behind it, and nothing else. Try: class {first} course")
+    return ORDERS[first](folder)
+
+
 def main(given):
+    sys.stdout.reconfigure(errors="backslashreplace")
     try:
-        if len(given) == 2 and given[0] in ORDERS:
-            return ORDERS[given[0]](given[1])
-        if given and given[0] in ORDERS:
-            raise Refused(f"{given[0]} wants the folder of the class behind it, and nothing else. Try: class {given[0]} course")
+        if given and (given[0] in ORDERS or not any(it.startswith("-") for it in given)):
+            return order(given)
         return make(words_of(given))
     except (Refused, OSError) as error:
         print(f"class: {error}", file=sys.stderr)

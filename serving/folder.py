@@ -1,8 +1,11 @@
 """The folder of a farm that is served: its lock, its records and its sockets."""
+import argparse
+import contextlib
 import fcntl
 import grp
 import os
 import pwd
+import re
 import socket
 import stat
 import subprocess
@@ -11,6 +14,8 @@ import sys
 TOP = os.path.dirname(os.path.dirname(os.path.abspath(__file__)))
 EXAMPLES = os.path.join(TOP, "examples", "programs")
 OPERATOR = "operator"
+# A link to the plan.
+PLAN = "plan"
 # As many bytes as the path of a socket may have.
 MOST_PATH = 107
 # Stands for a user's name in the name of a group.
@@ -136,6 +141,15 @@ class Folder:
             if entry.name.endswith(".sock") and stat.S_ISSOCK(entry.stat(follow_symlinks=False).st_mode):
                 os.unlink(entry.path)
 
+    def show_plan(self, path):
+        """Leaves a link to the plan, by which terminals find it. A file of that name stays as it is, and the farm can do
+        without the link."""
+        place, plan = os.path.join(self.path, PLAN), os.path.realpath(path)
+        with contextlib.suppress(OSError):
+            if os.path.islink(place):
+                os.unlink(place)
+            os.symlink(plan, place)
+
     def listen(self, name, mode, group):
         """The socket of this name. Until it has its mode and its group, no other account can open it."""
         path = socket_path(self.path, name)
@@ -150,6 +164,12 @@ class Folder:
         os.chmod(path, mode)
         one.setblocking(False)
         return one
+
+
+def mode_of(word):
+    if not re.fullmatch(r"0?[0-7]{3}", word):
+        raise argparse.ArgumentTypeError("three octal digits are wanted, such as 660")
+    return int(word, 8)
 
 
 def group_number(name):

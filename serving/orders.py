@@ -4,20 +4,21 @@ import re
 import subprocess
 
 from .folder import EXAMPLES, OPERATOR, Refused, program, ready
-from .verbs import ALL, FILE, OPERATORS, TEXT, USERS, Wrong, check, find
+from .verbs import ALL, FILE, OPERATORS, TEXT, USERS, Wrong, check, find, with_ports
 
 ESCAPES = {"n": b"\n", "r": b"\r", "t": b"\t", "0": b"\0", "\\": b"\\", '"': b'"'}
 
 
-def table_of(name):
-    """The verbs of a user, or of the operator."""
-    return {**(OPERATORS if name == OPERATOR else USERS), **ALL}
+def table_of(name, ports=None):
+    """The verbs of a user, with examples for his ports if they are known, or of the operator."""
+    users = with_ports(ports) if ports else USERS
+    return {**(OPERATORS if name == OPERATOR else users), **ALL}
 
 
-def split(name, line):
+def split(name, line, ports=None):
     """The verb of a line with its words. The last word of some verbs goes to the end of the line."""
     words = line.split()
-    table, others = table_of(name), USERS if name == OPERATOR else OPERATORS
+    table, others = table_of(name, ports), USERS if name == OPERATOR else OPERATORS
     first = words[0].removeprefix("!") if name == OPERATOR else words[0]
     if first in others and first not in table:
         raise Wrong(f"{first} is a verb of {'users: connect as one of them' if name == OPERATOR else 'the operator'}. Try: help")
@@ -28,9 +29,9 @@ def split(name, line):
     return first, verb, [it.strip() for it in words[1:]]
 
 
-def lines_of(name, line):
+def lines_of(name, line, ports=None):
     """The lines that a line asks for, none for `help` and `quit`, which the terminal does itself."""
-    first, verb, words = split(name, line)
+    first, verb, words = split(name, line, ports)
     if first in ALL:
         return []
     check(first, verb, words)

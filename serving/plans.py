@@ -1,6 +1,8 @@
 """A class as plans: whose name is which, how many farms there are, and what each student gets."""
+import codecs
 import os
 import re
+import shlex
 import unicodedata
 from typing import NamedTuple
 
@@ -9,6 +11,9 @@ from .folder import OPERATOR, Refused
 # What one farm has, and what its plan allows: see docs/PLAN.md.
 DOMAINS, PORTS, NODES, HOSTS, NAME = 16, 32, range(1, 9), range(1, 5), 32
 MEMORY, LIMIT = range(2048, 65537, 4), range(1, (1 << 40) + 1)
+# How letters are spelled that aren't one of a to z with a mark.
+SPELLED = str.maketrans({"ß": "ss", "æ": "ae", "œ": "oe", "ø": "o", "ł": "l", "đ": "d", "ð": "d", "þ": "th", "ħ": "h", "ŧ": "t",
+                         "ŋ": "ng", "ı": "i", "ə": "e"})
 
 
 class Machine(NamedTuple):
@@ -50,29 +55,61 @@ class Machine(NamedTuple):
         return "\n".join(text) + "\n"
 
 
+def spelled(letter):
+    """A letter by a to z, or what stands for it between words; none if it can't be spelled so."""
+    plain = unicodedata.normalize("NFKD", letter.lower().translate(SPELLED))
+    ascii_part = "".join(it for it in plain if it.isascii())
+    # marks and what isn't seen say nothing, and punctuation and blanks stand between words
+    return ascii_part or {"M": "", "C": "", "P": " ", "Z": " "}.get(unicodedata.category(letter)[0])
+
+
 def user_name(person):
-    """A person's name as a user's: letters without their marks, digits, and hyphens between words."""
-    letters = unicodedata.normalize("NFKD", person).encode("ascii", "ignore").decode().lower()
-    return re.sub(r"[^a-z0-9]+", "-", letters).strip("-")[:NAME].strip("-")
+    """A person's name as a user's: letters without their marks, digits, and hyphens between words. And what of it is left
+    out."""
+    letters = [(it, spelled(it)) for it in unicodedata.normalize("NFC", person)]
+    name = re.sub(r"[^a-z0-9]+", "-", "".join(plain or "" for _, plain in letters)).strip("-")
+    left = " ".join("".join(" " if plain is not None else it for it, plain in letters).split())
+    return name[:NAME].strip("-"), [*([left] if left else []), *([name[NAME:]] if name[NAME:] else [])]
+
+
+def lines_of(path):
+    """The lines of a file of names."""
+    try:
+        with open(path, "rb") as it:
+            text = it.read().removeprefix(codecs.BOM_UTF8)
+    except FileNotFoundError:
+        raise Refused(f"there is no file {os.path.abspath(path)}: write the students' names into it, one a line") from None
+    except OSError as error:
+        raise Refused(f"the file of names {path} can't be read: {error.strerror}") from None
+    try:
+        return text.decode().splitlines()
+    except UnicodeDecodeError as error:
+        line = text.count(b"\n", 0, error.start) + 1
+        raise Refused(f"{path}, line {line}: the byte {text[error.start]:02x} isn't UTF-8. Save the file as UTF-8. If it is "
+                      f"Latin-1: iconv -f latin1 -t utf-8 {shlex.quote(path)} > utf8-names.txt") from None
 
 
 def students_of(path):
-    """The people that a file names, one a line, each with the name of a user."""
-    students = {}
-    with open(path, encoding="utf-8") as lines:
-        for number, line in enumerate(lines, 1):
-            person = line.strip()
-            if not person or person.startswith("#"):
-                continue
-            name = user_name(person)
-            if not name or name == OPERATOR:
-                raise Refused(f"{path}, line {number}: {person!r} makes no user's name: write it with a to z and digits")
-            if name in students:
-                raise Refused(f"{path}, line {number}: {person} is the user {name}, as {students[name]} is: add something to one")
-            students[name] = person
+    """The people that a file names, one a line, each with the name of a user; and a note for each of whom something is
+    left out in it."""
+    students, notes = {}, []
+    for number, line in enumerate(lines_of(path), 1):
+        person = line.strip()
+        if not person or person.startswith("#"):
+            continue
+        name, left = user_name(person)
+        if not name:
+            raise Refused(f"{path}, line {number}: {person!r} makes no user's name: write it with a to z and digits")
+        if name == OPERATOR:
+            raise Refused(f"{path}, line {number}: {person!r} would be the user {OPERATOR}, and that name is reserved: add "
+                          "something to it")
+        if name in students:
+            raise Refused(f"{path}, line {number}: {person} is the user {name}, as {students[name]} is: add something to one")
+        students[name] = person
+        notes += [f"{path}, line {number}: {person} is the user {name}, without {' and '.join(left)}"] if left else []
     if not students:
         raise Refused(f"{os.path.abspath(path)} names nobody: write one name a line")
-    return students
+    return students, notes
 
 
 def farms_of(names, machine):

@@ -3,13 +3,12 @@ import argparse
 import asyncio
 import logging
 import os
-import re
 import resource
 import signal
 import sys
 
 from . import running
-from .folder import OPERATOR, Folder, Refused, program
+from .folder import OPERATOR, Folder, Refused, mode_of, program
 from .lines import PIECE
 from .speakers import Client, Operator, Speaker
 
@@ -41,6 +40,7 @@ class Server:
         """A socket for each user and for the operator."""
         if OPERATOR in users:
             raise Refused(f"a user is called {OPERATOR}, as the operator's socket is: give him another name in the plan")
+        self.folder.show_plan(self.words.PLAN)
         self.speakers = {name: Speaker(name) for name in users}
         for speaker in self.speakers.values():
             await self.open_socket(speaker, self.words.mode, self.words.group)
@@ -178,12 +178,6 @@ async def run(words):
         if server.live is not None:
             server.live.kill()
         await server.close()
-
-
-def mode_of(word):
-    if not re.fullmatch(r"0?[0-7]{3}", word):
-        raise argparse.ArgumentTypeError("three octal digits are wanted, such as 660")
-    return int(word, 8)
 
 
 def words_of(given):

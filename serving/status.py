@@ -10,7 +10,7 @@ SECONDS = 30
 # A burst of the farm's own may be so long, and is done only if all of it can be recorded. So a node can't go on with
 # less room.
 BURST = 256
-HEAD = ("user", "farm", "lines", "events", "of limit", "now", "room", "last fault")
+HEAD = ("user", "farm", "lines", "events", "used", "now", "room", "last fault")
 
 
 def ask_operator(folder, line):
@@ -58,7 +58,7 @@ def row_of(folder, name, told):
         return (name, farm, "-", "-", "-", "off", "-", fault)
     lines, recorded, limit, now = int(told[0]), int(told[1]), int(told[2]), told[3]
     room = "full" if recorded >= limit else "little" if limit - recorded < BURST else "yes"
-    return (name, farm, str(lines), str(recorded), f"{100 * recorded / limit:.1f} %", now, room, fault)
+    return (name, farm, str(lines), str(recorded), f"{100 * recorded / limit:.1f}%", now, room, fault)
 
 
 def rows_of(folder, names):

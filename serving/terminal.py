@@ -15,6 +15,7 @@ from .answers import Due, Loading, with_meaning
 from .completion import complete_with
 from .folder import OPERATOR, Refused, no_right, no_socket, socket_path
 from .orders import lines_of, split, table_of
+from .ports import ports_of
 from .verbs import Wrong, goes_on, help_lines
 
 HISTORY = os.path.expanduser("~/.nadzsumek_history")
@@ -36,8 +37,8 @@ class Gone(Exception):
 class Terminal:
     """A connection, whose answers are printed by a thread of their own as they come."""
 
-    def __init__(self, stream, name, is_person):
-        self.stream, self.name, self.is_person = stream, name, is_person
+    def __init__(self, stream, name, ports, is_person):
+        self.stream, self.name, self.ports, self.is_person = stream, name, ports, is_person
         self.due, self.status, self.stops, self.is_unread = collections.deque(), 0, False, False
         self.news, self.has_ended, self.at_prompt = threading.Condition(), False, False
         self.interrupts, self.is_sending = 0, False
@@ -99,15 +100,15 @@ class Terminal:
 
     def do(self, line):
         """Does one line; false if it is the last."""
-        first, _, words = split(self.name, line)
+        first, _, words = split(self.name, line, self.ports)
         self.stops = first == "stop"
         if first == "quit":
             return False
         if first == "help":
-            for text in help_lines(table_of(self.name), words[0] if words else None):
+            for text in help_lines(table_of(self.name, self.ports), words[0] if words else None):
                 self.show(text)
         else:
-            self.send(lines_of(self.name, line))
+            self.send(lines_of(self.name, line, self.ports))
         return True
 
     def wait(self):
@@ -240,7 +241,7 @@ def main(given):
     sys.stdout.reconfigure(errors="backslashreplace")
     is_person = sys.stdin.isatty() and sys.stdout.isatty()
     try:
-        terminal = Terminal(opened(words.DIR, words.USER), words.USER, is_person)
+        terminal = Terminal(opened(words.DIR, words.USER), words.USER, ports_of(words.DIR, words.USER), is_person)
         return at_terminal(terminal, words.DIR) if is_person else terminal.run()
     except (Refused, OSError) as error:
         print(f"connect: {error}", file=sys.stderr)

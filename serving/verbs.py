@@ -24,14 +24,20 @@ USER = Kind(r"[a-z0-9-]{1,32}", 0, "a user's name", "ann")
 
 
 class Verb(NamedTuple):
-    """The words behind a verb, an example, what the verb does, and how many of the words may be left out."""
+    """The words behind a verb, an example, what the verb does, how many of the words may be left out, and what else is
+    to be known."""
 
     kinds: tuple
     example: str
     meaning: str
     optional: int = 0
+    more: tuple = ()
 
 
+LOADING = ("the file is looked for in the folder where this terminal was opened, then among the examples",
+           "before the next load into a node type reset and its number (reset 0); else the bytes go to the program there",
+           "and boot nothing. If that has happened: restart, and join again")
+# The verbs of a user whose ports aren't known.
 USERS = {
     "config": Verb((HEX,), "config 01000103", "sends configuration bytes: here 01 joins the ports 0 and 1, 03 makes ready"),
     "write": Verb((HOST, HEX), "write 0 68690a", "gives a host bytes to send"),
@@ -44,8 +50,8 @@ USERS = {
     "why": Verb((NODE,), "why 0", "tells why a node waits, halted or runs on; why alone tells it of all nodes", 1),
     "rest": Verb((), "rest", "tells whether something goes on in your machine: quiet or busy"),
     "restart": Verb((), "restart", "makes your machine as it was opened, if it is yours alone"),
-    "join": Verb((PORT, PORT), "join 0 1", "joins two ports both ways and makes them ready: config 01000103"),
-    "load": Verb((HOST, FILE), "load 0 hello.s", "assembles a program and boots it; long code is poked first"),
+    "join": Verb((PORT, PORT), "join P Q", "joins two ports both ways and makes them ready: those of a link and of a host"),
+    "load": Verb((HOST, FILE), "load 0 hello.s", "assembles a program and boots it; long code is poked first", more=LOADING),
     "send": Verb((HOST, TEXT), "send 0 \"hello\\n\"", "gives a host the bytes of a text"),
 }
 OPERATORS = {
@@ -73,11 +79,24 @@ def is_of(kind, word):
     return not kind.most or (len(digits) <= len(str(kind.most)) and int(digits) <= kind.most)
 
 
+def with_ports(ports):
+    """The verbs of a user, with examples for his own ports and his own host."""
+    link, port = (PORT._replace(example=f"{it}") for it in (ports.link, ports.port))
+    config, host = f"config 01{ports.link:02x}{ports.port:02x}03", HOST._replace(example=f"{ports.host}")
+    own = {name: verb._replace(kinds=(host, *verb.kinds[1:]), example=verb.example.replace("0", host.example, 1))
+           for name, verb in USERS.items() if verb.kinds[:1] == (HOST,)}
+    meaning = f"sends configuration bytes: here 01 joins the ports {ports.link} and {ports.port}, 03 makes ready"
+    own["config"] = USERS["config"]._replace(example=config, meaning=meaning)
+    own["join"] = USERS["join"]._replace(kinds=(link, port), example=f"join {ports.link} {ports.port}",
+                                         meaning=f"joins two ports both ways and makes them ready: {config}")
+    return {**USERS, **own}
+
+
 def find(table, word):
     """The verb of this name."""
     if word in table:
         return table[word]
-    near = difflib.get_close_matches(word, table, 1, 0.5)
+    near = difflib.get_close_matches(word.lower(), table, 1, 0.5)
     raise Wrong(f"there is no verb {word!r}. " + (f"Is it {near[0]}? Try: {table[near[0]].example}" if near else "Try: help"))
 
 
@@ -101,4 +120,5 @@ def goes_on(answer):
 def help_lines(table, word=None):
     """An example of each verb with what it does, or of one."""
     chosen = {word: find(table, word)} if word else table
-    return [f"{verb.example:<32} {verb.meaning}" for verb in chosen.values()]
+    return [line for verb in chosen.values()
+            for line in (f"{verb.example:<32} {verb.meaning}", *(f"{'':<32} {text}" for text in verb.more))]
