@@ -30,7 +30,31 @@ enum Form {
 
 /// An argument of a subcommand.
 #[derive(Clone, Copy)]
-pub(crate) struct Argument {
+pub(crate) enum Argument {
+    Boot,
+    Booted,
+    Plan,
+    TracedDomain,
+    TracedSteps,
+    Steps,
+    Until,
+    Input,
+    DrawnDomain,
+    Files,
+    Record,
+    Script,
+    RecordedDomain,
+    At,
+    From,
+    Count,
+    Program,
+    Listing,
+    Pokes,
+}
+
+// How an argument is written, and what the help says of it.
+#[derive(Clone, Copy)]
+struct ArgumentWords {
     name: &'static str,
     // How the help calls what is given.
     value: &'static str,
@@ -39,147 +63,147 @@ pub(crate) struct Argument {
 }
 
 impl Argument {
+    fn words(self) -> ArgumentWords {
+        match self {
+            Argument::Boot => words_of(
+                "boot",
+                "HEX",
+                Form::Word,
+                "Boots a node with this code and traces it, in place of reading lines",
+            ),
+            Argument::Booted => words_of(
+                "program",
+                "FILE",
+                Form::Word,
+                "The same with the code of the program in this file; its labels and lines are shown",
+            ),
+            Argument::Plan => words_of(
+                "plan",
+                "SCRIPT",
+                Form::Word,
+                "Runs the plan and script in this file, and traces all nodes of a domain and the packets between them",
+            ),
+            Argument::TracedDomain => words_of(
+                "domain",
+                "D",
+                Form::Domain,
+                "The number of the domain that --plan traces, 0 unless given",
+            ),
+            Argument::TracedSteps => words_of(
+                "steps",
+                "N",
+                Form::Number,
+                "How many Steps are traced at most of booted code or of a plan, 1000 unless given; how many the lines may do in all",
+            ),
+            Argument::Steps => words_of(
+                "steps",
+                "N",
+                Form::Number,
+                "How many Steps may be done in all; more end it with status 7",
+            ),
+            Argument::Until => words_of(
+                "until",
+                "ADDRESS",
+                Form::Word,
+                "Stops the trace of booted code before the instruction at this address, or at this label of the program",
+            ),
+            Argument::Input => words_of(
+                "input",
+                "LINK:HEX",
+                Form::Words,
+                "Sends these bytes to the booted code by this link, each when the one before it is taken",
+            ),
+            Argument::DrawnDomain => words_of(
+                "domain",
+                "D",
+                Form::Domain,
+                "Draws the network of this domain, its nodes, hosts and wires, in place of the switch",
+            ),
+            Argument::Files => words_of(
+                "file",
+                "FILE",
+                Form::Several,
+                "Files of rows: plans if the name ends with .plans, programs if it ends with .assembly, wrong lines if it ends with .mistakes, for replay if it ends with .replay, and else for trace",
+            ),
+            Argument::Record => words_of(
+                "record",
+                "RECORD",
+                Form::Required,
+                "The record of a domain, as live --record writes it",
+            ),
+            Argument::Script => words_of(
+                "script",
+                "SCRIPT",
+                Form::Optional,
+                "The file of the plan and the script, in place of standard input; the files that it loads stand beside it",
+            ),
+            Argument::RecordedDomain => words_of(
+                "record",
+                "D",
+                Form::Domain,
+                "Prints the record of the domain of this number in the plan, and not the answers",
+            ),
+            Argument::At => words_of(
+                "at",
+                "N",
+                Form::Number,
+                "Looks after the first N events of the record, and not at its end",
+            ),
+            Argument::From => words_of(
+                "from",
+                "N",
+                Form::NumberOr("0"),
+                "Begins after the first N events of the record",
+            ),
+            Argument::Count => words_of(
+                "count",
+                "N",
+                Form::NumberOr("100000"),
+                "How many frames are shown at most",
+            ),
+            Argument::Program => words_of(
+                "program",
+                "K FILE",
+                Form::Pairs,
+                "Takes the labels and lines of node K from its program in this file",
+            ),
+            Argument::Listing => words_of(
+                "listing",
+                "",
+                Form::Flag,
+                "Prints addresses and bytes beside the text",
+            ),
+            Argument::Pokes => words_of(
+                "pokes",
+                "HOST USER",
+                Form::Pairs,
+                "Prints the lines of a script by which this user loads the code at this host",
+            ),
+        }
+    }
+
     /// Whether this is its name.
-    pub(crate) fn is(&self, name: &str) -> bool {
-        self.name == name
+    pub(crate) fn is(self, name: &str) -> bool {
+        self.words().name == name
     }
 }
 
-pub(crate) const BOOT: Argument = Argument {
-    name: "boot",
-    value: "HEX",
-    help: "Boots a node with this code and traces it, in place of reading lines",
-    form: Form::Word,
-};
-
-pub(crate) const BOOTED: Argument = Argument {
-    name: "program",
-    value: "FILE",
-    help: "The same with the code of the program in this file; its labels and lines are shown",
-    form: Form::Word,
-};
-
-pub(crate) const PLAN: Argument = Argument {
-    name: "plan",
-    value: "SCRIPT",
-    help: "Runs the plan and script in this file, and traces all nodes of a domain and the packets between them",
-    form: Form::Word,
-};
-
-pub(crate) const TRACED_DOMAIN: Argument = Argument {
-    name: "domain",
-    value: "D",
-    help: "The number of the domain that --plan traces, 0 unless given",
-    form: Form::Domain,
-};
-
-pub(crate) const TRACED_STEPS: Argument = Argument {
-    name: "steps",
-    value: "N",
-    help: "How many Steps are traced at most of booted code or of a plan, 1000 unless given; how many the lines may do in all",
-    form: Form::Number,
-};
-
-pub(crate) const STEPS: Argument = Argument {
-    name: "steps",
-    value: "N",
-    help: "How many Steps may be done in all; more end it with status 7",
-    form: Form::Number,
-};
-
-pub(crate) const UNTIL: Argument = Argument {
-    name: "until",
-    value: "ADDRESS",
-    help: "Stops the trace of booted code before the instruction at this address, or at this label of the program",
-    form: Form::Word,
-};
-
-pub(crate) const INPUT: Argument = Argument {
-    name: "input",
-    value: "LINK:HEX",
-    help: "Sends these bytes to the booted code by this link, each when the one before it is taken",
-    form: Form::Words,
-};
-
-pub(crate) const DRAWN_DOMAIN: Argument = Argument {
-    name: "domain",
-    value: "D",
-    help: "Draws the network of this domain, its nodes, hosts and wires, in place of the switch",
-    form: Form::Domain,
-};
-
-pub(crate) const FILES: Argument = Argument {
-    name: "file",
-    value: "FILE",
-    help: "Files of rows: plans if the name ends with .plans, programs if it ends with .assembly, wrong lines if it ends with .mistakes, for replay if it ends with .replay, and else for trace",
-    form: Form::Several,
-};
-
-pub(crate) const RECORD: Argument = Argument {
-    name: "record",
-    value: "RECORD",
-    help: "The record of a domain, as live --record writes it",
-    form: Form::Required,
-};
-
-pub(crate) const SCRIPT: Argument = Argument {
-    name: "script",
-    value: "SCRIPT",
-    help: "The file of the plan and the script, in place of standard input; the files that it loads stand beside it",
-    form: Form::Optional,
-};
-
-pub(crate) const RECORDED_DOMAIN: Argument = Argument {
-    name: "record",
-    value: "D",
-    help: "Prints the record of the domain of this number in the plan, and not the answers",
-    form: Form::Domain,
-};
-
-pub(crate) const AT: Argument = Argument {
-    name: "at",
-    value: "N",
-    help: "Looks after the first N events of the record, and not at its end",
-    form: Form::Number,
-};
-
-pub(crate) const FROM: Argument = Argument {
-    name: "from",
-    value: "N",
-    help: "Begins after the first N events of the record",
-    form: Form::NumberOr("0"),
-};
-
-pub(crate) const COUNT: Argument = Argument {
-    name: "count",
-    value: "N",
-    help: "How many frames are shown at most",
-    form: Form::NumberOr("100000"),
-};
-
-pub(crate) const PROGRAM: Argument = Argument {
-    name: "program",
-    value: "K FILE",
-    help: "Takes the labels and lines of node K from its program in this file",
-    form: Form::Pairs,
-};
-
-pub(crate) const LISTING: Argument = Argument {
-    name: "listing",
-    value: "",
-    help: "Prints addresses and bytes beside the text",
-    form: Form::Flag,
-};
-
-pub(crate) const POKES: Argument = Argument {
-    name: "pokes",
-    value: "HOST USER",
-    help: "Prints the lines of a script by which this user loads the code at this host",
-    form: Form::Pairs,
-};
+fn words_of(
+    name: &'static str,
+    value: &'static str,
+    form: Form,
+    help: &'static str,
+) -> ArgumentWords {
+    ArgumentWords {
+        name,
+        value,
+        help,
+        form,
+    }
+}
 
 // A word by itself.
-fn word_of<'a>(alloc: Global, argument: Argument) -> Arg<'a> {
+fn word_of<'a>(alloc: Global, argument: ArgumentWords) -> Arg<'a> {
     Arg::new(alloc, argument.name)
         .value_name(argument.value)
         .help(argument.help)
@@ -187,32 +211,32 @@ fn word_of<'a>(alloc: Global, argument: Argument) -> Arg<'a> {
 }
 
 // An option with a word.
-fn option_of<'a>(alloc: Global, argument: Argument) -> Arg<'a> {
+fn option_of<'a>(alloc: Global, argument: ArgumentWords) -> Arg<'a> {
     word_of(alloc, argument).long(argument.name)
 }
 
-fn number_of<'a>(alloc: Global, argument: Argument) -> Arg<'a> {
+fn number_of<'a>(alloc: Global, argument: ArgumentWords) -> Arg<'a> {
     option_of(alloc, argument).value_parser(value_parser!(u64))
 }
 
-fn domain_of<'a>(alloc: Global, argument: Argument) -> Arg<'a> {
+fn domain_of<'a>(alloc: Global, argument: ArgumentWords) -> Arg<'a> {
     option_of(alloc, argument).value_parser(value_parser!(u8))
 }
 
-fn pairs_of<'a>(alloc: Global, argument: Argument) -> Arg<'a> {
+fn pairs_of<'a>(alloc: Global, argument: ArgumentWords) -> Arg<'a> {
     option_of(alloc, argument)
         .num_args(2)
         .action(ArgAction::Append)
 }
 
-fn flag_of<'a>(alloc: Global, argument: Argument) -> Arg<'a> {
+fn flag_of<'a>(alloc: Global, argument: ArgumentWords) -> Arg<'a> {
     Arg::new(alloc, argument.name)
         .long(argument.name)
         .help(argument.help)
         .action(ArgAction::SetTrue)
 }
 
-fn several_of<'a>(alloc: Global, argument: Argument) -> Arg<'a> {
+fn several_of<'a>(alloc: Global, argument: ArgumentWords) -> Arg<'a> {
     word_of(alloc, argument)
         .required(true)
         .num_args(1..)
@@ -221,6 +245,7 @@ fn several_of<'a>(alloc: Global, argument: Argument) -> Arg<'a> {
 
 /// The argument, as the parser takes it.
 pub(crate) fn arg_of<'a>(alloc: Global, argument: Argument) -> Arg<'a> {
+    let argument = argument.words();
     match argument.form {
         Form::Word => option_of(alloc, argument),
         Form::Words => option_of(alloc, argument).action(ArgAction::Append),

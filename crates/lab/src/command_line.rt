@@ -1,9 +1,6 @@
 //! What the words of the command line ask.
 
-use crate::arguments::{
-    AT, Argument, BOOT, BOOTED, COUNT, DRAWN_DOMAIN, FILES, FROM, INPUT, LISTING, PLAN, POKES,
-    PROGRAM, RECORD, RECORDED_DOMAIN, SCRIPT, STEPS, TRACED_DOMAIN, TRACED_STEPS, UNTIL, arg_of,
-};
+use crate::arguments::{Argument, arg_of};
 use crate::assembly::AssemblyOptions;
 use crate::debugging::Debugging;
 use crate::failure::{ArgumentFault, LabFailure};
@@ -132,16 +129,29 @@ impl Subcommand {
     // What may stand behind it.
     fn arguments(self) -> &'static [Argument] {
         match self {
-            Subcommand::Replay => &REPLAY_ARGUMENTS,
-            Subcommand::Draw => &DRAW_ARGUMENTS,
-            Subcommand::Trace => &TRACE_ARGUMENTS,
-            Subcommand::Assemble => &ASSEMBLE_ARGUMENTS,
-            Subcommand::Rows => &ROWS_ARGUMENTS,
-            Subcommand::Why => &WHY_ARGUMENTS,
-            Subcommand::Film => &FILM_ARGUMENTS,
-            Subcommand::Expand => &EXPAND_ARGUMENTS,
-            Subcommand::Run => &RUN_ARGUMENTS,
-            Subcommand::Debug => &DEBUG_ARGUMENTS,
+            Subcommand::Replay => &[Argument::Steps],
+            Subcommand::Draw => &[Argument::DrawnDomain, Argument::Steps],
+            Subcommand::Trace => &[
+                Argument::Boot,
+                Argument::Booted,
+                Argument::Plan,
+                Argument::TracedDomain,
+                Argument::TracedSteps,
+                Argument::Until,
+                Argument::Input,
+            ],
+            Subcommand::Assemble => &[Argument::Listing, Argument::Pokes],
+            Subcommand::Rows => &[Argument::Files, Argument::Steps],
+            Subcommand::Why => &[Argument::Record, Argument::At, Argument::Steps],
+            Subcommand::Film => &[
+                Argument::Record,
+                Argument::From,
+                Argument::Count,
+                Argument::Steps,
+            ],
+            Subcommand::Expand => &[Argument::Script],
+            Subcommand::Run => &[Argument::Script, Argument::RecordedDomain, Argument::Steps],
+            Subcommand::Debug => &[Argument::Record, Argument::Program, Argument::Steps],
             Subcommand::Plan | Subcommand::Disassemble => &[],
         }
     }
@@ -188,34 +198,6 @@ impl Subcommand {
         }
     }
 }
-
-const REPLAY_ARGUMENTS: [Argument; 1] = [STEPS];
-
-const DRAW_ARGUMENTS: [Argument; 2] = [DRAWN_DOMAIN, STEPS];
-
-const TRACE_ARGUMENTS: [Argument; 7] = [
-    BOOT,
-    BOOTED,
-    PLAN,
-    TRACED_DOMAIN,
-    TRACED_STEPS,
-    UNTIL,
-    INPUT,
-];
-
-const ASSEMBLE_ARGUMENTS: [Argument; 2] = [LISTING, POKES];
-
-const ROWS_ARGUMENTS: [Argument; 2] = [FILES, STEPS];
-
-const WHY_ARGUMENTS: [Argument; 3] = [RECORD, AT, STEPS];
-
-const FILM_ARGUMENTS: [Argument; 4] = [RECORD, FROM, COUNT, STEPS];
-
-const EXPAND_ARGUMENTS: [Argument; 1] = [SCRIPT];
-
-const RUN_ARGUMENTS: [Argument; 3] = [SCRIPT, RECORDED_DOMAIN, STEPS];
-
-const DEBUG_ARGUMENTS: [Argument; 3] = [RECORD, PROGRAM, STEPS];
 
 const SUBCOMMANDS: [(&str, Subcommand); 12] = [
     ("replay", Subcommand::Replay),
