@@ -1,12 +1,13 @@
 -- What stood before the last of a processor's steps, for the clause `burst` of `run`.
-use Rattle.std.proofs.Common.{◌≡◌, ℕ, zero, suc, List, Option, Some, None, refl, ◌∙◌, sym}
+use Rattle.std.proofs.Common.{◌≡◌, ℕ, zero, suc, true, false, List, Option, Some, None, refl, ◌∙◌, sym}
+use Rattle.node_memory.specs.Effect.{Gave, Halted}
 use Rattle.link_channels.specs.declared.link.FourLinks.{FourLinks}
 use Rattle.t414_step.specs.declared.cpu.Cpu.{Cpu}
-use Rattle.t414_step.specs.Step.{StepAnswer, Ran, Idle, Broke, step}
+use Rattle.t414_step.specs.Step.{StepEffect, step}
 use Rattle.t414_step.specs.Steps.{nth_step, then_step}
 
 -- no steps leave the processor as it is
-pub no-nth-step : (s : Cpu) (ls : FourLinks) (m : List ℕ) → nth_step zero s ls m ≡ Some (Ran s ls m)
+pub no-nth-step : (s : Cpu) (ls : FourLinks) (m : List ℕ) → nth_step zero s ls m ≡ Some (Gave (true, s) ls m)
 unfolding nth_step
 no-nth-step s ls m = refl
 
@@ -16,21 +17,21 @@ unfolding nth_step
 one-more-step k s ls m = refl
 
 -- the processor before a step that answers so
-pub record RanBefore (o : Option StepAnswer) (answer : StepAnswer) : Type 0 where
+pub record RanBefore (o : Option StepEffect) (answer : StepEffect) : Type 0 where
   pub cpu : Cpu
   pub links : FourLinks
   pub memory : List ℕ
-  pub is : o ≡ Some (Ran cpu links memory)
+  pub is : o ≡ Some (Gave (true, cpu) links memory)
   pub next : step cpu links memory ≡ answer
 
-before : (o : Option StepAnswer) (answer : StepAnswer) → then_step o ≡ Some answer → RanBefore o answer
-before (Some (Ran s ls m)) answer e = record { cpu = s; links = ls; memory = m; is = refl; next = cc }
-before (Some (Idle s ls m)) answer e = cc
-before (Some (Broke fault ls m)) answer e = cc
+before : (o : Option StepEffect) (answer : StepEffect) → then_step o ≡ Some answer → RanBefore o answer
+before (Some (Gave (true, s) ls m)) answer e = record { cpu = s; links = ls; memory = m; is = refl; next = cc }
+before (Some (Gave (false, s) ls m)) answer e = cc
+before (Some (Halted fault ls m)) answer e = cc
 before None answer e = cc
 
 -- all steps before the last ran
-pub ran-before : (k : ℕ) (s : Cpu) (ls : FourLinks) (m : List ℕ) (answer : StepAnswer)
+pub ran-before : (k : ℕ) (s : Cpu) (ls : FourLinks) (m : List ℕ) (answer : StepEffect)
     → nth_step (suc k) s ls m ≡ Some answer
     → RanBefore (nth_step k s ls m) answer
 ran-before k s ls m answer e = before (nth_step k s ls m) answer (sym (one-more-step k s ls m) ∙ e)

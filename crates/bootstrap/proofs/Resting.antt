@@ -2,6 +2,7 @@
 use Rattle.std.proofs.Common.{◌≡◌, ℕ, ◌==◌, Bool, true, false, not, ◌&&◌, List}
 use Rattle.std.proofs.Common.{Option, Some, None, if◌then◌else◌, refl, ◌∙◌, ap, sym}
 use Rattle.node_memory.specs.declared.fault.Fault.{Fault}
+use Rattle.node_memory.specs.Effect as effect
 use Rattle.node_memory.specs.Marks.{not_process}
 use Rattle.process_queue.specs.Queue.{after_take}
 use Rattle.link_channels.specs.declared.link.FourLinks.{FourLinks}
@@ -13,8 +14,7 @@ use Rattle.t414_step.specs.declared.stepping.Stepped.{Stepped}
 use Rattle.t414_step.specs.declared.stepping.Stepped.TheVariants as code
 use Rattle.t414_step.specs.Answers.{is_idle, tells_idle}
 use Rattle.t414_step.specs.Registers.{has_nothing_to_do}
-use Rattle.t414_step.specs.Step.{Broke, Idle, Ran}
-use Rattle.t414_step.specs.Step.{step, StepAnswer}
+use Rattle.t414_step.specs.Step.{step, StepEffect}
 use Rattle.t414_step.specs.Laws.{IdleWhereItRests}
 use Rattle.bootstrap.specs.Step.{node_step, step_by_state, ran, fed, controlled, offered}
 use Rattle.bootstrap.specs.Step.{answer_continued, has_halted, is_step_recorded, is_quiet}
@@ -39,10 +39,10 @@ not-true : (a : Bool) → not a ≡ true → a ≡ false
 not-true true e = cc
 not-true false e = refl
 
-is_idle-ran : (a : StepAnswer) → is_idle (ran a).1 ≡ tells_idle a
-is_idle-ran (Ran s ls m) = refl
-is_idle-ran (Idle s ls m) = refl
-is_idle-ran (Broke fault ls m) = refl
+is_idle-ran : (a : StepEffect) → is_idle (ran a).1 ≡ tells_idle a
+is_idle-ran (effect.Gave (true, s) ls m) = refl
+is_idle-ran (effect.Gave (false, s) ls m) = refl
+is_idle-ran (effect.Halted fault ls m) = refl
 
 -- a node that runs is quiet exactly where nothing waits for it
 pub quiet-runs : IdleWhereItRests → (n : Node) (s : Cpu) → n.state ≡ Runs s → is_quiet n ≡ has_nothing_to_do s n.links
@@ -56,13 +56,13 @@ quiet-runs idle n s e =
 idle-step : ServiceLeavesTheRest
     → (s : Cpu) (ls : FourLinks) (m : List ℕ) → s.running ≡ false → (s.queue.front == not_process) ≡ true
     → any_has_work ls ≡ false
-    → step s ls m ≡ Idle s ls m
+    → step s ls m ≡ effect.Gave (false, s) ls m
 unfolding step after_take
 idle-step rests s ls m r f w = rw (rests ls s.queue m w, r, f) refl
 
 -- a step of a processor that has nothing to do is idle and changes nothing
 pub resting-step : ServiceLeavesTheRest → (s : Cpu) (ls : FourLinks) (m : List ℕ) → has_nothing_to_do s ls ≡ true
-    → step s ls m ≡ Idle s ls m
+    → step s ls m ≡ effect.Gave (false, s) ls m
 resting-step rests s ls m e =
     let none : (not s.running && (s.queue.front == not_process)) ≡ true =
     and-left (not s.running && (s.queue.front == not_process)) (not (any_has_work ls)) e in
@@ -117,10 +117,10 @@ unchanged idle rests (Halted fault) ls m q = refl
 pub quiet-step : IdleWhereItRests → ServiceLeavesTheRest → (n : Node) → is_quiet n ≡ true → (node_step n).0 ≡ n
 quiet-step idle rests n q = unchanged idle rests n.state n.links n.memory q
 
-ran-faults : (a : StepAnswer) (fault : Fault) → (ran a).1 ≡ code.Fault fault → (ran a).0.state ≡ Halted fault
-ran-faults (Ran s ls m) fault e = cc
-ran-faults (Idle s ls m) fault e = cc
-ran-faults (Broke other ls m) fault e = cc
+ran-faults : (a : StepEffect) (fault : Fault) → (ran a).1 ≡ code.Fault fault → (ran a).0.state ≡ Halted fault
+ran-faults (effect.Gave (true, s) ls m) fault e = cc
+ran-faults (effect.Gave (false, s) ls m) fault e = cc
+ran-faults (effect.Halted other ls m) fault e = cc
 
 fed-faults : (byte : Option ℕ) (next : ℕ → Node) (n : Node) (fault : Fault) → (fed byte next n).1 ≡ code.Fault fault
     → (fed byte next n).0.state ≡ Halted fault

@@ -2,6 +2,7 @@
 use Rattle.std.proofs.Common.{◌≡◌, ℕ, zero, suc, ◌+◌, ◌-◌, ◌<◌, ◌≤◌, Bool, true, false, not, List}
 use Rattle.std.proofs.Common.{Option, Some, None, refl, ◌∙◌, ap, sym, subst, arith, add-one}
 use Rattle.node_memory.specs.declared.fault.Fault.{Fault}
+use Rattle.node_memory.specs.Effect.{Gave, Halted}
 use Rattle.link_channels.specs.declared.link.FourLinks.{FourLinks}
 use Rattle.link_channels.specs.Laws.{ServiceLeavesTheRest}
 use Rattle.t414_step.specs.declared.cpu.Cpu.{Cpu}
@@ -10,8 +11,7 @@ use Rattle.t414_step.specs.declared.stepping.Stepped.TheVariants as code
 use Rattle.t414_step.specs.Answers.{is_idle, tells_idle}
 use Rattle.t414_step.specs.Laws.{IdleWhereItRests}
 use Rattle.t414_step.specs.Registers.{has_nothing_to_do}
-use Rattle.t414_step.specs.Step.{Broke, Idle, Ran}
-use Rattle.t414_step.specs.Step.{step}
+use Rattle.t414_step.specs.Step.{StepEffect, step}
 use Rattle.t414_step.specs.Steps.{nth_step}
 use Rattle.bootstrap.specs.Laws.{later_or}
 use Rattle.bootstrap.specs.Step.{node_step, ran, has_halted, is_step_recorded, is_quiet}
@@ -26,25 +26,32 @@ use Rattle.bootstrap.proofs.Before.{no-nth-step, ran-before}
 use Rattle.bootstrap.proofs.Resting.{not-not, resting-step, quiet-runs}
 
 -- the processor's Step as the node's
-pub ran-step : (s t : Cpu) (ls ks : FourLinks) (m n : List ℕ) → Ran t ks n ≡ step s ls m
+pub ran-step : (s t : Cpu) (ls ks : FourLinks) (m n : List ℕ) → Gave (true, t) ks n ≡ step s ls m
     → node_step (running s ls m) ≡ (running t ks n, code.Ran)
 unfolding node_step
 ran-step s t ls ks m n e = sym (ap ran e)
 
 -- a step that meets a fault halts its node
-pub broke-step : (fault : Fault) (s : Cpu) (ls ks : FourLinks) (m n : List ℕ) → Broke fault ks n ≡ step s ls m
+pub broke-step : (fault : Fault) (s : Cpu) (ls ks : FourLinks) (m n : List ℕ) → Halted fault ks n ≡ step s ls m
     → node_step (running s ls m) ≡ (left_by (Some (code.Fault fault)) s ks n, code.Fault fault)
 unfolding node_step
 broke-step fault s ls ks m n e = sym (ap ran e)
 
-same-idle : (s t : Cpu) (ls ks : FourLinks) (m n : List ℕ) → Idle t ks n ≡ Idle s ls m → running s ls m ≡ running t ks n
-same-idle s t ls ks m n e = cc
+-- a step that runs or is idle leaves this node
+same-left : (s t : Cpu) (ls ks : FourLinks) (m n : List ℕ) (x y : Bool)
+    → ◌≡◌ {A = StepEffect} (Gave (x, t) ks n) (Gave (y, s) ls m) → x ≡ y
+    → running s ls m ≡ running t ks n
+same-left s t ls ks m n true true e same = sym (ap (λ (r : StepEffect). (ran r).0) e)
+same-left s t ls ks m n false false e same = sym (ap (λ (r : StepEffect). (ran r).0) e)
+same-left s t ls ks m n true false e same = cc
+same-left s t ls ks m n false true e same = cc
 
 -- an idle step of a processor that has nothing to do changes nothing
 pub idle-stays : ServiceLeavesTheRest
-    → (s t : Cpu) (ls ks : FourLinks) (m n : List ℕ) → Idle t ks n ≡ step s ls m → true ≡ has_nothing_to_do s ls
+    → (s t : Cpu) (ls ks : FourLinks) (m n : List ℕ)
+    → Gave (false, t) ks n ≡ step s ls m → true ≡ has_nothing_to_do s ls
     → running s ls m ≡ running t ks n
-idle-stays rests s t ls ks m n e r = same-idle s t ls ks m n (e ∙ resting-step rests s ls m (sym r))
+idle-stays rests s t ls ks m n e r = same-left s t ls ks m n false false (e ∙ resting-step rests s ls m (sym r)) refl
 
 -- a Step that answers so is recorded
 recorded-by : (n : Node) (answer : Stepped)
@@ -124,21 +131,19 @@ pub record Led (k : ℕ) (x y : Node) : Type 0 where
   pub after : IsAfter x k y
   pub last : last_of_ran k ≡ last_answer k x
 
-same-ran : (s t : Cpu) (ls ks : FourLinks) (m n : List ℕ) → Some (Ran s ls m) ≡ Some (Ran t ks n)
-    → running s ls m ≡ running t ks n
-same-ran s t ls ks m n e = cc
-
 -- steps that all ran lead a node that runs
-pub steps-led : (k : ℕ) (s t : Cpu) (ls ks : FourLinks) (m n : List ℕ) → nth_step k s ls m ≡ Some (Ran t ks n)
+pub steps-led : (k : ℕ) (s t : Cpu) (ls ks : FourLinks) (m n : List ℕ) → nth_step k s ls m ≡ Some (Gave (true, t) ks n)
     → Led k (running s ls m) (running t ks n)
 steps-led zero s t ls ks m n e =
-    let same : running s ls m ≡ running t ks n = same-ran s t ls ks m n (sym (no-nth-step s ls m) ∙ e) in
+    let none = no-nth-step s ls m in
+    let left : ◌≡◌ {A = StepEffect} (Gave (true, s) ls m) (Gave (true, t) ks n) = cc in
+    let same : running s ls m ≡ running t ks n = sym (same-left t s ks ls n m true true left refl) in
     record {
       after = subst (λ (y : Node). IsAfter (running s ls m) 0 y) same (no-steps (running s ls m));
       last = sym (last_answer-zero (running s ls m));
     }
 steps-led (suc k) s t ls ks m n e =
-    let before = ran-before k s ls m (Ran t ks n) e in
+    let before = ran-before k s ls m (Gave (true, t) ks n) e in
     let led = steps-led k s before.cpu ls before.links m before.memory before.is in
     let more = runs-more (running s ls m) (running t ks n) k before.cpu before.links before.memory code.Ran led.after
     (ran-step before.cpu t before.links ks before.memory n (sym before.next)) refl in
@@ -149,12 +154,12 @@ steps-led (suc k) s t ls ks m n e =
 
 -- a processor's steps of which the last met a fault
 pub steps-broke : (k : ℕ) (fault : Fault) (s t : Cpu) (ls ks : FourLinks) (m n : List ℕ)
-    → 0 < k → nth_step k s ls m ≡ Some (Broke fault ks n)
+    → 0 < k → nth_step k s ls m ≡ Some (Halted fault ks n)
     → IsAfter (running s ls m) k (left_by (Some (code.Fault fault)) t ks n)
     × (Some (code.Fault fault) ≡ last_answer k (running s ls m))
 steps-broke zero fault s t ls ks m n some e = absurd (omega arith)
 steps-broke (suc k) fault s t ls ks m n some e =
-    let before = ran-before k s ls m (Broke fault ks n) e in
+    let before = ran-before k s ls m (Halted fault ks n) e in
     let led = steps-led k s before.cpu ls before.links m before.memory before.is in
     let more =
     runs-more (running s ls m) (left_by (Some (code.Fault fault)) t ks n) k before.cpu before.links
@@ -173,10 +178,10 @@ pub record Rested (k : ℕ) (x y : Node) : Type 0 where
 -- steps of which the last is idle leave a node that is quiet, after all but that one
 pub steps-rested : IdleWhereItRests
     → ServiceLeavesTheRest → (k : ℕ) (s t : Cpu) (ls ks : FourLinks) (m n : List ℕ)
-    → nth_step (suc k) s ls m ≡ Some (Idle t ks n)
+    → nth_step (suc k) s ls m ≡ Some (Gave (false, t) ks n)
     → Rested k (running s ls m) (running t ks n)
 steps-rested idle rests k s t ls ks m n e =
-    let before = ran-before k s ls m (Idle t ks n) e in
+    let before = ran-before k s ls m (Gave (false, t) ks n) e in
     let led = steps-led k s before.cpu ls before.links m before.memory before.is in
     let nothing : true ≡ has_nothing_to_do before.cpu before.links =
     sym (ap tells_idle before.next) ∙ idle before.cpu before.links before.memory in

@@ -25,8 +25,8 @@ freed zero m = m
 freed (suc k) m = or_kept (with_word (freed k m) (first_address + 4 * k) not_process) (freed k m)
 
 -- a word that its bytes come to, least significant first: each is put in above the others, which move down
-abbrev pub shifted_in : ℕ → ℕ → ℕ
-shifted_in byte word = word / 2 ^ 8 + byte * 2 ^ 24
+abbrev pub shifted_down : ℕ → ℕ → ℕ
+shifted_down byte word = word / 2 ^ 8 + byte * 2 ^ 24
 
 -- the registers of a node that begins to run code which ends before an address: Iptr is MemStart, W the first word
 -- boundary at or above the end, C the boot link's input channel; the others are our choice

@@ -2,6 +2,7 @@
 -- choice.
 use Rattle.std.specs.Prelude.{ℕ, ◌-◌, ◌/◌, ◌%◌, ◌^◌, ◌==◌, Bool, true, false, not, ◌&&◌, nat_lt, List, Option, Some, None, is_some, Result, Ok, Err, if◌then◌else◌}
 use Rattle.node_memory.specs.Bytes.{word_at, with_word, with_byte}
+use Rattle.node_memory.specs.Effect as effect
 use Rattle.node_memory.specs.Words.{◌⊕◌}
 use Rattle.node_memory.specs.declared.fault.Fault.{Fault}
 use Rattle.link_channels.specs.Links.{at, byte_posted, byte_taken, acknowledge_cleared_at}
@@ -9,11 +10,12 @@ use Rattle.link_channels.specs.declared.link.FourLinks.{FourLinks}
 use Rattle.link_channels.specs.declared.number.LinkNumber.{LinkNumber}
 use Rattle.link_channels.specs.declared.number.LinkNumber.TheVariants.{Zero, One, Two, Three}
 use Rattle.t414_step.specs.Answers.{is_idle}
+use Rattle.t414_step.specs.Step.{StepEffect}
 use Rattle.t414_step.specs.Step as processor
 use Rattle.t414_step.specs.declared.stepping.Stepped.{Stepped}
 use Rattle.t414_step.specs.declared.stepping.Stepped.TheVariants.{Ran, Idle}
 use Rattle.t414_step.specs.declared.stepping.Stepped.TheVariants as code
-use Rattle.bootstrap.specs.Boot.{code_start, or_kept, freed, shifted_in, begun}
+use Rattle.bootstrap.specs.Boot.{code_start, or_kept, freed, shifted_down, begun}
 use Rattle.bootstrap.specs.declared.node.Node.{Node}
 use Rattle.bootstrap.specs.declared.state.NodeState.{NodeState}
 use Rattle.bootstrap.specs.declared.state.NodeState.TheVariants.{WantsControl, Takes, Answers, Runs, Halted}
@@ -46,15 +48,15 @@ answering link left word n =
 -- a poke gets a byte: four of the address, then four of the word, which is stored with the last
 abbrev pub poked : ℕ → ℕ → ℕ → ℕ → LinkNumber → Node → Node
 poked left address word byte link n =
-    if nat_lt 4 left then record n { state = Takes link (Poke (left - 1) (shifted_in byte address) word) }
-    else (if nat_lt 1 left then record n { state = Takes link (Poke (left - 1) address (shifted_in byte word)) }
-    else record n { memory = or_kept (with_word n.memory address (shifted_in byte word)) n.memory; state = WantsControl })
+    if nat_lt 4 left then record n { state = Takes link (Poke (left - 1) (shifted_down byte address) word) }
+    else (if nat_lt 1 left then record n { state = Takes link (Poke (left - 1) address (shifted_down byte word)) }
+    else record n { memory = or_kept (with_word n.memory address (shifted_down byte word)) n.memory; state = WantsControl })
 
 -- a peek gets a byte of its address: with the last the word is read and its first byte posted
 abbrev pub peeked : ℕ → ℕ → ℕ → LinkNumber → Node → Node
 peeked left address byte link n =
-    if nat_lt 1 left then record n { state = Takes link (Peek (left - 1) (shifted_in byte address)) }
-    else answering link 3 (or_zero (word_at n.memory (shifted_in byte address))) n
+    if nat_lt 1 left then record n { state = Takes link (Peek (left - 1) (shifted_down byte address)) }
+    else answering link 3 (or_zero (word_at n.memory (shifted_down byte address))) n
 
 -- the code goes on at an address, or is whole and begins to run
 abbrev pub loaded_to : ℕ → ℕ → LinkNumber → List ℕ → Node → Node
@@ -95,11 +97,11 @@ abbrev pub controlled : Option LinkNumber → Node → Node × Stepped
 controlled None n = (n, Idle)
 controlled (Some link) n = feed link (λ byte k. record k { state = Takes link (task_of byte) }) n
 
--- the processor's answer, kept in the node; after a fault the registers are given up
-abbrev pub ran : processor.StepAnswer → Node × Stepped
-ran (processor.Ran s ls m) = (record { memory = m; links = ls; state = Runs s }, Ran)
-ran (processor.Idle s ls m) = (record { memory = m; links = ls; state = Runs s }, Idle)
-ran (processor.Broke fault ls m) = (record { memory = m; links = ls; state = Halted fault }, code.Fault fault)
+-- what a step of the processor left, kept in the node; after a fault the registers are given up
+abbrev pub ran : StepEffect → Node × Stepped
+ran (effect.Gave (true, s) ls m) = (record { memory = m; links = ls; state = Runs s }, Ran)
+ran (effect.Gave (false, s) ls m) = (record { memory = m; links = ls; state = Runs s }, Idle)
+ran (effect.Halted fault ls m) = (record { memory = m; links = ls; state = Halted fault }, code.Fault fault)
 
 -- a Step, by what the node is doing
 abbrev pub step_by_state : NodeState → Node → Node × Stepped

@@ -2,7 +2,7 @@
 
 ghost use Rattle.std.specs.Prelude.{◌≡◌};
 ghost use Rattle.node_memory.specs.Bytes.{with_word, with_byte};
-ghost use Rattle.bootstrap.specs.Boot.{or_kept, freed, begun, shifted_in};
+ghost use Rattle.bootstrap.specs.Boot.{or_kept, freed, begun, shifted_down};
 
 use crate::node::Node;
 use crate::state::{NodeState, Task};
@@ -58,8 +58,8 @@ fn begun(link: LinkNumber, end: u32) -> Cpu
 }
 
 // A word with a byte put in above the others, which move down.
-fn shifted_in(byte: u8, word: u32) -> u32
-    ensures answer { result ≡ shifted_in byte word }
+fn shifted_down(byte: u8, word: u32) -> u32
+    ensures answer { result ≡ shifted_down byte word }
 {
     (word >> 8) + (u32::from(byte) << 24)
 }
@@ -111,7 +111,7 @@ impl Node {
         if left > 4 {
             let task = Task::Poke {
                 left: left - 1,
-                address: shifted_in(byte, address),
+                address: shifted_down(byte, address),
                 word,
             };
             self.state = NodeState::Takes { link, task };
@@ -119,11 +119,11 @@ impl Node {
             let task = Task::Poke {
                 left: left - 1,
                 address,
-                word: shifted_in(byte, word),
+                word: shifted_down(byte, word),
             };
             self.state = NodeState::Takes { link, task };
         } else {
-            store_inside(&mut self.memory, address, shifted_in(byte, word));
+            store_inside(&mut self.memory, address, shifted_down(byte, word));
             self.state = NodeState::WantsControl;
         }
     }
@@ -132,7 +132,7 @@ impl Node {
     fn peek(&mut self, link: LinkNumber, left: u8, address: u32, byte: u8)
         ensures state { self.new ≡ peeked left address byte link self.old }
     {
-        let address = shifted_in(byte, address);
+        let address = shifted_down(byte, address);
         if left > 1 {
             let task = Task::Peek {
                 left: left - 1,

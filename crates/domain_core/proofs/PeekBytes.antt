@@ -1,12 +1,12 @@
 -- The bytes of a word, taken apart and put together again: the address that a peek sends, and the word that comes back.
 use Rattle.std.proofs.Common.{◌≡◌, ℕ, ◌+◌, ◌*◌, ◌/◌, ◌%◌, ◌^◌, ◌<◌, [], ◌∷◌, refl, ◌∙◌, arith}
 use Rattle.std.proofs.Math.Nat.{div-div-eq-div-mul}
-use Rattle.bootstrap.specs.Boot.{shifted_in}
+use Rattle.bootstrap.specs.Boot.{shifted_down}
 use Rattle.bootstrap.specs.Messages.{bytes_of_word}
 
 -- four bytes, shifted in one after another
 abbrev pub four_in : ℕ → ℕ → ℕ → ℕ → ℕ
-four_in a b c d = shifted_in d (shifted_in c (shifted_in b (shifted_in a 0)))
+four_in a b c d = shifted_down d (shifted_down c (shifted_down b (shifted_down a 0)))
 
 four_in-sum : (a b c d : ℕ) → four_in a b c d ≡ a + b * 2 ^ 8 + c * 2 ^ 16 + d * 2 ^ 24
 four_in-sum a b c d = omega arith

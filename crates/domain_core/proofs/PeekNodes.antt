@@ -9,7 +9,7 @@ use Rattle.link_channels.specs.declared.number.LinkNumber.{LinkNumber}
 use Rattle.link_channels.specs.declared.number.LinkNumber.TheVariants.{Zero, One, Two, Three}
 use Rattle.node_memory.specs.Bytes.{word_at}
 use Rattle.t414_step.specs.declared.stepping.Stepped.TheVariants.{Ran}
-use Rattle.bootstrap.specs.Boot.{shifted_in}
+use Rattle.bootstrap.specs.Boot.{shifted_down}
 use Rattle.bootstrap.specs.Step.{node_step, task_of, or_zero}
 use Rattle.bootstrap.specs.declared.node.Node.{Node}
 use Rattle.bootstrap.specs.declared.state.NodeState.{NodeState}
@@ -108,7 +108,7 @@ pub address-step : (link : LinkNumber) (n : Node) (byte overruns left address : 
     → node_step (with_end link (holding byte overruns heard) (Takes link (Peek left address)) n)
     ≡ (
       with_end link (acknowledging (listening overruns heard))
-          (Takes link (Peek (left - 1) (shifted_in byte address))) n,
+          (Takes link (Peek (left - 1) (shifted_down byte address))) n,
       Ran,
     )
 unfolding node_step
@@ -119,7 +119,7 @@ address-step Three n byte overruns left address heard more = rw more refl
 
 -- the last byte of the address is taken, and the first of the word is posted
 pub last-address-step : (link : LinkNumber) (n : Node) (byte overruns address word : ℕ) (heard : Bool)
-    → or_zero (word_at n.memory (shifted_in byte address)) ≡ word
+    → or_zero (word_at n.memory (shifted_down byte address)) ≡ word
     → node_step (with_end link (holding byte overruns heard) (Takes link (Peek 1 address)) n)
     ≡ (with_end link (acknowledging (posting (word % 2 ^ 8) overruns)) (Answers link 3 (word / 2 ^ 8)) n, Ran)
 unfolding node_step

@@ -6,7 +6,7 @@ use Rattle.std.proofs.lemmas.Bool.{lt-ltb}
 use Rattle.os_link.specs.declared.end.LinkEnd.{LinkEnd}
 use Rattle.node_memory.specs.Bytes.{word_at}
 use Rattle.t414_step.specs.declared.stepping.Stepped.TheVariants.{Ran}
-use Rattle.bootstrap.specs.Boot.{shifted_in}
+use Rattle.bootstrap.specs.Boot.{shifted_down}
 use Rattle.bootstrap.specs.Step.{or_zero, node_step, has_halted}
 use Rattle.bootstrap.specs.declared.state.NodeState as doing
 use Rattle.bootstrap.specs.declared.state.NodeState.TheVariants.{WantsControl, Takes, Answers}
@@ -46,9 +46,9 @@ message-goes p =
     let second : ℕ = p.address / 2 ^ 8 % 2 ^ 8 in
     let third : ℕ = p.address / 2 ^ 16 % 2 ^ 8 in
     let fourth : ℕ = p.address / 2 ^ 24 % 2 ^ 8 in
-    let one : ℕ = shifted_in first 0 in
-    let two : ℕ = shifted_in second one in
-    let three : ℕ = shifted_in third two in
+    let one : ℕ = shifted_down first 0 in
+    let two : ℕ = shifted_down second one in
+    let three : ℕ = shifted_down third two in
     let whole : four_in first second third fourth ≡ p.address = bytes-come-to p.address p.can.word in
     let received : List ℕ = (first_host p).received in
     let overruns : ℕ = (first_host p).end.input.overruns in

@@ -4,17 +4,15 @@ use Rattle.std.proofs.Common.{◌≡◌, ℕ, ◌==◌, Bool, true, false, not, 
 use Rattle.std.proofs.Common.{Result, Ok, Err, if◌then◌else◌, refl, arith, rules, ◌∙◌, ap}
 use Rattle.node_memory.specs.declared.fault.Fault.{Fault}
 use Rattle.node_memory.specs.Bytes.{word_at}
-use Rattle.process_queue.specs.Queue.{Change, Changed, Kept}
+use Rattle.node_memory.specs.Effect.{Effect, Gave, Halted, ◌>>=◌, tried, perform, beside, effect_with}
 use Rattle.process_queue.specs.declared.queue.Queue.{Queue}
 use Rattle.link_channels.specs.declared.link.Link.{Link}
 use Rattle.link_channels.specs.declared.link.FourLinks.{FourLinks}
 use Rattle.link_channels.specs.declared.number.LinkNumber.{LinkNumber}
 use Rattle.link_channels.specs.declared.number.LinkNumber.TheVariants.{Zero, One, Two, Three}
 use Rattle.link_channels.specs.Links.{has_work, any_has_work, within}
-use Rattle.link_channels.specs.Completion.{Completion, Gave, Halted, read_then, written_then, requeued_then}
-use Rattle.link_channels.specs.Completion.{reply_and_then, does_something, has_acted, served}
 use Rattle.link_channels.specs.Service.{marked_acted, input_byte, output_byte, arrival, wakes, woken}
-use Rattle.link_channels.specs.Service.{serve_link, serve, serve_all}
+use Rattle.link_channels.specs.Service.{serve_link, serve, serve_all, does_something, has_acted}
 use Rattle.link_channels.specs.Waiting.{state_address}
 
 -- where no link has work nothing is done
@@ -45,51 +43,47 @@ quiet-links ls q m e =
     refl
 
 -- what comes after keeps that something was done
-does_something-acted : (r : Completion (Unit {0} × Queue) Link) → does_something (marked_acted r) ≡ true
+does_something-acted : (r : Effect (Unit {0} × Queue) Link) → does_something (marked_acted r) ≡ true
 does_something-acted (Gave x l m) = refl
 does_something-acted (Halted fault l m) = refl
 
-does_something-then : {L : Type 0}
-    → (r : Completion (Bool × Queue) L) (f : Bool × Queue → L → List ℕ → Completion (Bool × Queue) L)
-    → does_something r ≡ true → ((q : Queue) (l : L) (m : List ℕ) → does_something (f (true, q) l m) ≡ true)
-    → does_something (reply_and_then r f) ≡ true
+-- what goes on with an answer and what it left
+abbrev Stage : Type 0 → Type 0
+Stage L = (Bool × Queue) × L × List ℕ → Effect (Bool × Queue) L
+
+does_something-then : {L : Type 0} → (r : Effect (Bool × Queue) L) (f : Stage L)
+    → does_something r ≡ true → ((q : Queue) (l : L) (m : List ℕ) → does_something (f ((true, q), l, m)) ≡ true)
+    → does_something (perform r f) ≡ true
 does_something-then (Gave (true, q) l m) f e h = h q l m
 does_something-then (Gave (false, q) l m) f e h = cc
 does_something-then (Halted fault l m) f e h = refl
 
-then-does_something : {L : Type 0}
-    → (r : Completion (Bool × Queue) L) (f : Bool × Queue → L → List ℕ → Completion (Bool × Queue) L)
-    → ((x : Bool × Queue) (l : L) (m : List ℕ) → does_something (f x l m) ≡ true)
-    → does_something (reply_and_then r f) ≡ true
+then-does_something : {L : Type 0} → (r : Effect (Bool × Queue) L) (f : Stage L)
+    → ((x : Bool × Queue) (l : L) (m : List ℕ) → does_something (f (x, l, m)) ≡ true)
+    → does_something (perform r f) ≡ true
 then-does_something (Gave x l m) f h = h x l m
 then-does_something (Halted fault l m) f h = refl
 
-does_something-within : (n : LinkNumber) (ls : FourLinks) (r : Completion (Bool × Queue) Link)
+does_something-within : (n : LinkNumber) (ls : FourLinks) (r : Effect (Bool × Queue) Link)
     → does_something (within n ls r) ≡ does_something r
 does_something-within n ls (Gave x l m) = refl
 does_something-within n ls (Halted fault l m) = refl
 
-does_something-written : (r : Result (List ℕ) Fault) (l : Link) (m : List ℕ)
-    (f : List ℕ → Completion (Bool × Queue) Link)
-    → ((n : List ℕ) → does_something (f n) ≡ true)
-    → does_something (written_then r l m f) ≡ true
-does_something-written (Ok n) l m f h = h n
-does_something-written (Err fault) l m f h = refl
+does_something-beside : (r : Effect (Unit {0}) Queue) (l : Link)
+    (f : Unit {0} × Queue × List ℕ → Effect (Bool × Queue) Link)
+    → ((q : Queue) (n : List ℕ) → does_something (f (tt, q, n)) ≡ true)
+    → does_something (beside l r f) ≡ true
+does_something-beside (Gave _ q n) l f h = h q n
+does_something-beside (Halted fault q n) l f h = refl
 
-does_something-requeued : (r : Change) (l : Link) (f : Queue → List ℕ → Completion (Bool × Queue) Link)
-    → ((q : Queue) (n : List ℕ) → does_something (f q n) ≡ true)
-    → does_something (requeued_then r l f) ≡ true
-does_something-requeued (Changed q n) l f h = h q n
-does_something-requeued (Kept fault q n) l f h = refl
-
-does_something-read : {B : Type 0}
-    → (r : Result B Fault) (l : Link) (m : List ℕ) (f : B → Completion (Bool × Queue) Link)
+does_something-tried : {B : Type 0}
+    → (r : Result B Fault) (l : Link) (m : List ℕ) (f : B → Effect (Bool × Queue) Link)
     → ((x : B) → does_something (f x) ≡ true)
-    → does_something (read_then r l m f) ≡ true
-does_something-read (Ok x) l m f h = h x
-does_something-read (Err fault) l m f h = refl
+    → does_something (tried r l m f) ≡ true
+does_something-tried (Ok x) l m f h = h x
+does_something-tried (Err fault) l m f h = refl
 
-does_something-if : (b : Bool) (r s : Completion (Bool × Queue) Link)
+does_something-if : (b : Bool) (r s : Effect (Bool × Queue) Link)
     → does_something r ≡ true → does_something s ≡ true
     → does_something (if b then r else s) ≡ true
 does_something-if true r s h k = h
@@ -97,69 +91,70 @@ does_something-if false r s h k = k
 
 does_something-output : (o : ℕ) (l : Link) (q : Queue) (m : List ℕ) → l.end.output.acknowledged ≡ true
     → does_something (output_byte o l q m) ≡ true
-does_something-output o l q m e = rw e (search (rules, does_something-acted, does_something-read, does_something-if))
+does_something-output o l q m e = rw e (search (rules, does_something-acted, does_something-tried, does_something-if))
 
 does_something-input : (i : ℕ) (l : Link) (q : Queue) (m : List ℕ)
     → (is_some l.end.input.buffer && not (l.input_count == 0)) ≡ true
     → does_something (input_byte i l q m) ≡ true
-does_something-input i l q m e = grind (arith, rules, does_something-acted, does_something-written, does_something-if)
+does_something-input i l q m e = grind (arith, rules, does_something-acted, does_something-tried, does_something-if)
 
 does_something-woken : (state v : ℕ) (l : Link) (q : Queue) (m : List ℕ) → does_something (woken state v l q m) ≡ true
-does_something-woken state v l q m = search (rules, does_something-written, does_something-requeued, does_something-if)
+does_something-woken state v l q m = search (rules, does_something-tried, does_something-beside, does_something-if)
 
 does_something-wakes : (other : Option ℕ) (l : Link) (q : Queue) (m : List ℕ)
     → does_something (wakes other l q m) ≡ true
 does_something-wakes None l q m = refl
 does_something-wakes (Some v) l q m =
-    does_something-read (word_at m (state_address v)) l m (λ state. woken state v l q m)
+    does_something-tried (word_at m (state_address v)) l m (λ state. woken state v l q m)
     (λ state. does_something-woken state v l q m)
 
 does_something-arrival : (i : ℕ) (l : Link) (q : Queue) (m : List ℕ) → (l.watched && is_some l.end.input.buffer) ≡ true
     → does_something (arrival i l q m) ≡ true
-does_something-arrival i l q m e = grind (arith, rules, does_something-read, does_something-wakes)
-
-abbrev Stage : Type 0 → Type 0
-Stage L = Bool × Queue → L → List ℕ → Completion (Bool × Queue) L
+does_something-arrival i l q m e = grind (arith, rules, does_something-tried, does_something-wakes)
 
 -- of three or four stages the first acts
-first-of-three : {L : Type 0} → (r : Completion (Bool × Queue) L) (g h : Stage L) → does_something r ≡ true
-    → does_something (reply_and_then r (λ x l m.
-    reply_and_then (g x l m) (λ y l m. reply_and_then (h y l m) (λ z l m. Gave (x.0 || y.0 || z.0, z.1) l m))))
+first-of-three : {L : Type 0} → (r : Effect (Bool × Queue) L)
+    (g h : Bool × Queue → L → List ℕ → Effect (Bool × Queue) L)
+    → does_something r ≡ true
+    → does_something (do
+      (x, l, m) ← perform r
+      (y, l, m) ← perform (g x l m)
+      (z, l, m) ← perform (h y l m)
+      Gave (x.0 || y.0 || z.0, z.1) l m)
     ≡ true
 first-of-three r g h e =
-    does_something-then r (λ x l m.
-    reply_and_then (g x l m) (λ y l m. reply_and_then (h y l m) (λ z l m. Gave (x.0 || y.0 || z.0, z.1) l m)))
-    e
-    (λ q l m. then-does_something (g (true, q) l m) (λ y l m. reply_and_then (h y l m) (λ z l m. Gave (true, z.1) l m))
-    (λ y l m. then-does_something (h y l m) (λ z l m. Gave (true, z.1) l m) (λ z l m. refl)))
+    does_something-then r _ e
+    (λ q l m. then-does_something (g (true, q) l m) _
+    (λ y l m. then-does_something (h y l m) _ (λ z l m. refl)))
 
-first-of-two : {L : Type 0} → (r : Completion (Bool × Queue) L) (h : Stage L) → does_something r ≡ true
-    → does_something (reply_and_then r (λ y l m. reply_and_then (h y l m) (λ z l m. Gave (y.0 || z.0, z.1) l m))) ≡ true
-first-of-two r h e =
-    does_something-then r (λ y l m. reply_and_then (h y l m) (λ z l m. Gave (y.0 || z.0, z.1) l m)) e
-    (λ q l m. then-does_something (h (true, q) l m) (λ z l m. Gave (true, z.1) l m) (λ z l m. refl))
+first-of-two : {L : Type 0} → (r : Effect (Bool × Queue) L) (h : Bool × Queue → L → List ℕ → Effect (Bool × Queue) L)
+    → does_something r ≡ true
+    → does_something (do
+      (y, l, m) ← perform r
+      (z, l, m) ← perform (h y l m)
+      Gave (y.0 || z.0, z.1) l m)
+    ≡ true
+first-of-two r h e = does_something-then r _ e (λ q l m. then-does_something (h (true, q) l m) _ (λ z l m. refl))
 
-first-of-one : {L : Type 0} → (r : Completion (Bool × Queue) L) → does_something r ≡ true
-    → does_something (reply_and_then r (λ z l m. Gave (z.0, z.1) l m)) ≡ true
-first-of-one r e = does_something-then r (λ z l m. Gave (z.0, z.1) l m) e (λ q l m. refl)
+first-of-one : {L : Type 0} → (r : Effect (Bool × Queue) L) → does_something r ≡ true
+    → does_something (do (z, l, m) ← perform r; Gave (z.0, z.1) l m) ≡ true
+first-of-one r e = does_something-then r _ e (λ q l m. refl)
 
-first-of-four : {L : Type 0} → (r : Completion (Bool × Queue) L) (g h k : Stage L) → does_something r ≡ true
-    → does_something (reply_and_then r (λ x l m.
-    reply_and_then (g x l m)
-    (λ y l m.
-    reply_and_then (h y l m) (λ z l m. reply_and_then (k z l m) (λ w l m. Gave (x.0 || y.0 || z.0 || w.0, w.1) l m)))))
+first-of-four : {L : Type 0} → (r : Effect (Bool × Queue) L)
+    (g h k : Bool × Queue → L → List ℕ → Effect (Bool × Queue) L)
+    → does_something r ≡ true
+    → does_something (do
+      (x, l, m) ← perform r
+      (y, l, m) ← perform (g x l m)
+      (z, l, m) ← perform (h y l m)
+      (w, l, m) ← perform (k z l m)
+      Gave (x.0 || y.0 || z.0 || w.0, w.1) l m)
     ≡ true
 first-of-four r g h k e =
-    does_something-then r (λ x l m.
-    reply_and_then (g x l m)
-    (λ y l m.
-    reply_and_then (h y l m) (λ z l m. reply_and_then (k z l m) (λ w l m. Gave (x.0 || y.0 || z.0 || w.0, w.1) l m))))
-    e
-    (λ q l m.
-    then-does_something (g (true, q) l m)
-    (λ y l m. reply_and_then (h y l m) (λ z l m. reply_and_then (k z l m) (λ w l m. Gave (true, w.1) l m)))
-    (λ y l m. then-does_something (h y l m) (λ z l m. reply_and_then (k z l m) (λ w l m. Gave (true, w.1) l m))
-    (λ z l m. then-does_something (k z l m) (λ w l m. Gave (true, w.1) l m) (λ w l m. refl))))
+    does_something-then r _ e
+    (λ q l m. then-does_something (g (true, q) l m) _
+    (λ y l m. then-does_something (h y l m) _
+    (λ z l m. then-does_something (k z l m) _ (λ w l m. refl))))
 
 idle-input : (i : ℕ) (l : Link) (q : Queue) (m : List ℕ)
     → (is_some l.end.input.buffer && not (l.input_count == 0)) ≡ false
@@ -237,7 +232,7 @@ does_something-serve_all ls q m = does_something-by ls q m _ refl
 
 -- what the code answers, that it acted or met a fault, is whether one of the links had work
 pub has_acted-serve_all : (r : Result Bool Fault) (before after now : FourLinks) (q p : Queue) (m n : List ℕ)
-    → before ≡ now → served r after p n ≡ serve_all before q m
+    → before ≡ now → effect_with r p after n ≡ serve_all before q m
     → has_acted r ≡ any_has_work now
 has_acted-serve_all (Ok marked_acted) before after now q p m n same e =
     ap does_something e ∙ (does_something-serve_all before q m ∙ ap any_has_work same)

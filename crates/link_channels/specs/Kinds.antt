@@ -20,10 +20,10 @@ channels =
     []
 
 -- what a list has at a word address, a soft channel if it has nothing there
-abbrev pub kind_in : List (ℕ × Channel) → ℕ → Channel
-kind_in [] word = Soft
-kind_in (entry ∷ entries) word = if word == entry.0 then entry.1 else kind_in entries word
+abbrev pub kind_among : List (ℕ × Channel) → ℕ → Channel
+kind_among [] word = Soft
+kind_among (entry ∷ entries) word = if word == entry.0 then entry.1 else kind_among entries word
 
 -- what an address stands for, whose low two bits are ignored
 unfoldable pub kind_of : ℕ → Channel
-kind_of address = kind_in channels (aligned address)
+kind_of address = kind_among channels (aligned address)

@@ -1,13 +1,13 @@
 -- What holds of every message and every service, whatever memory and links hold.
 use Rattle.std.specs.Prelude.{◌≡◌, ℕ, ◌<◌, false, List, length}
 use Rattle.node_memory.specs.Bytes.{copied}
+use Rattle.node_memory.specs.Effect.{Gave, Halted}
 use Rattle.node_memory.specs.declared.fault.Fault.TheVariants.{OutsideMemory}
 use Rattle.process_queue.specs.declared.queue.Queue.{Queue}
 use Rattle.link_channels.specs.declared.link.FourLinks.{FourLinks}
 use Rattle.link_channels.specs.declared.process.Transfer.{Transfer}
 use Rattle.link_channels.specs.Links.{any_has_work}
-use Rattle.link_channels.specs.Completion.{Gave, Halted, does_something}
-use Rattle.link_channels.specs.Service.{serve_all}
+use Rattle.link_channels.specs.Service.{serve_all, does_something}
 use Rattle.link_channels.specs.Soft.{exchange}
 
 -- a message of more bytes than memory has is copied up to memory's edge, and halts the node there

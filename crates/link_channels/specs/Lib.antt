@@ -1,5 +1,4 @@
 -- what must be believed
-pub mod Completion
 pub mod Links
 pub mod Kinds
 pub mod Waiting

@@ -4,7 +4,7 @@ use Rattle.link_channels.specs.declared.link.Link.{Link}
 use Rattle.link_channels.specs.declared.number.LinkNumber.{LinkNumber}
 use Rattle.link_channels.specs.declared.number.LinkNumber.TheVariants.{Zero, One, Two, Three}
 use Rattle.link_channels.specs.declared.link.FourLinks.{FourLinks}
-use Rattle.link_channels.specs.Completion.{Completion, Gave, Halted}
+use Rattle.node_memory.specs.Effect.{Effect, Gave, Halted}
 use Rattle.os_link.specs.End.{fresh_end, arrived, without_next, posted, emptied}
 use Rattle.os_link.specs.declared.latch.Packet.{Packet}
 
@@ -27,7 +27,7 @@ with_link Two l ls = record ls { two = l }
 with_link Three l ls = record ls { three = l }
 
 -- what was done to one link, as done to the four
-abbrev pub within : {A : Type 0} → LinkNumber → FourLinks → Completion A Link → Completion A FourLinks
+abbrev pub within : {A : Type 0} → LinkNumber → FourLinks → Effect A Link → Effect A FourLinks
 within n ls (Gave x l m) = Gave x (with_link n l ls) m
 within n ls (Halted fault l m) = Halted fault (with_link n l ls) m
 

@@ -2,12 +2,13 @@
 -- Transputer instruction set handbook, processes and channels.
 use Rattle.std.specs.Prelude.{ℕ, ◌%◌, ◌==◌, List, Option, Some, None, Result, Ok, Err, if◌then◌else◌, bit_or}
 use Rattle.node_memory.specs.Bytes.{word_at}
+use Rattle.node_memory.specs.Effect.{Effect, Gave, Halted, ◌>>=◌, store}
 use Rattle.node_memory.specs.Marks.{not_process}
 use Rattle.node_memory.specs.Words.{◌⊖◌, aligned}
 use Rattle.node_memory.specs.declared.fault.Fault.{Fault}
 use Rattle.node_memory.specs.declared.fault.Fault.TheVariants.{HighPriority}
+use Rattle.process_queue.specs.Queue.{put}
 use Rattle.process_queue.specs.declared.queue.Queue.{Queue}
-use Rattle.link_channels.specs.Completion.{Completion, Gave, Halted, store_then, put_then}
 use Rattle.link_channels.specs.declared.process.Process.{Process}
 
 -- the own descriptor: the workspace, with the bit of low priority
@@ -19,8 +20,8 @@ abbrev pub state_address : ℕ → ℕ
 state_address workspace = workspace ⊖ 12
 
 -- save: the word 4 below the workspace becomes the address of the next instruction
-abbrev pub save_then : {A L : Type 0} → Process → L → List ℕ → (List ℕ → Completion A L) → Completion A L
-save_then p l m next = store_then (p.workspace ⊖ 4) p.instruction l m next
+abbrev pub save : {A S : Type 0} → S → List ℕ → Process → (List ℕ → Effect A S) → Effect A S
+save s m p next = store s m (p.workspace ⊖ 4) p.instruction next
 
 -- a channel word read as a descriptor: nobody, a workspace, or a process of high priority
 abbrev pub described : Result ℕ Fault → Result (Option ℕ) Fault
@@ -33,7 +34,7 @@ unfoldable pub waiting_at : List ℕ → ℕ → Result (Option ℕ) Fault
 waiting_at m channel = described (word_at m channel)
 
 -- the process of a descriptor goes on, unless it is NotProcess; one of high priority is fault 4
-abbrev pub scheduled : {L : Type 0} → ℕ → L → Queue → List ℕ → Completion (Unit {0} × Queue) L
-scheduled d l q m =
-    if d == not_process then Gave (tt, q) l m
-    else (if d % 2 == 0 then Halted HighPriority l m else put_then (aligned d) l q m (λ q m. Gave (tt, q) l m))
+abbrev pub scheduled : {S : Type 0} → ℕ → S → Queue → List ℕ → Effect (Unit {0} × Queue) S
+scheduled d s q m =
+    if d == not_process then Gave (tt, q) s m
+    else (if d % 2 == 0 then Halted HighPriority s m else (do (q, m) ← put s q m (aligned d); Gave (tt, q) s m))

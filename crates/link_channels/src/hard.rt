@@ -2,7 +2,7 @@
 
 ghost use Rattle.std.specs.Prelude.{◌≡◌};
 ghost use Rattle.link_channels.specs.Hard.{input_reset, link_disable, link_enable, link_input, link_output, output_reset};
-ghost use Rattle.link_channels.specs.Completion.{gave};
+ghost use Rattle.node_memory.specs.Effect.{effect_of};
 
 use crate::link::Link;
 use crate::process::{Process, Transfer, Turn};
@@ -18,7 +18,7 @@ impl Process {
         link: &mut Link,
         transfer: Transfer,
     ) -> Result<Turn, Fault>
-        ensures answer { gave result link.new memory.new ≡ link_input self.now transfer link.old memory.old }
+        ensures answer { effect_of result link.new memory.new ≡ link_input self.now transfer link.old memory.old }
     {
         if transfer.count == 0 {
             return Ok(Turn::GoesOn);
@@ -38,7 +38,7 @@ impl Process {
         link: &mut Link,
         transfer: Transfer,
     ) -> Result<Turn, Fault>
-        ensures answer { gave result link.new memory.new ≡ link_output self.now transfer link.old memory.old }
+        ensures answer { effect_of result link.new memory.new ≡ link_output self.now transfer link.old memory.old }
     {
         if transfer.count == 0 {
             return Ok(Turn::GoesOn);
@@ -59,7 +59,7 @@ impl Process {
         link: &mut Link,
         channel: u32,
     ) -> Result<(), Fault>
-        ensures answer { gave result link.new memory.new ≡ link_enable self.now channel link.old memory.old }
+        ensures answer { effect_of result link.new memory.new ≡ link_enable self.now channel link.old memory.old }
     {
         if link.end.input.buffer.is_some() {
             return memory.set_word(self.workspace.wrapping_sub(12), READY);
@@ -77,7 +77,7 @@ impl Process {
         channel: u32,
         offset: u32,
     ) -> Result<bool, Fault>
-        ensures answer { gave result link.new memory.new ≡ link_disable self.now channel offset link.old memory.old }
+        ensures answer { effect_of result link.new memory.new ≡ link_disable self.now channel offset link.old memory.old }
     {
         link.watched = false;
         if memory.word(channel)? == self.descriptor() {

@@ -32,8 +32,8 @@ impl Model for Links {
 impl Links {
     ghost use Rattle.std.specs.Prelude.{IsTrue, OnErr, false};
     ghost use Rattle.link_channels.specs.Links.{at, with_link, fresh_links, any_has_work, packet_arrived, packet_taken, byte_posted, byte_taken, acknowledge_cleared_at};
-    ghost use Rattle.link_channels.specs.Completion.{served, has_acted};
-    ghost use Rattle.link_channels.specs.Service.{serve, serve_all};
+    ghost use Rattle.node_memory.specs.Effect.{effect_with};
+    ghost use Rattle.link_channels.specs.Service.{has_acted, serve, serve_all};
     ghost use Rattle.os_link.specs.End.{next_of};
 
     // The flag for these links.
@@ -165,7 +165,7 @@ impl Links {
         queue: &mut Queue,
         number: LinkNumber,
     ) -> Result<bool, Fault>
-        ensures answer { served result self.new queue.new memory.new ≡ serve number self.old queue.old memory.old }
+        ensures answer { effect_with result queue.new self.new memory.new ≡ serve number self.old queue.old memory.old }
         ensures queue_unchanged { OnErr result (queue.new ≡ queue.old) }
     {
         let mut after = *queue;
@@ -180,7 +180,7 @@ impl Links {
     /// Serves links 0 to 3 in this order; whether that did anything. The faults are those of `serve`, and end it.
     #[inline(always)]
     pub fn serve_all(&mut self, memory: &mut Memory, queue: &mut Queue) -> Result<bool, Fault>
-        ensures answer { served result self.new queue.new memory.new ≡ serve_all self.old queue.old memory.old }
+        ensures answer { effect_with result queue.new self.new memory.new ≡ serve_all self.old queue.old memory.old }
         ensures queue_unchanged { OnErr result (queue.new ≡ queue.old) }
         // It acts, or meets a fault, exactly where a link has work.
         ensures work { has_acted result ≡ any_has_work self.old }

@@ -10,7 +10,7 @@ use process_queue::Queue;
 
 impl Process {
     ghost use Rattle.link_channels.specs.Messages.{input, output, enable, disable};
-    ghost use Rattle.link_channels.specs.Completion.{gave, served};
+    ghost use Rattle.node_memory.specs.Effect.{effect_of, effect_with};
 
     /// Takes a message from a channel, or waits for it: instruction set handbook, in.
     ///
@@ -24,7 +24,7 @@ impl Process {
         queue: &mut Queue,
         transfer: Transfer,
     ) -> Result<Turn, Fault>
-        ensures answer { served result links.new queue.new memory.new ≡ input self.now transfer links.old queue.old memory.old }
+        ensures answer { effect_with result queue.new links.new memory.new ≡ input self.now transfer links.old queue.old memory.old }
         ensures queue_unchanged { OnErr result (queue.new ≡ queue.old) }
     {
         match Channel::of(transfer.channel) {
@@ -51,7 +51,7 @@ impl Process {
         queue: &mut Queue,
         transfer: Transfer,
     ) -> Result<Turn, Fault>
-        ensures answer { served result links.new queue.new memory.new ≡ output self.now transfer links.old queue.old memory.old }
+        ensures answer { effect_with result queue.new links.new memory.new ≡ output self.now transfer links.old queue.old memory.old }
         ensures queue_unchanged { OnErr result (queue.new ≡ queue.old) }
     {
         match Channel::of(transfer.channel) {
@@ -71,7 +71,7 @@ impl Process {
     /// `Fault::WrongChannel` for the event channel and a link's output channel; `OutsideMemory` where a word lies
     /// outside. What was written before a fault stays.
     pub fn enable(&self, memory: &mut Memory, links: &mut Links, channel: u32) -> Result<(), Fault>
-        ensures answer { gave result links.new memory.new ≡ enable self.now channel links.old memory.old }
+        ensures answer { effect_of result links.new memory.new ≡ enable self.now channel links.old memory.old }
     {
         match Channel::of(channel) {
             Channel::Soft => self.enable_softly(memory, channel),
@@ -97,7 +97,7 @@ impl Process {
         channel: u32,
         offset: u32,
     ) -> Result<bool, Fault>
-        ensures answer { gave result links.new memory.new ≡ disable self.now channel offset links.old memory.old }
+        ensures answer { effect_of result links.new memory.new ≡ disable self.now channel offset links.old memory.old }
     {
         match Channel::of(channel) {
             Channel::Soft => self.disable_softly(memory, channel, offset),

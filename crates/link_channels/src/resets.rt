@@ -9,7 +9,7 @@ use node_memory::{Fault, Memory};
 
 impl Links {
     ghost use Rattle.link_channels.specs.Messages.{reset};
-    ghost use Rattle.link_channels.specs.Completion.{gave};
+    ghost use Rattle.node_memory.specs.Effect.{effect_of};
 
     /// Frees a channel, and gives up what its link had under way; the word that the channel had: instruction set
     /// handbook, resetch.
@@ -17,7 +17,7 @@ impl Links {
     /// `Fault::WrongChannel` for the event channel, which is our choice; `OutsideMemory` where the channel's word lies
     /// outside. Nothing changes at a fault.
     pub fn reset(&mut self, memory: &mut Memory, channel: u32) -> Result<u32, Fault>
-        ensures answer { gave result self.new memory.new ≡ reset channel self.old memory.old }
+        ensures answer { effect_of result self.new memory.new ≡ reset channel self.old memory.old }
     {
         match Channel::of(channel) {
             Channel::Soft => reset_softly(memory, channel),

@@ -1,7 +1,7 @@
 //! What waits at a link is served: bytes into memory, bytes out of it, and arrivals that are watched for.
 
 ghost use Rattle.std.specs.Prelude.{◌≡◌};
-ghost use Rattle.link_channels.specs.Completion.{served};
+ghost use Rattle.node_memory.specs.Effect.{effect_with};
 ghost use Rattle.link_channels.specs.Service.{complete, input_byte, output_byte, arrival, serve_link, serve, serve_all};
 ghost use Rattle.link_channels.specs.declared.link.Link.{Link};
 
@@ -13,7 +13,7 @@ use process_queue::{NOT_PROCESS, Queue};
 
 // A transfer is done: its channel is free, and its process goes on.
 fn complete(memory: &mut Memory, queue: &mut Queue, channel: u32) -> Result<(), Fault>
-    ensures answer { (l : Link) → served result l queue.new memory.new ≡ complete channel l queue.old memory.old }
+    ensures answer { (l : Link) → effect_with result queue.new l memory.new ≡ complete channel l queue.old memory.old }
 {
     let descriptor = memory.word(channel)?;
     memory.set_word(channel, NOT_PROCESS)?;
@@ -28,7 +28,7 @@ impl Link {
         queue: &mut Queue,
         channel: u32,
     ) -> Result<bool, Fault>
-        ensures answer { served result self.new queue.new memory.new ≡ input_byte channel self.old queue.old memory.old }
+        ensures answer { effect_with result queue.new self.new memory.new ≡ input_byte channel self.old queue.old memory.old }
     {
         let Some(byte) = self.end.input.buffer else {
             return Ok(false);
@@ -53,7 +53,7 @@ impl Link {
         queue: &mut Queue,
         channel: u32,
     ) -> Result<bool, Fault>
-        ensures answer { served result self.new queue.new memory.new ≡ output_byte channel self.old queue.old memory.old }
+        ensures answer { effect_with result queue.new self.new memory.new ≡ output_byte channel self.old queue.old memory.old }
     {
         if !self.end.output.acknowledged {
             return Ok(false);
@@ -77,7 +77,7 @@ impl Link {
         queue: &mut Queue,
         channel: u32,
     ) -> Result<bool, Fault>
-        ensures answer { served result self.new queue.new memory.new ≡ arrival channel self.old queue.old memory.old }
+        ensures answer { effect_with result queue.new self.new memory.new ≡ arrival channel self.old queue.old memory.old }
     {
         if !self.watched || self.end.input.buffer.is_none() {
             return Ok(false);
@@ -107,7 +107,7 @@ impl Link {
         input: u32,
         output: u32,
     ) -> Result<bool, Fault>
-        ensures answer { served result self.new queue.new memory.new ≡ serve_link input output self.old queue.old memory.old }
+        ensures answer { effect_with result queue.new self.new memory.new ≡ serve_link input output self.old queue.old memory.old }
     {
         let took = self.serve_input(memory, queue, input)?;
         let gave = self.serve_output(memory, queue, output)?;
@@ -124,7 +124,7 @@ impl FourLinks {
         queue: &mut Queue,
         number: LinkNumber,
     ) -> Result<bool, Fault>
-        ensures answer { served result self.new queue.new memory.new ≡ serve number self.old queue.old memory.old }
+        ensures answer { effect_with result queue.new self.new memory.new ≡ serve number self.old queue.old memory.old }
     {
         let mut link = self.at(number);
         let acted = link.serve(
@@ -145,7 +145,7 @@ impl FourLinks {
         memory: &mut Memory,
         queue: &mut Queue,
     ) -> Result<bool, Fault>
-        ensures answer { served result self.new queue.new memory.new ≡ serve_all self.old queue.old memory.old }
+        ensures answer { effect_with result queue.new self.new memory.new ≡ serve_all self.old queue.old memory.old }
     {
         let zero = self.serve(memory, queue, LinkNumber::Zero)?;
         let one = self.serve(memory, queue, LinkNumber::One)?;

@@ -1,7 +1,7 @@
 //! Soft channels: two processes of one node meet at a word of its memory. What they do leaves the links.
 
 ghost use Rattle.std.specs.Prelude.{◌≡◌, OnErr};
-ghost use Rattle.link_channels.specs.Completion.{gave, served};
+ghost use Rattle.node_memory.specs.Effect.{effect_of, effect_with};
 ghost use Rattle.link_channels.specs.declared.link.FourLinks.{FourLinks};
 ghost use Rattle.link_channels.specs.declared.link.Link.{Link};
 ghost use Rattle.link_channels.specs.Soft.{chosen, soft_disable, soft_enable, soft_input, soft_output, soft_reset, wait_there};
@@ -19,7 +19,7 @@ impl Process {
         queue: &Queue,
         transfer: Transfer,
     ) -> Result<Turn, Fault>
-        ensures answer { (ls : FourLinks) → served result ls queue.now memory.new ≡ wait_there self.now transfer ls queue.now memory.old }
+        ensures answer { (ls : FourLinks) → effect_with result queue.now ls memory.new ≡ wait_there self.now transfer ls queue.now memory.old }
     {
         memory.set_word(transfer.channel, self.descriptor())?;
         memory.set_word(self.workspace.wrapping_sub(12), transfer.pointer)?;
@@ -35,7 +35,7 @@ impl Process {
         queue: &mut Queue,
         transfer: Transfer,
     ) -> Result<Turn, Fault>
-        ensures answer { (ls : FourLinks) → served result ls queue.new memory.new ≡ soft_input self.now transfer ls queue.old memory.old }
+        ensures answer { (ls : FourLinks) → effect_with result queue.new ls memory.new ≡ soft_input self.now transfer ls queue.old memory.old }
         ensures queue_unchanged { OnErr result (queue.new ≡ queue.old) }
     {
         let Some(sender) = waiting_at(memory, transfer.channel)? else {
@@ -56,7 +56,7 @@ impl Process {
         queue: &mut Queue,
         transfer: Transfer,
     ) -> Result<Turn, Fault>
-        ensures answer { (ls : FourLinks) → served result ls queue.new memory.new ≡ soft_output self.now transfer ls queue.old memory.old }
+        ensures answer { (ls : FourLinks) → effect_with result queue.new ls memory.new ≡ soft_output self.now transfer ls queue.old memory.old }
         ensures queue_unchanged { OnErr result (queue.new ≡ queue.old) }
     {
         let Some(receiver) = waiting_at(memory, transfer.channel)? else {
@@ -90,7 +90,7 @@ impl Process {
     // Names a channel that the process is ready to take from.
     #[tactic(auto, unfolding(crate::specs::Soft::soft_enable))]
     pub(crate) fn enable_softly(&self, memory: &mut Memory, channel: u32) -> Result<(), Fault>
-        ensures answer { (ls : FourLinks) → gave result ls memory.new ≡ soft_enable self.now channel ls memory.old }
+        ensures answer { (ls : FourLinks) → effect_of result ls memory.new ≡ soft_enable self.now channel ls memory.old }
     {
         let other = memory.word(channel)?;
         if other == NOT_PROCESS {
@@ -104,8 +104,8 @@ impl Process {
 
     // Chooses the branch of a guard that is ready, unless one was chosen before; whether it is chosen.
     pub(crate) fn choose(&self, memory: &mut Memory, offset: u32) -> Result<bool, Fault>
-        ensures of_four { (ls : FourLinks) → gave result ls memory.new ≡ chosen self.now offset ls memory.old }
-        ensures of_one { (l : Link) → gave result l memory.new ≡ chosen self.now offset l memory.old }
+        ensures of_four { (ls : FourLinks) → effect_of result ls memory.new ≡ chosen self.now offset ls memory.old }
+        ensures of_one { (l : Link) → effect_of result l memory.new ≡ chosen self.now offset l memory.old }
     {
         if memory.word(self.workspace)? != NONE_SELECTED {
             return Ok(false);
@@ -122,7 +122,7 @@ impl Process {
         channel: u32,
         offset: u32,
     ) -> Result<bool, Fault>
-        ensures answer { (ls : FourLinks) → gave result ls memory.new ≡ soft_disable self.now channel offset ls memory.old }
+        ensures answer { (ls : FourLinks) → effect_of result ls memory.new ≡ soft_disable self.now channel offset ls memory.old }
     {
         let other = memory.word(channel)?;
         if other == NOT_PROCESS {
@@ -139,7 +139,7 @@ impl Process {
 // Frees a channel; the word that it had.
 #[tactic(auto, unfolding(crate::specs::Soft::soft_reset))]
 pub(crate) fn reset_softly(memory: &mut Memory, channel: u32) -> Result<u32, Fault>
-    ensures answer { (ls : FourLinks) → gave result ls memory.new ≡ soft_reset channel ls memory.old }
+    ensures answer { (ls : FourLinks) → effect_of result ls memory.new ≡ soft_reset channel ls memory.old }
 {
     let other = memory.word(channel)?;
     memory.set_word(channel, NOT_PROCESS)?;

@@ -1,7 +1,7 @@
 //! Who waits at a channel.
 
 ghost use Rattle.std.specs.Prelude.{◌≡◌};
-ghost use Rattle.link_channels.specs.Completion.{served};
+ghost use Rattle.node_memory.specs.Effect.{effect_with};
 ghost use Rattle.link_channels.specs.Waiting.{waiting_at, scheduled};
 ghost use Rattle.link_channels.specs.declared.link.Link.{Link};
 
@@ -38,7 +38,7 @@ pub(crate) fn waiting_at(memory: &Memory, channel: u32) -> Result<Option<u32>, F
 
 // The process of a descriptor goes on, unless it is none.
 pub(crate) fn schedule(memory: &mut Memory, queue: &mut Queue, descriptor: u32) -> Result<(), Fault>
-    ensures answer { (l : Link) → served result l queue.new memory.new ≡ scheduled descriptor l queue.old memory.old }
+    ensures answer { (l : Link) → effect_with result queue.new l memory.new ≡ scheduled descriptor l queue.old memory.old }
 {
     if descriptor == NOT_PROCESS {
         return Ok(());

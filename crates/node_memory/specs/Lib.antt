@@ -1,5 +1,6 @@
 -- what must be believed
 pub mod Bytes
+pub mod Effect
 pub mod Marks
 pub mod Words
 pub mod Faults

@@ -6,7 +6,8 @@ use Rattle.node_memory.specs.Bytes.{word_at, with_word, word_from, word_offset, 
 use Rattle.node_memory.specs.Laws.{WordIsRead, OtherWordsStay, WriteFaultsAsRead}
 use Rattle.process_queue.specs.declared.queue.Queue.{Queue}
 use Rattle.node_memory.specs.Marks.{not_process}
-use Rattle.process_queue.specs.Queue.{link_of, after_put, Changed, Kept, linked, after_take, Took, Stayed, followed}
+use Rattle.node_memory.specs.Effect.{Effect, Gave, Halted, tried}
+use Rattle.process_queue.specs.Queue.{link_of, after_put, after_take}
 use Rattle.node_memory.specs.declared.fault.Fault.{Fault}
 use Rattle.node_memory.specs.declared.fault.Fault.TheVariants.{OutsideMemory}
 use Rattle.process_queue.specs.Waiting.{IsWorkspace, IsAbsent, AreWorkspaces, IsLinked, Stands, first, others}
@@ -59,9 +60,17 @@ word_at-fault : (m : List ℕ) (a : ℕ) (f : Fault) → word_at m a ≡ Err f �
 unfolding word_at
 word_at-fault m a f h = cond-fault (holds_word m a) (word_from m (word_offset a)) f h
 
+-- what comes of a write of the last link word
+abbrev linked : Result (List ℕ) Fault → Queue → List ℕ → Queue → Effect (Unit {0}) Queue
+linked x q m r = tried x q m (λ m. Gave tt r m)
+
+-- what comes of a read of the first link word
+abbrev followed : Result ℕ Fault → Queue → List ℕ → Effect (Option ℕ) Queue
+followed x q m = tried x q m (λ next. Gave (Some q.front) (record { front = next; back = q.back }) m)
+
 -- what comes of a put
 put_empty : (q : Queue) (m : List ℕ) (w : ℕ) → q.front ≡ not_process
-    → after_put q m w ≡ Changed (record { front = w; back = w }) m
+    → after_put q m w ≡ Gave tt (record { front = w; back = w }) m
 unfolding after_put
 put_empty q m w e = rw e refl
 
@@ -70,18 +79,18 @@ put_more : (q : Queue) (m : List ℕ) (w : ℕ) → q.front ≢ not_process
 unfolding after_put
 put_more q m w ne = grind (arith, nat_tests)
 
-linked-changed : (x : Result (List ℕ) Fault) (q r s : Queue) (m n : List ℕ) → linked x q m s ≡ Changed r n
+linked-changed : (x : Result (List ℕ) Fault) (q r s : Queue) (m n : List ℕ) → linked x q m s ≡ Gave tt r n
     → (x ≡ Ok n) × (r ≡ s)
 linked-changed (Ok k) q r s m n e = (cc, cc)
 linked-changed (Err fault) q r s m n e = cc
 
-linked-kept : (x : Result (List ℕ) Fault) (q r s : Queue) (m n : List ℕ) (f : Fault) → linked x q m s ≡ Kept f r n
+linked-kept : (x : Result (List ℕ) Fault) (q r s : Queue) (m n : List ℕ) (f : Fault) → linked x q m s ≡ Halted f r n
     → x ≡ Err f
 linked-kept (Ok k) q r s m n f e = cc
 linked-kept (Err fault) q r s m n f e = cc
 
 -- a put that is done found the last link word in memory, if there is one
-pub put-inside : WriteFaultsAsRead → (q r : Queue) (m n : List ℕ) (w : ℕ) → after_put q m w ≡ Changed r n
+pub put-inside : WriteFaultsAsRead → (q r : Queue) (m n : List ℕ) (w : ℕ) → after_put q m w ≡ Gave tt r n
     → q.front ≢ not_process → word_at m (link_of q.back) ≡ Err OutsideMemory
     → ⊥
 put-inside faults q r m n w e ne outside =
@@ -91,7 +100,7 @@ put-inside faults q r m n w e ne outside =
     cc
 
 -- one that is not done found it outside
-pub put-outside : WriteFaultsAsRead → (q r : Queue) (m n : List ℕ) (w : ℕ) (f : Fault) → after_put q m w ≡ Kept f r n
+pub put-outside : WriteFaultsAsRead → (q r : Queue) (m n : List ℕ) (w : ℕ) (f : Fault) → after_put q m w ≡ Halted f r n
     → (f ≡ OutsideMemory) × (q.front ≢ not_process) × (word_at m (link_of q.back) ≡ Err OutsideMemory)
 put-outside faults q r m n w f e =
     let ne : q.front ≢ not_process = λ h. (let p = put_empty q m w h in cc) in
@@ -102,7 +111,7 @@ put-outside faults q r m n w f e =
 
 -- a new workspace goes to the end of the list
 pub stands-put : WordIsRead → OtherWordsStay → (ws : List ℕ) (q r : Queue) (m n : List ℕ) (w : ℕ)
-    → after_put q m w ≡ Changed r n → Stands m q ws → IsWorkspace w → IsAbsent w ws
+    → after_put q m w ≡ Gave tt r n → Stands m q ws → IsWorkspace w → IsAbsent w ws
     → Stands n r (ws ++ w ∷ [])
 stands-put read stay [] q r m n w e stands p a =
     let f = sym (put_empty q m w stands) ∙ e in
@@ -119,55 +128,58 @@ stands-put read stay (v ∷ vs) q r m n w e stands p a =
     )
 
 -- what comes of a take
-take_empty : (q : Queue) (m : List ℕ) → q.front ≡ not_process → after_take q m ≡ Took None q
+take_empty : (q : Queue) (m : List ℕ) → q.front ≡ not_process → after_take q m ≡ Gave None q m
 unfolding after_take
 take_empty q m e = rw e refl
 
 take_last : (q : Queue) (m : List ℕ) → q.front ≢ not_process → q.front ≡ q.back
-    → after_take q m ≡ Took (Some q.front) (record { front = not_process; back = q.back })
+    → after_take q m ≡ Gave (Some q.front) (record { front = not_process; back = q.back }) m
 unfolding after_take
 take_last q m ne e = grind (arith, nat_tests)
 
 take_more : (q : Queue) (m : List ℕ) → q.front ≢ not_process → q.front ≢ q.back
-    → after_take q m ≡ followed (word_at m (link_of q.front)) q
+    → after_take q m ≡ followed (word_at m (link_of q.front)) q m
 unfolding after_take
 take_more q m ne e = grind (arith, nat_tests)
 
-followed-took : (x : Result ℕ Fault) (q r : Queue) (w : Option ℕ) → followed x q ≡ Took w r → x ≡ Err OutsideMemory → ⊥
-followed-took (Ok next) q r w e outside = cc
-followed-took (Err fault) q r w e outside = cc
+followed-took : (x : Result ℕ Fault) (q r : Queue) (m n : List ℕ) (w : Option ℕ) → followed x q m ≡ Gave w r n
+    → x ≡ Err OutsideMemory
+    → ⊥
+followed-took (Ok next) q r m n w e outside = cc
+followed-took (Err fault) q r m n w e outside = cc
 
-followed-stayed : (x : Result ℕ Fault) (q r : Queue) (f : Fault) → followed x q ≡ Stayed f r → x ≡ Err f
-followed-stayed (Ok next) q r f e = cc
-followed-stayed (Err fault) q r f e = cc
+followed-stayed : (x : Result ℕ Fault) (q r : Queue) (m n : List ℕ) (f : Fault) → followed x q m ≡ Halted f r n
+    → x ≡ Err f
+followed-stayed (Ok next) q r m n f e = cc
+followed-stayed (Err fault) q r m n f e = cc
 
 -- a take that is done found the first link word in memory, if others wait behind it
-pub take-inside : (q r : Queue) (m : List ℕ) (w : Option ℕ)
-    → after_take q m ≡ Took w r → q.front ≢ not_process → q.front ≢ q.back
+pub take-inside : (q r : Queue) (m n : List ℕ) (w : Option ℕ)
+    → after_take q m ≡ Gave w r n → q.front ≢ not_process → q.front ≢ q.back
     → word_at m (link_of q.front) ≡ Err OutsideMemory
     → ⊥
-take-inside q r m w e process last outside =
-    followed-took _ _ _ _ (sym (take_more q m process last) ∙ e) outside
+take-inside q r m n w e process last outside =
+    followed-took _ _ _ _ _ _ (sym (take_more q m process last) ∙ e) outside
 
 -- one that is not done found it outside
-pub take-outside : (q r : Queue) (m : List ℕ) (f : Fault) → after_take q m ≡ Stayed f r
+pub take-outside : (q r : Queue) (m n : List ℕ) (f : Fault) → after_take q m ≡ Halted f r n
     → (f ≡ OutsideMemory) × (q.front ≢ not_process) × (q.front ≢ q.back)
     × (word_at m (link_of q.front) ≡ Err OutsideMemory)
-take-outside q r m f e =
+take-outside q r m n f e =
     let process : q.front ≢ not_process = λ h. (let p = take_empty q m h in cc) in
     let last : q.front ≢ q.back = λ h. (let p = take_last q m process h in cc) in
-    let unread = followed-stayed _ _ _ _ (sym (take_more q m process last) ∙ e) in
+    let unread = followed-stayed _ _ _ _ _ _ (sym (take_more q m process last) ∙ e) in
     let same = word_at-fault m (link_of q.front) f unread in
     (same, process, last, rw (← same) unread)
 
 -- the first is taken, and the others stand
 pub stands-take : (ws : List ℕ) (q : Queue) (m : List ℕ) → Stands m q ws
-    → (r : Queue) × (after_take q m ≡ Took (first ws) r) × Stands m r (others ws)
+    → (r : Queue) × (after_take q m ≡ Gave (first ws) r m) × Stands m r (others ws)
 stands-take [] q m stands = (q, take_empty q m stands, stands)
 stands-take (w ∷ []) q m stands = (
   record { front = not_process; back = q.back },
   take_last q m (rw stands.0 stands.1.1.0.process) (stands.0 ∙ sym stands.1.0)
-      ∙ ap (λ x. Took (Some x) (record { front = not_process; back = q.back })) stands.0,
+      ∙ ap (λ x. Gave (Some x) (record { front = not_process; back = q.back }) m) stands.0,
   refl,
 )
 stands-take (w ∷ v ∷ vs) q m stands = (

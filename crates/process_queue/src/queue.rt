@@ -32,8 +32,9 @@ pub struct Queue {
 
 impl Queue {
     ghost use Rattle.node_memory.specs.Bytes.{word_at};
+    ghost use Rattle.node_memory.specs.Effect.{effect_of};
     ghost use Rattle.node_memory.specs.Marks.{not_process};
-    ghost use Rattle.process_queue.specs.Queue.{after_put, after_take, changed, taken, link_of};
+    ghost use Rattle.process_queue.specs.Queue.{after_put, after_take, link_of};
     ghost use Rattle.process_queue.specs.Waiting.{Stands, IsWorkspace, IsAbsent, first, others};
 
     /// The queue where none waits: both registers are `NOT_PROCESS`.
@@ -55,7 +56,7 @@ impl Queue {
     #[inline(always)]
     #[tactic(auto, unfolding(crate::specs::Queue::after_put))]
     pub fn put(&mut self, memory: &mut Memory, workspace: u32) -> Result<(), Fault>
-        ensures exact { changed result self.new memory.new ≡ after_put self.old memory.old workspace }
+        ensures exact { effect_of result self.new memory.new ≡ after_put self.old memory.old workspace }
 
         // A new workspace goes to the end of the list that waits.
         ensures list { (ws : List ℕ) → Stands memory.old self.old ws → IsWorkspace workspace → IsAbsent workspace ws →
@@ -86,7 +87,7 @@ impl Queue {
     #[inline(always)]
     #[tactic(auto, unfolding(crate::specs::Queue::after_take))]
     pub fn take(&mut self, memory: &Memory) -> Result<Option<u32>, Fault>
-        ensures exact { taken result self.new ≡ after_take self.old memory.now }
+        ensures exact { effect_of result self.new memory.now ≡ after_take self.old memory.now }
 
         // It is the first of the list that waits, and the others go on waiting.
         ensures first { (ws : List ℕ) → Stands memory.now self.old ws → result ≡ Ok (first ws) }

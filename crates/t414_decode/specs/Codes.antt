@@ -112,13 +112,13 @@ operations =
     []
 
 -- the operation that a list has at a code
-abbrev pub operation_in : List (ℕ × Operation) → ℕ → Option Operation
-operation_in [] code = None
-operation_in (entry ∷ entries) code = if code == entry.0 then Some entry.1 else operation_in entries code
+abbrev pub operation_among : List (ℕ × Operation) → ℕ → Option Operation
+operation_among [] code = None
+operation_among (entry ∷ entries) code = if code == entry.0 then Some entry.1 else operation_among entries code
 
 -- the operation of a code, if there is one
 unfoldable pub operation_of : ℕ → Option Operation
-operation_of code = operation_in operations code
+operation_of code = operation_among operations code
 
 -- the operand that a function makes of the one with its nibble put in: pfix moves it up one nibble, nfix its
 -- complement; the others use it as it is

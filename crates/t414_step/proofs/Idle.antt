@@ -1,25 +1,24 @@
 -- A step answers Idle exactly where there is nothing to do.
-use Rattle.std.proofs.Common.{◌≡◌, ℕ, ◌==◌, Bool, true, false, not, ◌&&◌, List}
+use Rattle.std.proofs.Common.{◌≡◌, ℕ, ◌==◌, Bool, true, false, not, ◌&&◌, List, Some}
 use Rattle.std.proofs.Common.{Result, Ok, Err, if◌then◌else◌, refl, ◌∙◌, ap, sym}
 use Rattle.node_memory.specs.declared.fault.Fault.{Fault}
 use Rattle.node_memory.specs.Bytes.{word_at}
+use Rattle.node_memory.specs.Effect.{Effect, Gave, Halted, ◌>>=◌, tried, perform, beside}
 use Rattle.node_memory.specs.Marks.{not_process}
 use Rattle.node_memory.specs.Words.{◌⊖◌, aligned}
-use Rattle.process_queue.specs.Queue.{after_take, followed, link_of}
+use Rattle.process_queue.specs.Queue.{after_take, link_of}
 use Rattle.process_queue.specs.declared.queue.Queue.{Queue}
 use Rattle.link_channels.specs.declared.link.FourLinks.{FourLinks}
 use Rattle.link_channels.specs.Links.{any_has_work}
-use Rattle.link_channels.specs.Completion.{Completion, Gave, Halted, does_something}
-use Rattle.link_channels.specs.Service.{serve_all}
+use Rattle.link_channels.specs.Service.{serve_all, does_something}
 use Rattle.link_channels.specs.Laws.{ServiceActsOnWork, ServiceLeavesTheRest}
 use Rattle.t414_step.specs.declared.cpu.Cpu.{Cpu}
 use Rattle.t414_step.specs.declared.stepping.Stepped.{Stepped}
 use Rattle.t414_step.specs.declared.stepping.Stepped.TheVariants as code
 use Rattle.t414_step.specs.Answers.{step_answer_of, is_idle, tells_idle}
-use Rattle.t414_step.specs.Outcome.{Effect, with_links}
+use Rattle.t414_step.specs.ChannelRows.{CpuEffect}
 use Rattle.t414_step.specs.Registers.{has_nothing_to_do}
-use Rattle.t414_step.specs.Step.{StepAnswer, Resumption, Resumed, Nobody, Lost, resumption_by, placed, resumed}
-use Rattle.t414_step.specs.Step.{resumption, going_on, processed, after_service, byte_answer, byte_done, step}
+use Rattle.t414_step.specs.Step.{StepEffect, stepped, resumed_at, resumed, resumption, processed, byte_done, step}
 
 and-false : (a b : Bool) → (a && b && false) ≡ false
 and-false true true = refl
@@ -31,43 +30,56 @@ and-true true true = refl
 and-true true false = refl
 and-true false b = refl
 
-no-byte : (e : Effect) → tells_idle (byte_answer e) ≡ false
+no-byte : (e : CpuEffect) → tells_idle (stepped e) ≡ false
 no-byte (Gave s ls m) = refl
 no-byte (Halted fault ls m) = refl
 
-going-does_something : (r : Resumption) (ls : FourLinks) (m : List ℕ) → tells_idle (going_on r true ls m) ≡ false
-going-does_something (Resumed s) ls m = no-byte (with_links ls (byte_done s m))
-going-does_something (Nobody s) ls m = refl
-going-does_something (Lost fault) ls m = refl
+-- what comes of a look at the queue
+abbrev after_look : Bool → FourLinks → Effect Bool Cpu → StepEffect
+after_look acted ls r = do
+  (goes_on, s, m) ← beside ls r
+  if goes_on then stepped (byte_done s ls m) else Gave (acted, s) ls m
 
-busy-if : (b : Bool) (x y : StepAnswer) → tells_idle x ≡ false → tells_idle y ≡ false
+looked-busy : (ls : FourLinks) (r : Effect Bool Cpu) → tells_idle (after_look true ls r) ≡ false
+looked-busy ls (Gave true s m) = no-byte (byte_done s ls m)
+looked-busy ls (Gave false s m) = refl
+looked-busy ls (Halted fault s m) = refl
+
+busy-if : (b : Bool) (x y : StepEffect) → tells_idle x ≡ false → tells_idle y ≡ false
     → tells_idle (if b then x else y) ≡ false
 busy-if true x y e f = e
 busy-if false x y e f = f
 
-idle-if : (b : Bool) (x y : StepAnswer) (v : Bool) → tells_idle x ≡ false → tells_idle y ≡ v
+idle-if : (b : Bool) (x y : StepEffect) (v : Bool) → tells_idle x ≡ false → tells_idle y ≡ v
     → tells_idle (if b then x else y) ≡ (not b && v)
 idle-if true x y v e f = e
 idle-if false x y v e f = f
 
-processed-does_something : (s : Cpu) (ls : FourLinks) (m : List ℕ) → tells_idle (processed true s ls m) ≡ false
-processed-does_something s ls m =
-    busy-if s.running (byte_answer (with_links ls (byte_done s m))) (going_on (resumption s m) true ls m)
-    (no-byte (with_links ls (byte_done s m))) (going-does_something (resumption s m) ls m)
+processed-busy : (s : Cpu) (ls : FourLinks) (m : List ℕ) → tells_idle (processed true s ls m) ≡ false
+processed-busy s ls m =
+    busy-if s.running (stepped (byte_done s ls m)) (after_look true ls (resumption s m))
+    (no-byte (byte_done s ls m)) (looked-busy ls (resumption s m))
 
-acted-on : (r : Completion (Bool × Queue) FourLinks) (s : Cpu) → does_something r ≡ true
+-- a step, by what came of the service of the links
+abbrev after_service : Effect (Bool × Queue) FourLinks → Cpu → StepEffect
+after_service r s = do (x, ls, m) ← perform r; processed x.0 (record s { queue = x.1 }) ls m
+
+acted-on : (r : Effect (Bool × Queue) FourLinks) (s : Cpu) → does_something r ≡ true
     → tells_idle (after_service r s) ≡ false
-acted-on (Gave (true, q) ls m) s e = processed-does_something (record s { queue = q }) ls m
+acted-on (Gave (true, q) ls m) s e = processed-busy (record s { queue = q }) ls m
 acted-on (Gave (false, q) ls m) s e = cc
 acted-on (Halted fault ls m) s e = refl
 
 placed-busy : (r : Result ℕ Fault) (w : ℕ) (s : Cpu) (ls : FourLinks) (m : List ℕ)
-    → tells_idle (going_on (placed r w s) false ls m) ≡ false
-placed-busy (Ok i) w s ls m = no-byte (with_links ls (byte_done (resumed w i s) m))
+    → tells_idle (after_look false ls (tried r s m (λ i. Gave true (resumed w i s) m))) ≡ false
+placed-busy (Ok i) w s ls m = no-byte (byte_done (resumed w i s) ls m)
 placed-busy (Err fault) w s ls m = refl
 
 followed-busy : (r : Result ℕ Fault) (q : Queue) (s : Cpu) (ls : FourLinks) (m : List ℕ)
-    → tells_idle (going_on (resumption_by (followed r q) s m) false ls m) ≡ false
+    → tells_idle (after_look false ls (do
+      (w, q, m) ← beside s (tried r q m (λ next. Gave (Some q.front) (record { front = next; back = q.back }) m))
+      resumed_at w (record s { queue = q }) m))
+    ≡ false
 followed-busy (Ok next) q s ls m =
     placed-busy (word_at m (aligned q.front ⊖ 4)) (aligned q.front)
     (record s { queue = record { front = next; back = q.back } }) ls m
@@ -75,7 +87,7 @@ followed-busy (Err fault) q s ls m = refl
 
 taken-busy : (b : Bool) (s : Cpu) (ls : FourLinks) (m : List ℕ)
     → (s.queue.front == not_process) ≡ false → (s.queue.front == s.queue.back) ≡ b
-    → tells_idle (going_on (resumption s m) false ls m) ≡ false
+    → tells_idle (after_look false ls (resumption s m)) ≡ false
 unfolding after_take
 taken-busy true s ls m e f =
     rw (e, f)
@@ -84,7 +96,7 @@ taken-busy true s ls m e f =
 taken-busy false s ls m e f = rw (e, f) (followed-busy (word_at m (link_of s.queue.front)) s.queue s ls m)
 
 looked : (front : Bool) (s : Cpu) (ls : FourLinks) (m : List ℕ) → (s.queue.front == not_process) ≡ front
-    → tells_idle (going_on (resumption s m) false ls m) ≡ front
+    → tells_idle (after_look false ls (resumption s m)) ≡ front
 unfolding after_take
 looked true s ls m e = rw e refl
 looked false s ls m e = taken-busy (s.queue.front == s.queue.back) s ls m e refl
@@ -92,9 +104,9 @@ looked false s ls m e = taken-busy (s.queue.front == s.queue.back) s ls m e refl
 unserved : (s : Cpu) (ls : FourLinks) (m : List ℕ)
     → tells_idle (processed false s ls m) ≡ (not s.running && (s.queue.front == not_process))
 unserved s ls m =
-    idle-if s.running (byte_answer (with_links ls (byte_done s m))) (going_on (resumption s m) false ls m)
+    idle-if s.running (stepped (byte_done s ls m)) (after_look false ls (resumption s m))
     (s.queue.front == not_process)
-    (no-byte (with_links ls (byte_done s m))) (looked (s.queue.front == not_process) s ls m refl)
+    (no-byte (byte_done s ls m)) (looked (s.queue.front == not_process) s ls m refl)
 
 rests-by : ServiceActsOnWork
     → ServiceLeavesTheRest → (work : Bool) (s : Cpu) (ls : FourLinks) (m : List ℕ) → any_has_work ls ≡ work

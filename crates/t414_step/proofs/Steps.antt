@@ -1,19 +1,19 @@
 -- Steps counted one by one, and those of a process whose bytes follow one another.
 use Rattle.std.proofs.Common.{◌≡◌, ℕ, zero, suc, ◌+◌, ◌<◌, ◌==◌, Bool, true, false, if◌then◌else◌}
-use Rattle.std.proofs.Common.{List, Option, Some, None, Ok, refl, ◌∙◌, ap, sym, arith, add-one}
+use Rattle.std.proofs.Common.{List, Some, Ok, refl, ◌∙◌, ap, sym, arith, add-one}
 use Rattle.std.proofs.Math.Nat.{add-zero, add-suc}
+use Rattle.node_memory.specs.Effect.{Effect, Gave, ◌>>=◌, beside, effect_of}
 use Rattle.link_channels.specs.declared.link.FourLinks.{FourLinks}
 use Rattle.link_channels.specs.Laws.{ServiceLeavesTheRest}
 use Rattle.link_channels.specs.Links.{any_has_work}
 use Rattle.t414_step.specs.declared.cpu.Cpu.{Cpu}
-use Rattle.t414_step.specs.Outcome.{Outcome, Went, with_links}
+use Rattle.t414_step.specs.ChannelRows.{CpuEffect}
 use Rattle.t414_step.specs.Rows.{slice}
-use Rattle.t414_step.specs.Step.{StepAnswer, Ran, Idle, Broke, Resumed, Nobody, Resumption}
-use Rattle.t414_step.specs.Step.{resuming, resumption, going_on, byte_answer, byte_done, step}
+use Rattle.t414_step.specs.Step.{StepEffect, stepped, resumption, byte_done, step}
 use Rattle.t414_step.specs.Steps.{nth_step, then_step}
 
 -- no steps leave the processor as it is
-pub steps-zero : (s : Cpu) (ls : FourLinks) (m : List ℕ) → nth_step zero s ls m ≡ Some (Ran s ls m)
+pub steps-zero : (s : Cpu) (ls : FourLinks) (m : List ℕ) → nth_step zero s ls m ≡ Some (Gave (true, s) ls m)
 unfolding nth_step
 steps-zero s ls m = refl
 
@@ -24,20 +24,21 @@ unfolding nth_step
 steps-suc k s ls m = refl
 
 -- one more step after steps that ran
-pub steps-more : (k : ℕ) (s t : Cpu) (ls ks : FourLinks) (m n : List ℕ) (answer : StepAnswer)
-    → nth_step k s ls m ≡ Some (Ran t ks n) → step t ks n ≡ answer
+pub steps-more : (k : ℕ) (s t : Cpu) (ls ks : FourLinks) (m n : List ℕ) (answer : StepEffect)
+    → nth_step k s ls m ≡ Some (Gave (true, t) ks n) → step t ks n ≡ answer
     → nth_step (k + 1) s ls m ≡ Some answer
 steps-more k s t ls ks m n answer e f =
     ap (λ (i : ℕ). nth_step i s ls m) (add-one k) ∙ steps-suc k s ls m ∙ ap then_step e
-    ∙ ap (λ (a : StepAnswer). Some a) f
+    ∙ ap (λ (a : StepEffect). Some a) f
 
 -- one step answers as the step does
-pub one-step : (s : Cpu) (ls : FourLinks) (m : List ℕ) (answer : StepAnswer) → step s ls m ≡ answer
+pub one-step : (s : Cpu) (ls : FourLinks) (m : List ℕ) (answer : StepEffect) → step s ls m ≡ answer
     → nth_step 1 s ls m ≡ Some answer
 one-step s ls m answer e = steps-more 0 s s ls ls m m answer (steps-zero s ls m) e
 
 -- steps after steps that ran
-pub steps-add : (j k : ℕ) (s t : Cpu) (ls ks : FourLinks) (m n : List ℕ) → nth_step j s ls m ≡ Some (Ran t ks n)
+pub steps-add : (j k : ℕ) (s t : Cpu) (ls ks : FourLinks) (m n : List ℕ)
+    → nth_step j s ls m ≡ Some (Gave (true, t) ks n)
     → nth_step (j + k) s ls m ≡ nth_step k t ks n
 steps-add j zero s t ls ks m n e = ap (λ (i : ℕ). nth_step i s ls m) (add-zero j) ∙ e ∙ sym (steps-zero t ks n)
 steps-add j (suc k) s t ls ks m n e =
@@ -53,47 +54,51 @@ same-first (suc (suc k)) s t ls m e some =
     steps-suc (suc k) s ls m ∙ ap then_step (same-first (suc k) s t ls m e (omega arith))
     ∙ sym (steps-suc (suc k) t ls m)
 
-processed-if : (b : Bool) (x y : StepAnswer) → b ≡ true → (if b then x else y) ≡ x
+processed-if : (b : Bool) (x y : StepEffect) → b ≡ true → (if b then x else y) ≡ x
 processed-if true x y e = refl
 processed-if false x y e = cc
+
+-- what comes of a look at the queue, if no link has work: a byte of the process that goes on, or nothing
+abbrev after_look : FourLinks → Effect Bool Cpu → StepEffect
+after_look ls r = do
+  (goes_on, s, m) ← beside ls r
+  if goes_on then stepped (byte_done s ls m) else Gave (false, s) ls m
 
 -- the step of a processor that runs, if no link has work
 pub byte-step : ServiceLeavesTheRest
     → (s : Cpu) (ls : FourLinks) (m : List ℕ) → any_has_work ls ≡ false → s.running ≡ true
-    → step s ls m ≡ byte_answer (with_links ls (byte_done s m))
+    → step s ls m ≡ stepped (byte_done s ls m)
 unfolding step
 byte-step rests s ls m rest runs =
     rw (rests ls s.queue m rest)
-    (processed-if s.running (byte_answer (with_links ls (byte_done s m))) (going_on (resumption s m) false ls m) runs)
+    (processed-if s.running (stepped (byte_done s ls m)) (after_look ls (resumption s m)) runs)
 
-processed-else : (b : Bool) (x y : StepAnswer) → b ≡ false → (if b then x else y) ≡ y
+processed-else : (b : Bool) (x y : StepEffect) → b ≡ false → (if b then x else y) ≡ y
 processed-else true x y e = cc
 processed-else false x y e = refl
 
 -- the step of one with no current process, if no link has work
 pub looking-step : ServiceLeavesTheRest
-    → (s : Cpu) (ls : FourLinks) (m : List ℕ) (r : Resumption) → any_has_work ls ≡ false → s.running ≡ false
+    → (s : Cpu) (ls : FourLinks) (m : List ℕ) (r : Effect Bool Cpu) → any_has_work ls ≡ false → s.running ≡ false
     → r ≡ resumption s m
-    → step s ls m ≡ going_on r false ls m
+    → step s ls m ≡ after_look ls r
 unfolding step
 looking-step rests s ls m r rest stands e =
     rw (rests ls s.queue m rest)
-    (processed-else s.running (byte_answer (with_links ls (byte_done s m)))
-    (going_on (resumption s m) false ls m) stands
-    ∙ sym (ap (λ (x : Resumption). going_on x false ls m) e))
+    (processed-else s.running (stepped (byte_done s ls m)) (after_look ls (resumption s m)) stands
+    ∙ sym (ap (after_look ls) e))
 
 -- an instruction byte is one more step, if no link has work
 pub byte-more : ServiceLeavesTheRest
-    → (k : ℕ) (s t : Cpu) (ls : FourLinks) (m n : List ℕ) (o : Outcome) → any_has_work ls ≡ false
-    → nth_step k s ls m ≡ Some (Ran t ls n) → t.running ≡ true → o ≡ byte_done t n
-    → nth_step (k + 1) s ls m ≡ Some (byte_answer (with_links ls o))
+    → (k : ℕ) (s t : Cpu) (ls : FourLinks) (m n : List ℕ) (o : CpuEffect) → any_has_work ls ≡ false
+    → nth_step k s ls m ≡ Some (Gave (true, t) ls n) → t.running ≡ true → o ≡ byte_done t ls n
+    → nth_step (k + 1) s ls m ≡ Some (stepped o)
 byte-more rests k s t ls m n o rest e runs f =
-    steps-more k s t ls ls m n (byte_answer (with_links ls o)) e
-    (byte-step rests t ls n rest runs ∙ ap (λ (x : Outcome). byte_answer (with_links ls x)) (sym f))
+    steps-more k s t ls ls m n (stepped o) e (byte-step rests t ls n rest runs ∙ ap stepped (sym f))
 
 -- a process that has had fewer bytes isn't sliced
-pub unsliced : (s : Cpu) (m : List ℕ) → s.bytes < 1024 → slice s m ≡ Went s m
-unsliced s m few = let ne : (s.bytes == 1024) ≡ false = grind arith in rw ne refl
+pub unsliced : (s : Cpu) (ls : FourLinks) (m : List ℕ) → s.bytes < 1024 → slice s ls m ≡ Gave s ls m
+unsliced s ls m few = let ne : (s.bytes == 1024) ≡ false = grind arith in rw ne refl
 
 -- a count that is the same changes nothing
 pub recounted : (s : Cpu) (b : ℕ) → s.bytes ≡ b → s ≡ record s { bytes = b }
@@ -102,17 +107,12 @@ recounted s b e = rw (sym e) refl
 -- a process that is taken from the queue steps as if it had been there
 pub resumed-step : ServiceLeavesTheRest
     → (s t : Cpu) (ls : FourLinks) (m : List ℕ) → any_has_work ls ≡ false → s.running ≡ false
-    → Resumed t ≡ resumption s m → t.running ≡ true
+    → Gave true t m ≡ resumption s m → t.running ≡ true
     → step s ls m ≡ step t ls m
 resumed-step rests s t ls m rest stands e runs =
-    looking-step rests s ls m (Resumed t) rest stands e ∙ sym (byte-step rests t ls m rest runs)
+    looking-step rests s ls m (Gave true t m) rest stands e ∙ sym (byte-step rests t ls m rest runs)
 
 -- what the code's answer of a look says
-pub took-one : (b : Bool) (t : Cpu) (r : Resumption) → b ≡ true → resuming (Ok b) t ≡ r → Resumed t ≡ r
-took-one true t r is e = e
-took-one false t r is e = cc
-
--- if a look finds no process, nobody is resumed
-pub took-none : (b : Bool) (t : Cpu) (r : Resumption) → b ≡ false → resuming (Ok b) t ≡ r → Nobody t ≡ r
-took-none true t r is e = cc
-took-none false t r is e = e
+pub took-as : (b c : Bool) (t : Cpu) (m : List ℕ) (r : Effect Bool Cpu) → b ≡ c → effect_of (Ok b) t m ≡ r
+    → Gave c t m ≡ r
+took-as b c t m r is e = rw (← is) e

@@ -1,6 +1,7 @@
 -- The channel operations: what each does to the registers, to the links and to memory.
 -- Instruction set handbook, in, out, outbyte, outword, resetch, enbc, disc.
 use Rattle.std.specs.Prelude.{ℕ, ◌==◌, List, if◌then◌else◌}
+use Rattle.node_memory.specs.Effect.{Effect, Gave, ◌>>=◌, store, perform}
 use Rattle.process_queue.specs.declared.queue.Queue.{Queue}
 use Rattle.link_channels.specs.declared.link.FourLinks.{FourLinks}
 use Rattle.link_channels.specs.declared.process.Process.{Process}
@@ -8,12 +9,15 @@ use Rattle.link_channels.specs.declared.process.Transfer.{Transfer}
 use Rattle.link_channels.specs.declared.process.Turn.{Turn}
 use Rattle.link_channels.specs.declared.process.Turn.TheVariants.{GoesOn, Waits}
 use Rattle.link_channels.specs.Messages.{input, output, enable, disable, reset}
-use Rattle.link_channels.specs.Completion.{Completion, Gave, reply_and_then, store_then}
 use Rattle.t414_decode.specs.declared.instruction.ChannelOperation.{ChannelOperation}
 use Rattle.t414_decode.specs.declared.instruction.ChannelOperation.TheVariants.{InputMessage, OutputMessage, OutputByte, OutputWord, ResetChannel, DisableChannel, EnableChannel}
 use Rattle.t414_step.specs.declared.cpu.Cpu.{Cpu}
-use Rattle.t414_step.specs.Outcome.{Effect}
 use Rattle.t414_step.specs.Registers.{bit, unary_result, leave}
+
+-- what an instruction leaves: the registers, the links and memory; or the fault that halts the node, with links and
+-- memory as they were left. The registers are then given up
+abbrev pub CpuEffect : Type 0
+CpuEffect = Effect Cpu FourLinks
 
 -- the process that asks
 abbrev pub process_of : Cpu → Process
@@ -29,27 +33,27 @@ turned GoesOn s = s
 turned Waits s = leave s
 
 -- goes on with the registers after a message, the queue's among them
-abbrev pub after_message : Completion (Turn × Queue) FourLinks → Cpu → Effect
-after_message r s = reply_and_then r (λ x ls m. Gave (turned x.0 (record s { queue = x.1 })) ls m)
+abbrev pub after_message : Effect (Turn × Queue) FourLinks → Cpu → CpuEffect
+after_message r s = do (x, ls, m) ← perform r; Gave (turned x.0 (record s { queue = x.1 })) ls m
 
 -- the running process gives a message to a channel
-abbrev pub output_by : Transfer → Cpu → FourLinks → List ℕ → Effect
+abbrev pub output_by : Transfer → Cpu → FourLinks → List ℕ → CpuEffect
 output_by t s ls m = after_message (output (process_of s) t ls s.queue m) s
 
 -- outbyte and outword: word(W) becomes A; out of so many bytes, pointer W, channel B
-abbrev pub send : ℕ → Cpu → FourLinks → List ℕ → Effect
-send count s ls m = store_then s.workspace s.a ls m (λ m. output_by (transfer count s.b s.workspace) s ls m)
+abbrev pub send : ℕ → Cpu → FourLinks → List ℕ → CpuEffect
+send count s ls m = do m ← store ls m s.workspace s.a; output_by (transfer count s.b s.workspace) s ls m
 
 -- an operation on a channel, after the byte that asked for it. A guard of 0 looks at no channel
-unfoldable pub channel_row : ChannelOperation → Cpu → FourLinks → List ℕ → Effect
+unfoldable pub channel_row : ChannelOperation → Cpu → FourLinks → List ℕ → CpuEffect
 channel_row InputMessage s ls m = after_message (input (process_of s) (transfer s.a s.b s.c) ls s.queue m) s  -- 07 in
 channel_row OutputMessage s ls m = output_by (transfer s.a s.b s.c) s ls m  -- 0B out
 channel_row OutputByte s ls m = send 1 s ls m  -- 0E outbyte
 channel_row OutputWord s ls m = send 4 s ls m  -- 0F outword
-channel_row ResetChannel s ls m = reply_and_then (reset s.a ls m) (λ word ls m. Gave (unary_result word s) ls m)  -- 12 resetch
+channel_row ResetChannel s ls m = do (word, ls, m) ← perform (reset s.a ls m); Gave (unary_result word s) ls m  -- 12 resetch
 channel_row DisableChannel s ls m =  -- 2F disc
     if s.b == 0 then Gave (unary_result 0 s) ls m
-    else reply_and_then (disable (process_of s) s.c s.a ls m) (λ chosen ls m. Gave (unary_result (bit chosen) s) ls m)
+    else (do (chosen, ls, m) ← perform (disable (process_of s) s.c s.a ls m); Gave (unary_result (bit chosen) s) ls m)
 channel_row EnableChannel s ls m =  -- 48 enbc
     if s.a == 0 then Gave (record s { b = s.c }) ls m
-    else reply_and_then (enable (process_of s) s.b ls m) (λ _ ls m. Gave (record s { b = s.c }) ls m)
+    else (do (done, ls, m) ← perform (enable (process_of s) s.b ls m); Gave (record s { b = s.c }) ls m)

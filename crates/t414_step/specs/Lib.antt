@@ -1,5 +1,4 @@
 -- what must be believed
-pub mod Outcome
 pub mod Registers
 pub mod ChannelRows
 pub mod Rows

@@ -9,13 +9,15 @@ use node_memory::{Fault, add_checked, mul_checked, signed, sub_checked};
 impl Cpu {
     ghost use Rattle.t414_decode.specs.declared.instruction.PlainOperation.TheVariants as op;
     ghost use Rattle.t414_step.specs.Next.{KeepsTurn};
-    ghost use Rattle.t414_step.specs.Outcome.{plain_outcome, Went};
+    ghost use Rattle.node_memory.specs.Effect.{Gave};
+    ghost use Rattle.t414_step.specs.Answers.{finished};
+    ghost use Rattle.link_channels.specs.declared.link.FourLinks.{FourLinks};
     ghost use Rattle.t414_step.specs.Rows.{row};
 
     // rev
     #[inline(always)]
     pub(crate) fn reverse(&mut self)
-        ensures answer { (m : List ℕ) → Went self.new m ≡ row op.Reverse self.old m }
+        ensures answer { (ls : FourLinks) (m : List ℕ) → Gave self.new ls m ≡ row op.Reverse self.old ls m }
         ensures kept { KeepsTurn self.old self.new }
     {
         let a = self.a;
@@ -26,7 +28,7 @@ impl Cpu {
     // bsub
     #[inline(always)]
     pub(crate) fn byte_subscript(&mut self)
-        ensures answer { (m : List ℕ) → Went self.new m ≡ row op.ByteSubscript self.old m }
+        ensures answer { (ls : FourLinks) (m : List ℕ) → Gave self.new ls m ≡ row op.ByteSubscript self.old ls m }
         ensures kept { KeepsTurn self.old self.new }
     {
         self.binary(self.a.wrapping_add(self.b));
@@ -35,7 +37,7 @@ impl Cpu {
     // diff
     #[inline(always)]
     pub(crate) fn difference(&mut self)
-        ensures answer { (m : List ℕ) → Went self.new m ≡ row op.Difference self.old m }
+        ensures answer { (ls : FourLinks) (m : List ℕ) → Gave self.new ls m ≡ row op.Difference self.old ls m }
         ensures kept { KeepsTurn self.old self.new }
     {
         self.binary(self.b.wrapping_sub(self.a));
@@ -44,7 +46,7 @@ impl Cpu {
     // add
     #[inline(always)]
     pub(crate) fn add(&mut self) -> Result<(), Fault>
-        ensures answer { (m : List ℕ) → plain_outcome result self.new m ≡ row op.Add self.old m }
+        ensures answer { (ls : FourLinks) (m : List ℕ) → finished result self.new ls m ≡ row op.Add self.old ls m }
         ensures kept { KeepsTurn self.old self.new }
     {
         let (sum, overflows) = add_checked(self.b, self.a);
@@ -55,7 +57,7 @@ impl Cpu {
     // prod
     #[inline(always)]
     pub(crate) fn product(&mut self)
-        ensures answer { (m : List ℕ) → Went self.new m ≡ row op.Product self.old m }
+        ensures answer { (ls : FourLinks) (m : List ℕ) → Gave self.new ls m ≡ row op.Product self.old ls m }
         ensures kept { KeepsTurn self.old self.new }
     {
         self.binary(self.b.wrapping_mul(self.a));
@@ -64,7 +66,7 @@ impl Cpu {
     // gt
     #[inline(always)]
     pub(crate) fn greater_than(&mut self)
-        ensures answer { (m : List ℕ) → Went self.new m ≡ row op.GreaterThan self.old m }
+        ensures answer { (ls : FourLinks) (m : List ℕ) → Gave self.new ls m ≡ row op.GreaterThan self.old ls m }
         ensures kept { KeepsTurn self.old self.new }
     {
         self.binary(u32::from(signed(self.a) < signed(self.b)));
@@ -73,7 +75,7 @@ impl Cpu {
     // wsub
     #[inline(always)]
     pub(crate) fn word_subscript(&mut self)
-        ensures answer { (m : List ℕ) → Went self.new m ≡ row op.WordSubscript self.old m }
+        ensures answer { (ls : FourLinks) (m : List ℕ) → Gave self.new ls m ≡ row op.WordSubscript self.old ls m }
         ensures kept { KeepsTurn self.old self.new }
     {
         self.binary(self.a.wrapping_add(4u32.wrapping_mul(self.b)));
@@ -82,7 +84,7 @@ impl Cpu {
     // sub
     #[inline(always)]
     pub(crate) fn subtract(&mut self) -> Result<(), Fault>
-        ensures answer { (m : List ℕ) → plain_outcome result self.new m ≡ row op.Subtract self.old m }
+        ensures answer { (ls : FourLinks) (m : List ℕ) → finished result self.new ls m ≡ row op.Subtract self.old ls m }
         ensures kept { KeepsTurn self.old self.new }
     {
         let (rest, overflows) = sub_checked(self.b, self.a);
@@ -93,7 +95,7 @@ impl Cpu {
     // sum
     #[inline(always)]
     pub(crate) fn sum(&mut self)
-        ensures answer { (m : List ℕ) → Went self.new m ≡ row op.Sum self.old m }
+        ensures answer { (ls : FourLinks) (m : List ℕ) → Gave self.new ls m ≡ row op.Sum self.old ls m }
         ensures kept { KeepsTurn self.old self.new }
     {
         self.binary(self.b.wrapping_add(self.a));
@@ -102,7 +104,7 @@ impl Cpu {
     // mul
     #[inline(always)]
     pub(crate) fn multiply(&mut self) -> Result<(), Fault>
-        ensures answer { (m : List ℕ) → plain_outcome result self.new m ≡ row op.Multiply self.old m }
+        ensures answer { (ls : FourLinks) (m : List ℕ) → finished result self.new ls m ≡ row op.Multiply self.old ls m }
         ensures kept { KeepsTurn self.old self.new }
     {
         let (product, overflows) = mul_checked(self.b, self.a);
@@ -113,7 +115,7 @@ impl Cpu {
     // ldpi
     #[inline]
     pub(crate) fn load_pointer_to_instruction(&mut self)
-        ensures { (m : List ℕ) → Went self.new m ≡ row op.LoadPointerToInstruction self.old m }
+        ensures { (ls : FourLinks) (m : List ℕ) → Gave self.new ls m ≡ row op.LoadPointerToInstruction self.old ls m }
     {
         self.a = self.instruction.wrapping_add(self.a);
     }
@@ -121,7 +123,7 @@ impl Cpu {
     // bcnt
     #[inline]
     pub(crate) fn byte_count(&mut self)
-        ensures { (m : List ℕ) → Went self.new m ≡ row op.ByteCount self.old m }
+        ensures { (ls : FourLinks) (m : List ℕ) → Gave self.new ls m ≡ row op.ByteCount self.old ls m }
     {
         self.a = 4u32.wrapping_mul(self.a);
     }
@@ -129,7 +131,7 @@ impl Cpu {
     // mint
     #[inline(always)]
     pub(crate) fn minimum_integer(&mut self)
-        ensures answer { (m : List ℕ) → Went self.new m ≡ row op.MinimumInteger self.old m }
+        ensures answer { (ls : FourLinks) (m : List ℕ) → Gave self.new ls m ≡ row op.MinimumInteger self.old ls m }
         ensures kept { KeepsTurn self.old self.new }
     {
         self.push(0x8000_0000);
@@ -138,7 +140,7 @@ impl Cpu {
     // xword
     #[inline]
     pub(crate) fn extend_to_word(&mut self)
-        ensures { (m : List ℕ) → Went self.new m ≡ row op.ExtendToWord self.old m }
+        ensures { (ls : FourLinks) (m : List ℕ) → Gave self.new ls m ≡ row op.ExtendToWord self.old ls m }
     {
         let extended = if self.b < self.a {
             self.b
@@ -151,7 +153,7 @@ impl Cpu {
     // rem
     #[inline]
     pub(crate) fn remainder(&mut self) -> Result<(), Fault>
-        ensures { (m : List ℕ) → plain_outcome result self.new m ≡ row op.Remainder self.old m }
+        ensures { (ls : FourLinks) (m : List ℕ) → finished result self.new ls m ≡ row op.Remainder self.old ls m }
     {
         if self.a == 0 {
             self.binary(0);
@@ -165,7 +167,7 @@ impl Cpu {
     // div
     #[inline]
     pub(crate) fn divide(&mut self) -> Result<(), Fault>
-        ensures { (m : List ℕ) → plain_outcome result self.new m ≡ row op.Divide self.old m }
+        ensures { (ls : FourLinks) (m : List ℕ) → finished result self.new ls m ≡ row op.Divide self.old ls m }
     {
         if self.a == 0 || (self.b == 0x8000_0000 && self.a == 0xffff_ffff) {
             self.binary(0);

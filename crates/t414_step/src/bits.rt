@@ -8,13 +8,14 @@ use crate::cpu::Cpu;
 impl Cpu {
     ghost use Rattle.t414_decode.specs.declared.instruction.PlainOperation.TheVariants as op;
     ghost use Rattle.t414_step.specs.Next.{KeepsTurn};
-    ghost use Rattle.t414_step.specs.Outcome.{Went};
+    ghost use Rattle.node_memory.specs.Effect.{Gave};
+    ghost use Rattle.link_channels.specs.declared.link.FourLinks.{FourLinks};
     ghost use Rattle.t414_step.specs.Rows.{row};
 
     // and
     #[inline(always)]
     pub(crate) fn and(&mut self)
-        ensures answer { (m : List ℕ) → Went self.new m ≡ row op.And self.old m }
+        ensures answer { (ls : FourLinks) (m : List ℕ) → Gave self.new ls m ≡ row op.And self.old ls m }
         ensures kept { KeepsTurn self.old self.new }
     {
         self.binary(self.b & self.a);
@@ -23,7 +24,7 @@ impl Cpu {
     // or
     #[inline(always)]
     pub(crate) fn or(&mut self)
-        ensures answer { (m : List ℕ) → Went self.new m ≡ row op.Or self.old m }
+        ensures answer { (ls : FourLinks) (m : List ℕ) → Gave self.new ls m ≡ row op.Or self.old ls m }
         ensures kept { KeepsTurn self.old self.new }
     {
         self.binary(self.b | self.a);
@@ -32,7 +33,7 @@ impl Cpu {
     // xor
     #[inline(always)]
     pub(crate) fn exclusive_or(&mut self)
-        ensures answer { (m : List ℕ) → Went self.new m ≡ row op.ExclusiveOr self.old m }
+        ensures answer { (ls : FourLinks) (m : List ℕ) → Gave self.new ls m ≡ row op.ExclusiveOr self.old ls m }
         ensures kept { KeepsTurn self.old self.new }
     {
         self.binary(self.b ^ self.a);
@@ -41,7 +42,7 @@ impl Cpu {
     // not
     #[inline(always)]
     pub(crate) fn not(&mut self)
-        ensures answer { (m : List ℕ) → Went self.new m ≡ row op.Not self.old m }
+        ensures answer { (ls : FourLinks) (m : List ℕ) → Gave self.new ls m ≡ row op.Not self.old ls m }
         ensures kept { KeepsTurn self.old self.new }
     {
         self.a = !self.a;
@@ -50,7 +51,7 @@ impl Cpu {
     // shl
     #[inline(always)]
     pub(crate) fn shift_left(&mut self)
-        ensures answer { (m : List ℕ) → Went self.new m ≡ row op.ShiftLeft self.old m }
+        ensures answer { (ls : FourLinks) (m : List ℕ) → Gave self.new ls m ≡ row op.ShiftLeft self.old ls m }
         ensures kept { KeepsTurn self.old self.new }
     {
         self.binary(self.b.checked_shl(self.a).unwrap_or(0));
@@ -59,7 +60,7 @@ impl Cpu {
     // shr
     #[inline(always)]
     pub(crate) fn shift_right(&mut self)
-        ensures answer { (m : List ℕ) → Went self.new m ≡ row op.ShiftRight self.old m }
+        ensures answer { (ls : FourLinks) (m : List ℕ) → Gave self.new ls m ≡ row op.ShiftRight self.old ls m }
         ensures kept { KeepsTurn self.old self.new }
     {
         self.binary(self.b.checked_shr(self.a).unwrap_or(0));

@@ -12,7 +12,7 @@ use node_memory::{Fault, Memory};
 impl Cpu {
     ghost use Rattle.t414_decode.specs.declared.instruction.ChannelOperation.TheVariants as op;
     ghost use Rattle.t414_step.specs.ChannelRows.{channel_row, output_by, process_of, transfer, turned, send};
-    ghost use Rattle.t414_step.specs.Outcome.{finished};
+    ghost use Rattle.t414_step.specs.Answers.{finished};
 
     // The process that asks.
     #[inline(always)]

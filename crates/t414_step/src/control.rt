@@ -9,13 +9,15 @@ use node_memory::{Fault, Memory, signed};
 impl Cpu {
     ghost use Rattle.t414_decode.specs.declared.instruction.PlainOperation.TheVariants as op;
     ghost use Rattle.t414_step.specs.Next.{KeepsTurn, turned_back};
-    ghost use Rattle.t414_step.specs.Outcome.{plain_outcome, Went};
+    ghost use Rattle.node_memory.specs.Effect.{Gave};
+    ghost use Rattle.t414_step.specs.Answers.{finished};
+    ghost use Rattle.link_channels.specs.declared.link.FourLinks.{FourLinks};
     ghost use Rattle.t414_step.specs.Rows.{row};
 
     // gcall
     #[inline]
     pub(crate) fn general_call(&mut self)
-        ensures { (m : List ℕ) → Went self.new m ≡ row op.GeneralCall self.old m }
+        ensures { (ls : FourLinks) (m : List ℕ) → Gave self.new ls m ≡ row op.GeneralCall self.old ls m }
     {
         let target = self.a;
         self.a = self.instruction;
@@ -25,7 +27,7 @@ impl Cpu {
     // ret
     #[inline(always)]
     pub(crate) fn return_from_call(&mut self, memory: &Memory) -> Result<(), Fault>
-        ensures answer { plain_outcome result self.new memory.now ≡ row op.Return self.old memory.now }
+        ensures answer { (ls : FourLinks) → finished result self.new ls memory.now ≡ row op.Return self.old ls memory.now }
         ensures kept { KeepsTurn self.old self.new }
     {
         self.instruction = memory.word(self.workspace)?;
@@ -36,7 +38,7 @@ impl Cpu {
     // lend, without the slice: whether it goes back
     #[inline(always)]
     pub(crate) fn turn_back(&mut self, memory: &mut Memory) -> Result<bool, Fault>
-        ensures answer { turned_back result self.new memory.new ≡ row op.LoopEnd self.old memory.old }
+        ensures answer { (ls : FourLinks) → turned_back result self.new ls memory.new ≡ row op.LoopEnd self.old ls memory.old }
         ensures kept { KeepsTurn self.old self.new }
     {
         let counter = self.b.wrapping_add(4);
@@ -54,7 +56,7 @@ impl Cpu {
     // lend
     #[inline]
     pub(crate) fn loop_end(&mut self, memory: &mut Memory) -> Result<(), Fault>
-        ensures { plain_outcome result self.new memory.new ≡ row op.LoopEnd self.old memory.old }
+        ensures { (ls : FourLinks) → finished result self.new ls memory.new ≡ row op.LoopEnd self.old ls memory.old }
     {
         if self.turn_back(memory)? {
             self.slice(memory)
@@ -66,7 +68,7 @@ impl Cpu {
     // gajw
     #[inline]
     pub(crate) fn general_adjust_workspace(&mut self)
-        ensures { (m : List ℕ) → Went self.new m ≡ row op.GeneralAdjustWorkspace self.old m }
+        ensures { (ls : FourLinks) (m : List ℕ) → Gave self.new ls m ≡ row op.GeneralAdjustWorkspace self.old ls m }
     {
         let target = self.a;
         self.a = self.workspace;
@@ -76,7 +78,7 @@ impl Cpu {
     // altend
     #[inline]
     pub(crate) fn alt_end(&mut self, memory: &Memory) -> Result<(), Fault>
-        ensures { plain_outcome result self.new memory.now ≡ row op.AltEnd self.old memory.now }
+        ensures { (ls : FourLinks) → finished result self.new ls memory.now ≡ row op.AltEnd self.old ls memory.now }
     {
         let offset = memory.word(self.workspace)?;
         self.instruction = self.instruction.wrapping_add(offset);

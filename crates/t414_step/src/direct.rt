@@ -1,6 +1,6 @@
 //! The functions of an instruction byte.
 
-ghost use Rattle.std.specs.Prelude.{◌≡◌, List, ℕ};
+ghost use Rattle.std.specs.Prelude.{◌≡◌, List, ℕ, OnErr};
 
 use crate::cpu::Cpu;
 use node_memory::{Fault, Memory, add_checked};
@@ -8,14 +8,18 @@ use node_memory::{Fault, Memory, add_checked};
 #[tactic(auto, unfolding(crate::specs::Rows::direct))]
 impl Cpu {
     ghost use Rattle.t414_decode.specs.declared.instruction.Function.TheVariants as function;
+    ghost use Rattle.node_memory.specs.Bytes.{stored, with_word};
+    ghost use Rattle.node_memory.specs.Words.{◌⊖◌};
     ghost use Rattle.t414_step.specs.Next.{KeepsTurn};
-    ghost use Rattle.t414_step.specs.Outcome.{plain_outcome, Went};
-    ghost use Rattle.t414_step.specs.Rows.{direct, error_if, save, slice};
+    ghost use Rattle.node_memory.specs.Effect.{Gave};
+    ghost use Rattle.t414_step.specs.Answers.{finished};
+    ghost use Rattle.link_channels.specs.declared.link.FourLinks.{FourLinks};
+    ghost use Rattle.t414_step.specs.Rows.{direct, error_if, slice};
 
     // The error flag is set where the test holds.
     #[inline(always)]
     pub(crate) fn raise_if(&mut self, raised: bool) -> Result<(), Fault>
-        ensures answer { (m : List ℕ) → plain_outcome result self.new m ≡ error_if raised self.old m }
+        ensures answer { (ls : FourLinks) (m : List ℕ) → finished result self.new ls m ≡ error_if raised self.old ls m }
         ensures kept { KeepsTurn self.old self.new }
     {
         if raised {
@@ -30,7 +34,8 @@ impl Cpu {
     // Keeps the next instruction below the workspace.
     #[inline(always)]
     pub(crate) fn save(&self, memory: &mut Memory) -> Result<(), Fault>
-        ensures { plain_outcome result self.now memory.new ≡ save self.now memory.old (Went self.now) }
+        ensures saved { stored result memory.new ≡ with_word memory.old (self.now.workspace ⊖ 4) self.now.instruction }
+        ensures unchanged { OnErr result (memory.new ≡ memory.old) }
     {
         memory.set_word(self.workspace.wrapping_sub(4), self.instruction)
     }
@@ -38,7 +43,7 @@ impl Cpu {
     // Goes to the end of the queue where the process has had its bytes.
     #[inline(always)]
     pub(crate) fn slice(&mut self, memory: &mut Memory) -> Result<(), Fault>
-        ensures { plain_outcome result self.new memory.new ≡ slice self.old memory.old }
+        ensures { (ls : FourLinks) → finished result self.new ls memory.new ≡ slice self.old ls memory.old }
     {
         if self.bytes == 1024 {
             self.save(memory)?;
@@ -52,7 +57,7 @@ impl Cpu {
     // j, without the slice
     #[inline(always)]
     pub(crate) fn jump(&mut self, operand: u32)
-        ensures answer { (m : List ℕ) → slice self.new m ≡ direct function.Jump operand self.old m }
+        ensures answer { (ls : FourLinks) (m : List ℕ) → slice self.new ls m ≡ direct function.Jump operand self.old ls m }
         ensures kept { KeepsTurn self.old self.new }
     {
         self.instruction = self.instruction.wrapping_add(operand);
@@ -61,7 +66,7 @@ impl Cpu {
     // ldlp
     #[inline(always)]
     pub(crate) fn load_local_pointer(&mut self, operand: u32)
-        ensures answer { (m : List ℕ) → Went self.new m ≡ direct function.LoadLocalPointer operand self.old m }
+        ensures answer { (ls : FourLinks) (m : List ℕ) → Gave self.new ls m ≡ direct function.LoadLocalPointer operand self.old ls m }
         ensures kept { KeepsTurn self.old self.new }
     {
         self.push(self.local(operand));
@@ -70,7 +75,7 @@ impl Cpu {
     // ldl
     #[inline(always)]
     pub(crate) fn load_local(&mut self, memory: &Memory, operand: u32) -> Result<(), Fault>
-        ensures answer { plain_outcome result self.new memory.now ≡ direct function.LoadLocal operand self.old memory.now }
+        ensures answer { (ls : FourLinks) → finished result self.new ls memory.now ≡ direct function.LoadLocal operand self.old ls memory.now }
         ensures kept { KeepsTurn self.old self.new }
     {
         let word = memory.word(self.local(operand))?;
@@ -81,7 +86,7 @@ impl Cpu {
     // stl
     #[inline(always)]
     pub(crate) fn store_local(&mut self, memory: &mut Memory, operand: u32) -> Result<(), Fault>
-        ensures answer { plain_outcome result self.new memory.new ≡ direct function.StoreLocal operand self.old memory.old }
+        ensures answer { (ls : FourLinks) → finished result self.new ls memory.new ≡ direct function.StoreLocal operand self.old ls memory.old }
         ensures kept { KeepsTurn self.old self.new }
     {
         memory.set_word(self.local(operand), self.a)?;
@@ -92,7 +97,7 @@ impl Cpu {
     // adc
     #[inline(always)]
     pub(crate) fn add_constant(&mut self, operand: u32) -> Result<(), Fault>
-        ensures answer { (m : List ℕ) → plain_outcome result self.new m ≡ direct function.AddConstant operand self.old m }
+        ensures answer { (ls : FourLinks) (m : List ℕ) → finished result self.new ls m ≡ direct function.AddConstant operand self.old ls m }
         ensures kept { KeepsTurn self.old self.new }
     {
         let (sum, overflows) = add_checked(self.a, operand);
@@ -103,7 +108,7 @@ impl Cpu {
     // call
     #[inline(always)]
     pub(crate) fn call(&mut self, memory: &mut Memory, operand: u32) -> Result<(), Fault>
-        ensures answer { plain_outcome result self.new memory.new ≡ direct function.Call operand self.old memory.old }
+        ensures answer { (ls : FourLinks) → finished result self.new ls memory.new ≡ direct function.Call operand self.old ls memory.old }
         ensures kept { KeepsTurn self.old self.new }
     {
         let workspace = self.workspace;
@@ -120,7 +125,7 @@ impl Cpu {
     // cj
     #[inline(always)]
     pub(crate) fn conditional_jump(&mut self, operand: u32)
-        ensures answer { (m : List ℕ) → Went self.new m ≡ direct function.ConditionalJump operand self.old m }
+        ensures answer { (ls : FourLinks) (m : List ℕ) → Gave self.new ls m ≡ direct function.ConditionalJump operand self.old ls m }
         ensures kept { KeepsTurn self.old self.new }
     {
         if self.a == 0 {
@@ -133,7 +138,7 @@ impl Cpu {
     // pfix
     #[inline(always)]
     pub(crate) fn prefix(&mut self, operand: u32)
-        ensures answer { (m : List ℕ) → Went self.new m ≡ direct function.Prefix operand self.old m }
+        ensures answer { (ls : FourLinks) (m : List ℕ) → Gave self.new ls m ≡ direct function.Prefix operand self.old ls m }
         ensures kept { KeepsTurn self.old self.new }
     {
         self.operand = operand << 4;
@@ -142,7 +147,7 @@ impl Cpu {
     // nfix
     #[inline(always)]
     pub(crate) fn negative_prefix(&mut self, operand: u32)
-        ensures answer { (m : List ℕ) → Went self.new m ≡ direct function.NegativePrefix operand self.old m }
+        ensures answer { (ls : FourLinks) (m : List ℕ) → Gave self.new ls m ≡ direct function.NegativePrefix operand self.old ls m }
         ensures kept { KeepsTurn self.old self.new }
     {
         self.operand = !operand << 4;
@@ -151,7 +156,7 @@ impl Cpu {
     // ldnl
     #[inline(always)]
     pub(crate) fn load_non_local(&mut self, memory: &Memory, operand: u32) -> Result<(), Fault>
-        ensures answer { plain_outcome result self.new memory.now ≡ direct function.LoadNonLocal operand self.old memory.now }
+        ensures answer { (ls : FourLinks) → finished result self.new ls memory.now ≡ direct function.LoadNonLocal operand self.old ls memory.now }
         ensures kept { KeepsTurn self.old self.new }
     {
         self.a = memory.word(self.beyond(operand))?;
@@ -161,7 +166,7 @@ impl Cpu {
     // ldc
     #[inline(always)]
     pub(crate) fn load_constant(&mut self, operand: u32)
-        ensures answer { (m : List ℕ) → Went self.new m ≡ direct function.LoadConstant operand self.old m }
+        ensures answer { (ls : FourLinks) (m : List ℕ) → Gave self.new ls m ≡ direct function.LoadConstant operand self.old ls m }
         ensures kept { KeepsTurn self.old self.new }
     {
         self.push(operand);
@@ -170,7 +175,7 @@ impl Cpu {
     // ldnlp
     #[inline(always)]
     pub(crate) fn load_non_local_pointer(&mut self, operand: u32)
-        ensures answer { (m : List ℕ) → Went self.new m ≡ direct function.LoadNonLocalPointer operand self.old m }
+        ensures answer { (ls : FourLinks) (m : List ℕ) → Gave self.new ls m ≡ direct function.LoadNonLocalPointer operand self.old ls m }
         ensures kept { KeepsTurn self.old self.new }
     {
         self.a = self.beyond(operand);
@@ -179,7 +184,7 @@ impl Cpu {
     // ajw
     #[inline(always)]
     pub(crate) fn adjust_workspace(&mut self, operand: u32)
-        ensures answer { (m : List ℕ) → Went self.new m ≡ direct function.AdjustWorkspace operand self.old m }
+        ensures answer { (ls : FourLinks) (m : List ℕ) → Gave self.new ls m ≡ direct function.AdjustWorkspace operand self.old ls m }
         ensures kept { KeepsTurn self.old self.new }
     {
         self.set_workspace(self.local(operand));
@@ -188,7 +193,7 @@ impl Cpu {
     // eqc
     #[inline(always)]
     pub(crate) fn equals_constant(&mut self, operand: u32)
-        ensures answer { (m : List ℕ) → Went self.new m ≡ direct function.EqualsConstant operand self.old m }
+        ensures answer { (ls : FourLinks) (m : List ℕ) → Gave self.new ls m ≡ direct function.EqualsConstant operand self.old ls m }
         ensures kept { KeepsTurn self.old self.new }
     {
         self.a = u32::from(self.a == operand);
@@ -197,7 +202,7 @@ impl Cpu {
     // stnl
     #[inline(always)]
     pub(crate) fn store_non_local(&mut self, memory: &mut Memory, operand: u32) -> Result<(), Fault>
-        ensures answer { plain_outcome result self.new memory.new ≡ direct function.StoreNonLocal operand self.old memory.old }
+        ensures answer { (ls : FourLinks) → finished result self.new ls memory.new ≡ direct function.StoreNonLocal operand self.old ls memory.old }
         ensures kept { KeepsTurn self.old self.new }
     {
         memory.set_word(self.beyond(operand), self.b)?;

@@ -27,14 +27,15 @@ macro_rules! next {
 impl Cpu {
     ghost use Rattle.t414_decode.specs.Codes.{operation_of};
     ghost use Rattle.t414_step.specs.ChannelRows.{channel_row};
-    ghost use Rattle.t414_step.specs.Next.{KeepsTurn, outcome_of};
-    ghost use Rattle.t414_step.specs.Outcome.{plain_outcome, finished, with_links};
+    ghost use Rattle.t414_step.specs.Next.{KeepsTurn, completed};
+    ghost use Rattle.t414_step.specs.Answers.{finished};
+    ghost use Rattle.link_channels.specs.declared.link.FourLinks.{FourLinks};
     ghost use Rattle.t414_step.specs.Rows.{row, operate, direct};
     ghost use Rattle.t414_step.specs.Step.{byte_done};
 
     // One operation on registers and memory.
     fn perform_any(&mut self, memory: &mut Memory, operation: PlainOperation) -> Result<(), Fault>
-        ensures answer { plain_outcome result self.new memory.new ≡ row operation self.old memory.old }
+        ensures answer { (ls : FourLinks) → finished result self.new ls memory.new ≡ row operation self.old ls memory.old }
     {
         match operation {
             PlainOperation::Reverse => done!(self.reverse()),
@@ -115,7 +116,7 @@ impl Cpu {
         memory: &mut Memory,
         operation: PlainOperation,
     ) -> (Cpu, Result<(), Fault>)
-        ensures answer { plain_outcome result.1 result.0 memory.new ≡ row operation self memory.old }
+        ensures answer { (ls : FourLinks) → finished result.1 result.0 ls memory.new ≡ row operation self ls memory.old }
     {
         let done = self.perform_any(memory, operation);
         (self, done)
@@ -124,7 +125,7 @@ impl Cpu {
     // One operation on registers and memory, if it is a frequent one.
     #[inline(always)]
     fn perform(&mut self, memory: &mut Memory, operation: PlainOperation) -> Next
-        ensures answer { outcome_of result self.new memory.new ≡ row operation self.old memory.old }
+        ensures answer { (ls : FourLinks) → completed result self.new ls memory.new ≡ row operation self.old ls memory.old }
         ensures kept { KeepsTurn self.old self.new }
     {
         match operation {
@@ -178,7 +179,7 @@ impl Cpu {
     // The operation of a code.
     #[inline(always)]
     fn operate(&mut self, memory: &mut Memory, code: u32) -> Next
-        ensures answer { outcome_of result self.new memory.new ≡ operate (operation_of code) code self.old memory.old }
+        ensures answer { (ls : FourLinks) → completed result self.new ls memory.new ≡ operate (operation_of code) code self.old ls memory.old }
         ensures kept { KeepsTurn self.old self.new }
     {
         match operation(code) {
@@ -191,7 +192,7 @@ impl Cpu {
     // One function of an operand.
     #[inline(always)]
     fn apply(&mut self, memory: &mut Memory, function: Function, operand: u32) -> Next
-        ensures answer { outcome_of result self.new memory.new ≡ direct function operand self.old memory.old }
+        ensures answer { (ls : FourLinks) → completed result self.new ls memory.new ≡ direct function operand self.old ls memory.old }
         ensures kept { KeepsTurn self.old self.new }
     {
         match function {
@@ -222,7 +223,7 @@ impl Cpu {
     #[inline(always)]
     #[tactic(auto, unfolding(crate::specs::Step::byte_done))]
     pub(crate) fn do_byte(&mut self, memory: &mut Memory) -> Next
-        ensures answer { outcome_of result self.new memory.new ≡ byte_done self.old memory.old }
+        ensures answer { (ls : FourLinks) → completed result self.new ls memory.new ≡ byte_done self.old ls memory.old }
         ensures running { self.new.running ≡ self.old.running }
         ensures counted { self.new.bytes ≡ min (self.old.bytes + 1) 1024 }
     {
@@ -247,7 +248,7 @@ impl Cpu {
         links: &mut Links,
         next: Next,
     ) -> Result<(), Fault>
-        ensures answer { finished result self.new links.new memory.new ≡ with_links links.old (outcome_of next self.old memory.old) }
+        ensures answer { finished result self.new links.new memory.new ≡ completed next self.old links.old memory.old }
     {
         match next {
             Next::Byte => Ok(()),

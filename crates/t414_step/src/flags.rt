@@ -9,13 +9,15 @@ use node_memory::{Fault, signed};
 impl Cpu {
     ghost use Rattle.t414_decode.specs.declared.instruction.PlainOperation.TheVariants as op;
     ghost use Rattle.t414_step.specs.Next.{KeepsTurn};
-    ghost use Rattle.t414_step.specs.Outcome.{plain_outcome, Went};
+    ghost use Rattle.node_memory.specs.Effect.{Gave};
+    ghost use Rattle.t414_step.specs.Answers.{finished};
+    ghost use Rattle.link_channels.specs.declared.link.FourLinks.{FourLinks};
     ghost use Rattle.t414_step.specs.Rows.{row};
 
     // seterr
     #[inline]
     pub(crate) fn set_error(&mut self) -> Result<(), Fault>
-        ensures { (m : List ℕ) → plain_outcome result self.new m ≡ row op.SetError self.old m }
+        ensures { (ls : FourLinks) (m : List ℕ) → finished result self.new ls m ≡ row op.SetError self.old ls m }
     {
         self.raise_if(true)
     }
@@ -23,7 +25,7 @@ impl Cpu {
     // testerr
     #[inline]
     pub(crate) fn test_error(&mut self)
-        ensures { (m : List ℕ) → Went self.new m ≡ row op.TestError self.old m }
+        ensures { (ls : FourLinks) (m : List ℕ) → Gave self.new ls m ≡ row op.TestError self.old ls m }
     {
         self.push(u32::from(!self.error));
         self.error = false;
@@ -32,7 +34,7 @@ impl Cpu {
     // sethalterr
     #[inline]
     pub(crate) fn set_halt_on_error(&mut self)
-        ensures { (m : List ℕ) → Went self.new m ≡ row op.SetHaltOnError self.old m }
+        ensures { (ls : FourLinks) (m : List ℕ) → Gave self.new ls m ≡ row op.SetHaltOnError self.old ls m }
     {
         self.halt_on_error = true;
     }
@@ -40,7 +42,7 @@ impl Cpu {
     // clrhalterr
     #[inline]
     pub(crate) fn clear_halt_on_error(&mut self)
-        ensures { (m : List ℕ) → Went self.new m ≡ row op.ClearHaltOnError self.old m }
+        ensures { (ls : FourLinks) (m : List ℕ) → Gave self.new ls m ≡ row op.ClearHaltOnError self.old ls m }
     {
         self.halt_on_error = false;
     }
@@ -48,7 +50,7 @@ impl Cpu {
     // testhalterr
     #[inline]
     pub(crate) fn test_halt_on_error(&mut self)
-        ensures { (m : List ℕ) → Went self.new m ≡ row op.TestHaltOnError self.old m }
+        ensures { (ls : FourLinks) (m : List ℕ) → Gave self.new ls m ≡ row op.TestHaltOnError self.old ls m }
     {
         self.push(u32::from(self.halt_on_error));
     }
@@ -56,7 +58,7 @@ impl Cpu {
     // testpranal
     #[inline]
     pub(crate) fn test_processor_analysing(&mut self)
-        ensures { (m : List ℕ) → Went self.new m ≡ row op.TestProcessorAnalysing self.old m }
+        ensures { (ls : FourLinks) (m : List ℕ) → Gave self.new ls m ≡ row op.TestProcessorAnalysing self.old ls m }
     {
         self.push(0);
     }
@@ -64,7 +66,7 @@ impl Cpu {
     // csub0
     #[inline(always)]
     pub(crate) fn check_subscript_from_zero(&mut self) -> Result<(), Fault>
-        ensures answer { (m : List ℕ) → plain_outcome result self.new m ≡ row op.CheckSubscriptFromZero self.old m }
+        ensures answer { (ls : FourLinks) (m : List ℕ) → finished result self.new ls m ≡ row op.CheckSubscriptFromZero self.old ls m }
         ensures kept { KeepsTurn self.old self.new }
     {
         let raised = self.a <= self.b;
@@ -75,7 +77,7 @@ impl Cpu {
     // ccnt1
     #[inline]
     pub(crate) fn check_count_from_one(&mut self) -> Result<(), Fault>
-        ensures { (m : List ℕ) → plain_outcome result self.new m ≡ row op.CheckCountFromOne self.old m }
+        ensures { (ls : FourLinks) (m : List ℕ) → finished result self.new ls m ≡ row op.CheckCountFromOne self.old ls m }
     {
         let raised = self.b == 0 || self.a < self.b;
         self.discard();
@@ -85,7 +87,7 @@ impl Cpu {
     // cword
     #[inline]
     pub(crate) fn check_word(&mut self) -> Result<(), Fault>
-        ensures { (m : List ℕ) → plain_outcome result self.new m ≡ row op.CheckWord self.old m }
+        ensures { (ls : FourLinks) (m : List ℕ) → finished result self.new ls m ≡ row op.CheckWord self.old ls m }
     {
         let value = i64::from(signed(self.b));
         let limit = i64::from(signed(self.a));

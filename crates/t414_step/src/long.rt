@@ -19,13 +19,15 @@ fn exact_difference(left: u32, right: u32, borrow: u32) -> i64
 #[tactic(auto, unfolding(crate::specs::Rows::row))]
 impl Cpu {
     ghost use Rattle.t414_decode.specs.declared.instruction.PlainOperation.TheVariants as op;
-    ghost use Rattle.t414_step.specs.Outcome.{plain_outcome, Went};
+    ghost use Rattle.node_memory.specs.Effect.{Gave};
+    ghost use Rattle.t414_step.specs.Answers.{finished};
+    ghost use Rattle.link_channels.specs.declared.link.FourLinks.{FourLinks};
     ghost use Rattle.t414_step.specs.Rows.{row};
 
     // ladd
     #[inline]
     pub(crate) fn long_add(&mut self) -> Result<(), Fault>
-        ensures { (m : List ℕ) → plain_outcome result self.new m ≡ row op.LongAdd self.old m }
+        ensures { (ls : FourLinks) (m : List ℕ) → finished result self.new ls m ≡ row op.LongAdd self.old ls m }
     {
         let carry = self.c % 2;
         let exact = i64::from(signed(self.b)) + i64::from(signed(self.a)) + i64::from(carry);
@@ -36,7 +38,7 @@ impl Cpu {
     // lsub
     #[inline]
     pub(crate) fn long_subtract(&mut self) -> Result<(), Fault>
-        ensures { (m : List ℕ) → plain_outcome result self.new m ≡ row op.LongSubtract self.old m }
+        ensures { (ls : FourLinks) (m : List ℕ) → finished result self.new ls m ≡ row op.LongSubtract self.old ls m }
     {
         let carry = self.c % 2;
         let exact = exact_difference(self.b, self.a, carry);
@@ -47,7 +49,7 @@ impl Cpu {
     // lsum
     #[inline]
     pub(crate) fn long_sum(&mut self)
-        ensures { (m : List ℕ) → Went self.new m ≡ row op.LongSum self.old m }
+        ensures { (ls : FourLinks) (m : List ℕ) → Gave self.new ls m ≡ row op.LongSum self.old ls m }
     {
         let sum = u64::from(self.b) + u64::from(self.a) + u64::from(self.c % 2);
         self.a = low(sum);
@@ -57,7 +59,7 @@ impl Cpu {
     // ldiff
     #[inline]
     pub(crate) fn long_difference(&mut self)
-        ensures { (m : List ℕ) → Went self.new m ≡ row op.LongDifference self.old m }
+        ensures { (ls : FourLinks) (m : List ℕ) → Gave self.new ls m ≡ row op.LongDifference self.old ls m }
     {
         let carry = self.c % 2;
         let borrow = u64::from(self.b) < u64::from(self.a) + u64::from(carry);
@@ -68,7 +70,7 @@ impl Cpu {
     // lmul
     #[inline]
     pub(crate) fn long_multiply(&mut self)
-        ensures { (m : List ℕ) → Went self.new m ≡ row op.LongMultiply self.old m }
+        ensures { (ls : FourLinks) (m : List ℕ) → Gave self.new ls m ≡ row op.LongMultiply self.old ls m }
     {
         let product = u64::from(self.b) * u64::from(self.a) + u64::from(self.c);
         self.a = low(product);
@@ -78,7 +80,7 @@ impl Cpu {
     // ldiv
     #[inline]
     pub(crate) fn long_divide(&mut self) -> Result<(), Fault>
-        ensures { (m : List ℕ) → plain_outcome result self.new m ≡ row op.LongDivide self.old m }
+        ensures { (ls : FourLinks) (m : List ℕ) → finished result self.new ls m ≡ row op.LongDivide self.old ls m }
     {
         if self.a <= self.c {
             self.a = 0;
@@ -95,7 +97,7 @@ impl Cpu {
     // lshl
     #[inline]
     pub(crate) fn long_shift_left(&mut self)
-        ensures { (m : List ℕ) → Went self.new m ≡ row op.LongShiftLeft self.old m }
+        ensures { (ls : FourLinks) (m : List ℕ) → Gave self.new ls m ≡ row op.LongShiftLeft self.old ls m }
     {
         let shifted = shift_left(double(self.c, self.b), self.a);
         self.a = low(shifted);
@@ -105,7 +107,7 @@ impl Cpu {
     // lshr
     #[inline]
     pub(crate) fn long_shift_right(&mut self)
-        ensures { (m : List ℕ) → Went self.new m ≡ row op.LongShiftRight self.old m }
+        ensures { (ls : FourLinks) (m : List ℕ) → Gave self.new ls m ≡ row op.LongShiftRight self.old ls m }
     {
         let shifted = shift_right(double(self.c, self.b), self.a);
         self.a = low(shifted);
@@ -115,7 +117,7 @@ impl Cpu {
     // norm
     #[inline]
     pub(crate) fn normalise(&mut self)
-        ensures { (m : List ℕ) → Went self.new m ≡ row op.Normalise self.old m }
+        ensures { (ls : FourLinks) (m : List ℕ) → Gave self.new ls m ≡ row op.Normalise self.old ls m }
     {
         let long = double(self.b, self.a);
         let places = normal_places(long);
@@ -128,7 +130,7 @@ impl Cpu {
     // xdble
     #[inline]
     pub(crate) fn extend_to_double(&mut self)
-        ensures { (m : List ℕ) → Went self.new m ≡ row op.ExtendToDouble self.old m }
+        ensures { (ls : FourLinks) (m : List ℕ) → Gave self.new ls m ≡ row op.ExtendToDouble self.old ls m }
     {
         self.c = self.b;
         self.b = if self.a < 1 << 31 { 0 } else { u32::MAX };
@@ -137,7 +139,7 @@ impl Cpu {
     // csngl
     #[inline]
     pub(crate) fn check_single(&mut self) -> Result<(), Fault>
-        ensures { (m : List ℕ) → plain_outcome result self.new m ≡ row op.CheckSingle self.old m }
+        ensures { (ls : FourLinks) (m : List ℕ) → finished result self.new ls m ≡ row op.CheckSingle self.old ls m }
     {
         let extension = if self.a < 1 << 31 { 0 } else { u32::MAX };
         let raised = self.b != extension;

@@ -1,8 +1,9 @@
 //! What an instruction byte came to, as far as registers and memory do it.
 
 ghost use Rattle.std.specs.Prelude.{◌≡◌, List, ℕ};
-ghost use Rattle.t414_step.specs.Next.{outcome_of, turned_back};
-ghost use Rattle.t414_step.specs.Outcome.{plain_outcome};
+ghost use Rattle.t414_step.specs.Next.{completed, turned_back};
+ghost use Rattle.t414_step.specs.Answers.{finished};
+ghost use Rattle.link_channels.specs.declared.link.FourLinks.{FourLinks};
 ghost use Rattle.t414_step.specs.declared.cpu.Cpu.{Cpu};
 
 use node_memory::Fault;
@@ -27,7 +28,7 @@ impl Next {
     // What a row of the table came to.
     #[inline(always)]
     pub(crate) fn of(done: Result<(), Fault>) -> Next
-        ensures { (s : Cpu) (m : List ℕ) → outcome_of result s m ≡ plain_outcome done s m }
+        ensures { (s : Cpu) (ls : FourLinks) (m : List ℕ) → completed result s ls m ≡ finished done s ls m }
     {
         match done {
             Ok(()) => Next::Byte,
@@ -38,7 +39,7 @@ impl Next {
     // What lend came to, by whether it went back.
     #[inline(always)]
     pub(crate) fn of_turn(back: Result<bool, Fault>) -> Next
-        ensures { (s : Cpu) (m : List ℕ) → outcome_of result s m ≡ turned_back back s m }
+        ensures { (s : Cpu) (ls : FourLinks) (m : List ℕ) → completed result s ls m ≡ turned_back back s ls m }
     {
         match back {
             Ok(true) => Next::Jumped,

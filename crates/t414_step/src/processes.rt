@@ -10,13 +10,15 @@ use process_queue::NOT_PROCESS;
 #[tactic(auto, unfolding(crate::specs::Rows::row))]
 impl Cpu {
     ghost use Rattle.t414_decode.specs.declared.instruction.PlainOperation.TheVariants as op;
-    ghost use Rattle.t414_step.specs.Outcome.{plain_outcome, Went};
+    ghost use Rattle.node_memory.specs.Effect.{Gave};
+    ghost use Rattle.t414_step.specs.Answers.{finished};
+    ghost use Rattle.link_channels.specs.declared.link.FourLinks.{FourLinks};
     ghost use Rattle.t414_step.specs.Rows.{row, wait, schedule};
 
     // Saves the place of the process, and leaves.
     #[inline]
     pub(crate) fn wait(&mut self, memory: &mut Memory) -> Result<(), Fault>
-        ensures { plain_outcome result self.new memory.new ≡ wait self.old memory.old }
+        ensures { (ls : FourLinks) → finished result self.new ls memory.new ≡ wait self.old ls memory.old }
     {
         self.save(memory)?;
         self.running = false;
@@ -26,7 +28,7 @@ impl Cpu {
     // Puts the process of a descriptor in the queue.
     #[inline]
     pub(crate) fn schedule(&mut self, memory: &mut Memory, descriptor: u32) -> Result<(), Fault>
-        ensures { plain_outcome result self.new memory.new ≡ schedule descriptor self.old memory.old }
+        ensures { (ls : FourLinks) → finished result self.new ls memory.new ≡ schedule descriptor self.old ls memory.old }
     {
         if descriptor % 2 == 0 {
             return Err(Fault::HighPriority);
@@ -37,7 +39,7 @@ impl Cpu {
     // startp
     #[inline]
     pub(crate) fn start_process(&mut self, memory: &mut Memory) -> Result<(), Fault>
-        ensures { plain_outcome result self.new memory.new ≡ row op.StartProcess self.old memory.old }
+        ensures { (ls : FourLinks) → finished result self.new ls memory.new ≡ row op.StartProcess self.old ls memory.old }
     {
         memory.set_word(
             self.a.wrapping_sub(4),
@@ -49,7 +51,7 @@ impl Cpu {
     // endp
     #[inline]
     pub(crate) fn end_process(&mut self, memory: &mut Memory) -> Result<(), Fault>
-        ensures { plain_outcome result self.new memory.new ≡ row op.EndProcess self.old memory.old }
+        ensures { (ls : FourLinks) → finished result self.new ls memory.new ≡ row op.EndProcess self.old ls memory.old }
     {
         let counter = self.a.wrapping_add(4);
         let count = memory.word(counter)?;
@@ -66,7 +68,7 @@ impl Cpu {
     // stopp
     #[inline]
     pub(crate) fn stop_process(&mut self, memory: &mut Memory) -> Result<(), Fault>
-        ensures { plain_outcome result self.new memory.new ≡ row op.StopProcess self.old memory.old }
+        ensures { (ls : FourLinks) → finished result self.new ls memory.new ≡ row op.StopProcess self.old ls memory.old }
     {
         self.wait(memory)
     }
@@ -74,7 +76,7 @@ impl Cpu {
     // runp
     #[inline]
     pub(crate) fn run_process(&mut self, memory: &mut Memory) -> Result<(), Fault>
-        ensures { plain_outcome result self.new memory.new ≡ row op.RunProcess self.old memory.old }
+        ensures { (ls : FourLinks) → finished result self.new ls memory.new ≡ row op.RunProcess self.old ls memory.old }
     {
         self.schedule(memory, self.a)
     }
@@ -82,7 +84,7 @@ impl Cpu {
     // stoperr
     #[inline]
     pub(crate) fn stop_on_error(&mut self, memory: &mut Memory) -> Result<(), Fault>
-        ensures { plain_outcome result self.new memory.new ≡ row op.StopOnError self.old memory.old }
+        ensures { (ls : FourLinks) → finished result self.new ls memory.new ≡ row op.StopOnError self.old ls memory.old }
     {
         if self.error {
             self.wait(memory)
@@ -94,7 +96,7 @@ impl Cpu {
     // ldpri
     #[inline]
     pub(crate) fn load_priority(&mut self)
-        ensures { (m : List ℕ) → Went self.new m ≡ row op.LoadPriority self.old m }
+        ensures { (ls : FourLinks) (m : List ℕ) → Gave self.new ls m ≡ row op.LoadPriority self.old ls m }
     {
         self.push(1);
     }
@@ -102,7 +104,7 @@ impl Cpu {
     // stlb
     #[inline]
     pub(crate) fn store_low_back(&mut self)
-        ensures { (m : List ℕ) → Went self.new m ≡ row op.StoreLowBack self.old m }
+        ensures { (ls : FourLinks) (m : List ℕ) → Gave self.new ls m ≡ row op.StoreLowBack self.old ls m }
     {
         self.queue.back = self.a;
         self.discard();
@@ -111,7 +113,7 @@ impl Cpu {
     // stlf
     #[inline]
     pub(crate) fn store_low_front(&mut self)
-        ensures { (m : List ℕ) → Went self.new m ≡ row op.StoreLowFront self.old m }
+        ensures { (ls : FourLinks) (m : List ℕ) → Gave self.new ls m ≡ row op.StoreLowFront self.old ls m }
     {
         self.queue.front = self.a;
         self.discard();
@@ -120,7 +122,7 @@ impl Cpu {
     // sthf
     #[inline]
     pub(crate) fn store_high_front(&mut self) -> Result<(), Fault>
-        ensures { (m : List ℕ) → plain_outcome result self.new m ≡ row op.StoreHighFront self.old m }
+        ensures { (ls : FourLinks) (m : List ℕ) → finished result self.new ls m ≡ row op.StoreHighFront self.old ls m }
     {
         if self.a != NOT_PROCESS {
             return Err(Fault::HighPriority);
@@ -132,7 +134,7 @@ impl Cpu {
     // sthb
     #[inline]
     pub(crate) fn store_high_back(&mut self) -> Result<(), Fault>
-        ensures { (m : List ℕ) → plain_outcome result self.new m ≡ row op.StoreHighBack self.old m }
+        ensures { (ls : FourLinks) (m : List ℕ) → finished result self.new ls m ≡ row op.StoreHighBack self.old ls m }
     {
         if self.a != NOT_PROCESS {
             return Err(Fault::HighPriority);
@@ -144,7 +146,7 @@ impl Cpu {
     // savel
     #[inline]
     pub(crate) fn save_low(&mut self, memory: &mut Memory) -> Result<(), Fault>
-        ensures { plain_outcome result self.new memory.new ≡ row op.SaveLow self.old memory.old }
+        ensures { (ls : FourLinks) → finished result self.new ls memory.new ≡ row op.SaveLow self.old ls memory.old }
     {
         memory.set_word(self.a, self.queue.front)?;
         memory.set_word(self.a.wrapping_add(4), self.queue.back)?;
@@ -155,7 +157,7 @@ impl Cpu {
     // saveh
     #[inline]
     pub(crate) fn save_high(&mut self, memory: &mut Memory) -> Result<(), Fault>
-        ensures { plain_outcome result self.new memory.new ≡ row op.SaveHigh self.old memory.old }
+        ensures { (ls : FourLinks) → finished result self.new ls memory.new ≡ row op.SaveHigh self.old ls memory.old }
     {
         memory.set_word(self.a, NOT_PROCESS)?;
         memory.set_word(self.a.wrapping_add(4), NOT_PROCESS)?;
@@ -166,7 +168,7 @@ impl Cpu {
     // alt
     #[inline]
     pub(crate) fn alt_start(&mut self, memory: &mut Memory) -> Result<(), Fault>
-        ensures { plain_outcome result self.new memory.new ≡ row op.AltStart self.old memory.old }
+        ensures { (ls : FourLinks) → finished result self.new ls memory.new ≡ row op.AltStart self.old ls memory.old }
     {
         memory.set_word(self.workspace.wrapping_sub(12), ENABLING)
     }
@@ -174,7 +176,7 @@ impl Cpu {
     // altwt
     #[inline]
     pub(crate) fn alt_wait(&mut self, memory: &mut Memory) -> Result<(), Fault>
-        ensures { plain_outcome result self.new memory.new ≡ row op.AltWait self.old memory.old }
+        ensures { (ls : FourLinks) → finished result self.new ls memory.new ≡ row op.AltWait self.old ls memory.old }
     {
         let state = self.workspace.wrapping_sub(12);
         memory.set_word(self.workspace, NONE_SELECTED)?;
@@ -188,7 +190,7 @@ impl Cpu {
     // enbs
     #[inline]
     pub(crate) fn enable_skip(&mut self, memory: &mut Memory) -> Result<(), Fault>
-        ensures { plain_outcome result self.new memory.new ≡ row op.EnableSkip self.old memory.old }
+        ensures { (ls : FourLinks) → finished result self.new ls memory.new ≡ row op.EnableSkip self.old ls memory.old }
     {
         if self.a == 0 {
             return Ok(());
@@ -199,7 +201,7 @@ impl Cpu {
     // diss
     #[inline]
     pub(crate) fn disable_skip(&mut self, memory: &mut Memory) -> Result<(), Fault>
-        ensures { plain_outcome result self.new memory.new ≡ row op.DisableSkip self.old memory.old }
+        ensures { (ls : FourLinks) → finished result self.new ls memory.new ≡ row op.DisableSkip self.old ls memory.old }
     {
         let chosen = self.b != 0 && memory.word(self.workspace)? == NONE_SELECTED;
         if chosen {
@@ -212,7 +214,7 @@ impl Cpu {
     // sttimer
     #[inline]
     pub(crate) fn store_timer(&mut self)
-        ensures { (m : List ℕ) → Went self.new m ≡ row op.StoreTimer self.old m }
+        ensures { (ls : FourLinks) (m : List ℕ) → Gave self.new ls m ≡ row op.StoreTimer self.old ls m }
     {
         self.discard();
     }

@@ -3,9 +3,8 @@
 ghost use Rattle.std.specs.Prelude.{◌≡◌, ◌+◌, ◌<◌, ◌≤◌, Some, true, false, min};
 ghost use Rattle.link_channels.specs.Links.{any_has_work};
 ghost use Rattle.t414_step.specs.Answers.{step_answer_of};
-ghost use Rattle.t414_step.specs.Next.{outcome_of};
-ghost use Rattle.t414_step.specs.Outcome.{with_links};
-ghost use Rattle.t414_step.specs.Step.{byte_answer, step};
+ghost use Rattle.t414_step.specs.Next.{completed};
+ghost use Rattle.t414_step.specs.Step.{stepped, step};
 ghost use Rattle.t414_step.specs.Steps.{nth_step};
 ghost use Rattle.t414_step.specs.declared.stepping.Stepped.TheVariants as code;
 
@@ -32,7 +31,7 @@ impl Cpu {
         requires running { self.old.running ≡ true }
         requires rest { any_has_work links.now ≡ false }
         requires some { 0 < most }
-        ensures answer { nth_step result.0 self.old links.now memory.old ≡ Some (byte_answer (with_links links.now (outcome_of result.1 self.new memory.new))) }
+        ensures answer { nth_step result.0 self.old links.now memory.old ≡ Some (stepped (completed result.1 self.new links.now memory.new)) }
         ensures some { 0 < result.0 }
         ensures most { result.0 ≤ most }
     {

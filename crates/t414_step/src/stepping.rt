@@ -1,9 +1,10 @@
 //! One step of the processor.
 
 ghost use Rattle.std.specs.Prelude.{◌≡◌, Ok, true};
+ghost use Rattle.node_memory.specs.Effect.{effect_of};
 ghost use Rattle.t414_step.specs.Answers.{step_answer_of, is_idle};
 ghost use Rattle.t414_step.specs.Registers.{has_nothing_to_do};
-ghost use Rattle.t414_step.specs.Step.{resuming, resumption, step};
+ghost use Rattle.t414_step.specs.Step.{resumption, step};
 
 use crate::cpu::Cpu;
 use link_channels::{Links, services_act_on_work};
@@ -24,7 +25,7 @@ impl Cpu {
     // Takes a process from the queue; whether there was one.
     #[inline(always)]
     pub(crate) fn resume(&mut self, memory: &Memory) -> Result<bool, Fault>
-        ensures answer { resuming result self.new ≡ resumption self.old memory.now }
+        ensures answer { effect_of result self.new memory.now ≡ resumption self.old memory.now }
         ensures runs { result ≡ Ok true → self.new.running ≡ true }
     {
         let Some(found) = self.queue.take(memory)? else {

@@ -9,13 +9,15 @@ use node_memory::{Fault, Memory};
 impl Cpu {
     ghost use Rattle.t414_decode.specs.declared.instruction.PlainOperation.TheVariants as op;
     ghost use Rattle.t414_step.specs.Next.{KeepsTurn};
-    ghost use Rattle.t414_step.specs.Outcome.{plain_outcome, Went};
+    ghost use Rattle.node_memory.specs.Effect.{Gave};
+    ghost use Rattle.t414_step.specs.Answers.{finished};
+    ghost use Rattle.link_channels.specs.declared.link.FourLinks.{FourLinks};
     ghost use Rattle.t414_step.specs.Rows.{row};
 
     // lb
     #[inline(always)]
     pub(crate) fn load_byte(&mut self, memory: &Memory) -> Result<(), Fault>
-        ensures answer { plain_outcome result self.new memory.now ≡ row op.LoadByte self.old memory.now }
+        ensures answer { (ls : FourLinks) → finished result self.new ls memory.now ≡ row op.LoadByte self.old ls memory.now }
         ensures kept { KeepsTurn self.old self.new }
     {
         self.a = u32::from(memory.byte(self.a)?);
@@ -25,7 +27,7 @@ impl Cpu {
     // sb
     #[inline(always)]
     pub(crate) fn store_byte(&mut self, memory: &mut Memory) -> Result<(), Fault>
-        ensures answer { plain_outcome result self.new memory.new ≡ row op.StoreByte self.old memory.old }
+        ensures answer { (ls : FourLinks) → finished result self.new ls memory.new ≡ row op.StoreByte self.old ls memory.old }
         ensures kept { KeepsTurn self.old self.new }
     {
         memory.set_byte(self.a, (self.b % 0x100) as u8)?;
@@ -36,7 +38,7 @@ impl Cpu {
     // move
     #[inline]
     pub(crate) fn move_message(&mut self, memory: &mut Memory) -> Result<(), Fault>
-        ensures { plain_outcome result self.new memory.new ≡ row op.MoveMessage self.old memory.old }
+        ensures { (ls : FourLinks) → finished result self.new ls memory.new ≡ row op.MoveMessage self.old ls memory.old }
     {
         memory.copy_up(self.c, self.b, self.a)
     }

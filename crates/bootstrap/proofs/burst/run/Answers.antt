@@ -1,6 +1,7 @@
-use Rattle.std.proofs.Common.{◌≡◌, ℕ, suc, ◌+◌, ◌-◌, ◌<◌, true, Option, Some, refl, ◌∙◌, ap, sym, subst, arith, add-one}
+use Rattle.std.proofs.Common.{◌≡◌, ℕ, suc, ◌+◌, ◌-◌, ◌<◌, true, false, Option, Some}
+use Rattle.std.proofs.Common.{refl, ◌∙◌, ap, sym, subst, arith, add-one}
+use Rattle.node_memory.specs.Effect.{Gave, Halted}
 use Rattle.t414_step.specs.Answers.{step_answer_of}
-use Rattle.t414_step.specs.Step.{Ran, Idle, Broke}
 use Rattle.t414_step.specs.Steps.{nth_step}
 use Rattle.t414_step.specs.declared.stepping.Stepped.{Stepped}
 use Rattle.bootstrap.specs.Step.{is_quiet}
@@ -12,7 +13,7 @@ use Rattle.bootstrap.proofs.burst.run.Goals as goal
 pub returns-in-Ran : goal.returns-in-Ran
 returns-in-Ran c =
     let answer : nth_step c.run-steps.result.0 c.args.cpu.now c.args.links.now c.args.memory.now
-    ≡ Some (Ran c.run-steps.new.cpu c.run-steps.new.links c.run-steps.new.memory) =
+    ≡ Some (Gave (true, c.run-steps.new.cpu) c.run-steps.new.links c.run-steps.new.memory) =
     c.run-steps.ensures.answer
     ∙ ap (λ (a : Stepped). Some (step_answer_of a c.run-steps.new.cpu c.run-steps.new.links c.run-steps.new.memory))
     c.in-Ran.is in
@@ -43,7 +44,7 @@ returns-in-Idle c =
     some-idle c.run-steps.result.0 c.run-steps.result.1 c.in-Idle.is c.run-steps.ensures.some in
     let count : (c.run-steps.result.0 - 1) + 1 ≡ c.run-steps.result.0 = omega arith in
     let answer : nth_step (suc (c.run-steps.result.0 - 1)) c.args.cpu.now c.args.links.now c.args.memory.now
-    ≡ Some (Idle c.run-steps.new.cpu c.run-steps.new.links c.run-steps.new.memory) =
+    ≡ Some (Gave (false, c.run-steps.new.cpu) c.run-steps.new.links c.run-steps.new.memory) =
     ap (λ (i : ℕ). nth_step i c.args.cpu.now c.args.links.now c.args.memory.now)
     (sym (add-one (c.run-steps.result.0 - 1)) ∙ count)
     ∙ c.run-steps.ensures.answer
@@ -76,7 +77,7 @@ returns-in-Fault c =
     let some : 0 < c.run-steps.result.0 =
     some-fault c.run-steps.result.0 c.in-Fault.fault c.run-steps.result.1 c.in-Fault.is c.run-steps.ensures.some in
     let answer : nth_step c.run-steps.result.0 c.args.cpu.now c.args.links.now c.args.memory.now
-    ≡ Some (Broke c.in-Fault.fault c.run-steps.new.links c.run-steps.new.memory) =
+    ≡ Some (Halted c.in-Fault.fault c.run-steps.new.links c.run-steps.new.memory) =
     c.run-steps.ensures.answer
     ∙ ap (λ (a : Stepped). Some (step_answer_of a c.run-steps.new.cpu c.run-steps.new.links c.run-steps.new.memory))
     c.in-Fault.is in

@@ -1,6 +1,7 @@
 use Rattle.std.proofs.Common.{◌≡◌, rules, Err}
 use Rattle.node_memory.specs.declared.fault.Fault.TheVariants.{OutsideMemory}
-use Rattle.process_queue.specs.Queue.{after_put, Changed, Kept}
+use Rattle.node_memory.specs.Effect.{Gave, Halted}
+use Rattle.process_queue.specs.Queue.{after_put}
 use Rattle.process_queue.proofs.Lists.{stands-put, put-inside, put-outside}
 use Rattle.process_queue.proofs.queue.Queue.put.Goals as goal
 
@@ -9,7 +10,7 @@ unfolding after_put
 returns-clause-list c = λ ws s p a.
     let q = c.args.self.now in
     let e : after_put q c.args.memory.now c.args.workspace
-    ≡ Changed (record { front = c.if-self.self.front; back = c.args.workspace }) c.if-self.memory =
+    ≡ Gave tt (record { front = c.if-self.self.front; back = c.args.workspace }) c.if-self.memory =
     search rules in
     stands-put c.written_words_are_read.ensures.read c.written_words_are_read.ensures.others ws q _ c.args.memory.now
     c.if-self.memory c.args.workspace e s p a
@@ -19,7 +20,7 @@ unfolding after_put
 returns-clause-outside c =
     let q = c.args.self.now in
     let e : after_put q c.args.memory.now c.args.workspace
-    ≡ Changed (record { front = c.if-self.self.front; back = c.args.workspace }) c.if-self.memory =
+    ≡ Gave tt (record { front = c.if-self.self.front; back = c.args.workspace }) c.if-self.memory =
     search rules in (
       λ h. cc,
       λ h.
@@ -32,7 +33,7 @@ pub returns-in_err-set_word-clause-outside : goal.returns-in_err-set_word-clause
 unfolding after_put
 returns-in_err-set_word-clause-outside c =
     let q = c.args.self.now in
-    let e : after_put q c.args.memory.now c.args.workspace ≡ Kept c.in_err-set_word.field-0.0 q c.args.memory.now =
+    let e : after_put q c.args.memory.now c.args.workspace ≡ Halted c.in_err-set_word.field-0.0 q c.args.memory.now =
     search rules in
     let p =
     put-outside c.written_words_are_read.ensures.faults q q c.args.memory.now c.args.memory.now c.args.workspace _ e in

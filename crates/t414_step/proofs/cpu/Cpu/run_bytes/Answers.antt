@@ -1,7 +1,7 @@
-use Rattle.std.proofs.Common.{◌≡◌, ◌+◌, min, Some, ◌∙◌, ap, sym, arith}
-use Rattle.t414_step.specs.Next.{outcome_of}
-use Rattle.t414_step.specs.Outcome.{Went, with_links}
-use Rattle.t414_step.specs.Step.{Ran, byte_answer}
+use Rattle.std.proofs.Common.{◌≡◌, ◌+◌, min, true, Some, ◌∙◌, ap, sym, arith}
+use Rattle.node_memory.specs.Effect.{Gave}
+use Rattle.t414_step.specs.Next.{completed}
+use Rattle.t414_step.specs.Step.{stepped}
 use Rattle.t414_step.specs.Steps.{nth_step}
 use Rattle.t414_step.specs.declared.cpu.Cpu.{Cpu}
 use Rattle.t414_step.proofs.Steps.{steps-zero, byte-more, unsliced, recounted}
@@ -22,17 +22,21 @@ loop-done-preserved c =
     let old : min c.loop-done.self.bytes 1024 ≡ min (c.args.self.now.bytes + c.loop-done.done) 1024 =
     c.loop-done.invariant.counted in
     let ran : nth_step (c.loop-done.done + 1) c.args.self.now c.args.links.now c.args.memory.now
-    ≡ Some (Ran c.do_byte.new.self c.args.links.now c.do_byte.new.memory) =
+    ≡ Some (Gave (true, c.do_byte.new.self) c.args.links.now c.do_byte.new.memory) =
     elim c.match-do_byte.branch [
       | in-Byte w ↦
           byte-more c.services_act_on_work.ensures.rest c.loop-done.done c.args.self.now c.loop-done.self
-          c.args.links.now c.args.memory.now c.loop-done.memory (Went c.do_byte.new.self c.do_byte.new.memory)
-          c.requires.rest c.loop-done.invariant.ran c.loop-done.invariant.running w.in-Byte.ensures.answer
+          c.args.links.now c.args.memory.now c.loop-done.memory
+          (Gave c.do_byte.new.self c.args.links.now c.do_byte.new.memory)
+          c.requires.rest c.loop-done.invariant.ran c.loop-done.invariant.running
+          (w.in-Byte.ensures.answer c.args.links.now)
       | in-Jumped w ↦
           byte-more c.services_act_on_work.ensures.rest c.loop-done.done c.args.self.now c.loop-done.self
-          c.args.links.now c.args.memory.now c.loop-done.memory (Went c.do_byte.new.self c.do_byte.new.memory)
+          c.args.links.now c.args.memory.now c.loop-done.memory
+          (Gave c.do_byte.new.self c.args.links.now c.do_byte.new.memory)
           c.requires.rest c.loop-done.invariant.ran c.loop-done.invariant.running
-          (sym (unsliced c.do_byte.new.self c.do_byte.new.memory (omega arith)) ∙ w.in-Jumped.ensures.answer)
+          (sym (unsliced c.do_byte.new.self c.args.links.now c.do_byte.new.memory (omega arith))
+          ∙ w.in-Jumped.ensures.answer c.args.links.now)
     ] in
     record {
       ran = ran;
@@ -49,8 +53,7 @@ returns-in_default-clause-answer c =
     let same : c.do_byte.new.self.bytes ≡ c.counted-self.result = omega arith in
     byte-more c.services_act_on_work.ensures.rest c.loop-done.done c.args.self.now c.loop-done.self c.args.links.now
     c.args.memory.now c.loop-done.memory
-    (outcome_of c.do_byte.result c.do_byte.new.self c.do_byte.new.memory) c.requires.rest c.loop-done.invariant.ran
-    c.loop-done.invariant.running c.do_byte.ensures.answer
-    ∙ ap (λ (s : Cpu). Some (byte_answer
-    (with_links c.args.links.now (outcome_of c.do_byte.result s c.do_byte.new.memory))))
+    (completed c.do_byte.result c.do_byte.new.self c.args.links.now c.do_byte.new.memory) c.requires.rest
+    c.loop-done.invariant.ran c.loop-done.invariant.running (c.do_byte.ensures.answer c.args.links.now)
+    ∙ ap (λ (s : Cpu). Some (stepped (completed c.do_byte.result s c.args.links.now c.do_byte.new.memory)))
     (recounted c.do_byte.new.self c.counted-self.result same)
