@@ -14,8 +14,8 @@ use Rattle.domain_core.specs.declared.device.Device.{Device}
 use Rattle.domain_core.specs.declared.event.Moved.{Moved}
 use Rattle.domain_core.specs.declared.event.Moved.TheVariants.{Nothing, Lost, Stayed, Passed}
 use Rattle.domain_core.specs.Devices.{DeviceStates, HasDevice, device_at}
-use Rattle.domain_core.specs.Devices.{packet_waiting, arrived_at_device}
-use Rattle.domain_core.specs.Moves.{driven, are_ready, copies_arrived, outcome, moved_by, sent, moved_from, moved}
+use Rattle.domain_core.specs.Moves.{Joining, driven, are_ready, packet_at, delivered_at, copies_arrived, outcome}
+use Rattle.domain_core.specs.Moves.{moved_by, sent, moved_from, joining_of, moved}
 use Rattle.domain_core.specs.Machine.{has_moved}
 use Rattle.domain_core.specs.MachineValue.{MachineValue, IsOfPart, AreJoined}
 use Rattle.domain_core.specs.Routes.{marked_in}
@@ -131,11 +131,10 @@ must_stay s before mask q xs marked other ready is =
 -- ---- copies
 
 -- a packet that arrives at two lists of outputs arrives at the first and then at the second
-pub copied_append : (part : PartData) (packet : Packet) (xs ys : List ℕ) (d : DeviceStates)
-    → copies_arrived part packet (xs ++ ys) d ≡ copies_arrived part packet ys (copies_arrived part packet xs d)
-copied_append part packet [] ys d = refl
-copied_append part packet (x ∷ xs) ys d =
-    copied_append part packet xs ys (arrived_at_device packet (device_at part x) d)
+pub copied_append : {S D : Type 0} (j : Joining S D) (packet : Packet) (xs ys : List ℕ) (all : S)
+    → copies_arrived j packet (xs ++ ys) all ≡ copies_arrived j packet ys (copies_arrived j packet xs all)
+copied_append j packet [] ys all = refl
+copied_append j packet (x ∷ xs) ys all = copied_append j packet xs ys (delivered_at j packet (j.joined x) all)
 
 -- ---- the device of a port
 
@@ -167,48 +166,48 @@ holds_at v table port device of joined there at =
     held_at v.part v.devices table port device joined (of_part_nodes v of) of.hosts there at
 
 -- a packet that arrives at a driven output's device arrived at the outputs that are marked of it alone
-pub copied_one : (part : PartData) (packet : Packet) (mask q : ℕ) (device : Option Device) (d : DeviceStates)
-    → (bit_at mask q == 1) ≡ true → device_at part q ≡ device
-    → arrived_at_device packet device d ≡ copies_arrived part packet (marked_in mask (q ∷ [])) d
-copied_one part packet mask q device d marked is =
-    ap (λ (x : Option Device). arrived_at_device packet x d) (sym is)
-    ∙ ap (λ (xs : List ℕ). copies_arrived part packet xs d) (sym (one_marked mask q marked))
+pub copied_one : {S D : Type 0} (j : Joining S D) (packet : Packet) (mask q : ℕ) (to : Option D) (all : S)
+    → (bit_at mask q == 1) ≡ true → j.joined q ≡ to
+    → delivered_at j packet to all ≡ copies_arrived j packet (marked_in mask (q ∷ [])) all
+copied_one {D = D} j packet mask q to all marked is =
+    ap (λ (found : Option D). delivered_at j packet found all) (sym is)
+    ∙ ap (λ (xs : List ℕ). copies_arrived j packet xs all) (sym (one_marked mask q marked))
 
 -- a packet that arrived at the marked outputs below i, and then at i if it is marked, arrived at those below i + 1
-pub copied_more : (part : PartData) (packet : Packet) (mask i : ℕ) (d e f : DeviceStates)
-    → e ≡ copies_arrived part packet (marked_in mask (range_with_len 0 i)) d
-    → f ≡ copies_arrived part packet (marked_in mask (i ∷ [])) e
-    → f ≡ copies_arrived part packet (marked_in mask (range_with_len 0 (i + 1))) d
-copied_more part packet mask i d e f before is =
-    is ∙ ap (copies_arrived part packet (marked_in mask (i ∷ []))) before
-    ∙ sym (copied_append part packet (marked_in mask (range_with_len 0 i)) (marked_in mask (i ∷ [])) d)
-    ∙ ap (λ (xs : List ℕ). copies_arrived part packet xs d) (sym (marked_more mask i))
+pub copied_more : {S D : Type 0} (j : Joining S D) (packet : Packet) (mask i : ℕ) (d e f : S)
+    → e ≡ copies_arrived j packet (marked_in mask (range_with_len 0 i)) d
+    → f ≡ copies_arrived j packet (marked_in mask (i ∷ [])) e
+    → f ≡ copies_arrived j packet (marked_in mask (range_with_len 0 (i + 1))) d
+copied_more j packet mask i d e f before is =
+    is ∙ ap (copies_arrived j packet (marked_in mask (i ∷ []))) before
+    ∙ sym (copied_append j packet (marked_in mask (range_with_len 0 i)) (marked_in mask (i ∷ [])) d)
+    ∙ ap (λ (xs : List ℕ). copies_arrived j packet xs d) (sym (marked_more mask i))
 
 -- ---- the whole Move
 
-still_by : (m : Moved) (part : PartData) (device : Device) (packet : Packet) (outputs : List ℕ) (d : DeviceStates)
+still_by : {S D : Type 0} (m : Moved) (j : Joining S D) (from : D) (packet : Packet) (outputs : List ℕ) (all : S)
     → has_moved m ≡ false
-    → moved_by m part device packet outputs d ≡ d
-still_by Nothing part device packet outputs d no_move = refl
-still_by Lost part device packet outputs d no_move = absurd cc
-still_by Stayed part device packet outputs d no_move = refl
-still_by Passed part device packet outputs d no_move = absurd cc
+    → moved_by m j from packet outputs all ≡ all
+still_by Nothing j from packet outputs all no_move = refl
+still_by Lost j from packet outputs all no_move = absurd cc
+still_by Stayed j from packet outputs all no_move = refl
+still_by Passed j from packet outputs all no_move = absurd cc
 
-still_sent : (part : PartData) (s : Switch) (d : DeviceStates) (outputs : List ℕ) (device : Device)
+still_sent : {S D : Type 0} (j : Joining S D) (s : Switch) (all : S) (outputs : List ℕ) (from : D)
     (packet : Option Packet)
-    → has_moved (sent part s d outputs device packet).1 ≡ false
-    → (sent part s d outputs device packet).0 ≡ d
-still_sent part s d outputs device None no_move = refl
-still_sent part s d outputs device (Some packet) no_move =
-    still_by (outcome s outputs) part device packet outputs d no_move
+    → has_moved (sent j s all outputs from packet).1 ≡ false
+    → (sent j s all outputs from packet).0 ≡ all
+still_sent j s all outputs from None no_move = refl
+still_sent j s all outputs from (Some packet) no_move = still_by (outcome s outputs) j from packet outputs all no_move
 
-still_from : (part : PartData) (s : Switch) (d : DeviceStates) (outputs : List ℕ) (device : Option Device)
-    → has_moved (moved_from part s d outputs device).1 ≡ false
-    → (moved_from part s d outputs device).0 ≡ d
-still_from part s d outputs None no_move = refl
-still_from part s d outputs (Some device) no_move = still_sent part s d outputs device (packet_waiting d device) no_move
+still_from : {S D : Type 0} (j : Joining S D) (s : Switch) (all : S) (outputs : List ℕ) (from : Option D)
+    → has_moved (moved_from j s all outputs from).1 ≡ false
+    → (moved_from j s all outputs from).0 ≡ all
+still_from j s all outputs None no_move = refl
+still_from j s all outputs (Some from) no_move = still_sent j s all outputs from (packet_at j all from) no_move
 
 -- a Move that answers Nothing or Stayed changes nothing
 pub still : (part : PartData) (s : Switch) (d : DeviceStates) (port : ℕ) → has_moved (moved part s d port).1 ≡ false
     → (moved part s d port).0 ≡ d
-still part s d port no_move = still_from part s d (driven part s port) (device_at part port) no_move
+still part s d port no_move =
+    still_from (joining_of part) s d (driven (joining_of part) s port) (device_at part port) no_move

@@ -14,7 +14,7 @@ use Rattle.plan_rules.specs.Part.{PartData}
 use Rattle.domain_core.specs.declared.device.Device.{Device}
 use Rattle.domain_core.specs.declared.device.Device.TheVariants.{Host, Link}
 use Rattle.domain_core.specs.Devices.{or_else, host_at_port, is_wired_to, link_of_four, link_at_port, device_at}
-use Rattle.domain_core.specs.Moves.{driven}
+use Rattle.domain_core.specs.Moves.{driven, joining_of}
 
 range-below : (count : ℕ) → All (λ q. q < count) (range_with_len 0 count)
 range-below count k d lt =
@@ -24,10 +24,11 @@ range-below count k d lt =
     omega arith
 
 -- an output that a port drives alone is below the count
-pub driven-below : (part : PartData) (s : Switch) (port output : ℕ) → driven part s port ≡ output ∷ []
+pub driven-below : (part : PartData) (s : Switch) (port output : ℕ)
+    → driven (joining_of part) s port ≡ output ∷ []
     → output < part.count
 driven-below part s port output e =
-    let all : All (λ q. q < part.count) (driven part s port) =
+    let all : All (λ q. q < part.count) (driven (joining_of part) s port) =
     All-filter (drives s port) (λ q. q < part.count) (range_with_len 0 part.count) (range-below part.count) in
     let one : All (λ q. q < part.count) (output ∷ []) = subst (λ (xs : List ℕ). All (λ q. q < part.count) xs) e all in
     one 0 0 (omega arith)

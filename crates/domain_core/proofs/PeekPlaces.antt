@@ -27,7 +27,7 @@ use Rattle.domain_core.specs.Hosts.{opened_host}
 use Rattle.domain_core.specs.Devices.{DeviceStates, device_at, node_at, host_at, with_node, with_host, packet_waiting}
 use Rattle.domain_core.specs.Devices.{taken_from_device, arrived_at_device}
 use Rattle.domain_core.specs.Machine.{Machine, with_devices, acted, is_recorded}
-use Rattle.domain_core.specs.Moves.{driven, moved}
+use Rattle.domain_core.specs.Moves.{driven, joining_of, moved}
 use Rattle.domain_core.specs.PrivateFarm.{State, Call, is_known, is_there, next}
 use Rattle.domain_core.specs.Peek.{PeekRoute, CanPeek, packet_passed, node_ran}
 use Rattle.domain_core.proofs.PeekBounds.{driven-below, node-below}
@@ -62,7 +62,7 @@ host-taken r d h n lt =
     ∙ host-replaced r d h (packet_left h) n
 
 host-arrived : (r : PeekRoute) (d : DeviceStates) (h : HostState) (n : Node) (packet : Packet) → r.host < length d.hosts
-    → arrived_at_device packet (Some (Host r.host)) (placed r d h n) ≡ placed r d (delivered packet h) n
+    → arrived_at_device packet (Host r.host) (placed r d h n) ≡ placed r d (delivered packet h) n
 host-arrived r d h n packet lt =
     ap (λ (g : HostState). with_host r.host (delivered packet g) (placed r d h n)) (host-placed r d h n lt)
     ∙ host-replaced r d h (delivered packet h) n
@@ -82,7 +82,7 @@ node-taken r d h n lt =
     ∙ node-replaced r d h n (packet_sent r.link n)
 
 node-arrived : (r : PeekRoute) (d : DeviceStates) (h : HostState) (n : Node) (packet : Packet) → r.node < length d.nodes
-    → arrived_at_device packet (Some (Link r.node r.link)) (placed r d h n) ≡ placed r d h (packet_got r.link packet n)
+    → arrived_at_device packet (Link r.node r.link) (placed r d h n) ≡ placed r d h (packet_got r.link packet n)
 node-arrived r d h n packet lt =
     ap (λ (m : Node). with_node r.node (packet_got r.link packet m) (placed r d h n)) (node-placed r d h n lt)
     ∙ node-replaced r d h n (packet_got r.link packet n)
@@ -104,8 +104,9 @@ step-recorded part m number n after e f h = rw (e, f, h) refl
 moved-across : (part : PartData) (s : Switch) (d : DeviceStates) (port output : ℕ) (from to : Device) (packet : Packet)
     → device_at part port ≡ Some from
     → device_at part output ≡ Some to
-    → driven part s port ≡ output ∷ [] → set.contains s.ready output ≡ true → packet_waiting d from ≡ Some packet
-    → moved part s d port ≡ (arrived_at_device packet (Some to) (taken_from_device from d), Passed)
+    → driven (joining_of part) s port ≡ output ∷ [] → set.contains s.ready output ≡ true
+    → packet_waiting d from ≡ Some packet
+    → moved part s d port ≡ (arrived_at_device packet to (taken_from_device from d), Passed)
 moved-across part s d port output from to packet e f drives ready waits = rw (e, drives, waits, ready, f) refl
 
 -- ---- states on the way of a peek
@@ -185,7 +186,7 @@ host-moves p count h n packet lt waits =
     (Host p.route.host) link packet p.can.route.host_device p.can.route.link_device
     p.can.switch.there p.can.switch.link_ready
     (ap (λ (g : HostState). next_of g.end.latch) (host-placed p.route d h n p.can.host) ∙ waits)
-    ∙ ap (λ (x : DeviceStates). (arrived_at_device packet (Some link) x, Passed)) (host-taken p.route d h n p.can.host)
+    ∙ ap (λ (x : DeviceStates). (arrived_at_device packet link x, Passed)) (host-taken p.route d h n p.can.host)
     ∙ ap (λ (x : DeviceStates). (x, Passed)) (node-arrived p.route d (packet_left h) n packet p.can.node))
 
 -- the packet that waits at the link goes to the host
@@ -202,6 +203,6 @@ link-moves p count h n packet lt waits =
     (Host p.route.host) packet p.can.route.link_device p.can.route.host_device
     p.can.switch.back p.can.switch.host_ready
     (ap (λ (m : Node). next_of (at p.route.link m.links).end.latch) (node-placed p.route d h n p.can.node) ∙ waits)
-    ∙ ap (λ (x : DeviceStates). (arrived_at_device packet (Some (Host p.route.host)) x, Passed))
+    ∙ ap (λ (x : DeviceStates). (arrived_at_device packet (Host p.route.host) x, Passed))
     (node-taken p.route d h n p.can.node)
     ∙ ap (λ (x : DeviceStates). (x, Passed)) (host-arrived p.route d h (packet_sent p.route.link n) packet p.can.host))

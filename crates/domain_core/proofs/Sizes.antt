@@ -17,8 +17,8 @@ use Rattle.bootstrap.specs.Opening.{opened_node}
 use Rattle.domain_core.specs.declared.device.Device.{Device}
 use Rattle.domain_core.specs.declared.device.Device.TheVariants.{Host, Link}
 use Rattle.domain_core.specs.Devices.{DeviceStates, memories, opened_devices, reopened, node_at, with_node}
-use Rattle.domain_core.specs.Devices.{taken_from_device, arrived_at_device, device_at}
-use Rattle.domain_core.specs.Moves.{copies_arrived}
+use Rattle.domain_core.specs.Devices.{taken_from_device, device_at}
+use Rattle.domain_core.specs.Moves.{delivered_at, copies_arrived, joining_of}
 use Rattle.domain_core.specs.Machine.{Machine}
 
 same_sizes : (nodes : List Node) (i : ℕ) (n d : Node) → length n.memory ≡ length (get_or nodes i d).memory
@@ -49,23 +49,24 @@ pub large_taken : (d : DeviceStates) (device : Device) → AreAsLarge d (taken_f
 large_taken d (Host number) = record { memories = refl; hosts = length-set d.hosts number _ }
 large_taken d (Link number link) = large_with_node d number _ refl
 
-large_arrived : (d : DeviceStates) (packet : Packet) (device : Option Device)
-    → AreAsLarge d (arrived_at_device packet device d)
-large_arrived d packet None = as_large d
-large_arrived d packet (Some (Host number)) = record { memories = refl; hosts = length-set d.hosts number _ }
-large_arrived d packet (Some (Link number link)) = large_with_node d number _ refl
+large_arrived : (part : PartData) (d : DeviceStates) (packet : Packet) (device : Option Device)
+    → AreAsLarge d (delivered_at (joining_of part) packet device d)
+large_arrived part d packet None = as_large d
+large_arrived part d packet (Some (Host number)) = record { memories = refl; hosts = length-set d.hosts number _ }
+large_arrived part d packet (Some (Link number link)) = large_with_node d number _ refl
 
 large_copied : (part : PartData) (packet : Packet) (outputs : List ℕ) (d : DeviceStates)
-    → AreAsLarge d (copies_arrived part packet outputs d)
+    → AreAsLarge d (copies_arrived (joining_of part) packet outputs d)
 large_copied part packet [] d = as_large d
 large_copied part packet (output ∷ outputs) d =
-    then_large d (arrived_at_device packet (device_at part output) d) (copies_arrived part packet (output ∷ outputs) d)
-    (large_arrived d packet (device_at part output))
-    (large_copied part packet outputs (arrived_at_device packet (device_at part output) d))
+    let next = delivered_at (joining_of part) packet (device_at part output) d in
+    then_large d next (copies_arrived (joining_of part) packet outputs next)
+    (large_arrived part d packet (device_at part output))
+    (large_copied part packet outputs next)
 
 -- taking a packet from a device and copying it to outputs leaves all as large
 pub large_gone : (part : PartData) (device : Device) (packet : Packet) (outputs : List ℕ) (d e f : DeviceStates)
-    → e ≡ taken_from_device device d → f ≡ copies_arrived part packet outputs e
+    → e ≡ taken_from_device device d → f ≡ copies_arrived (joining_of part) packet outputs e
     → AreAsLarge d f
 large_gone part device packet outputs d e f one two =
     then_large d e f (subst (AreAsLarge d) (sym one) (large_taken d device))

@@ -87,12 +87,10 @@ abbrev pub taken_from_device : Device → DeviceStates → DeviceStates
 taken_from_device (Host number) d = with_host number (packet_left (host_at d number)) d
 taken_from_device (Link number link) d = with_node number (record (node_at d number) { links = packet_taken link (node_at d number).links }) d
 
--- a packet arrives at a device; at a port without one it is lost
-abbrev pub arrived_at_device : Packet → Option Device → DeviceStates → DeviceStates
-arrived_at_device packet None d = d
-arrived_at_device packet (Some (Host number)) d = with_host number (delivered packet (host_at d number)) d
-arrived_at_device packet (Some (Link number link)) d =
-    with_node number (record (node_at d number) { links = packet_arrived link packet (node_at d number).links }) d
+-- a packet arrives at a device
+abbrev pub arrived_at_device : Packet → Device → DeviceStates → DeviceStates
+arrived_at_device packet (Host number) d = with_host number (delivered packet (host_at d number)) d
+arrived_at_device packet (Link number link) d = with_node number (record (node_at d number) { links = packet_arrived link packet (node_at d number).links }) d
 
 -- the device is one of these
 abbrev pub HasDevice : DeviceStates → Device → Type 0

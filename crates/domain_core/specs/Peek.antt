@@ -23,7 +23,7 @@ use Rattle.domain_core.specs.declared.event.Moved.TheVariants.{Passed}
 use Rattle.domain_core.specs.Hosts.{HostState}
 use Rattle.domain_core.specs.Devices.{device_at, node_at, host_at, with_node, with_host}
 use Rattle.domain_core.specs.Machine.{Machine, with_devices}
-use Rattle.domain_core.specs.Moves.{driven}
+use Rattle.domain_core.specs.Moves.{driven, joining_of}
 use Rattle.domain_core.specs.PrivateFarm.{State, Answer, Call, is_known, answers, after}
 
 -- a host and a link of a node, each with the port that it is joined to
@@ -43,8 +43,8 @@ pub record HasRoute (part : PartData) (r : PeekRoute) : Type 0 where
 
 -- each port drives the other alone, and both outputs are ready
 pub record IsOpen (part : PartData) (s : Switch) (r : PeekRoute) : Type 0 where
-  pub there : driven part s r.host_port ≡ r.link_port ∷ []
-  pub back : driven part s r.link_port ≡ r.host_port ∷ []
+  pub there : driven (joining_of part) s r.host_port ≡ r.link_port ∷ []
+  pub back : driven (joining_of part) s r.link_port ≡ r.host_port ∷ []
   pub host_ready : set.contains s.ready r.host_port ≡ true
   pub link_ready : set.contains s.ready r.link_port ≡ true
 

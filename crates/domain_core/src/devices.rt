@@ -153,7 +153,7 @@ impl Devices {
     /// A packet arrives at a device.
     pub(crate) fn deliver(&mut self, device: Device, packet: Packet)
         requires { HasDevice self.old device }
-        ensures state { self.new ≡ arrived_at_device packet (Some device) self.old }
+        ensures state { self.new ≡ arrived_at_device packet device self.old }
         ensures nodes { length self.new.nodes ≡ length self.old.nodes }
         ensures hosts { length self.new.hosts ≡ length self.old.hosts }
     {

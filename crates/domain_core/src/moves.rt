@@ -5,7 +5,7 @@ ghost use Rattle.std.specs.List.{range_with_len};
 ghost use Rattle.virtual_switch.specs.SwitchValue.{private_of};
 ghost use Rattle.domain_core.specs.Machine.{has_moved};
 ghost use Rattle.domain_core.specs.MachineValue.{AreJoined};
-ghost use Rattle.domain_core.specs.Moves.{outcome, copies_arrived};
+ghost use Rattle.domain_core.specs.Moves.{outcome, copies_arrived, joining_of};
 ghost use Rattle.domain_core.specs.Routes.{marked_in, fate_answer, route_answer};
 
 use crate::device::Device;
@@ -135,7 +135,7 @@ fn copy_at(
     requires joined { AreJoined part.now table.now }
     requires nodes { length devices.old.nodes ≡ length part.now.nodes }
     requires hosts { length devices.old.hosts ≡ length part.now.hosts }
-    ensures state { devices.new ≡ copies_arrived part.now packet (marked_in outputs (output ∷ [])) devices.old }
+    ensures state { devices.new ≡ copies_arrived (joining_of part.now) packet (marked_in outputs (output ∷ [])) devices.old }
     ensures nodes { length devices.new.nodes ≡ length devices.old.nodes }
     ensures hosts { length devices.new.hosts ≡ length devices.old.hosts }
 {
@@ -159,7 +159,7 @@ pub(crate) fn copy_to(
     requires joined { AreJoined part.now table.now }
     requires nodes { length devices.old.nodes ≡ length part.now.nodes }
     requires hosts { length devices.old.hosts ≡ length part.now.hosts }
-    ensures { devices.new ≡ copies_arrived part.now packet (marked_in outputs (range_with_len 0 part.now.count)) devices.old }
+    ensures { devices.new ≡ copies_arrived (joining_of part.now) packet (marked_in outputs (range_with_len 0 part.now.count)) devices.old }
 {
     for output in 0..part.count() {
         copy_at(devices, part, table, outputs, output, packet);

@@ -18,13 +18,13 @@ use Rattle.plan_rules.specs.Part.{PartData}
 use Rattle.domain_core.specs.declared.device.Device.{Device}
 use Rattle.domain_core.specs.declared.event.Moved.{Moved}
 use Rattle.domain_core.specs.declared.event.Moved.TheVariants.{Nothing, Lost, Stayed, Passed}
-use Rattle.domain_core.specs.Devices.{DeviceStates, device_at, packet_waiting, taken_from_device, arrived_at_device}
-use Rattle.domain_core.specs.Moves.{driven, are_ready, copies_arrived, outcome, moved_by, sent, moved_from, moved}
+use Rattle.domain_core.specs.Devices.{DeviceStates, device_at, packet_waiting, taken_from_device}
+use Rattle.domain_core.specs.Moves.{driven, are_ready, delivered_at, copies_arrived, outcome, moved_by, sent}
+use Rattle.domain_core.specs.Moves.{moved_from, joining_of, moved}
 use Rattle.farm_core.specs.Places.{Place, put_at, AreSeparatePlaces, joined_to, device_or}
 use Rattle.farm_core.specs.Places.{device_from, device_in, all_ports}
 use Rattle.farm_core.specs.Messages.{raised}
-use Rattle.farm_core.specs.Packets.{AllDevices, changed_at, driven_in, arrived_in, copied_in, moved_by_in, sent_in}
-use Rattle.farm_core.specs.Packets.{moved_from_in, moved_in}
+use Rattle.farm_core.specs.Packets.{AllDevices, joining_in, moved_in}
 use Rattle.farm_core.specs.Projection.{own_switch, driver_at, ready_at}
 use Rattle.farm_core.specs.Domains.{EachDrivesItself}
 use Rattle.farm_core.proofs.OneOutputSet.{contains_at, at_contained}
@@ -163,7 +163,8 @@ driven-alike laws ports (Some input) w port one at own =
 pub driven_own : SwitchLaws → (plan : List Place) (s : Switch) (domain : ℕ) (place : Place) (w port : ℕ)
     → AreSeparatePlaces plan → EachDrivesItself plan s → slice_get plan domain ≡ Some place
     → slice_get place.ports w ≡ Some port
-    → driven_in plan s port ≡ map (raised place.ports) (driven place.part (own_switch place.ports s) w)
+    → driven (joining_in plan) s port
+    ≡ map (raised place.ports) (driven (joining_of place.part) (own_switch place.ports s) w)
 driven_own laws plan s domain place w port separate own there at =
     let is = separate.each domain place there in
     filter-only (drives s port) plan domain place there (λ e other v output ne here is_output.
@@ -201,7 +202,7 @@ below-filtered p a (suc n) most h =
     ]
 
 -- an input of a part drives outputs of the part alone
-pub driven-below : (part : PartData) (s : Switch) (input : ℕ) → AreBelow part.count (driven part s input)
+pub driven-below : (part : PartData) (s : Switch) (input : ℕ) → AreBelow part.count (driven (joining_of part) s input)
 driven-below part s input = below-filtered (drives s input) 0 part.count part.count (omega arith)
 
 ready_alike : SwitchLaws → (ports : List ℕ) (s : Switch) (outputs : List ℕ) → AreBelow (length ports) outputs
@@ -237,59 +238,53 @@ pub record Changes (domain : ℕ) (old new : AllDevices) (devices : DeviceStates
 pub unchanged : (domain : ℕ) (all : AllDevices) → Changes domain all all (all domain)
 unchanged domain all = record { own = refl; others = λ d ne. refl }
 
-changes_at : (domain : ℕ) (change : DeviceStates → DeviceStates) (all : AllDevices)
-    → Changes domain all (changed_at domain change all) (change (all domain))
-changes_at domain change all =
-    record { own = put-own domain (change (all domain)) all; others = put-other domain (change (all domain)) all }
+changes_at : (domain : ℕ) (devices : DeviceStates) (all : AllDevices)
+    → Changes domain all (put_at domain devices all) devices
+changes_at domain devices all = record { own = put-own domain devices all; others = put-other domain devices all }
 
-arrives_at : (domain : ℕ) (packet : Packet) (device : Option Device) (all : AllDevices)
-    → Changes domain all (arrived_in packet (joined_to domain device) all)
-    (arrived_at_device packet device (all domain))
-arrives_at domain packet None all = unchanged domain all
-arrives_at domain packet (Some device) all = changes_at domain (arrived_at_device packet (Some device)) all
+arrives_at : (plan : List Place) (domain : ℕ) (part : PartData) (packet : Packet) (device : Option Device)
+    (all : AllDevices)
+    → Changes domain all (delivered_at (joining_in plan) packet (joined_to domain device) all)
+    (delivered_at (joining_of part) packet device (all domain))
+arrives_at plan domain part packet None all = unchanged domain all
+arrives_at plan domain part packet (Some device) all = changes_at domain _ all
 
 -- in this plan the devices at these physical ports are those at the domain's virtual ones
 abbrev pub HasDevices : List Place → ℕ → Place → Type 0
 HasDevices plan domain place =
     (v : ℕ) → v < length place.ports → device_in plan (raised place.ports v) ≡ joined_to domain (device_at place.part v)
 
-copies_to : (plan : List Place) (domain : ℕ) (place : Place) (packet : Packet) (outputs : List ℕ) (all : AllDevices)
+copies_to : (plan : List Place) (domain : ℕ) (place : Place) (packet : Packet) (outputs : List ℕ)
+    (old all : AllDevices) (devices : DeviceStates)
     → HasDevices plan domain place
     → AreBelow (length place.ports) outputs
-    → Changes domain all (copied_in plan packet (map (raised place.ports) outputs) all)
-    (copies_arrived place.part packet outputs (all domain))
-copies_to plan domain place packet [] all has below = unchanged domain all
-copies_to plan domain place packet (output ∷ outputs) all has below =
+    → Changes domain old all devices
+    → Changes domain old (copies_arrived (joining_in plan) packet (map (raised place.ports) outputs) all)
+    (copies_arrived (joining_of place.part) packet outputs devices)
+copies_to plan domain place packet [] old all devices has below so_far = so_far
+copies_to plan domain place packet (output ∷ outputs) old all devices has below so_far =
     let device = device_at place.part output in
-    let first = arrives_at domain packet device all in
-    let next = arrived_in packet (joined_to domain device) all in
-    let rest = copies_to plan domain place packet outputs next has below.1 in
-    subst (λ found.
-    Changes domain all (copied_in plan packet (map (raised place.ports) outputs) (arrived_in packet found all))
-    (copies_arrived place.part packet (output ∷ outputs) (all domain)))
-    (sym (has output below.0)) (record {
-      own = rest.own ∙ ap (copies_arrived place.part packet outputs) first.own;
-      others = λ d ne. rest.others d ne ∙ first.others d ne;
-    })
+    let one = arrives_at plan domain place.part packet device all in
+    rw (copies_arrived, has output below.0)
+    (copies_to plan domain place packet outputs old _ _ has below.1 (record {
+      own = one.own ∙ ap (delivered_at (joining_of place.part) packet device) so_far.own;
+      others = λ d ne. one.others d ne ∙ so_far.others d ne;
+    }))
 
 moves_by : (m : Moved) (plan : List Place) (domain : ℕ) (place : Place) (device : Device) (packet : Packet)
     (outputs : List ℕ) (all : AllDevices)
     → HasDevices plan domain place
     → AreBelow (length place.ports) outputs
     → Changes domain all
-    (moved_by_in m plan (record { domain = domain; device = device }) packet (map (raised place.ports) outputs) all)
-    (moved_by m place.part device packet outputs (all domain))
+    (moved_by m (joining_in plan) (record { domain = domain; device = device }) packet
+    (map (raised place.ports) outputs) all)
+    (moved_by m (joining_of place.part) device packet outputs (all domain))
 moves_by Nothing plan domain place device packet outputs all has below = unchanged domain all
-moves_by Lost plan domain place device packet outputs all has below = changes_at domain (taken_from_device device) all
+moves_by Lost plan domain place device packet outputs all has below = changes_at domain _ all
 moves_by Stayed plan domain place device packet outputs all has below = unchanged domain all
 moves_by Passed plan domain place device packet outputs all has below =
-    let first = changes_at domain (taken_from_device device) all in
-    let rest =
-    copies_to plan domain place packet outputs (changed_at domain (taken_from_device device) all) has below in
-    record {
-      own = rest.own ∙ ap (copies_arrived place.part packet outputs) first.own;
-      others = λ d ne. rest.others d ne ∙ first.others d ne;
-    }
+    copies_to plan domain place packet outputs all _ _ has below
+    (changes_at domain (taken_from_device device (all domain)) all)
 
 -- a Move of the domain: the same answer as alone, and nothing but its own devices changed
 pub record MovesAlone (domain : ℕ) (all : AllDevices) (whole : AllDevices × Moved)
@@ -297,41 +292,32 @@ pub record MovesAlone (domain : ℕ) (all : AllDevices) (whole : AllDevices × M
   pub answer : whole.1 ≡ alone.1
   pub devices : Changes domain all whole.0 alone.0
 
-sends : SwitchLaws
-    → (plan : List Place) (s : Switch) (domain : ℕ) (place : Place) (outputs : List ℕ) (device : Device)
-    (packet : Option Packet) (all : AllDevices)
-    → HasDevices plan domain place
-    → AreBelow (length place.ports) outputs
-    → MovesAlone domain all
-    (sent_in plan s all (map (raised place.ports) outputs) (record { domain = domain; device = device }) packet)
-    (sent place.part (own_switch place.ports s) (all domain) outputs device packet)
-sends laws plan s domain place outputs device None all has below =
-    record { answer = refl; devices = unchanged domain all }
-sends laws plan s domain place outputs device (Some packet) all has below =
-    let same = outcome_alike laws place.ports s outputs below in
-    record {
-      answer = same;
-      devices =
-          subst (λ m.
-          Changes domain all
-          (moved_by_in m plan (record { domain = domain; device = device }) packet (map (raised place.ports) outputs)
-          all)
-          (moved_by (outcome (own_switch place.ports s) outputs) place.part device packet outputs (all domain)))
-          (sym same)
-          (moves_by (outcome (own_switch place.ports s) outputs) plan domain place device packet outputs all has below);
-    }
-
 moves_from : SwitchLaws
     → (plan : List Place) (s : Switch) (domain : ℕ) (place : Place) (outputs : List ℕ) (device : Option Device)
     (all : AllDevices)
     → HasDevices plan domain place
     → AreBelow (length place.ports) outputs
-    → MovesAlone domain all (moved_from_in plan s all (map (raised place.ports) outputs) (joined_to domain device))
-    (moved_from place.part (own_switch place.ports s) (all domain) outputs device)
+    → MovesAlone domain all
+    (moved_from (joining_in plan) s all (map (raised place.ports) outputs) (joined_to domain device))
+    (moved_from (joining_of place.part) (own_switch place.ports s) (all domain) outputs device)
 moves_from laws plan s domain place outputs None all has below =
     record { answer = refl; devices = unchanged domain all }
 moves_from laws plan s domain place outputs (Some device) all has below =
-    sends laws plan s domain place outputs device (packet_waiting (all domain) device) all has below
+    sends (packet_waiting (all domain) device)
+  where
+    sends : (packet : Option Packet)
+        → MovesAlone domain all
+        (sent (joining_in plan) s all (map (raised place.ports) outputs) (record { domain = domain; device = device })
+        packet)
+        (sent (joining_of place.part) (own_switch place.ports s) (all domain) outputs device packet)
+    sends None = record { answer = refl; devices = unchanged domain all }
+    sends (Some packet) =
+        rw (outcome_alike laws place.ports s outputs below) (record {
+          answer = refl;
+          devices =
+              moves_by (outcome (own_switch place.ports s) outputs) plan domain place device packet outputs all has
+              below;
+        })
 
 -- a Move of a domain's port has the answer that it has alone, and changes the domain's own devices alone
 pub moves_alone : SwitchLaws
@@ -343,19 +329,16 @@ pub moves_alone : SwitchLaws
     (moved place.part (own_switch place.ports s) (all domain) port)
 moves_alone laws plan s all domain place port separate own there inside =
     let is = separate.each domain place there in
-    let outputs = driven place.part (own_switch place.ports s) port in
     let has : HasDevices plan domain place =
     λ v below.
     device_own laws plan domain place v (raised place.ports v) separate there (port_at place.ports v below) in
+    let outputs = driven (joining_of place.part) (own_switch place.ports s) port in
     let below : AreBelow (length place.ports) outputs =
     subst (λ n. AreBelow n outputs) (sym is.count) (driven-below place.part (own_switch place.ports s) port) in
     let within : port < length place.ports = omega (arith, is.count) in
-    subst (λ driven_outputs.
-    MovesAlone domain all (moved_from_in plan s all driven_outputs (device_in plan (raised place.ports port)))
-    (moved place.part (own_switch place.ports s) (all domain) port))
-    (sym (driven_own laws plan s domain place port (raised place.ports port) separate own there
-    (port_at place.ports port within)))
-    (subst (λ found.
-    MovesAlone domain all (moved_from_in plan s all (map (raised place.ports) outputs) found)
-    (moved place.part (own_switch place.ports s) (all domain) port))
-    (sym (has port within)) (moves_from laws plan s domain place outputs (device_at place.part port) all has below))
+    rw (
+      driven_own laws plan s domain place port (raised place.ports port) separate own there
+          (port_at place.ports port within),
+      has port within,
+    )
+    (moves_from laws plan s domain place outputs (device_at place.part port) all has below)

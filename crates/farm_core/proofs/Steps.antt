@@ -19,7 +19,7 @@ use Rattle.domain_core.specs.declared.event.Refusal.TheVariants.{NoSuch, Journal
 use Rattle.domain_core.specs.Devices.{host_at}
 use Rattle.domain_core.specs.Hosts.{is_full}
 use Rattle.domain_core.specs.Machine.{Machine, acted, is_recorded, has_moved}
-use Rattle.domain_core.specs.PrivateFarm.{State, Call, Answer, is_there, names_own, answered, next}
+use Rattle.domain_core.specs.PrivateFarm.{State, Call, Answer, is_there, names_own, answered, unless_refused, next}
 use Rattle.farm_core.specs.Places.{Place, AreApart, AreSeparatePlaces, IsPlace}
 use Rattle.farm_core.specs.Messages.{configured_by_in}
 use Rattle.farm_core.specs.Whole.{Farm, machine_in, acted_on_own, acted_in, is_recorded_in}
@@ -179,23 +179,28 @@ refused place domain farm whole alone told =
       drives = λ ports beside own. own;
     }
 
-answers-alone : SwitchLaws → (plan : List Place) (farm : Farm) (domain : ℕ) (place : Place) (call : Call)
+steps-by : SwitchLaws → (plan : List Place) (farm : Farm) (domain : ℕ) (place : Place) (call : Call)
     → AreSeparatePlaces plan → EachDrivesItself plan farm.switch
     → slice_get plan domain ≡ Some place
-    → names_own place.part call.by call.event ≡ true
+    → (there full : Bool) → is_there place.part call ≡ there
     → StepsAlone place domain farm
-    (answered_in plan place farm domain call.event, Ok (acted_in plan place farm domain call.event).1) (
+    (unless_refused there full farm
+    (answered_in plan place farm domain call.event, (acted_in plan place farm domain call.event).1))
+    (unless_refused there full (projected place farm domain) (
       answered place.part (projected place farm domain) call.event,
-      Ok (acted place.part (projected place farm domain).machine call.event).1,
-    )
-answers-alone laws plan farm domain place call separate own there named =
-    let a = call-is-private laws plan farm domain place call.by call.event separate own there named in
+      (acted place.part (projected place farm domain).machine call.event).1,
+    ))
+steps-by laws plan farm domain place call separate own at false full is =
+    refused place domain farm (Err NoSuch) _ refl
+steps-by laws plan farm domain place call separate own at true true is =
+    refused place domain farm (Err JournalFull) _ refl
+steps-by laws plan farm domain place call separate own at true false is =
+    let named = (and_parts _ _ is).1 in
+    let a = call-is-private laws plan farm domain place call.by call.event separate own at named in
     let counts =
-    put-own domain
-    (if is_recorded_in plan place farm domain call.event then farm.recorded domain + 1 else farm.recorded domain)
-    farm.recorded
+    put-own domain _ farm.recorded
     ∙ ap (λ t. cond t (farm.recorded domain + 1) (farm.recorded domain))
-    (records laws plan farm domain place call.by call.event separate own there named) in
+    (records laws plan farm domain place call.by call.event separate own at named) in
     record {
       answer = ap (λ (r : Reply). Ok r) a.told;
       state =
@@ -206,10 +211,7 @@ answers-alone laws plan farm domain place call separate own there named =
           };
       others = λ d other ne apart.
           let switch = a.others.apart other.ports apart in
-          let count =
-          put-other domain
-          (if is_recorded_in plan place farm domain call.event then farm.recorded domain + 1 else farm.recorded domain)
-          farm.recorded d ne in
+          let count = put-other domain _ farm.recorded d ne in
           λ i.
           record {
             machine =
@@ -220,29 +222,6 @@ answers-alone laws plan farm domain place call separate own there named =
       drives = a.others.drives;
     }
 
-steps-by : SwitchLaws → (plan : List Place) (farm : Farm) (domain : ℕ) (place : Place) (call : Call)
-    → AreSeparatePlaces plan → EachDrivesItself plan farm.switch
-    → slice_get plan domain ≡ Some place
-    → (named full : Bool) → is_there place.part call ≡ named
-    → StepsAlone place domain farm
-    (if named
-    then (if full then (farm, Err JournalFull)
-    else (answered_in plan place farm domain call.event, Ok (acted_in plan place farm domain call.event).1))
-    else (farm, Err NoSuch))
-    (if named
-    then (if full then (projected place farm domain, Err JournalFull)
-    else (
-      answered place.part (projected place farm domain) call.event,
-      Ok (acted place.part (projected place farm domain).machine call.event).1,
-    ))
-    else (projected place farm domain, Err NoSuch))
-steps-by laws plan farm domain place call separate own there false full is =
-    refused place domain farm (Err NoSuch) _ refl
-steps-by laws plan farm domain place call separate own there true true is =
-    refused place domain farm (Err JournalFull) _ refl
-steps-by laws plan farm domain place call separate own there true false is =
-    answers-alone laws plan farm domain place call separate own there (and_parts _ _ is).1
-
 -- a call in the whole farm answers and leaves of its domain what the domain alone answers and becomes
 pub steps_alone : SwitchLaws → (plan : List Place) (farm : Farm) (domain : ℕ) (place : Place) (call : Call)
     → AreSeparatePlaces plan → EachDrivesItself plan farm.switch
@@ -250,10 +229,7 @@ pub steps_alone : SwitchLaws → (plan : List Place) (farm : Farm) (domain : ℕ
     → StepsAlone place domain farm (whole_next plan farm (domain, call))
     (next place.part (projected place farm domain) call)
 steps_alone laws plan farm domain place call separate own there =
-    subst (λ found.
-    StepsAlone place domain farm (next_in plan farm domain call found)
-    (next place.part (projected place farm domain) call))
-    (sym there)
+    rw there
     (steps-by laws plan farm domain place call separate own there (is_there place.part call)
     (farm.recorded domain == place.part.limit) refl)
 

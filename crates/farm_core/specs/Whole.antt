@@ -1,14 +1,14 @@
 -- The whole farm as one machine: one switch of 32 outputs in physical numbers, all nodes and hosts, and the events of all domains.
-use Rattle.std.specs.Prelude.{ℕ, ◌+◌, ◌==◌, Bool, List, [], ◌∷◌, Option, Some, None, Ok, Err, if◌then◌else◌, slice_get}
+use Rattle.std.specs.Prelude.{ℕ, ◌+◌, ◌==◌, Bool, List, [], ◌∷◌, Option, Some, None, Err, if◌then◌else◌, slice_get}
 use Rattle.crossbar.specs.Switch.{Switch, cleared}
 use Rattle.domain_core.specs.declared.event.Event.{Event}
 use Rattle.domain_core.specs.declared.event.Event.TheVariants.{Config, Move}
 use Rattle.domain_core.specs.declared.event.Reply.{Reply}
 use Rattle.domain_core.specs.declared.event.Reply.TheVariants as reply
-use Rattle.domain_core.specs.declared.event.Refusal.TheVariants.{NoSuch, JournalFull}
+use Rattle.domain_core.specs.declared.event.Refusal.TheVariants.{NoSuch}
 use Rattle.domain_core.specs.Devices.{DeviceStates, opened_devices}
 use Rattle.domain_core.specs.Machine.{Machine, acted, is_recorded, has_moved}
-use Rattle.domain_core.specs.PrivateFarm.{Call, Answer, is_there}
+use Rattle.domain_core.specs.PrivateFarm.{Call, Answer, is_there, unless_refused}
 use Rattle.farm_core.specs.Places.{Place, put_at}
 use Rattle.farm_core.specs.Messages.{raised, configured_in}
 use Rattle.farm_core.specs.Packets.{AllDevices, moved_in}
@@ -55,11 +55,8 @@ answered_in plan place farm domain event = record (acted_in plan place farm doma
 abbrev pub next_in : List Place → Farm → ℕ → Call → Option Place → Farm × Answer
 next_in plan farm domain call None = (farm, Err NoSuch)
 next_in plan farm domain call (Some place) =
-    if is_there place.part call
-    then (if farm.recorded domain == place.part.limit
-    then (farm, Err JournalFull)
-    else (answered_in plan place farm domain call.event, Ok (acted_in plan place farm domain call.event).1))
-    else (farm, Err NoSuch)
+    unless_refused (is_there place.part call) (farm.recorded domain == place.part.limit) farm
+    (answered_in plan place farm domain call.event, (acted_in plan place farm domain call.event).1)
 
 -- the farm after a call of a domain, and the answer in physical numbers
 abbrev pub whole_next : List Place → Farm → ℕ × Call → Farm × Answer
