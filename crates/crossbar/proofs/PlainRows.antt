@@ -14,7 +14,8 @@ use Rattle.crossbar.specs.declared.word.Word.{Word}
 use Rattle.crossbar.specs.declared.range.PortRange.{PortRange}
 use Rattle.crossbar.specs.Switch.{cleared}
 use Rattle.crossbar.specs.Ranges.{IsNumbering, AreRanges, ports_in}
-use Rattle.crossbar.specs.Row.{AreWordsOf, IsWordOf, switch_of, connection_at, input_of, is_ready}
+use Rattle.crossbar.specs.Row.{Row, IsRow, IsWordOf, switch_of, connection_at, input_of, is_ready}
+use Rattle.crossbar.specs.Changed.{row_with}
 use Rattle.crossbar.specs.Plain.{IsPlain, IsPlainRow, words_at}
 use Rattle.crossbar.proofs.Below.{same_switch}
 use Rattle.crossbar.proofs.Switching.{get-switch_of, contains-switch_of}
@@ -23,15 +24,14 @@ use Rattle.crossbar.proofs.Numberings.{at-most-32-ports, numbering_in}
 -- ---- a write
 
 -- a row stays one if a word of these ports is stored in it
-pub set_row : (ports : List ℕ) (words : List Word) (number : ℕ) (word : Word)
-    → AreWordsOf ports words → IsWordOf ports word
-    → AreWordsOf ports (slice_set words number word)
-set_row ports words number word row proper = record {
-  length_is = length-set words number word ∙ row.length_is;
-  few = row.few;
-  below = row.below;
-  one_to_one = row.one_to_one;
-  each = All-set (IsWordOf ports) words number word proper row.each;
+pub set_row : (row : Row) (output : ℕ) (word : Word) → IsRow row → IsWordOf row.ports word
+    → IsRow (row_with row output word)
+set_row row output word is_row proper = record {
+  length_is = length-set row.words output word ∙ is_row.length_is;
+  few = is_row.few;
+  below = is_row.below;
+  one_to_one = is_row.one_to_one;
+  each = All-set (IsWordOf row.ports) row.words output word proper is_row.each;
 }
 
 -- storing a word below the number of ports stores it in the front part, which has as many words as there are ports
@@ -48,8 +48,8 @@ pub plain_set : (ports : List ℕ) (words : List Word) (number at : ℕ) (word :
 plain_set ports words number at word row is inside proper = record {
   room = length-set words at word ∙ row.room;
   row =
-      subst (AreWordsOf ports) (sym (front_set ports words number at word is inside))
-      (set_row ports (take (length ports) words) number word row.row proper);
+      subst (λ (ws : List Word). IsRow (record { ports = ports; words = ws }))
+      (sym (front_set ports words number at word is inside)) (set_row _ number word row.row proper);
 }
 
 -- ---- the words of the ports, one by one

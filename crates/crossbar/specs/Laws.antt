@@ -1,12 +1,13 @@
 -- What holds of every private switch, of the numbers of ports and of rows of words.
-use Rattle.std.specs.Prelude.{◌≡◌, ℕ, ◌<◌, ◌≤◌, ◌&&◌, Bool, true, false, List, length, Option, Some, None, is_some, replicate, slice_get, slice_set, nat_lt, if◌then◌else◌}
+use Rattle.std.specs.Prelude.{◌≡◌, ℕ, ◌<◌, ◌≤◌, ◌&&◌, Bool, true, false, List, length, Option, Some, None, is_some, replicate, slice_get, nat_lt, if◌then◌else◌}
 use Rattle.std.specs.List.{AllZip}
 use Rattle.std.specs.Option.{option_and_then}
 use Rattle.std.specs.FinMap as map
 use Rattle.std.specs.FinSet as set
 use Rattle.crossbar.specs.declared.word.Word.{Word}
 use Rattle.crossbar.specs.Ranges.{IsOneToOne, IsNumbering}
-use Rattle.crossbar.specs.Row.{AreWordsOf, IsWordOf, number_in, switch_of, private_at, lowered, input_of, is_ready, words_after, each_after, ready_of}
+use Rattle.crossbar.specs.Row.{Row, IsRow, IsWordOf, number_in, switch_of, private_switch, lowered, input_of, is_ready}
+use Rattle.crossbar.specs.Changed.{row_with, words_after, each_after, ready_of}
 use Rattle.crossbar.specs.Switch.{Switch, map_below, set_below, connected, disconnected, all_ready, cleared}
 use Rattle.crossbar.specs.Word.{connection_of, CountsChange}
 
@@ -25,11 +26,11 @@ pub record SwitchLaws : Type 0 where
   -- and is found by it
   pub found : (ports : List ℕ) (port v : ℕ) → number_in ports port ≡ Some v → slice_get ports v ≡ Some port
   -- what drives an output is what its word says, by its number
-  pub driver : (ports : List ℕ) (words : List Word) (v : ℕ) (word : Word) → v < length ports → slice_get words v ≡ Some word →
-      map.get (private_at ports words).pairs v ≡ option_and_then (number_in ports) (input_of (connection_of word))
+  pub driver : (row : Row) (v : ℕ) (word : Word) → v < length row.ports → slice_get row.words v ≡ Some word →
+      map.get (private_switch row).pairs v ≡ option_and_then (number_in row.ports) (input_of (connection_of word))
   -- and it is ready if its word says so
-  pub readiness : (ports : List ℕ) (words : List Word) (v : ℕ) (word : Word) → v < length ports → slice_get words v ≡ Some word →
-      set.contains (private_at ports words).ready v ≡ is_ready (connection_of word)
+  pub readiness : (row : Row) (v : ℕ) (word : Word) → v < length row.ports → slice_get row.words v ≡ Some word →
+      set.contains (private_switch row).ready v ≡ is_ready (connection_of word)
 
 -- a switch without pairs has none by any numbers
 abbrev pub ClearedIsPrivate : Type 0
@@ -45,8 +46,7 @@ NumberingsAreFew = (ports : List ℕ) → IsNumbering ports → length ports ≤
 
 -- a row with another proper word is a row
 abbrev pub RowTakesAWord : Type 0
-RowTakesAWord = (ports : List ℕ) (words : List Word) (number : ℕ) (word : Word) → AreWordsOf ports words → IsWordOf ports word →
-    AreWordsOf ports (slice_set words number word)
+RowTakesAWord = (row : Row) (output : ℕ) (word : Word) → IsRow row → IsWordOf row.ports word → IsRow (row_with row output word)
 
 -- words that say nothing are a switch without pairs
 abbrev pub UnusedIsCleared : Type 0

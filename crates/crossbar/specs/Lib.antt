@@ -4,6 +4,7 @@ pub mod Switch
 pub mod Ranges
 pub mod Row
 -- what only helps contracts
+pub mod Changed
 pub mod Kept
 pub mod Laws
 pub mod Numbers

@@ -5,12 +5,7 @@ use Rattle.crossbar.specs.declared.word.Word.{Word}
 use Rattle.crossbar.specs.declared.range.PortRange.{PortRange}
 use Rattle.std.specs.Prelude.{Option}
 use Rattle.crossbar.specs.Ranges.{ports_in, AreRanges}
-use Rattle.crossbar.specs.Row.{AreWordsOf, IsWordOf}
-
--- the physical ports and the words of some outputs
-pub record Row : Type 0 where
-  pub ports : List ℕ
-  pub words : List Word
+use Rattle.crossbar.specs.Row.{Row, IsRow, IsWordOf}
 
 -- the words of these ports, of one word for each port of the crossbar
 abbrev pub words_at : List Word → List ℕ → List Word
@@ -28,4 +23,4 @@ pub record IsPlain (words : List Word) (ranges : List (Option PortRange)) : Type
 -- the first words stand for the ports
 pub record IsPlainRow (ports : List ℕ) (words : List Word) : Type 0 where
   pub room : length words ≡ 32
-  pub row : AreWordsOf ports (take (length ports) words)
+  pub row : IsRow (record { ports = ports; words = take (length ports) words })

@@ -1,13 +1,18 @@
--- The outputs of a domain: their physical ports and their words, in the order of their virtual numbers.
-use Rattle.std.specs.Prelude.{◌≡◌, ℕ, zero, suc, ◌<◌, ◌≤◌, Bool, true, false, List, [], ◌∷◌, length, Option, Some, None, if◌then◌else◌, ◌==◌, slice_get, All, Contains}
+-- The outputs of a part of the switch, as of a domain, by their virtual numbers.
+use Rattle.std.specs.Prelude.{◌≡◌, ℕ, suc, ◌<◌, ◌≤◌, Bool, false, List, [], ◌∷◌, length, Option, Some, None, if◌then◌else◌, ◌==◌, slice_get, All, Contains}
 use Rattle.std.specs.Option.{option_map, option_and_then}
 use Rattle.std.specs.FinMap as map
 use Rattle.std.specs.FinSet as set
 use Rattle.crossbar.specs.declared.word.Word.{Word}
 use Rattle.crossbar.specs.declared.word.Connection.{Connection}
-use Rattle.crossbar.specs.Word.{connection_of, IsProper, word_after}
+use Rattle.crossbar.specs.Word.{connection_of, IsProper}
 use Rattle.crossbar.specs.Switch.{Switch, map_below, set_below}
 use Rattle.crossbar.specs.Ranges.{IsOneToOne}
+
+-- the virtual ports of a part of the switch in their order: the physical port of each, and the word of its output
+pub record Row : Type 0 where
+  pub ports : List ℕ
+  pub words : List Word
 
 -- the virtual number of a physical port
 abbrev pub number_in : List ℕ → ℕ → Option ℕ
@@ -24,13 +29,13 @@ pub record IsWordOf (ports : List ℕ) (word : Word) : Type 0 where
   pub proper : IsProper word
   pub within : InputIsIn ports (connection_of word)
 
--- the words of these ports, in their order
-pub record AreWordsOf (ports : List ℕ) (words : List Word) : Type 0 where
-  pub length_is : length words ≡ length ports
-  pub few : length ports ≤ 32
-  pub below : All (λ port. port < 32) ports
-  pub one_to_one : IsOneToOne ports
-  pub each : All (IsWordOf ports) words
+-- distinct ports of the crossbar, and a word of theirs for each
+pub record IsRow (row : Row) : Type 0 where
+  pub length_is : length row.words ≡ length row.ports
+  pub few : length row.ports ≤ 32
+  pub below : All (λ port. port < 32) row.ports
+  pub one_to_one : IsOneToOne row.ports
+  pub each : All (IsWordOf row.ports) row.words
 
 -- the input of a connection
 abbrev pub input_of : Option Connection → Option ℕ
@@ -59,21 +64,6 @@ lowered ports s = record {
   ready = set_below (length ports) (λ v. set.contains s.ready v);
 }
 
--- the private switch that the words of these ports stand for
-abbrev pub private_at : List ℕ → List Word → Switch
-private_at ports words = lowered ports (switch_of words)
-
--- the words once this is set at an output
-abbrev pub words_after : List Word → ℕ → Option Connection → List Word
-words_after [] output connection = []
-words_after (word ∷ words) zero connection = word_after word connection ∷ words
-words_after (word ∷ words) (suc output) connection = word ∷ words_after words output connection
-
--- a connection made ready
-abbrev pub ready_of : Option Connection → Option Connection
-ready_of connection = option_map (λ c. record { input = c.input; ready = true }) connection
-
--- the words once each connection is changed so
-abbrev pub each_after : (Option Connection → Option Connection) → List Word → List Word
-each_after change [] = []
-each_after change (word ∷ words) = word_after word (change (connection_of word)) ∷ each_after change words
+-- the private switch that a row stands for
+abbrev pub private_switch : Row → Switch
+private_switch row = lowered row.ports (switch_of row.words)

@@ -3,8 +3,9 @@ ghost use Rattle.std.specs.Prelude.{◌≡◌, ◌<◌, ℕ, ◌&&◌, ◌==◌,
 ghost use Rattle.std.specs.Int.{bit_at};
 ghost use Rattle.std.specs.FinMap as pairs;
 ghost use Rattle.std.specs.FinSet as ready;
-ghost use Rattle.crossbar.specs.Kept.{IsKept, IsUntouched, SetsInput};
-ghost use Rattle.crossbar.specs.Row.{AreWordsOf, InputIsIn, switch_of, private_at, words_after, each_after, ready_of, input_of, is_ready};
+ghost use Rattle.crossbar.specs.Kept.{IsKept};
+ghost use Rattle.crossbar.specs.Row.{IsRow, InputIsIn, switch_of, private_switch, input_of, is_ready};
+ghost use Rattle.crossbar.specs.Changed.{row_after, row_connected, row_each, ready_of};
 ghost use Rattle.crossbar.specs.Switch.{connected, both_ways, disconnected, both_freed, all_ready, cleared, drives, names};
 ghost use Rattle.crossbar.specs.Word.{connection_of};
 
@@ -13,11 +14,10 @@ use crate::word::{Connection, Word};
 
 /// Sets what drives an output. The word is written only where it changes.
 fn set<O: Outputs>(outputs: &mut O, output: u8, connection: Option<Connection>)
-    requires output { output < length (O.ports outputs.old) }
-    requires input { InputIsIn (O.ports outputs.old) connection }
-    ensures words { O.words outputs.new ≡ words_after (O.words outputs.old) output connection }
-    ensures ports { O.ports outputs.new ≡ O.ports outputs.old }
-    ensures row { AreWordsOf (O.ports outputs.new) (O.words outputs.new) }
+    requires output { output < length (O.seen outputs.old).ports }
+    requires input { InputIsIn (O.seen outputs.old).ports connection }
+    ensures words { O.seen outputs.new ≡ row_after (O.seen outputs.old) output connection }
+    ensures row { IsRow (O.seen outputs.new) }
 {
     let old = outputs.read(output);
     let new = old.after(connection);
@@ -29,11 +29,11 @@ fn set<O: Outputs>(outputs: &mut O, output: u8, connection: Option<Connection>)
 /// Connects an input to an output, both by their virtual numbers, in place of what drove it. The
 /// output isn't ready. No other output changes (IMS C004 data sheet, configuration message 0).
 pub fn connect<O: Outputs>(outputs: &mut O, input: u8, output: u8)
-    requires input { input < length (O.ports outputs.old) }
-    requires output { output < length (O.ports outputs.old) }
-    ensures words { SetsInput (O.ports outputs.old) (O.words outputs.old) (O.words outputs.new) input output }
-    ensures switch { private_at (O.ports outputs.new) (O.words outputs.new) ≡ connected (private_at (O.ports outputs.old) (O.words outputs.old)) input output }
-    ensures kept { IsKept (O.ports outputs.old) (O.ports outputs.new) (O.words outputs.old) (O.words outputs.new) }
+    requires input { input < length (O.seen outputs.old).ports }
+    requires output { output < length (O.seen outputs.old).ports }
+    ensures words { O.seen outputs.new ≡ row_connected (O.seen outputs.old) input output }
+    ensures switch { private_switch (O.seen outputs.new) ≡ connected (private_switch (O.seen outputs.old)) input output }
+    ensures kept { IsKept (O.seen outputs.old) (O.seen outputs.new) }
 {
     let port = outputs.physical(input);
     set(
@@ -48,10 +48,11 @@ pub fn connect<O: Outputs>(outputs: &mut O, input: u8, output: u8)
 
 /// Connects two links in both directions (IMS C004 data sheet, configuration message 1).
 pub fn connect_both<O: Outputs>(outputs: &mut O, first: u8, second: u8)
-    requires first { first < length (O.ports outputs.old) }
-    requires second { second < length (O.ports outputs.old) }
-    ensures switch { private_at (O.ports outputs.new) (O.words outputs.new) ≡ both_ways (private_at (O.ports outputs.old) (O.words outputs.old)) first second }
-    ensures kept { IsKept (O.ports outputs.old) (O.ports outputs.new) (O.words outputs.old) (O.words outputs.new) }
+    requires first { first < length (O.seen outputs.old).ports }
+    requires second { second < length (O.seen outputs.old).ports }
+    ensures words { O.seen outputs.new ≡ row_connected (row_connected (O.seen outputs.old) first second) second first }
+    ensures switch { private_switch (O.seen outputs.new) ≡ both_ways (private_switch (O.seen outputs.old)) first second }
+    ensures kept { IsKept (O.seen outputs.old) (O.seen outputs.new) }
 {
     connect(outputs, first, second);
     connect(outputs, second, first);
@@ -59,20 +60,21 @@ pub fn connect_both<O: Outputs>(outputs: &mut O, first: u8, second: u8)
 
 /// Disconnects the output, and no other (IMS C004 data sheet, configuration message 5).
 pub fn disconnect<O: Outputs>(outputs: &mut O, output: u8)
-    requires { output < length (O.ports outputs.old) }
-    ensures words { O.words outputs.new ≡ words_after (O.words outputs.old) output None }
-    ensures switch { private_at (O.ports outputs.new) (O.words outputs.new) ≡ disconnected (private_at (O.ports outputs.old) (O.words outputs.old)) output }
-    ensures kept { IsKept (O.ports outputs.old) (O.ports outputs.new) (O.words outputs.old) (O.words outputs.new) }
+    requires { output < length (O.seen outputs.old).ports }
+    ensures words { O.seen outputs.new ≡ row_after (O.seen outputs.old) output None }
+    ensures switch { private_switch (O.seen outputs.new) ≡ disconnected (private_switch (O.seen outputs.old)) output }
+    ensures kept { IsKept (O.seen outputs.old) (O.seen outputs.new) }
 {
     set(outputs, output, None);
 }
 
 /// Disconnects the outputs of two links (IMS C004 data sheet, configuration message 6).
 pub fn disconnect_both<O: Outputs>(outputs: &mut O, first: u8, second: u8)
-    requires first { first < length (O.ports outputs.old) }
-    requires second { second < length (O.ports outputs.old) }
-    ensures switch { private_at (O.ports outputs.new) (O.words outputs.new) ≡ both_freed (private_at (O.ports outputs.old) (O.words outputs.old)) first second }
-    ensures kept { IsKept (O.ports outputs.old) (O.ports outputs.new) (O.words outputs.old) (O.words outputs.new) }
+    requires first { first < length (O.seen outputs.old).ports }
+    requires second { second < length (O.seen outputs.old).ports }
+    ensures words { O.seen outputs.new ≡ row_after (row_after (O.seen outputs.old) first None) second None }
+    ensures switch { private_switch (O.seen outputs.new) ≡ both_freed (private_switch (O.seen outputs.old)) first second }
+    ensures kept { IsKept (O.seen outputs.old) (O.seen outputs.new) }
 {
     disconnect(outputs, first);
     disconnect(outputs, second);
@@ -81,10 +83,11 @@ pub fn disconnect_both<O: Outputs>(outputs: &mut O, first: u8, second: u8)
 /// The virtual input that drives the output, below 32, or `None` (IMS C004 data sheet, configuration
 /// message 2).
 pub fn enquire<O: Outputs>(outputs: &mut O, output: u8) -> Option<u8>
-    requires { output < length (O.ports outputs.old) }
-    ensures input { result ≡ pairs.get (private_at (O.ports outputs.old) (O.words outputs.old)).pairs output }
+    requires { output < length (O.seen outputs.old).ports }
+    ensures input { result ≡ pairs.get (private_switch (O.seen outputs.old)).pairs output }
     ensures below { IfSome result (λ input. input < 32) }
-    ensures unchanged { IsUntouched (O.ports outputs.old) (O.ports outputs.new) (O.words outputs.old) (O.words outputs.new) }
+    ensures unchanged { O.seen outputs.new ≡ O.seen outputs.old }
+    ensures row { IsRow (O.seen outputs.new) }
 {
     let port = driver_of(outputs, output)?;
     outputs.virtual_of(port)
@@ -92,11 +95,10 @@ pub fn enquire<O: Outputs>(outputs: &mut O, output: u8) -> Option<u8>
 
 /// The physical input that drives the output.
 fn driver_of<O: Outputs>(outputs: &mut O, output: u8) -> Option<u8>
-    requires { output < length (O.ports outputs.old) }
-    ensures input { result ≡ pairs.get (switch_of (O.words outputs.old)).pairs output }
-    ensures words { O.words outputs.new ≡ O.words outputs.old }
-    ensures ports { O.ports outputs.new ≡ O.ports outputs.old }
-    ensures row { AreWordsOf (O.ports outputs.new) (O.words outputs.new) }
+    requires { output < length (O.seen outputs.old).ports }
+    ensures input { result ≡ pairs.get (switch_of (O.seen outputs.old).words).pairs output }
+    ensures unchanged { O.seen outputs.new ≡ O.seen outputs.old }
+    ensures row { IsRow (O.seen outputs.new) }
 {
     driver(outputs.read(output))
 }
@@ -111,9 +113,10 @@ fn driver(word: Word) -> Option<u8>
 
 /// Whether the output is ready.
 pub fn is_ready<O: Outputs>(outputs: &mut O, output: u8) -> bool
-    requires { output < length (O.ports outputs.old) }
-    ensures ready { result ≡ ready.contains (private_at (O.ports outputs.old) (O.words outputs.old)).ready output }
-    ensures unchanged { IsUntouched (O.ports outputs.old) (O.ports outputs.new) (O.words outputs.old) (O.words outputs.new) }
+    requires { output < length (O.seen outputs.old).ports }
+    ensures ready { result ≡ ready.contains (private_switch (O.seen outputs.old)).ready output }
+    ensures unchanged { O.seen outputs.new ≡ O.seen outputs.old }
+    ensures row { IsRow (O.seen outputs.new) }
 {
     says_ready(outputs.read(output))
 }
@@ -130,9 +133,9 @@ fn says_ready(word: Word) -> bool
 
 /// Makes each connected output ready (IMS C004 data sheet, configuration message 3).
 pub fn make_ready<O: Outputs>(outputs: &mut O)
-    ensures words { O.words outputs.new ≡ each_after ready_of (O.words outputs.old) }
-    ensures switch { private_at (O.ports outputs.new) (O.words outputs.new) ≡ all_ready (private_at (O.ports outputs.old) (O.words outputs.old)) }
-    ensures kept { IsKept (O.ports outputs.old) (O.ports outputs.new) (O.words outputs.old) (O.words outputs.new) }
+    ensures words { O.seen outputs.new ≡ row_each ready_of (O.seen outputs.old) }
+    ensures switch { private_switch (O.seen outputs.new) ≡ all_ready (private_switch (O.seen outputs.old)) }
+    ensures kept { IsKept (O.seen outputs.old) (O.seen outputs.new) }
 {
     for output in 0..outputs.count() {
         let connection = readied(outputs.read(output));
@@ -153,9 +156,9 @@ fn readied(word: Word) -> Option<Connection>
 
 /// Disconnects all outputs (IMS C004 data sheet, configuration message 4).
 pub fn clear<O: Outputs>(outputs: &mut O)
-    ensures words { O.words outputs.new ≡ each_after (λ connection. None) (O.words outputs.old) }
-    ensures switch { private_at (O.ports outputs.new) (O.words outputs.new) ≡ cleared }
-    ensures kept { IsKept (O.ports outputs.old) (O.ports outputs.new) (O.words outputs.old) (O.words outputs.new) }
+    ensures words { O.seen outputs.new ≡ row_each (λ connection. None) (O.seen outputs.old) }
+    ensures switch { private_switch (O.seen outputs.new) ≡ cleared }
+    ensures kept { IsKept (O.seen outputs.old) (O.seen outputs.new) }
 {
     for output in 0..outputs.count() {
         set(outputs, output, None);
@@ -164,9 +167,10 @@ pub fn clear<O: Outputs>(outputs: &mut O)
 
 /// The outputs that the virtual input drives, as a mask: bit q is output q.
 pub fn driven_by<O: Outputs>(outputs: &mut O, input: u8) -> u32
-    requires { input < length (O.ports outputs.old) }
-    ensures bits { (q : ℕ) → bit_at result q ≡ (if drives (private_at (O.ports outputs.old) (O.words outputs.old)) input q then 1 else 0) }
-    ensures unchanged { IsUntouched (O.ports outputs.old) (O.ports outputs.new) (O.words outputs.old) (O.words outputs.new) }
+    requires { input < length (O.seen outputs.old).ports }
+    ensures bits { (q : ℕ) → bit_at result q ≡ (if drives (private_switch (O.seen outputs.old)) input q then 1 else 0) }
+    ensures unchanged { O.seen outputs.new ≡ O.seen outputs.old }
+    ensures row { IsRow (O.seen outputs.new) }
 {
     let port = outputs.physical(input);
     let mut driven = 0;

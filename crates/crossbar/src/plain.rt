@@ -21,7 +21,8 @@ pub struct PlainOutputs {
 
 impl Model for PlainOutputs {
     ghost use Rattle.std.specs.Prelude.{take, length};
-    ghost use Rattle.crossbar.specs.Plain.{Row, IsPlainRow};
+    ghost use Rattle.crossbar.specs.Plain.{IsPlainRow};
+    ghost use Rattle.crossbar.specs.Row.{Row};
 
     ghost Value = { Row };
 
@@ -71,9 +72,7 @@ impl PlainOutputs {
 }
 
 impl Outputs for PlainOutputs {
-    ghost ports = { λ o. o.ports };
-
-    ghost words = { λ o. o.words };
+    ghost seen = { λ o. o };
 
     fn count(&self) -> u8 {
         self.numbering.count()

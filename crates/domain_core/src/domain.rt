@@ -2,7 +2,8 @@
 ghost use Rattle.std.specs.Prelude.{◌≡◌, ◌≢◌, ◌<◌, ◌+◌, [], None, Some, Ok, Err, length, IfErr, IfOk, IfSome, OnErr, IsTrue, ◌↔◌, slice_get, true, not};
 ghost use Rattle.std.specs.List.{AllZip};
 ghost use Rattle.std.specs.Option.{option_copied};
-ghost use Rattle.crossbar.specs.Row.{switch_of, AreWordsOf, number_in};
+ghost use Rattle.crossbar.specs.Row.{switch_of, IsRow, number_in};
+ghost use Rattle.virtual_switch.specs.SwitchValue.{row_of};
 ghost use Rattle.crossbar.specs.Switch.{cleared};
 ghost use Rattle.crossbar.specs.Word.{CountsChange};
 ghost use Rattle.domain_core.specs.declared.domain.Committed.TheVariants.{Done, Stale};
@@ -68,15 +69,14 @@ impl<O: Outputs + Drop> Domain<O> {
     ///
     /// The outputs are as many as the part's ports, and all are disconnected. `NoMemory` where
     /// memories or queues can't be allocated.
-    // Seven clauses: two of the outputs, and one for each part of the domain.
+    // Six clauses: two of the outputs, and one for each part of the domain.
     pub fn open(alloc: Global, part: Part, outputs: O) -> Result<Domain<O>, NoMemory>
-        requires count { length (O.ports outputs) ≡ part.count }
-        requires cleared { switch_of (O.words outputs) ≡ cleared }
+        requires count { length (O.seen outputs).ports ≡ part.count }
+        requires cleared { switch_of (O.seen outputs).words ≡ cleared }
         ensures state { IfOk result (λ d. state_of d ≡ opening part) }
         ensures journal { IfOk result (λ d. d.journal ≡ []) }
         ensures part { IfOk result (λ d. d.machine.part ≡ part) }
-        ensures ports { IfOk result (λ d. d.machine.switch.ports ≡ O.ports outputs) }
-        ensures words { IfOk result (λ d. d.machine.switch.words ≡ O.words outputs) }
+        ensures row { IfOk result (λ d. row_of d.machine.switch ≡ O.seen outputs) }
     {
         let machine = RunningMachine::open(alloc, part, outputs)?;
         Ok(Domain {
@@ -99,7 +99,7 @@ impl<O: Outputs + Drop> Domain<O> {
     /// The call does nothing: its contract is the law.
     pub fn meant_law(&self)
         ensures journal { IsMeant self.now }
-        ensures row { AreWordsOf self.now.machine.switch.ports self.now.machine.switch.words }
+        ensures row { IsRow (row_of self.now.machine.switch) }
         ensures count { length self.now.machine.switch.ports ≡ self.now.machine.part.count }
         ensures nodes { length self.now.machine.devices.nodes ≡ length self.now.machine.part.nodes }
     {
@@ -199,7 +199,7 @@ impl<O: Outputs + Drop> Domain<O> {
     pub fn word(&mut self, output: u8) -> Word
         requires { output < self.old.machine.part.count }
         ensures word { slice_get self.old.machine.switch.words output ≡ Some result }
-        ensures row { AreWordsOf self.old.machine.switch.ports self.old.machine.switch.words }
+        ensures row { IsRow (row_of self.old.machine.switch) }
         ensures unchanged { self.new ≡ self.old }
     {
         self.machine.word(output)

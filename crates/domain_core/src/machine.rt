@@ -3,10 +3,10 @@ ghost use Rattle.std.specs.Prelude.{◌≡◌, ◌<◌, ◌≤◌, ◌==◌, ◌
 ghost use Rattle.std.specs.Option.{option_copied};
 ghost use Rattle.domain_core.specs.declared.event.Event.{Event as SpecEvent};
 ghost use Rattle.domain_core.specs.Domain.{IsQuiet, PortsAreQuiet};
-ghost use Rattle.crossbar.specs.Row.{switch_of, AreWordsOf, number_in};
+ghost use Rattle.crossbar.specs.Row.{switch_of, IsRow, number_in};
 ghost use Rattle.crossbar.specs.Switch.{cleared};
 ghost use Rattle.virtual_switch.specs.Each.{KeepsPorts};
-ghost use Rattle.virtual_switch.specs.SwitchValue.{private_of};
+ghost use Rattle.virtual_switch.specs.SwitchValue.{private_of, row_of};
 ghost use Rattle.bootstrap.specs.Steps.{IsBurst, after_steps};
 ghost use Rattle.domain_core.specs.Devices.{memories, node_at, with_node};
 ghost use Rattle.domain_core.specs.Moves.{moved};
@@ -61,14 +61,12 @@ impl<O: Outputs> Model for RunningMachine<O> {
 
 impl<O: Outputs + Drop> RunningMachine<O> {
     /// A machine as it is opened.
-    // Six clauses: what outputs may be given, and each part of the machine that is opened.
     pub(crate) fn open(alloc: Global, part: Part, outputs: O) -> Result<RunningMachine<O>, NoMemory>
-        requires count { length (O.ports outputs) ≡ part.count }
-        requires cleared { switch_of (O.words outputs) ≡ cleared }
+        requires count { length (O.seen outputs).ports ≡ part.count }
+        requires cleared { switch_of (O.seen outputs).words ≡ cleared }
         ensures state { IfOk result (λ m. machine_of m ≡ fresh_machine part) }
         ensures part { IfOk result (λ m. m.part ≡ part) }
-        ensures ports { IfOk result (λ m. m.switch.ports ≡ O.ports outputs) }
-        ensures words { IfOk result (λ m. m.switch.words ≡ O.words outputs) }
+        ensures row { IfOk result (λ m. row_of m.switch ≡ O.seen outputs) }
     {
         let devices = Devices::open(alloc, &part)?;
         let table = table_of(&part);
@@ -99,7 +97,7 @@ impl<O: Outputs + Drop> RunningMachine<O> {
 
     /// The words are a row of the ports, which are as many as the part's count, and the nodes are as many as the part's.
     pub(crate) fn of_part_law(&self)
-        ensures row { AreWordsOf self.now.switch.ports self.now.switch.words }
+        ensures row { IsRow (row_of self.now.switch) }
         ensures count { length self.now.switch.ports ≡ self.now.part.count }
         ensures nodes { length self.now.devices.nodes ≡ length self.now.part.nodes }
     {
@@ -230,7 +228,7 @@ impl<O: Outputs + Drop> RunningMachine<O> {
     pub(crate) fn word(&mut self, output: u8) -> Word
         requires { output < self.old.part.count }
         ensures word { slice_get self.old.switch.words output ≡ Some result }
-        ensures row { AreWordsOf self.old.switch.ports self.old.switch.words }
+        ensures row { IsRow (row_of self.old.switch) }
         ensures unchanged { self.new ≡ self.old }
     {
         self.switch.word(output)

@@ -8,7 +8,11 @@ use Rattle.std.proofs.lemmas.List.Elements.{All-append}
 use Rattle.std.proofs.lemmas.Option.{get_or_from_slice_get}
 use mathlib.Core.Logic.{dite}
 use Rattle.switch_table.specs.declared.view.View.{View}
-use Rattle.switch_table.specs.Rule.{StoresAlone, bits_of, with_view_word}
+use Rattle.switch_table.specs.Rule.{StoresAlone, with_view_word}
+
+-- the bits that a view has of these ports
+abbrev pub bits_of : View → List ℕ → List ℕ
+bits_of v ports = map (slice_index v.words) ports
 
 module _ (view : View) (ports : List ℕ) (v i : ℕ) (there : v < length ports) (is : i ≡ slice_index ports v) where
   -- the port of a virtual number is among the domain's

@@ -1,7 +1,7 @@
 -- The words of a seat's outputs are a row of its domain's ports, for
 -- `take_first_domain` and for the contracts of `Outputs` that a seat meets.
 use Rattle.std.proofs.Common.{◌≡◌, ℕ, zero, suc, ◌<◌, List, [], ◌∷◌, map, take, replicate, length, set, Some, slice_get}
-use Rattle.std.proofs.Common.{slice_set, slice_index, All, Contains, get_or, refl, sym, ap, ◌∙◌, subst, arith}
+use Rattle.std.proofs.Common.{slice_index, All, Contains, get_or, refl, sym, ap, ◌∙◌, subst, arith}
 use Rattle.std.proofs.lemmas.Option.{none-some, same_Some, slice_get-get_or}
 use Rattle.std.proofs.lemmas.Option.{slice_get-map, get_or_from_slice_get, slice_get_within}
 use Rattle.std.specs.Option.{option_map}
@@ -9,32 +9,34 @@ use Rattle.std.proofs.lemmas.List.{length-set}
 use Rattle.std.proofs.lemmas.List.Elements.{All-replicate}
 use Rattle.atomic_table.specs.Seated.{TableId}
 use Rattle.atomic_table.specs.Table.{Me}
-use Rattle.crossbar.specs.declared.word.Word.{Word}
 use Rattle.crossbar.specs.Ranges.{IsNumbering}
-use Rattle.crossbar.specs.Row.{AreWordsOf, IsWordOf, switch_of}
+use Rattle.crossbar.specs.Row.{Row, IsRow, IsWordOf, switch_of}
+use Rattle.crossbar.specs.Changed.{row_with}
 use Rattle.crossbar.specs.Switch.{cleared}
 use Rattle.crossbar.specs.Laws.{NumberingsAreFew, RowTakesAWord, UnusedIsCleared}
 use Rattle.switch_table.specs.declared.view.View.{View}
-use Rattle.switch_table.specs.Rule.{word_of, bits_of, words_of, with_view_word, StoresAlone}
+use Rattle.switch_table.specs.Rule.{word_of, view_row, with_view_word, StoresAlone}
 use Rattle.switch_table.specs.SeatStates.{SeatState, IsSeated}
-use Rattle.switch_table.specs.Seats.{clear_words, seat_words}
-use Rattle.switch_table.proofs.Ports.{bits_of-clear, port_set, port_held, port_own}
+use Rattle.switch_table.specs.Seats.{clear_row, seat_row}
+use Rattle.switch_table.proofs.Ports.{bits_of, bits_of-clear, port_set, port_held, port_own}
 
 map-replicate : (n : ℕ) → map word_of (replicate n 0) ≡ replicate n (word_of 0)
 map-replicate zero = refl
 map-replicate (suc n) = ap (λ ws. word_of 0 ∷ ws) (map-replicate n)
 
 -- a view that has seen 0 everywhere has a clear word for each port
-pub clear_row : (view : View) (ports : List ℕ) → view.words ≡ replicate 32 0 → words_of view ports ≡ clear_words ports
-clear_row view ports clear =
+pub clear_view : (view : View) (ports : List ℕ) → view.words ≡ replicate 32 0 → view_row view ports ≡ clear_row ports
+clear_view view ports clear =
+    let words =
     ap (λ (ws : List ℕ). map word_of (map (slice_index ws) ports)) clear ∙ ap (map word_of) (bits_of-clear 32 ports)
-    ∙ map-replicate (length ports)
+    ∙ map-replicate (length ports) in
+    λ i. record { ports = ports; words = words i }
 
 length-clear : (n : ℕ) → length (replicate n (word_of 0)) ≡ n
 length-clear zero = refl
 length-clear (suc n) = ap suc (length-clear n)
 
-unused_row : NumberingsAreFew → (ports : List ℕ) → IsNumbering ports → AreWordsOf ports (clear_words ports)
+unused_row : NumberingsAreFew → (ports : List ℕ) → IsNumbering ports → IsRow (clear_row ports)
 unused_row few ports h = record {
   length_is = length-clear (length ports);
   few = few ports h;
@@ -59,7 +61,7 @@ dealt few shared_words seat view me ports here wide clear next numbering is no_s
   holds_its_domain = ap (λ (v : View). v.held) is ∙ first_held view.held ports next;
   takes_no_slot = no_slot;
   row =
-      subst (AreWordsOf ports) (sym (clear_row me.0 ports (ap (λ (v : View). v.words) is ∙ clear)))
+      subst IsRow (sym (clear_view me.0 ports (ap (λ (v : View). v.words) is ∙ clear)))
       (unused_row few ports numbering);
 }
 
@@ -74,25 +76,27 @@ at_index ports number port is = sym (get_or_from_slice_get ports number port 0 i
 
 -- the word of a number is the view's word of its port
 pub word_at : (view : View) (ports : List ℕ) (number port : ℕ) → slice_get ports number ≡ Some port
-    → slice_get (words_of view ports) number ≡ Some (word_of (slice_index view.words port))
+    → slice_get (view_row view ports).words number ≡ Some (word_of (slice_index view.words port))
 word_at view ports number port is =
     slice_get-map word_of (bits_of view ports) number
     ∙ ap (λ o. option_map word_of o)
     (slice_get-map (slice_index view.words) ports number ∙ ap (λ o. option_map (slice_index view.words) o) is)
 
 -- a store at the port changes the word of its number alone
-pub words_set : (view : View) (ports : List ℕ) (number port bits : ℕ)
-    → AreWordsOf ports (words_of view ports) → length view.words ≡ 32 → port < 32
+pub row_set : (view : View) (ports : List ℕ) (number port bits : ℕ)
+    → IsRow (view_row view ports) → length view.words ≡ 32 → port < 32
     → slice_get ports number ≡ Some port
-    → words_of (with_view_word view port bits) ports ≡ slice_set (words_of view ports) number (word_of bits)
-words_set view ports number port bits row wide low is =
+    → view_row (with_view_word view port bits) ports ≡ row_with (view_row view ports) number (word_of bits)
+row_set view ports number port bits row wide low is =
+    let words =
     ap (map word_of)
     (port_set view ports number port (slice_get_within ports number port is) (at_index ports number port is) bits
     (omega arith)
     (λ u h same.
     row.one_to_one u number port
     (slice_get-get_or ports u 0 h ∙ ap (λ (p : ℕ). Some p) (same ∙ sym (at_index ports number port is))) is))
-    ∙ map-set (bits_of view ports) number bits
+    ∙ map-set (bits_of view ports) number bits in
+    λ i. record { ports = ports; words = words i }
 
 -- a seat that stored a word of its domain at one of its outputs is still the seat of that domain
 pub written_seat : RowTakesAWord
@@ -108,18 +112,16 @@ written_seat set_row shared_words seat next me now ports number port bits s prop
   holds_its_domain = ap (λ (m : Me (Unit {0}) View). m.0.held) then ∙ s.holds_its_domain;
   takes_no_slot = ap (λ (m : Me (Unit {0}) View). m.1) then ∙ s.takes_no_slot;
   row =
-      subst (λ (m : Me (Unit {0}) View). AreWordsOf ports (words_of m.0 ports)) (sym then)
-      (subst (AreWordsOf ports) (sym (words_set me.0 ports number port bits s.row s.view_wide low is))
-      (set_row ports (words_of me.0 ports) number (word_of bits) s.row proper));
+      subst (λ (m : Me (Unit {0}) View). IsRow (view_row m.0 ports)) (sym then)
+      (subst IsRow (sym (row_set me.0 ports number port bits s.row s.view_wide low is))
+      (set_row (view_row me.0 ports) number (word_of bits) s.row proper));
 }
 
 -- the port of a number lies below 32
-pub port_low : (ports : List ℕ) (words : List Word) (number port : ℕ)
-    → AreWordsOf ports words → slice_get ports number ≡ Some port
-    → port < 32
-port_low ports words number port row is =
-    subst (λ (p : ℕ). p < 32) (get_or_from_slice_get ports number port port is)
-    (row.below number port (slice_get_within ports number port is))
+pub port_low : (row : Row) (number port : ℕ) → IsRow row → slice_get row.ports number ≡ Some port → port < 32
+port_low row number port is_row is =
+    subst (λ (p : ℕ). p < 32) (get_or_from_slice_get row.ports number port port is)
+    (is_row.below number port (slice_get_within row.ports number port is))
 
 -- the port of a number is one at which the seat alone stores
 pub port_mine : (view : View) (ports : List ℕ) (number port : ℕ)
@@ -142,14 +144,15 @@ first_of view ports held = ap (λ (ds : List (List ℕ)). slice_get ds 0) held
 pub found_word : (view : View) (ports : List ℕ) (number port at found : ℕ) (seen : SeatState) (s : SeatState)
     → s ≡ seen → s.view ≡ view → s.ports ≡ ports → slice_get ports number ≡ Some port → at ≡ port
     → found ≡ slice_index view.words at
-    → slice_get (seat_words seen) number ≡ Some (word_of found)
+    → slice_get (seat_row seen).words number ≡ Some (word_of found)
 found_word view ports number port at found seen s same view_is ports_is is at_is found_is =
-    ap (λ (t : SeatState). slice_get (seat_words t) number) (sym same)
-    ∙ ap (λ (p : View × List ℕ). slice_get (words_of p.0 p.1) number) (λ i. (view_is i, ports_is i))
+    ap (λ (t : SeatState). slice_get (seat_row t).words number) (sym same)
+    ∙ ap (λ (p : View × List ℕ). slice_get (view_row p.0 p.1).words number) (λ i. (view_is i, ports_is i))
     ∙ word_at view ports number port is
     ∙ ap (λ (w : ℕ). Some (word_of w)) (ap (slice_index view.words) (sym at_is) ∙ sym found_is)
 
 -- seats whose words are clear say the cleared switch
-pub cleared_seats : UnusedIsCleared → (seats : List SeatState) → All (λ s. seat_words s ≡ clear_words s.ports) seats
-    → All (λ s. switch_of (seat_words s) ≡ cleared) seats
-cleared_seats unused seats clear k d inside = ap switch_of (clear k d inside) ∙ unused (length (get_or seats k d).ports)
+pub cleared_seats : UnusedIsCleared → (seats : List SeatState) → All (λ s. seat_row s ≡ clear_row s.ports) seats
+    → All (λ s. switch_of (seat_row s).words ≡ cleared) seats
+cleared_seats unused seats clear k d inside =
+    ap (λ (r : Row). switch_of r.words) (clear k d inside) ∙ unused (length (get_or seats k d).ports)

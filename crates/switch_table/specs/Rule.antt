@@ -4,7 +4,7 @@ use mathlib.Core.Option.{some}
 use lib.ListN.{get_elem?}
 use Rattle.atomic_table.specs.Table.{State, Me, Step}
 use Rattle.crossbar.specs.declared.word.Word.{Word}
-use Rattle.crossbar.specs.Row.{IsWordOf}
+use Rattle.crossbar.specs.Row.{Row, IsWordOf}
 use Rattle.crossbar.specs.Word.{IsAtLeastAsNew}
 use Rattle.switch_table.specs.Domains.{AreDisjoint}
 use Rattle.switch_table.specs.declared.view.View.{View}
@@ -63,13 +63,9 @@ view_after_first view = record view { held = drop 1 view.held }
 abbrev pub with_view_word : View → ℕ → ℕ → View
 with_view_word v i w = record v { words = slice_set v.words i w }
 
--- the words that a view has of these ports
-abbrev pub bits_of : View → List ℕ → List ℕ
-bits_of v ports = map (slice_index v.words) ports
-
--- the words that a view has of these ports
-abbrev pub words_of : View → List ℕ → List Word
-words_of v ports = map word_of (bits_of v ports)
+-- the row of these ports, with the words that a view has of them
+abbrev pub view_row : View → List ℕ → Row
+view_row v ports = record { ports = ports; words = map word_of (map (slice_index v.words) ports) }
 
 -- a domain's seat loads its own output: the word is the view's, and no view changes
 abbrev pub Read : {S : Type 0} → Step S → Me S View → ℕ → Me S View → Type 0

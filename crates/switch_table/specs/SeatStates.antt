@@ -2,8 +2,8 @@
 use Rattle.std.specs.Prelude.{◌≡◌, ℕ, List, [], ◌∷◌, length}
 use Rattle.atomic_table.specs.Seated.{TableId}
 use Rattle.atomic_table.specs.Table.{Me}
-use Rattle.crossbar.specs.Row.{AreWordsOf}
-use Rattle.switch_table.specs.Rule.{words_of}
+use Rattle.crossbar.specs.Row.{IsRow}
+use Rattle.switch_table.specs.Rule.{view_row}
 use Rattle.switch_table.specs.declared.view.View.{View}
 
 -- its table, what it knows of it, and its domain's ports in the order of their virtual numbers
@@ -19,4 +19,4 @@ pub record IsSeated (shared_words seat : TableId) (me : Me (Unit {0}) View) (por
   pub view_wide : length me.0.words ≡ 32
   pub holds_its_domain : me.0.held ≡ ports ∷ []
   pub takes_no_slot : me.1 ≡ []
-  pub row : AreWordsOf ports (words_of me.0 ports)
+  pub row : IsRow (view_row me.0 ports)

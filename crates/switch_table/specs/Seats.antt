@@ -2,8 +2,8 @@
 use Rattle.std.specs.Prelude.{ℕ, List, length, replicate}
 use Rattle.std.specs.Arc.{arc_value}
 use Rattle.atomic_table.specs.Seated.{TableId}
-use Rattle.crossbar.specs.declared.word.Word.{Word}
-use Rattle.switch_table.specs.Rule.{words_of, word_of}
+use Rattle.crossbar.specs.Row.{Row}
+use Rattle.switch_table.specs.Rule.{view_row, word_of}
 use Rattle.switch_table.specs.SeatStates.{SeatState}
 use Rattle.switch_table.specs.declared.table.SwitchTable.{SwitchTable}
 use Rattle.switch_table.specs.declared.table.OperatorSeat.{OperatorSeat}
@@ -12,9 +12,9 @@ use Rattle.switch_table.specs.declared.table.OperatorSeat.{OperatorSeat}
 abbrev pub table_of : SwitchTable → TableId
 table_of t = (arc_value t.shared_words).shared.table_id
 
--- the words of a domain's outputs, by virtual number: those that its seat's view holds
-abbrev pub seat_words : SeatState → List Word
-seat_words s = words_of s.view s.ports
+-- the row of a domain's outputs: its words are those that its seat's view holds
+abbrev pub seat_row : SeatState → Row
+seat_row s = view_row s.view s.ports
 
 -- the table that the operator's seat is for
 abbrev pub surveyed_table : OperatorSeat → TableId
@@ -28,6 +28,6 @@ surveyed_domains o = o.seat.me.0.domains
 abbrev pub seen_words : OperatorSeat → List ℕ
 seen_words o = o.seat.me.0.words
 
--- one word 0 for each port
-abbrev pub clear_words : List ℕ → List Word
-clear_words ports = replicate (length ports) (word_of 0)
+-- the row of these ports whose words are all 0
+abbrev pub clear_row : List ℕ → Row
+clear_row ports = record { ports = ports; words = replicate (length ports) (word_of 0) }

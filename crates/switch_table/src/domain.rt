@@ -2,8 +2,8 @@
 ghost use Rattle.std.specs.Prelude.{◌≡◌, ℕ, List, [], ◌∷◌, length, replicate, Some, slice_get, IfOk};
 ghost use Rattle.std.specs.Arc.{arc_value};
 ghost use Rattle.crossbar.specs.Ranges.{IsNumbering};
-ghost use Rattle.switch_table.specs.Rule.{words_of, view_after_first};
-ghost use Rattle.switch_table.specs.Seats.{seat_words};
+ghost use Rattle.switch_table.specs.Rule.{view_after_first};
+ghost use Rattle.switch_table.specs.Seats.{seat_row};
 
 use crate::NoMemory;
 use crate::shared_words::{LoadsOwn, SharedWords, StoresOwn, TakesFirst, WordsSeat};
@@ -63,8 +63,7 @@ impl DomainSeat {
     /// The law that ties the outputs to the table: their words are those that the seat's view holds,
     /// and their ports those that it alone stores. The call does nothing.
     pub fn seated_law(&self)
-        ensures words { ⟦<DomainSeat as Outputs>⟧.words self.now ≡ words_of self.now.view self.now.ports }
-        ensures ports { ⟦<DomainSeat as Outputs>⟧.ports self.now ≡ self.now.ports }
+        ensures row { ⟦<DomainSeat as Outputs>⟧.seen self.now ≡ seat_row self.now }
         ensures held { self.now.view.held ≡ self.now.ports ∷ [] }
     {
         let _ = &self.seat;
@@ -72,9 +71,7 @@ impl DomainSeat {
 }
 
 impl Outputs for DomainSeat {
-    ghost ports = { λ s. s.ports };
-
-    ghost words = { λ s. seat_words s };
+    ghost seen = { λ s. seat_row s };
 
     fn count(&self) -> u8 {
         self.numbering.count()

@@ -47,7 +47,7 @@ impl SwitchTable {
     ghost use Rattle.crossbar.specs.Word.{IsAtLeastAsNew};
     ghost use Rattle.switch_table.specs.Domains.{domains_of};
     ghost use Rattle.switch_table.specs.Rule.{IsConfined, word_of};
-    ghost use Rattle.switch_table.specs.Seats.{table_of, seat_words, surveyed_table, surveyed_domains, seen_words, clear_words};
+    ghost use Rattle.switch_table.specs.Seats.{table_of, seat_row, surveyed_table, surveyed_domains, seen_words, clear_row};
 
     /// A table with all words 0, one seat for each domain of the plan, in its order and with its
     /// numbering, and the operator's, who has seen 0 everywhere. `NoMemory` leaves nothing behind.
@@ -57,8 +57,8 @@ impl SwitchTable {
         plan: &AcceptedPlan,
     ) -> Result<(SwitchTable, Vec<DomainSeat>, OperatorSeat), NoMemory>
         ensures ports { IfOk result (λ o. map (λ s. s.ports) o.1.items ≡ domains_of plan.now) }
-        ensures clear { IfOk result (λ o. All (λ s. seat_words s ≡ clear_words s.ports) o.1.items) }
-        ensures switch { IfOk result (λ o. All (λ s. switch_of (seat_words s) ≡ cleared) o.1.items) }
+        ensures clear { IfOk result (λ o. All (λ s. seat_row s ≡ clear_row s.ports) o.1.items) }
+        ensures switch { IfOk result (λ o. All (λ s. switch_of (seat_row s).words ≡ cleared) o.1.items) }
         ensures table { IfOk result (λ o. All (λ s. s.table ≡ table_of o.0) o.1.items) }
         ensures operator { IfOk result (λ o. (surveyed_table o.2 ≡ table_of o.0) × (surveyed_domains o.2 ≡ domains_of plan.now)) }
         ensures seen { IfOk result (λ o. seen_words o.2 ≡ replicate 32 0) }

@@ -1,10 +1,19 @@
 -- Byte after byte: what each of them leaves, with the words that it leaves.
-use Rattle.std.specs.Prelude.{◌≡◌, ℕ, List, [], ◌∷◌, length, map}
+use Rattle.std.specs.Prelude.{◌≡◌, ℕ, List, [], ◌∷◌, ◌++◌, Option, Some, None, length, if◌then◌else◌}
 use Rattle.std.specs.List.{AllZip}
+use Rattle.c004_commands.specs.declared.message.Message.{Message}
+use Rattle.c004_commands.specs.declared.message.Message.TheVariants.{Connect, ConnectBoth, Enquire, MakeReady, Clear, Disconnect, DisconnectBoth}
+use Rattle.c004_commands.specs.Grammar.{Item, Command, Stray, item_of}
+use Rattle.crossbar.specs.Row.{Row}
+use Rattle.crossbar.specs.Changed.{row_after, row_connected, row_each, ready_of}
 use Rattle.crossbar.specs.Word.{CountsChange}
-use Rattle.virtual_switch.specs.SwitchValue.{SwitchValue, private_of}
-use Rattle.virtual_switch.specs.PrivateSwitch.{configured, all_told, AnswersStream}
+use Rattle.virtual_switch.specs.SwitchValue.{SwitchValue, private_of, row_of}
+use Rattle.virtual_switch.specs.PrivateSwitch.{configured, all_told, are_below, ports_named, AnswersStream}
 use Rattle.virtual_switch.specs.declared.reply.ConfigReply.{ConfigReply}
+
+-- the switch of this row, with this rest
+abbrev pub with_rest : Row → List ℕ → SwitchValue
+with_rest row rest = record { ports = row.ports; words = row.words; rest = rest }
 
 -- the ports stay, and each word that changes counts its change once
 pub record KeepsPorts (old new : SwitchValue) : Type 0 where
@@ -25,20 +34,35 @@ abbrev pub TellsAll : SwitchValue → List ℕ → List ConfigReply → SwitchVa
 TellsAll old bytes replies new =
     all_told (length old.ports) (private_of old) old.rest bytes ≡ record { replies = replies; switch = private_of new; rest = new.rest }
 
--- one byte: the switch and the rest are those that it configures, and each word that changes counts its change once
-pub record IsFed (old : SwitchValue) (byte : ℕ) (new : SwitchValue) : Type 0 where
-  pub switch : private_of new ≡ (configured (length old.ports) (private_of old) old.rest byte).switch
-  pub rest : new.rest ≡ (configured (length old.ports) (private_of old) old.rest byte).rest
-  pub ports : new.ports ≡ old.ports
-  pub counts : AllZip CountsChange old.words new.words
+-- the row after a message whose ports are there
+abbrev pub row_performed : Row → Message → Row
+row_performed row (Connect input output) = row_connected row input output
+row_performed row (ConnectBoth first second) = row_connected (row_connected row first second) second first
+row_performed row (Enquire output) = row
+row_performed row MakeReady = row_each ready_of row
+row_performed row Clear = row_each (λ connection. None) row
+row_performed row (Disconnect output) = row_after row output None
+row_performed row (DisconnectBoth first second) = row_after (row_after row first None) second None
 
--- bytes one after another, each with what it leaves
-abbrev pub LeadsTo : SwitchValue → List (ℕ × SwitchValue) → SwitchValue → Type 0
-LeadsTo old [] new = new ≡ old
-LeadsTo old (step ∷ steps) new = IsFed old step.0 step.1 × LeadsTo step.1 steps new
+-- the row after an item
+abbrev pub row_after_item : Row → Item → Row
+row_after_item row (Command message) = if are_below (length row.ports) (ports_named message) then row_performed row message else row
+row_after_item row (Stray byte) = row
+
+-- what a byte leaves, by the item that it ends
+abbrev pub item_left : Row → List ℕ → Option Item → SwitchValue
+item_left row bytes None = with_rest row bytes
+item_left row bytes (Some item) = with_rest (row_after_item row item) []
+
+-- the switch after a byte
+abbrev pub switch_fed : SwitchValue → ℕ → SwitchValue
+switch_fed seen byte = item_left (row_of seen) (seen.rest ++ byte ∷ []) (item_of (seen.rest ++ byte ∷ []))
+
+-- one byte: the switch and the rest are those that it configures, and each word that changes counts its change once
+abbrev pub IsFed : SwitchValue → ℕ → SwitchValue → Type 0
+IsFed old byte new = ((reply : ConfigReply) × ConfiguresTo old byte reply new) × KeepsPorts old new
 
 -- these bytes, one after another
-pub record AreFed (old : SwitchValue) (bytes : List ℕ) (new : SwitchValue) : Type 0 where
-  pub steps : List (ℕ × SwitchValue)
-  pub bytes_are : map (λ step. step.0) steps ≡ bytes
-  pub leads : LeadsTo old steps new
+abbrev pub AreFed : SwitchValue → List ℕ → SwitchValue → Type 0
+AreFed old [] new = new ≡ old
+AreFed old (byte ∷ bytes) new = IsFed old byte (switch_fed old byte) × AreFed (switch_fed old byte) bytes new

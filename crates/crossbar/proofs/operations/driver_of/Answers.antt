@@ -4,5 +4,4 @@ use Rattle.crossbar.proofs.operations.driver_of.Goals as goal
 
 pub returns-clause-input : goal.returns-clause-input
 returns-clause-input g c =
-    c.driver.ensures
-    ∙ sym (enquired (g.O.Outputs.words c.args.outputs.now) c.args.output c.read.result c.read.ensures.value)
+    c.driver.ensures ∙ sym (enquired _ c.args.output c.read.result c.read.ensures.value)

@@ -1,6 +1,5 @@
 use Rattle.std.proofs.Common.{◌∙◌, ap}
-use Rattle.crossbar.specs.Plain.{Row}
-use Rattle.crossbar.specs.Row.{switch_of}
+use Rattle.crossbar.specs.Row.{Row, switch_of}
 use Rattle.crossbar.proofs.PlainRows.{unused_is_plain, unused_is_cleared}
 use Rattle.crossbar.proofs.plain.PlainOutputs.unused.Goals as goal
 

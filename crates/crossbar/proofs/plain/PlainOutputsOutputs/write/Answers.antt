@@ -1,6 +1,6 @@
-use Rattle.std.proofs.Common.{◌<◌, ◌∙◌, ap, sym, subst, length, slice_set, arith}
-use Rattle.crossbar.specs.Plain.{Row}
-use Rattle.crossbar.specs.Row.{IsWordOf}
+use Rattle.std.proofs.Common.{◌<◌, ◌∙◌, ap, sym, subst, length, arith}
+use Rattle.crossbar.specs.Row.{Row, IsWordOf}
+use Rattle.crossbar.specs.Changed.{row_with}
 use Rattle.crossbar.proofs.PlainRows.{plain_set, front_set}
 use Rattle.crossbar.proofs.plain.PlainOutputsOutputs.write.Goals as goal
 
@@ -15,8 +15,9 @@ pub returns-clause-words : goal.returns-clause-words
 returns-clause-words c =
     let inside : c.args.number < length c.self.inside.numbering =
     omega (arith, c.requires.number, ap (λ (r : Row). length r.ports) c.self.view_is) in
-    front_set c.self.inside.numbering _ c.args.number _ c.args.word c.from.ensures inside
-    ∙ ap (λ (r : Row). slice_set r.words c.args.number c.args.word) c.self.view_is
+    let words = front_set c.self.inside.numbering _ c.args.number _ c.args.word c.from.ensures inside in
+    (λ i. record { ports = c.self.inside.numbering; words = words i })
+    ∙ ap (λ r. row_with r c.args.number c.args.word) c.self.view_is
 
 pub returns-clause-row : goal.returns-clause-row
 returns-clause-row c =

@@ -1,6 +1,6 @@
 use Rattle.std.proofs.Common.{ap, ◌∙◌, length, []}
 use Rattle.crossbar.specs.Switch.{cleared}
-use Rattle.virtual_switch.specs.SwitchValue.{private_of}
+use Rattle.virtual_switch.specs.SwitchValue.{SwitchValue, private_of}
 use Rattle.domain_core.specs.Devices.{reopened, opened_devices}
 use Rattle.domain_core.specs.Machine.{fresh_machine}
 use Rattle.domain_core.specs.MachineValue.{MachineValue}
@@ -21,5 +21,6 @@ returns-clause-state g c =
     let v : MachineValue =
     record { part = c.self.inside.part; switch = c.self.inside.switch; devices = c.self.inside.devices } in
     machine_by (private_of c.clear.new.self) cleared c.clear.new.self.rest [] c.clear-2.new.self (opened_devices v.part)
-    c.clear.ensures.switch c.clear.ensures.rest (c.clear-2.ensures ∙ reopened_opened v c.self.invariant.0)
+    c.clear.ensures.switch (ap (λ (s : SwitchValue). s.rest) c.clear.ensures.left)
+    (c.clear-2.ensures ∙ reopened_opened v c.self.invariant.0)
     ∙ ap (λ (w : MachineValue). fresh_machine w.part) c.self.view_is

@@ -11,7 +11,7 @@ load-bits-requires c =
     let here : s.seat.table_id ≡ c.deref.result.now.shared.table_id = search rules in
     let wide : c.deref.result.now.shared.table_id.words ≡ 32 = search rules in
     let at = c.from.ensures in
-    let low = port_low s.numbering _ c.args.number c.physical-port.result kept.row c.physical-port.ensures in
+    let low = port_low _ c.args.number c.physical-port.result kept.row c.physical-port.ensures in
     let mine : StoresAlone s.seat.me.0 c.from.result =
     rw at (port_mine s.seat.me.0 s.numbering c.args.number c.physical-port.result kept.holds_its_domain
     c.physical-port.ensures) in

@@ -7,10 +7,10 @@ use Rattle.switch_table.specs.declared.view.View.{View}
 use Rattle.switch_table.specs.Domains.{domains_of}
 use Rattle.switch_table.specs.Rule.{opening_view}
 use Rattle.switch_table.specs.SeatStates.{SeatState}
-use Rattle.switch_table.specs.Seats.{seat_words, clear_words}
+use Rattle.switch_table.specs.Seats.{seat_row, clear_row}
 use Rattle.switch_table.proofs.Openings.{own_domain, length-domains}
 use Rattle.switch_table.proofs.Ports.{all_push, waiting, seated}
-use Rattle.switch_table.proofs.SeatRows.{clear_row, cleared_seats}
+use Rattle.switch_table.proofs.SeatRows.{clear_view, cleared_seats}
 use Rattle.switch_table.proofs.table.SwitchTable.open.Goals as goal
 
 pub take_first_domain-requires-clause-next : goal.take_first_domain-requires-clause-next
@@ -42,7 +42,7 @@ loop-domain-preserved c =
     let clear : seat.view.words ≡ replicate 32 0 =
     dealt.seat.2 ∙ ap (λ (me : Me (Unit {0}) View). me.0.words) kept.knows in
     let ports : seat.ports ≡ c.of-numbering.result = dealt.seat.0 in
-    let words : seat_words seat ≡ clear_words seat.ports = clear_row seat.view seat.ports clear in record {
+    let row : seat_row seat ≡ clear_row seat.ports = clear_view seat.view seat.ports clear in record {
       here = dealt.rest.0 ∙ kept.here;
       wide = ap (λ t. t.words) dealt.rest.0 ∙ kept.wide;
       table =
@@ -64,9 +64,8 @@ loop-domain-preserved c =
           ∙ map-append (λ (s : SeatState). s.ports) c.loop-domain.seats.items (seat ∷ [])
           ∙ (λ k. kept.ports k ++ ports k ∷ []) ∙ sym (seated domains i c.of-numbering.result inside own);
       clear =
-          subst (All (λ (s : SeatState). seat_words s ≡ clear_words s.ports)) (sym more)
-          (all_push (λ (s : SeatState). seat_words s ≡ clear_words s.ports) c.loop-domain.seats.items seat kept.clear
-          words);
+          subst (All (λ (s : SeatState). seat_row s ≡ clear_row s.ports)) (sym more)
+          (all_push (λ (s : SeatState). seat_row s ≡ clear_row s.ports) c.loop-domain.seats.items seat kept.clear row);
     }
 
 pub returns-clause-switch : goal.returns-clause-switch

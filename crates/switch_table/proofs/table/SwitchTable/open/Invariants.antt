@@ -2,7 +2,7 @@ use Rattle.std.proofs.Common.{◌≡◌, ℕ, List, [], map, All, take, drop}
 use Rattle.std.specs.Arc.{arc_value}
 use Rattle.switch_table.specs.Domains.{domains_of}
 use Rattle.switch_table.specs.Rule.{opening_view}
-use Rattle.switch_table.specs.Seats.{seat_words, clear_words}
+use Rattle.switch_table.specs.Seats.{seat_row, clear_row}
 use Rattle.switch_table.proofs.table.SwitchTable.open.Given as goal
 
 abbrev pub invariant-loop-domain : goal.invariant-loop-domain
@@ -13,5 +13,5 @@ invariant-loop-domain l =
       table : All (λ s. s.table ≡ (arc_value l.shared_words).shared.table_id) l.seats.items;
       knows : l.opener.me ≡ (opening_view domains (drop l.domain domains), []);
       ports : map (λ s. s.ports) l.seats.items ≡ take l.domain domains;
-      clear : All (λ s. seat_words s ≡ clear_words s.ports) l.seats.items;
+      clear : All (λ s. seat_row s ≡ clear_row s.ports) l.seats.items;
     }
