@@ -5,10 +5,12 @@ use Rattle.std.proofs.Common.{ap, ◌∙◌, subst}
 use Rattle.std.proofs.lemmas.Option.{slice_get-get_or, slice_get_past, same_Some, none-some}
 use Rattle.std.specs.List.{cons_option}
 use Rattle.crossbar.specs.declared.word.Word.{Word}
-use Rattle.crossbar.specs.Plain.{Row, outputs_of, words_at}
+use Rattle.crossbar.specs.Plain.{outputs_of, words_at}
+use Rattle.crossbar.specs.Row.{Row}
 use Rattle.crossbar.specs.Ranges.{ports_in}
 use Rattle.crossbar.specs.declared.range.PortRange.{PortRange}
 use Rattle.crossbar.specs.Laws.{SwitchLaws}
+use Rattle.virtual_switch.specs.SwitchValue.{row_of}
 use Rattle.std.proofs.lemmas.List.{take_more, map-append}
 use Rattle.std.proofs.lemmas.List.Elements.{All-push, All-cons, All-nil}
 use Rattle.plan_rules.specs.Data.{DomainData}
@@ -47,9 +49,9 @@ words_of_a_row n x (port ∷ ports) =
 -- a domain whose words are those of a row that was never set has unused words
 pub opened_unused : {E : Type 0} (r : Result DomainValue E) (n : ℕ) (row : Row) (ranges : List (Option PortRange))
     → row ≡ outputs_of (replicate n (record { bits = 0 })) ranges
-    → IfOk r (λ d. d.machine.switch.words ≡ row.words) → IfOk r IsUnused
+    → IfOk r (λ d. row_of d.machine.switch ≡ row) → IfOk r IsUnused
 opened_unused (Ok d) n row ranges is same =
-    subst (λ (words : List Word). All (λ w. w ≡ record { bits = 0 }) words) (sym (same ∙ ap (λ (r : Row). r.words) is))
+    subst (λ (r : Row). All (λ w. w ≡ record { bits = 0 }) r.words) (sym (same ∙ is))
     (words_of_a_row n (record { bits = 0 }) (ports_in ranges))
 opened_unused (Err e) n row ranges is same = tt
 

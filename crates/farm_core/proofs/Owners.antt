@@ -8,8 +8,9 @@ use Rattle.std.specs.FinMap as fin
 use Rattle.crossbar.specs.declared.word.Word.{Word}
 use Rattle.crossbar.specs.declared.word.Connection.{Connection}
 use Rattle.crossbar.specs.Word.{connection_of}
-use Rattle.crossbar.specs.Row.{AreWordsOf, IsWordOf, InputIsIn, number_in, private_at, input_of}
+use Rattle.crossbar.specs.Row.{Row, IsRow, IsWordOf, InputIsIn, number_in, private_switch, input_of}
 use Rattle.crossbar.specs.Laws.{SwitchLaws}
+use Rattle.virtual_switch.specs.SwitchValue.{row_of}
 use Rattle.domain_core.specs.Domain.{DomainValue, state_of}
 use Rattle.farm_core.specs.Places.{Place, AreSeparatePlaces}
 use Rattle.farm_core.specs.Domains.{IsFree}
@@ -125,26 +126,24 @@ word_of_owner domains index d number output word separate at is has other v e th
 -- ---- what a word says
 
 -- a word of a row is proper, and its input is one of the ports
-pub word_within : (ports : List ℕ) (words : List Word) (output : ℕ) (word : Word)
-    → AreWordsOf ports words → slice_get words output ≡ Some word
-    → IsWordOf ports word
-word_within ports words output word row is =
-    subst (IsWordOf ports) (get_or_from_slice_get words output word word is)
-    (row.each output word (slice_get_within words output word is))
+pub word_within : (row : Row) (output : ℕ) (word : Word) → IsRow row → slice_get row.words output ≡ Some word
+    → IsWordOf row.ports word
+word_within row output word is_row is =
+    subst (IsWordOf row.ports) (get_or_from_slice_get row.words output word word is)
+    (is_row.each output word (slice_get_within row.words output word is))
 
-driver_is : SwitchLaws → (ports : List ℕ) (words : List Word) (number : ℕ) (word : Word) → AreWordsOf ports words
-    → number < length ports
-    → slice_get words number ≡ Some word
-    → option_map (raised ports) (fin.get (private_at ports words).pairs number) ≡ input_of (connection_of word)
-driver_is laws ports words number word row within has =
-    ap (option_map (raised ports)) (laws.driver ports words number word within has)
-    ∙ sym (raised-number laws ports (input_of (connection_of word)) row.one_to_one
-    (inside (connection_of word) (word_within ports words number word row has).within))
+driver_is : SwitchLaws → (row : Row) (number : ℕ) (word : Word) → IsRow row → number < length row.ports
+    → slice_get row.words number ≡ Some word
+    → option_map (raised row.ports) (fin.get (private_switch row).pairs number) ≡ input_of (connection_of word)
+driver_is laws row number word is_row within has =
+    ap (option_map (raised row.ports)) (laws.driver row number word within has)
+    ∙ sym (raised-number laws row.ports (input_of (connection_of word)) is_row.one_to_one
+    (inside (connection_of word) (word_within row number word is_row has).within))
   where
-    inside : (found : Option Connection) → InputIsIn ports found → (input : ℕ) → input_of found ≡ Some input
-        → Contains ports input
+    inside : (found : Option Connection) → InputIsIn row.ports found → (input : ℕ) → input_of found ≡ Some input
+        → Contains row.ports input
     inside None in' input is = absurd (none-some input is)
-    inside (Some connection) in' input is = subst (Contains ports) (same_Some _ _ is) in'
+    inside (Some connection) in' input is = subst (Contains row.ports) (same_Some _ _ is) in'
 
 -- the word of its owner says of an output what every whole farm has there
 pub word_says : SwitchLaws
@@ -152,18 +151,17 @@ pub word_says : SwitchLaws
     → AreSeparatePlaces (places_in domains)
     → slice_get domains index ≡ Some d
     → slice_get d.machine.switch.ports number ≡ Some output → slice_get d.machine.switch.words number ≡ Some word
-    → AreWordsOf d.machine.switch.ports d.machine.switch.words
+    → IsRow (row_of d.machine.switch)
     → SaysEachWhole domains output word
 word_says laws domains index d number output word separate at is has row farm made =
-    let ports = d.machine.switch.ports in
-    let words = d.machine.switch.words in
-    let within = slice_get_within ports number output is in
+    let own = row_of d.machine.switch in
+    let within = slice_get_within own.ports number output is in
     each_output_is_of_its_domain laws (places_in domains) farm (states_in domains) index (own_place d) (state_of d)
     number output separate made (place_at domains index d at) (state_at domains index d at) is
     ∙ (λ i.
     record {
-      driver = driver_is laws ports words number word row within has i;
-      ready = laws.readiness ports words number word within has i;
+      driver = driver_is laws own number word row within has i;
+      ready = laws.readiness own number word within has i;
     })
 
 -- a word 0 says of a free output what every whole farm has there

@@ -1,8 +1,9 @@
 -- What the switch words of domains say of the whole farm that is made of them.
 use Rattle.std.specs.Prelude.{◌≡◌, ℕ, List, length, map, Some, slice_get, All}
 use Rattle.crossbar.specs.declared.word.Word.{Word}
-use Rattle.crossbar.specs.Row.{AreWordsOf}
+use Rattle.crossbar.specs.Row.{IsRow}
 use Rattle.crossbar.specs.Switch.{Switch}
+use Rattle.virtual_switch.specs.SwitchValue.{row_of}
 use Rattle.plan_rules.specs.Data.{DomainData}
 use Rattle.domain_core.specs.Domain.{DomainValue, IsMeant, Fits}
 use Rattle.domain_core.specs.Journal.{AnsweredCall}
@@ -14,7 +15,7 @@ use Rattle.farm_core.specs.PlainFarm.{places_in, states_in, IsMadeOfDomains, out
 
 -- its words are a row of its ports
 abbrev pub HasRow : DomainValue → Type 0
-HasRow d = AreWordsOf d.machine.switch.ports d.machine.switch.words
+HasRow d = IsRow (row_of d.machine.switch)
 
 -- its words are all 0: disconnected, and never changed
 abbrev pub IsUnused : DomainValue → Type 0

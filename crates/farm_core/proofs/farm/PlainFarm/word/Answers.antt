@@ -30,7 +30,7 @@ word-requires c =
     owner.there owner.port
 
 pub returns-clause-proper : goal.returns-clause-proper
-returns-clause-proper c = (word_within _ _ _ _ c.word.ensures.row c.word.ensures.word).proper
+returns-clause-proper c = (word_within _ _ _ c.word.ensures.row c.word.ensures.word).proper
 
 -- the domain that is read has the output
 owner : (c : goal.After-self-1)
