@@ -12,12 +12,12 @@ use Rattle.std.proofs.lemmas.Map.Steps.{length-le_from_distinct_below}
 use Rattle.std.specs.List.{IsDistinct, AllByRecursion, list_any, range_with_len}
 use Rattle.std.specs.Option.{option_map}
 use Rattle.crossbar.specs.declared.range.PortRange.{PortRange}
-use Rattle.crossbar.specs.Ranges.{IsOneToOne, IsNumbering, IsPortRange, AreRanges, ports_at, ports_in}
+use Rattle.crossbar.specs.Ranges.{IsOneToOne, IsNumbering, IsPortRange, AreRanges, ports_at, ranged_ports}
 use Rattle.std.proofs.lemmas.List.{take-append-drop, take_more, append-nil}
 use Rattle.std.proofs.lemmas.List.Elements.{All-append}
 use Rattle.std.proofs.lemmas.List.FromFn.{length-range_with_len, get_or-range_with_len}
 use Rattle.crossbar.specs.Numbers.{IsNumberTable}
-use Rattle.crossbar.specs.Row.{number_in}
+use Rattle.crossbar.specs.Row.{number_among}
 
 tail_one_to_one : (port : ℕ) (ports : List ℕ) → IsOneToOne (port ∷ ports) → IsOneToOne ports
 tail_one_to_one port ports one v w p a b = let e = one (suc v) (suc w) p a b in omega arith
@@ -33,79 +33,79 @@ some_still None = refl
 some_still (Some w) = refl
 
 -- the number of the port that stands at v is v, if no port stands twice
-pub number_in-port : (ports : List ℕ) (v port : ℕ) → IsOneToOne ports → slice_get ports v ≡ Some port
-    → number_in ports port ≡ Some v
-number_in-port [] v port one is = absurd (none-some port is)
-number_in-port (first ∷ ports) zero port one is =
+pub number_among-port : (ports : List ℕ) (v port : ℕ) → IsOneToOne ports → slice_get ports v ≡ Some port
+    → number_among ports port ≡ Some v
+number_among-port [] v port one is = absurd (none-some port is)
+number_among-port (first ∷ ports) zero port one is =
     let t : (first == port) ≡ true = eq-eqb _ _ (same_Some _ _ is) in rw t refl
-number_in-port (first ∷ ports) (suc v) port one is =
+number_among-port (first ∷ ports) (suc v) port one is =
     let t : (first == port) ≡ false =
     ne_eqb _ _ (λ (e : first ≡ port). let same = one 0 (suc v) port (ap (λ (p : ℕ). Some p) e) is in
     absurd (omega arith)) in
-    rw t (ap (option_map suc) (number_in-port ports v port (tail_one_to_one first ports one) is))
+    rw t (ap (option_map suc) (number_among-port ports v port (tail_one_to_one first ports one) is))
 
 -- a number that a port has is below the count of ports
-pub number_in-below : (ports : List ℕ) (port v : ℕ) → number_in ports port ≡ Some v → v < length ports
-number_in-below [] port v is = absurd (none-some v is)
-number_in-below (first ∷ ports) port v is =
+pub number_among-below : (ports : List ℕ) (port v : ℕ) → number_among ports port ≡ Some v → v < length ports
+number_among-below [] port v is = absurd (none-some v is)
+number_among-below (first ∷ ports) port v is =
     elim (cases_Bool (first == port)) [
       | inl same ↦ let zero_is = same_Some _ _ (rw same at is) in omega arith
       | inr other ↦
-          let next = counted_on (number_in ports port) v (rw other at is) in
-          let below = number_in-below ports port next.0 next.1 in
+          let next = counted_on (number_among ports port) v (rw other at is) in
+          let below = number_among-below ports port next.0 next.1 in
           omega (arith, next.2)
     ]
 
 -- a port that stands among the ports has a number
-pub number_in-some : (ports : List ℕ) (port k : ℕ) → slice_get ports k ≡ Some port
-    → is_some (number_in ports port) ≡ true
-number_in-some [] port k is = absurd (none-some port is)
-number_in-some (first ∷ ports) port zero is =
+pub number_among-some : (ports : List ℕ) (port k : ℕ) → slice_get ports k ≡ Some port
+    → is_some (number_among ports port) ≡ true
+number_among-some [] port k is = absurd (none-some port is)
+number_among-some (first ∷ ports) port zero is =
     let t : (first == port) ≡ true = eq-eqb _ _ (same_Some _ _ is) in rw t refl
-number_in-some (first ∷ ports) port (suc k) is =
+number_among-some (first ∷ ports) port (suc k) is =
     elim (cases_Bool (first == port)) [
       | inl same ↦ rw same refl
-      | inr other ↦ rw other (some_still (number_in ports port) ∙ number_in-some ports port k is)
+      | inr other ↦ rw other (some_still (number_among ports port) ∙ number_among-some ports port k is)
     ]
 
 -- the port whose number is v stands at v
-pub number_in-get : (ports : List ℕ) (port v : ℕ) → number_in ports port ≡ Some v → slice_get ports v ≡ Some port
-number_in-get [] port v is = absurd (none-some v is)
-number_in-get (first ∷ ports) port v is =
+pub number_among-get : (ports : List ℕ) (port v : ℕ) → number_among ports port ≡ Some v → slice_get ports v ≡ Some port
+number_among-get [] port v is = absurd (none-some v is)
+number_among-get (first ∷ ports) port v is =
     elim (cases_Bool (first == port)) [
       | inl same ↦
           let zero_is = same_Some _ _ (rw same at is) in
           ap (slice_get (first ∷ ports)) (sym zero_is) ∙ ap (λ (p : ℕ). Some p) (eqb-true first port same)
       | inr other ↦
-          let next = counted_on (number_in ports port) v (rw other at is) in
-          ap (slice_get (first ∷ ports)) next.2 ∙ number_in-get ports port next.0 next.1
+          let next = counted_on (number_among ports port) v (rw other at is) in
+          ap (slice_get (first ∷ ports)) next.2 ∙ number_among-get ports port next.0 next.1
     ]
 
 -- a port from a bound on has no number among ports that are all below it
-pub number_in-past : (ports : List ℕ) (most port : ℕ) → All (λ p. p < most) ports → most ≤ port
-    → number_in ports port ≡ None
-number_in-past [] most port below past = refl
-number_in-past (first ∷ ports) most port below past =
+pub number_among-past : (ports : List ℕ) (most port : ℕ) → All (λ p. p < most) ports → most ≤ port
+    → number_among ports port ≡ None
+number_among-past [] most port below past = refl
+number_among-past (first ∷ ports) most port below past =
     let t : (first == port) ≡ false =
     ne_eqb _ _ (λ (e : first ≡ port). let l = below 0 0 (omega arith) in absurd (omega arith)) in
-    rw t (ap (option_map suc) (number_in-past ports most port (λ k d l. below (suc k) d (omega arith)) past))
+    rw t (ap (option_map suc) (number_among-past ports most port (λ k d l. below (suc k) d (omega arith)) past))
 
 -- ---- one more port
 
-number_in-other : (ports : List ℕ) (last port : ℕ) → last ≢ port
-    → number_in (ports ++ last ∷ []) port ≡ number_in ports port
-number_in-other [] last port ne = let t : (last == port) ≡ false = ne_eqb _ _ ne in rw t refl
-number_in-other (first ∷ ports) last port ne = rw (number_in-other ports last port ne) refl
+number_among-other : (ports : List ℕ) (last port : ℕ) → last ≢ port
+    → number_among (ports ++ last ∷ []) port ≡ number_among ports port
+number_among-other [] last port ne = let t : (last == port) ≡ false = ne_eqb _ _ ne in rw t refl
+number_among-other (first ∷ ports) last port ne = rw (number_among-other ports last port ne) refl
 
-number_in-last : (ports : List ℕ) (last : ℕ) → number_in ports last ≡ None
-    → number_in (ports ++ last ∷ []) last ≡ Some (length ports)
-number_in-last [] last none = let t : (last == last) ≡ true = eq-eqb _ _ refl in rw t refl
-number_in-last (first ∷ ports) last none =
+number_among-last : (ports : List ℕ) (last : ℕ) → number_among ports last ≡ None
+    → number_among (ports ++ last ∷ []) last ≡ Some (length ports)
+number_among-last [] last none = let t : (last == last) ≡ true = eq-eqb _ _ refl in rw t refl
+number_among-last (first ∷ ports) last none =
     elim (cases_Bool (first == last)) [
       | inl same ↦ let never : Some 0 ≡ None = rw same at none in absurd (none-some 0 (sym never))
       | inr other ↦
-          let still = none_still (number_in ports last) (rw other at none) in
-          rw (other, number_in-last ports last still) refl
+          let still = none_still (number_among ports last) (rw other at none) in
+          rw (other, number_among-last ports last still) refl
     ]
   where
     none_still : (o : Option ℕ) → option_map suc o ≡ None → o ≡ None
@@ -122,15 +122,15 @@ get_last [] more last = refl
 get_last (first ∷ ports) more last = get_last ports more last
 
 -- the last of distinct ports is none of those before it
-absent : (ports : List ℕ) (last : ℕ) → IsOneToOne (ports ++ last ∷ []) → number_in ports last ≡ None
-absent ports last one = by_number (number_in ports last) refl
+absent : (ports : List ℕ) (last : ℕ) → IsOneToOne (ports ++ last ∷ []) → number_among ports last ≡ None
+absent ports last one = by_number (number_among ports last) refl
   where
-    by_number : (o : Option ℕ) → number_in ports last ≡ o → o ≡ None
+    by_number : (o : Option ℕ) → number_among ports last ≡ o → o ≡ None
     by_number None is = refl
     by_number (Some v) is =
-        let here = get_front ports (last ∷ []) v last (number_in-get ports last v is) in
+        let here = get_front ports (last ∷ []) v last (number_among-get ports last v is) in
         let same = one v (length ports) last here (get_last ports [] last) in
-        let below = number_in-below ports last v is in
+        let below = number_among-below ports last v is in
         absurd (omega arith)
 
 one_to_one_front : (ports more : List ℕ) → IsOneToOne (ports ++ more) → IsOneToOne ports
@@ -259,15 +259,15 @@ table_pushed ports numbers count port t h = record {
             ap (slice_get (slice_set numbers port (Some count))) (sym e)
             ∙ get_set_same numbers port (Some count)
             (omega (arith, t.numbers_room, port_below (take count ports) port h)) in
-            let number : number_in (take count ports ++ port ∷ []) q ≡ Some count =
-            ap (number_in (take count ports ++ port ∷ [])) (sym e)
-            ∙ number_in-last (take count ports) port (absent (take count ports) port h.one_to_one)
+            let number : number_among (take count ports ++ port ∷ []) q ≡ Some count =
+            ap (number_among (take count ports ++ port ∷ [])) (sym e)
+            ∙ number_among-last (take count ports) port (absent (take count ports) port h.one_to_one)
             ∙ ap (λ (n : ℕ). Some n) (length-first ports count t.ports_room t.few) in
-            there ∙ ap (λ (o : Option ℕ). Some o) (sym number ∙ sym (ap (λ ps. number_in ps q) front))
+            there ∙ ap (λ (o : Option ℕ). Some o) (sym number ∙ sym (ap (λ ps. number_among ps q) front))
         | inr ne ↦
             get_set_other numbers port q (Some count) (λ (e : q ≡ port). ne (sym e)) ∙ t.inverse q below
             ∙ ap (λ (o : Option ℕ). Some o)
-            (sym (number_in-other (take count ports) port q ne) ∙ sym (ap (λ ps. number_in ps q) front))
+            (sym (number_among-other (take count ports) port q ne) ∙ sym (ap (λ ps. number_among ps q) front))
       ];
 }
 
@@ -278,9 +278,9 @@ as_seen ports seen more is h = subst (λ (ps : List ℕ). IsNumbering (ps ++ mor
 -- a port from 32 on has no number
 pub no_number_past : (ports : List ℕ) (numbers : List (Option ℕ)) (count port : ℕ) (seen : List ℕ)
     → take count ports ≡ seen → IsNumberTable ports numbers count → 32 ≤ port
-    → None ≡ number_in seen port
+    → None ≡ number_among seen port
 no_number_past ports numbers count port seen is t past =
-    sym (ap (λ ps. number_in ps port) (sym is) ∙ number_in-past (take count ports) 32 port t.numbering.below past)
+    sym (ap (λ ps. number_among ps port) (sym is) ∙ number_among-past (take count ports) 32 port t.numbering.below past)
 
 -- if the code stores the next port, and its count as its number, the table holds one port more
 pub table_pushed_at : (ports : List ℕ) (numbers : List (Option ℕ)) (count port at number : ℕ) (seen : List ℕ)
@@ -369,11 +369,12 @@ one_appended ports now next first port from is more =
 
 -- ---- the ports of a row of ranges, place by place
 
-ports_in-append : (ranges more : List (Option PortRange)) → ports_in (ranges ++ more) ≡ ports_in ranges ++ ports_in more
-ports_in-append [] more = refl
-ports_in-append (place ∷ ranges) more =
-    ap (λ ps. ports_at place ++ ps) (ports_in-append ranges more)
-    ∙ sym (append_assoc (ports_at place) (ports_in ranges) (ports_in more))
+ranged_ports-append : (ranges more : List (Option PortRange))
+    → ranged_ports (ranges ++ more) ≡ ranged_ports ranges ++ ranged_ports more
+ranged_ports-append [] more = refl
+ranged_ports-append (place ∷ ranges) more =
+    ap (λ ps. ports_at place ++ ps) (ranged_ports-append ranges more)
+    ∙ sym (append_assoc (ports_at place) (ranged_ports ranges) (ranged_ports more))
 
 below_of : (place : Option PortRange) → IsPortRange place → All (λ p. p < 32) (ports_at place)
 below_of None h k d l = absurd (omega arith)
@@ -384,36 +385,37 @@ below_of (Some range) h k d l =
     let (from, to) = h in
     omega (arith, from, to)
 
-ranges_below : (ranges : List (Option PortRange)) → All IsPortRange ranges → All (λ p. p < 32) (ports_in ranges)
+ranges_below : (ranges : List (Option PortRange)) → All IsPortRange ranges → All (λ p. p < 32) (ranged_ports ranges)
 ranges_below [] h = λ k d l. absurd (omega arith)
 ranges_below (place ∷ ranges) h =
-    All-append (λ p. p < 32) (ports_at place) (ports_in ranges) (below_of place (h 0 None (omega arith)))
+    All-append (λ p. p < 32) (ports_at place) (ranged_ports ranges) (below_of place (h 0 None (omega arith)))
     (ranges_below ranges (λ k d l. h (suc k) d (omega arith)))
 
 -- the ports of ranges that may be a domain's are a numbering
-pub numbering_in : (ranges : List (Option PortRange)) → AreRanges ranges → IsNumbering (ports_in ranges)
+pub numbering_in : (ranges : List (Option PortRange)) → AreRanges ranges → IsNumbering (ranged_ports ranges)
 numbering_in ranges h = record { below = ranges_below ranges h.each; one_to_one = h.one_to_one }
 
-ports_in-more : (ranges : List (Option PortRange)) (i : ℕ) (d : Option PortRange) → i < length ranges
-    → ports_in (take (i + 1) ranges) ≡ ports_in (take i ranges) ++ ports_at (get_or ranges i d)
-ports_in-more ranges i d l =
-    ap ports_in (take_more ranges i d l) ∙ ports_in-append (take i ranges) (get_or ranges i d ∷ [])
-    ∙ ap (λ ps. ports_in (take i ranges) ++ ps) (append-nil (ports_at (get_or ranges i d)))
+ranged_ports-more : (ranges : List (Option PortRange)) (i : ℕ) (d : Option PortRange) → i < length ranges
+    → ranged_ports (take (i + 1) ranges) ≡ ranged_ports (take i ranges) ++ ports_at (get_or ranges i d)
+ranged_ports-more ranges i d l =
+    ap ranged_ports (take_more ranges i d l) ∙ ranged_ports-append (take i ranges) (get_or ranges i d ∷ [])
+    ∙ ap (λ ps. ranged_ports (take i ranges) ++ ps) (append-nil (ports_at (get_or ranges i d)))
 
 -- the next place shares no port with those before it
 pub next_place : (ranges : List (Option PortRange)) (now : List ℕ) (i : ℕ) (d : Option PortRange)
-    → AreRanges ranges → i < length ranges → now ≡ ports_in (take i ranges)
+    → AreRanges ranges → i < length ranges → now ≡ ranged_ports (take i ranges)
     → IsNumbering (now ++ ports_at (get_or ranges i d))
 next_place ranges now i d h l is =
-    let whole : ports_in ranges ≡ (now ++ ports_at (get_or ranges i d)) ++ ports_in (drop (i + 1) ranges) =
-    ap ports_in (sym (take-append-drop (i + 1) ranges)) ∙ ports_in-append (take (i + 1) ranges) (drop (i + 1) ranges)
-    ∙ ap (λ ps. ps ++ ports_in (drop (i + 1) ranges))
-    (ports_in-more ranges i d l ∙ ap (λ ps. ps ++ ports_at (get_or ranges i d)) (sym is)) in
+    let whole : ranged_ports ranges ≡ (now ++ ports_at (get_or ranges i d)) ++ ranged_ports (drop (i + 1) ranges) =
+    ap ranged_ports (sym (take-append-drop (i + 1) ranges))
+    ∙ ranged_ports-append (take (i + 1) ranges) (drop (i + 1) ranges)
+    ∙ ap (λ ps. ps ++ ranged_ports (drop (i + 1) ranges))
+    (ranged_ports-more ranges i d l ∙ ap (λ ps. ps ++ ports_at (get_or ranges i d)) (sym is)) in
     numbering_front _ _ (subst IsNumbering whole (numbering_in ranges h))
 
 -- the ports of one range more, once its ports are appended
 pub place_appended : (ranges : List (Option PortRange)) (now next : List ℕ) (i : ℕ) (d : Option PortRange)
-    → i < length ranges → now ≡ ports_in (take i ranges) → next ≡ now ++ ports_at (get_or ranges i d)
-    → next ≡ ports_in (take (i + 1) ranges)
+    → i < length ranges → now ≡ ranged_ports (take i ranges) → next ≡ now ++ ports_at (get_or ranges i d)
+    → next ≡ ranged_ports (take (i + 1) ranges)
 place_appended ranges now next i d l is more =
-    more ∙ ap (λ ps. ps ++ ports_at (get_or ranges i d)) is ∙ sym (ports_in-more ranges i d l)
+    more ∙ ap (λ ps. ps ++ ports_at (get_or ranges i d)) is ∙ sym (ranged_ports-more ranges i d l)

@@ -13,7 +13,7 @@ use Rattle.std.specs.Ordering.{nat_cmp}
 use Rattle.crossbar.specs.declared.word.Word.{Word}
 use Rattle.crossbar.specs.declared.range.PortRange.{PortRange}
 use Rattle.crossbar.specs.Switch.{cleared}
-use Rattle.crossbar.specs.Ranges.{IsNumbering, AreRanges, ports_in}
+use Rattle.crossbar.specs.Ranges.{IsNumbering, AreRanges, ranged_ports}
 use Rattle.crossbar.specs.Row.{Row, IsRow, IsWordOf, switch_of, connection_at, input_of, is_ready}
 use Rattle.crossbar.specs.Changed.{row_with}
 use Rattle.crossbar.specs.Plain.{IsPlain, IsPlainRow, words_at}
@@ -73,7 +73,7 @@ pub record Gathers (words : List Word) (ports : List ℕ) (own : List Word) (n :
 pub gathers_more : (words : List Word) (ranges : List (Option PortRange)) (ports : List ℕ) (own : List Word)
     (n at from port : ℕ) (d : Word)
     → Gathers words ports own n → length words ≡ 32 → AreRanges ranges
-    → ports ≡ ports_in ranges
+    → ports ≡ ranged_ports ranges
     → at ≡ n → from ≡ port → slice_get ports n ≡ Some port
     → Gathers words ports (slice_set own at (get_or words from d)) (n + 1)
 gathers_more words ranges ports own n at from port d g room ranges_are ports_is at_is from_is is =
@@ -119,9 +119,9 @@ pub unused_is_plain : (ranges : List (Option PortRange)) → AreRanges ranges �
 unused_is_plain ranges h = record {
   ranges_are = h;
   each =
-      let (k, is) = unused_words 32 (ports_in ranges) in
-      subst (All (IsWordOf (ports_in ranges))) (sym is)
-      (All-replicate (IsWordOf (ports_in ranges)) k unused (record { proper = refl; within = tt }));
+      let (k, is) = unused_words 32 (ranged_ports ranges) in
+      subst (All (IsWordOf (ranged_ports ranges))) (sym is)
+      (All-replicate (IsWordOf (ranged_ports ranges)) k unused (record { proper = refl; within = tt }));
 }
 
 no_connection : (n q : ℕ) → connection_at (replicate n unused) q ≡ None
@@ -137,5 +137,5 @@ unused_switch n =
 
 -- the words of any ranges that were never set say the cleared switch
 pub unused_is_cleared : (ranges : List (Option PortRange))
-    → switch_of (words_at (replicate 32 unused) (ports_in ranges)) ≡ cleared
-unused_is_cleared ranges = let (k, is) = unused_words 32 (ports_in ranges) in ap switch_of is ∙ unused_switch k
+    → switch_of (words_at (replicate 32 unused) (ranged_ports ranges)) ≡ cleared
+unused_is_cleared ranges = let (k, is) = unused_words 32 (ranged_ports ranges) in ap switch_of is ∙ unused_switch k

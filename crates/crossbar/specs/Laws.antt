@@ -6,7 +6,7 @@ use Rattle.std.specs.FinMap as map
 use Rattle.std.specs.FinSet as set
 use Rattle.crossbar.specs.declared.word.Word.{Word}
 use Rattle.crossbar.specs.Ranges.{IsOneToOne, IsNumbering}
-use Rattle.crossbar.specs.Row.{Row, IsRow, IsWordOf, number_in, switch_of, private_switch, lowered, input_of, is_ready}
+use Rattle.crossbar.specs.Row.{Row, IsRow, IsWordOf, number_among, switch_of, private_switch, lowered, input_of, is_ready}
 use Rattle.crossbar.specs.Changed.{row_with, words_after, each_after, ready_of}
 use Rattle.crossbar.specs.Switch.{Switch, map_below, set_below, connected, disconnected, all_ready, cleared}
 use Rattle.crossbar.specs.Word.{connection_of, CountsChange}
@@ -20,14 +20,14 @@ pub record SwitchLaws : Type 0 where
   -- two switches that say the same of each output are one
   pub same : (s t : Switch) → ((q : ℕ) → map.get s.pairs q ≡ map.get t.pairs q) → ((q : ℕ) → set.contains s.ready q ≡ set.contains t.ready q) → s ≡ t
   -- of distinct ports the v-th has number v
-  pub number : (ports : List ℕ) (v port : ℕ) → IsOneToOne ports → slice_get ports v ≡ Some port → number_in ports port ≡ Some v
+  pub number : (ports : List ℕ) (v port : ℕ) → IsOneToOne ports → slice_get ports v ≡ Some port → number_among ports port ≡ Some v
   -- each port of a list has a number there
-  pub numbered : (ports : List ℕ) (port v : ℕ) → slice_get ports v ≡ Some port → is_some (number_in ports port) ≡ true
+  pub numbered : (ports : List ℕ) (port v : ℕ) → slice_get ports v ≡ Some port → is_some (number_among ports port) ≡ true
   -- and is found by it
-  pub found : (ports : List ℕ) (port v : ℕ) → number_in ports port ≡ Some v → slice_get ports v ≡ Some port
+  pub found : (ports : List ℕ) (port v : ℕ) → number_among ports port ≡ Some v → slice_get ports v ≡ Some port
   -- what drives an output is what its word says, by its number
   pub driver : (row : Row) (v : ℕ) (word : Word) → v < length row.ports → slice_get row.words v ≡ Some word →
-      map.get (private_switch row).pairs v ≡ option_and_then (number_in row.ports) (input_of (connection_of word))
+      map.get (private_switch row).pairs v ≡ option_and_then (number_among row.ports) (input_of (connection_of word))
   -- and it is ready if its word says so
   pub readiness : (row : Row) (v : ℕ) (word : Word) → v < length row.ports → slice_get row.words v ≡ Some word →
       set.contains (private_switch row).ready v ≡ is_ready (connection_of word)

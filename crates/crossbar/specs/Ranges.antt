@@ -13,9 +13,9 @@ ports_at None = []
 ports_at (Some range) = ports_of range
 
 -- the ports of a row of ranges, in its order
-abbrev pub ports_in : List (Option PortRange) → List ℕ
-ports_in [] = []
-ports_in (place ∷ ranges) = ports_at place ++ ports_in ranges
+abbrev pub ranged_ports : List (Option PortRange) → List ℕ
+ranged_ports [] = []
+ranged_ports (place ∷ ranges) = ports_at place ++ ranged_ports ranges
 
 -- a range of the crossbar's ports, which isn't empty
 abbrev pub IsPortRange : Option PortRange → Type 0
@@ -34,4 +34,4 @@ pub record IsNumbering (ports : List ℕ) : Type 0 where
 -- ranges of the crossbar's ports of which no two share a port
 pub record AreRanges (ranges : List (Option PortRange)) : Type 0 where
   pub each : All IsPortRange ranges
-  pub one_to_one : IsOneToOne (ports_in ranges)
+  pub one_to_one : IsOneToOne (ranged_ports ranges)

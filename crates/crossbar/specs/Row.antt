@@ -15,9 +15,9 @@ pub record Row : Type 0 where
   pub words : List Word
 
 -- the virtual number of a physical port
-abbrev pub number_in : List ℕ → ℕ → Option ℕ
-number_in [] port = None
-number_in (first ∷ ports) port = if first == port then Some 0 else option_map suc (number_in ports port)
+abbrev pub number_among : List ℕ → ℕ → Option ℕ
+number_among [] port = None
+number_among (first ∷ ports) port = if first == port then Some 0 else option_map suc (number_among ports port)
 
 -- the input is one of the ports
 abbrev pub InputIsIn : List ℕ → Option Connection → Type 0
@@ -60,7 +60,7 @@ switch_of words = record {
 -- a switch with its inputs by the numbers that they have among these ports
 abbrev pub lowered : List ℕ → Switch → Switch
 lowered ports s = record {
-  pairs = map_below (length ports) (λ v. option_and_then (number_in ports) (map.get s.pairs v));
+  pairs = map_below (length ports) (λ v. option_and_then (number_among ports) (map.get s.pairs v));
   ready = set_below (length ports) (λ v. set.contains s.ready v);
 }
 

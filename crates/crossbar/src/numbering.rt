@@ -1,7 +1,7 @@
 //! Which physical port each virtual port of a domain is.
 ghost use Rattle.std.specs.Prelude.{◌≡◌, ◌<◌, ◌++◌, ◌∷◌, [], None, length, slice_get};
-ghost use Rattle.crossbar.specs.Ranges.{ports_in, ports_at, ports_of, AreRanges, IsPortRange, IsNumbering};
-ghost use Rattle.crossbar.specs.Row.{number_in};
+ghost use Rattle.crossbar.specs.Ranges.{ranged_ports, ports_at, ports_of, AreRanges, IsPortRange, IsNumbering};
+ghost use Rattle.crossbar.specs.Row.{number_among};
 
 use crate::range::{MOST_RANGES, PORTS, PortRange};
 use std::marker::Model;
@@ -30,7 +30,7 @@ impl Numbering {
     /// The ports of a domain's ranges, in the order of the row.
     pub fn of(ranges: [Option<PortRange>; MOST_RANGES]) -> Numbering
         requires { AreRanges ranges }
-        ensures { result ≡ ports_in ranges }
+        ensures { result ≡ ranged_ports ranges }
     {
         let mut numbering = Numbering::empty();
         for place in ranges {
@@ -110,7 +110,7 @@ impl Numbering {
 
     /// The virtual number of a physical port, or `None` where it is no port of the domain.
     pub fn virtual_of(&self, port: u8) -> Option<u8>
-        ensures { result ≡ number_in self.now port }
+        ensures { result ≡ number_among self.now port }
     {
         if port < PORTS {
             self.numbers[usize::from(port)]

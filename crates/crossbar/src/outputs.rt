@@ -1,7 +1,7 @@
 //! Who keeps the words of a domain's outputs.
 ghost use Rattle.std.specs.Prelude.{◌≡◌, ◌<◌, length, Some, slice_get};
 ghost use Rattle.crossbar.specs.declared.word.Word.{Word as SwitchWord};
-ghost use Rattle.crossbar.specs.Row.{Row, IsRow, IsWordOf, number_in};
+ghost use Rattle.crossbar.specs.Row.{Row, IsRow, IsWordOf, number_among};
 ghost use Rattle.crossbar.specs.Changed.{row_with};
 ghost use Rattle.crossbar.specs.Word.{IsAtLeastAsNew, SaysOther};
 
@@ -28,7 +28,7 @@ pub trait Outputs {
 
     /// The virtual number of a physical port, or `None` where it is none of the domain's.
     fn virtual_of(&self, port: u8) -> Option<u8>
-        ensures { result ≡ number_in (seen self.now).ports port };
+        ensures { result ≡ number_among (seen self.now).ports port };
 
     /// The word of an output.
     fn read(&mut self, number: u8) -> Word

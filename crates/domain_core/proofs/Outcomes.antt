@@ -18,17 +18,17 @@ use Rattle.domain_core.specs.Moves.{Joining, driven, are_ready, packet_at, deliv
 use Rattle.domain_core.specs.Moves.{moved_by, sent, moved_from, joining_of, moved}
 use Rattle.domain_core.specs.Machine.{has_moved}
 use Rattle.domain_core.specs.MachineValue.{MachineValue, IsOfPart, AreJoined}
-use Rattle.domain_core.specs.Routes.{marked_in}
+use Rattle.domain_core.specs.Routes.{marked_by}
 use Rattle.domain_core.proofs.Joined.{joined_holds}
 
 -- ---- marks
 
 -- an output whose bit is set is the one that is marked of itself
-pub one_marked : (mask q : ℕ) → (bit_at mask q == 1) ≡ true → marked_in mask (q ∷ []) ≡ q ∷ []
+pub one_marked : (mask q : ℕ) → (bit_at mask q == 1) ≡ true → marked_by mask (q ∷ []) ≡ q ∷ []
 one_marked mask q is = rw is refl
 
 -- an output whose bit isn't set isn't marked
-pub none_marked : (mask q : ℕ) → (bit_at mask q == 1) ≡ false → marked_in mask (q ∷ []) ≡ []
+pub none_marked : (mask q : ℕ) → (bit_at mask q == 1) ≡ false → marked_by mask (q ∷ []) ≡ []
 none_marked mask q is = rw is refl
 
 range_on : (first i : ℕ) → range_with_len first (suc i) ≡ range_with_len first i ++ (first + i) ∷ []
@@ -45,9 +45,9 @@ range_more i =
 
 -- the outputs that are marked below i + 1 are those below i, and then i if it is
 pub marked_more : (mask i : ℕ)
-    → marked_in mask (range_with_len 0 (i + 1)) ≡ marked_in mask (range_with_len 0 i) ++ marked_in mask (i ∷ [])
+    → marked_by mask (range_with_len 0 (i + 1)) ≡ marked_by mask (range_with_len 0 i) ++ marked_by mask (i ∷ [])
 marked_more mask i =
-    ap (marked_in mask) (range_more i) ∙ filter-append (λ q. bit_at mask q == 1) (range_with_len 0 i) (i ∷ [])
+    ap (marked_by mask) (range_more i) ∙ filter-append (λ q. bit_at mask q == 1) (range_with_len 0 i) (i ∷ [])
 
 -- ---- what becomes of the packet
 
@@ -94,7 +94,7 @@ one_ready s q false is = rw is refl
 -- an output that the input doesn't drive leaves the outcome as it is
 pub not_marked : (s : Switch) (before : Moved) (mask q : ℕ) (xs : List ℕ)
     → (bit_at mask q == 1) ≡ false → before ≡ outcome s xs
-    → before ≡ outcome s (xs ++ marked_in mask (q ∷ []))
+    → before ≡ outcome s (xs ++ marked_by mask (q ∷ []))
 not_marked s before mask q xs none is =
     is ∙ ap (outcome s) (sym (append-nil xs) ∙ ap (λ (ys : List ℕ). xs ++ ys) (sym (none_marked mask q none)))
 
@@ -110,7 +110,7 @@ stays s before xs ys stayed is =
 -- if no output before a driven one made the packet stay, and it is ready, the packet passes
 pub passes : (s : Switch) (before : Moved) (mask q : ℕ) (xs : List ℕ)
     → (bit_at mask q == 1) ≡ true → before ≢ Stayed → set.contains s.ready q ≡ true → before ≡ outcome s xs
-    → Passed ≡ outcome s (xs ++ marked_in mask (q ∷ []))
+    → Passed ≡ outcome s (xs ++ marked_by mask (q ∷ []))
 passes s before mask q xs marked other ready is =
     sym (ap (λ (ys : List ℕ). outcome s (xs ++ ys)) (one_marked mask q marked)
     ∙ passes_all s xs q (all_two (are_ready s xs) (are_ready s (q ∷ [])) (are_ready s (xs ++ q ∷ []))
@@ -120,7 +120,7 @@ passes s before mask q xs marked other ready is =
 -- if a driven output isn't ready, the packet stays
 pub must_stay : (s : Switch) (before : Moved) (mask q : ℕ) (xs : List ℕ)
     → (bit_at mask q == 1) ≡ true → before ≢ Stayed → set.contains s.ready q ≡ false → before ≡ outcome s xs
-    → Stayed ≡ outcome s (xs ++ marked_in mask (q ∷ []))
+    → Stayed ≡ outcome s (xs ++ marked_by mask (q ∷ []))
 must_stay s before mask q xs marked other ready is =
     sym (ap (λ (ys : List ℕ). outcome s (xs ++ ys)) (one_marked mask q marked)
     ∙ must_be_stayed s (xs ++ q ∷ [])
@@ -168,19 +168,19 @@ holds_at v table port device of joined there at =
 -- a packet that arrives at a driven output's device arrived at the outputs that are marked of it alone
 pub copied_one : {S D : Type 0} (j : Joining S D) (packet : Packet) (mask q : ℕ) (to : Option D) (all : S)
     → (bit_at mask q == 1) ≡ true → j.joined q ≡ to
-    → delivered_at j packet to all ≡ copies_arrived j packet (marked_in mask (q ∷ [])) all
+    → delivered_at j packet to all ≡ copies_arrived j packet (marked_by mask (q ∷ [])) all
 copied_one {D = D} j packet mask q to all marked is =
     ap (λ (found : Option D). delivered_at j packet found all) (sym is)
     ∙ ap (λ (xs : List ℕ). copies_arrived j packet xs all) (sym (one_marked mask q marked))
 
 -- a packet that arrived at the marked outputs below i, and then at i if it is marked, arrived at those below i + 1
 pub copied_more : {S D : Type 0} (j : Joining S D) (packet : Packet) (mask i : ℕ) (d e f : S)
-    → e ≡ copies_arrived j packet (marked_in mask (range_with_len 0 i)) d
-    → f ≡ copies_arrived j packet (marked_in mask (i ∷ [])) e
-    → f ≡ copies_arrived j packet (marked_in mask (range_with_len 0 (i + 1))) d
+    → e ≡ copies_arrived j packet (marked_by mask (range_with_len 0 i)) d
+    → f ≡ copies_arrived j packet (marked_by mask (i ∷ [])) e
+    → f ≡ copies_arrived j packet (marked_by mask (range_with_len 0 (i + 1))) d
 copied_more j packet mask i d e f before is =
-    is ∙ ap (copies_arrived j packet (marked_in mask (i ∷ []))) before
-    ∙ sym (copied_append j packet (marked_in mask (range_with_len 0 i)) (marked_in mask (i ∷ [])) d)
+    is ∙ ap (copies_arrived j packet (marked_by mask (i ∷ []))) before
+    ∙ sym (copied_append j packet (marked_by mask (range_with_len 0 i)) (marked_by mask (i ∷ [])) d)
     ∙ ap (λ (xs : List ℕ). copies_arrived j packet xs d) (sym (marked_more mask i))
 
 -- ---- the whole Move

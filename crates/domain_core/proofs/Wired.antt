@@ -134,8 +134,8 @@ no_host first (x ∷ hosts) port none =
 
 -- ---- the links of one node
 
-abbrev ports_in : List (Option ℕ) → List ℕ
-ports_in links = filter_map (λ link. link) links
+abbrev ranged_ports : List (Option ℕ) → List ℕ
+ranged_ports links = filter_map (λ link. link) links
 
 wired_here : (wired : Option ℕ) (port : ℕ) (device other : Option Device) → wired ≡ Some port
     → is_wired_to wired port device other ≡ device
@@ -149,25 +149,26 @@ wired_on (Some w) port device other ne =
     let test : (w == port) ≡ false = ne_eqb _ _ (λ e. ne (ap (λ (n : ℕ). Some n) e)) in rw test refl
 
 has_port : (links : List (Option ℕ)) (place port : ℕ) → slice_get links place ≡ Some (Some port)
-    → Has (ports_in links) port
+    → Has (ranged_ports links) port
 has_port [] place port at = absurd (none-some (Some port) at)
 has_port (l ∷ links) zero port at =
-    subst (λ (x : Option ℕ). Has (cons_option x (ports_in links)) port) (sym (same_Some _ _ at)) (inl refl)
+    subst (λ (x : Option ℕ). Has (cons_option x (ranged_ports links)) port) (sym (same_Some _ _ at)) (inl refl)
 has_port (None ∷ links) (suc place) port at = has_port links place port at
 has_port (Some w ∷ links) (suc place) port at = inr (has_port links place port at)
 
 not_wired : (wired : Option ℕ) (links : List (Option ℕ)) (port : ℕ)
-    → Apart (ports_in (wired ∷ links)) → Has (ports_in links) port → wired ≡ Some port
+    → Apart (ranged_ports (wired ∷ links)) → Has (ranged_ports links) port → wired ≡ Some port
     → ⊥
 not_wired None links port apart has e = none-some port e
-not_wired (Some w) links port apart has e = apart.0 (subst (Has (ports_in links)) (sym (same_Some _ _ e)) has)
+not_wired (Some w) links port apart has e = apart.0 (subst (Has (ranged_ports links)) (sym (same_Some _ _ e)) has)
 
-apart_rest : (wired : Option ℕ) (links : List (Option ℕ)) → Apart (ports_in (wired ∷ links)) → Apart (ports_in links)
+apart_rest : (wired : Option ℕ) (links : List (Option ℕ)) → Apart (ranged_ports (wired ∷ links))
+    → Apart (ranged_ports links)
 apart_rest None links apart = apart
 apart_rest (Some w) links apart = apart.1
 
 four_found : (number : ℕ) (links : List (Option ℕ)) (port : ℕ) (link : LinkNumber)
-    → length links ≡ 4 → Apart (ports_in links)
+    → length links ≡ 4 → Apart (ranged_ports links)
     → slice_get links (link_index link) ≡ Some (Some port)
     → link_of_four number links port ≡ Some (Link number link)
 four_found number (a ∷ b ∷ c ∷ d ∷ []) port Zero four apart at = wired_here a port _ _ (same_Some _ _ at)
@@ -188,7 +189,7 @@ four_found number (a ∷ b ∷ c ∷ d ∷ []) port Three four apart at =
     ∙ wired_here d port _ _ (same_Some _ _ at)
 four_found number _ port link four apart at = absurd (omega (arith, four))
 
-no_link_of_four : (number : ℕ) (links : List (Option ℕ)) (port : ℕ) → (Has (ports_in links) port → ⊥)
+no_link_of_four : (number : ℕ) (links : List (Option ℕ)) (port : ℕ) → (Has (ranged_ports links) port → ⊥)
     → link_of_four number links port ≡ None
 no_link_of_four number (a ∷ b ∷ c ∷ d ∷ []) port none =
     let links : List (Option ℕ) = a ∷ b ∷ c ∷ d ∷ [] in

@@ -13,8 +13,8 @@ use Rattle.domain_core.specs.Devices.{DeviceStates, HasDevice, taken_from_device
 use Rattle.domain_core.specs.Moves.{copies_arrived, joining_of}
 
 -- the outputs whose bits are set in a mask
-abbrev pub marked_in : ℕ → List ℕ → List ℕ
-marked_in mask outputs = filter (λ q. bit_at mask q == 1) outputs
+abbrev pub marked_by : ℕ → List ℕ → List ℕ
+marked_by mask outputs = filter (λ q. bit_at mask q == 1) outputs
 
 -- the bits of a mask are set exactly if a test holds
 abbrev pub Marks : ℕ → (ℕ → Bool) → Type 0
@@ -39,7 +39,7 @@ route_leaves part route.Nothing d = d
 route_leaves part route.Stayed d = d
 route_leaves part (route.Lost device) d = taken_from_device device d
 route_leaves part (route.Passed device packet outputs) d =
-    copies_arrived (joining_of part) packet (marked_in outputs (range_with_len 0 part.count)) (taken_from_device device d)
+    copies_arrived (joining_of part) packet (marked_by outputs (range_with_len 0 part.count)) (taken_from_device device d)
 
 -- the device from which the packet goes is there
 abbrev pub HasItsDevice : DeviceStates → Route → Type 0

@@ -2,7 +2,7 @@
 ghost use Rattle.std.specs.Prelude.{◌≡◌, ◌≢◌, ◌<◌, ◌+◌, [], None, Some, Ok, Err, length, IfErr, IfOk, IfSome, OnErr, IsTrue, ◌↔◌, slice_get, true, not};
 ghost use Rattle.std.specs.List.{AllZip};
 ghost use Rattle.std.specs.Option.{option_copied};
-ghost use Rattle.crossbar.specs.Row.{switch_of, IsRow, number_in};
+ghost use Rattle.crossbar.specs.Row.{switch_of, IsRow, number_among};
 ghost use Rattle.virtual_switch.specs.SwitchValue.{row_of};
 ghost use Rattle.crossbar.specs.Switch.{cleared};
 ghost use Rattle.crossbar.specs.Word.{CountsChange};
@@ -207,7 +207,7 @@ impl<O: Outputs + Drop> Domain<O> {
 
     /// The virtual number of a physical port, or `None` where it is none of the domain's.
     pub fn virtual_of(&self, port: u8) -> Option<u8>
-        ensures { result ≡ number_in self.now.machine.switch.ports port }
+        ensures { result ≡ number_among self.now.machine.switch.ports port }
     {
         self.machine.virtual_of(port)
     }

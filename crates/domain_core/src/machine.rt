@@ -3,7 +3,7 @@ ghost use Rattle.std.specs.Prelude.{◌≡◌, ◌<◌, ◌≤◌, ◌==◌, ◌
 ghost use Rattle.std.specs.Option.{option_copied};
 ghost use Rattle.domain_core.specs.declared.event.Event.{Event as SpecEvent};
 ghost use Rattle.domain_core.specs.Domain.{IsQuiet, PortsAreQuiet};
-ghost use Rattle.crossbar.specs.Row.{switch_of, IsRow, number_in};
+ghost use Rattle.crossbar.specs.Row.{switch_of, IsRow, number_among};
 ghost use Rattle.crossbar.specs.Switch.{cleared};
 ghost use Rattle.virtual_switch.specs.Each.{KeepsPorts};
 ghost use Rattle.virtual_switch.specs.SwitchValue.{private_of, row_of};
@@ -236,7 +236,7 @@ impl<O: Outputs + Drop> RunningMachine<O> {
 
     /// The virtual number of a physical port, or `None` where it is none of the domain's.
     pub(crate) fn virtual_of(&self, port: u8) -> Option<u8>
-        ensures { result ≡ number_in self.now.switch.ports port }
+        ensures { result ≡ number_among self.now.switch.ports port }
     {
         self.switch.virtual_of(port)
     }

@@ -6,7 +6,7 @@ ghost use Rattle.virtual_switch.specs.SwitchValue.{private_of};
 ghost use Rattle.domain_core.specs.Machine.{has_moved};
 ghost use Rattle.domain_core.specs.MachineValue.{AreJoined};
 ghost use Rattle.domain_core.specs.Moves.{outcome, copies_arrived, joining_of};
-ghost use Rattle.domain_core.specs.Routes.{marked_in, fate_answer, route_answer};
+ghost use Rattle.domain_core.specs.Routes.{marked_by, fate_answer, route_answer};
 
 use crate::device::Device;
 use crate::devices::Devices;
@@ -91,7 +91,7 @@ fn fate_with<O: Outputs>(
     requires few { length switch.old.ports ≤ 32 }
     requires there { output < length switch.old.ports }
     ensures answer { (xs : List ℕ) → fate_answer before ≡ outcome (private_of switch.old) xs →
-        fate_answer result ≡ outcome (private_of switch.old) (xs ++ marked_in outputs (output ∷ [])) }
+        fate_answer result ≡ outcome (private_of switch.old) (xs ++ marked_by outputs (output ∷ [])) }
     ensures unchanged { switch.new ≡ switch.old }
 {
     if !is_marked(outputs, output) {
@@ -110,7 +110,7 @@ fn fate_with<O: Outputs>(
 /// What becomes of a packet whose port drives these outputs.
 pub(crate) fn fate_of<O: Outputs>(switch: &mut VirtualSwitch<O>, outputs: u32) -> Fate
     requires { length switch.old.ports ≤ 32 }
-    ensures answer { fate_answer result ≡ outcome (private_of switch.old) (marked_in outputs (range_with_len 0 (length switch.old.ports))) }
+    ensures answer { fate_answer result ≡ outcome (private_of switch.old) (marked_by outputs (range_with_len 0 (length switch.old.ports))) }
     ensures unchanged { switch.new ≡ switch.old }
 {
     let mut fate = Fate::Lost;
@@ -135,7 +135,7 @@ fn copy_at(
     requires joined { AreJoined part.now table.now }
     requires nodes { length devices.old.nodes ≡ length part.now.nodes }
     requires hosts { length devices.old.hosts ≡ length part.now.hosts }
-    ensures state { devices.new ≡ copies_arrived (joining_of part.now) packet (marked_in outputs (output ∷ [])) devices.old }
+    ensures state { devices.new ≡ copies_arrived (joining_of part.now) packet (marked_by outputs (output ∷ [])) devices.old }
     ensures nodes { length devices.new.nodes ≡ length devices.old.nodes }
     ensures hosts { length devices.new.hosts ≡ length devices.old.hosts }
 {
@@ -159,7 +159,7 @@ pub(crate) fn copy_to(
     requires joined { AreJoined part.now table.now }
     requires nodes { length devices.old.nodes ≡ length part.now.nodes }
     requires hosts { length devices.old.hosts ≡ length part.now.hosts }
-    ensures { devices.new ≡ copies_arrived (joining_of part.now) packet (marked_in outputs (range_with_len 0 part.now.count)) devices.old }
+    ensures { devices.new ≡ copies_arrived (joining_of part.now) packet (marked_by outputs (range_with_len 0 part.now.count)) devices.old }
 {
     for output in 0..part.count() {
         copy_at(devices, part, table, outputs, output, packet);

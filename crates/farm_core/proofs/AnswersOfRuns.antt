@@ -17,7 +17,7 @@ use Rattle.farm_core.specs.Whole.{Farm, whole_next, physical_answers, whole_open
 use Rattle.farm_core.specs.Projection.{lowered_for, own}
 use Rattle.farm_core.specs.Domains.{IsMadeOf}
 use Rattle.farm_core.specs.Laws.{caller_answers_from, caller_answers, answers_among}
-use Rattle.farm_core.specs.PlainFarm.{places_in, states_in, IsCallOfEachWhole}
+use Rattle.farm_core.specs.PlainFarm.{all_places, all_states, IsCallOfEachWhole}
 use Rattle.farm_core.specs.Run.{calls_asked, NobodyElsewhere}
 use Rattle.farm_core.proofs.MadeOfDomains.{no_domain_no_change}
 use Rattle.farm_core.proofs.Runs.{own-here, own-there, told_pairs, told_domains, told_answers, zip-parts}
@@ -28,13 +28,14 @@ use Rattle.farm_core.proofs.Runs.{own-here, own-there, told_pairs, told_domains,
 pub record IsToldSoFar (plan : List Place) (told : List Answer) (left all : List (ℕ × Call))
     (domains : List DomainValue) : Type 0 where
   pub farm : Farm
-  pub places : places_in domains ≡ plan
-  pub made : IsMadeOf plan farm (states_in domains)
+  pub places : all_places domains ≡ plan
+  pub made : IsMadeOf plan farm (all_states domains)
   pub told_is : told ++ caller_answers_from plan farm left ≡ caller_answers plan all
 
 -- before the first call nothing was told, and the whole farm will tell all of it
-pub told_nothing : (plan : List Place) (calls : List (ℕ × Call)) (domains : List DomainValue) → places_in domains ≡ plan
-    → IsMadeOf plan (whole_opening plan) (states_in domains)
+pub told_nothing : (plan : List Place) (calls : List (ℕ × Call)) (domains : List DomainValue)
+    → all_places domains ≡ plan
+    → IsMadeOf plan (whole_opening plan) (all_states domains)
     → IsToldSoFar plan [] calls calls domains
 told_nothing plan calls domains places made =
     record { farm = whole_opening plan; places = places; made = made; told_is = refl }
@@ -50,18 +51,18 @@ but_for_memory (Err NoMemory) not p = absurd (not refl)
 pub told_one_more : (plan : List Place) (told : List Answer) (domain : ℕ) (call : Call) (left all : List (ℕ × Call))
     (domains later : List DomainValue) (answer : Answer)
     → IsToldSoFar plan told ((domain, call) ∷ left) all domains → IsCallOfEachWhole domain call answer domains later
-    → places_in later ≡ places_in domains
+    → all_places later ≡ all_places domains
     → IsToldSoFar plan (told ++ answer ∷ []) left all later
 told_one_more plan told domain call left all domains later answer so is places =
-    let one = is so.farm (subst (λ p. IsMadeOf p so.farm (states_in domains)) (sym so.places) so.made) in
+    let one = is so.farm (subst (λ p. IsMadeOf p so.farm (all_states domains)) (sym so.places) so.made) in
     let after = (whole_next plan so.farm (domain, call)).0 in
-    let same : places_in later ≡ plan = places ∙ so.places in
+    let same : all_places later ≡ plan = places ∙ so.places in
     let says : answer ≡ lowered_for (slice_get plan domain) (whole_next plan so.farm (domain, call)).1 =
     subst (λ p. answer ≡ lowered_for (slice_get p domain) (whole_next p so.farm (domain, call)).1) so.places
     one.answer in
-    let made : IsMadeOf plan after (states_in later) =
-    subst (λ p. IsMadeOf p after (states_in later)) same
-    (subst (λ p. IsMadeOf (places_in later) (whole_next p so.farm (domain, call)).0 (states_in later)) so.places
+    let made : IsMadeOf plan after (all_states later) =
+    subst (λ p. IsMadeOf p after (all_states later)) same
+    (subst (λ p. IsMadeOf (all_places later) (whole_next p so.farm (domain, call)).0 (all_states later)) so.places
     one.made) in
     record {
       farm = after;
@@ -79,7 +80,7 @@ pub told_next : (plan : List Place) (told : List Answer) (asked : List (ℕ × B
     → IsToldSoFar plan told (calls_asked (drop index asked)) (calls_asked asked) domains
     → IsCallOfEachWhole (get_or asked index d).0
     (record { by = (get_or asked index d).1; event = (get_or asked index d).2 }) answer domains later
-    → places_in later ≡ places_in domains
+    → all_places later ≡ all_places domains
     → IsToldSoFar plan (told ++ answer ∷ []) (calls_asked (drop (index + 1) asked)) (calls_asked asked) later
 told_next plan told asked index d domains later answer within so is places =
     let x = get_or asked index d in

@@ -12,7 +12,7 @@ use Rattle.std.specs.FinMap as fin
 use Rattle.std.specs.FinSet as set
 use Rattle.crossbar.specs.Switch.{Switch}
 use Rattle.crossbar.specs.Ranges.{IsOneToOne}
-use Rattle.crossbar.specs.Row.{number_in}
+use Rattle.crossbar.specs.Row.{number_among}
 use Rattle.crossbar.specs.Laws.{SwitchLaws}
 use Rattle.domain_core.specs.PrivateFarm.{State, Call, Answer, next, opening}
 use Rattle.farm_core.specs.Places.{Place, AreApart, AreSeparatePlaces}
@@ -44,11 +44,11 @@ ready-of_one : SwitchLaws → (port : ℕ) (s : Switch)
 ready-of_one laws port s = contains-own_switch laws (port ∷ []) s 0
 
 driver-of_one : SwitchLaws → (port : ℕ) (s : Switch)
-    → fin.get (own_switch (port ∷ []) s).pairs 0 ≡ option_and_then (number_in (port ∷ [])) (fin.get s.pairs port)
+    → fin.get (own_switch (port ∷ []) s).pairs 0 ≡ option_and_then (number_among (port ∷ [])) (fin.get s.pairs port)
 driver-of_one laws port s = get-own_switch laws (port ∷ []) s 0
 
 no-driver : SwitchLaws → (port : ℕ) (found : Option ℕ) → ((input : ℕ) → found ≡ Some input → Contains (port ∷ []) input)
-    → option_and_then (number_in (port ∷ [])) found ≡ None
+    → option_and_then (number_among (port ∷ [])) found ≡ None
     → found ≡ None
 no-driver laws port None own none = refl
 no-driver laws port (Some input) own none =
@@ -75,7 +75,7 @@ still_free laws place domain old whole alone port out step free =
     no-driver laws port (fin.get whole.0.switch.pairs port)
     (λ input driven. drives port input (contains_at (port ∷ []) 0 port refl) driven)
     (sym (driver-of_one laws port whole.0.switch) ∙ ap (λ (s : Switch). fin.get s.pairs 0) same
-    ∙ driver-of_one laws port old.switch ∙ ap (option_and_then (number_in (port ∷ []))) old_none) in
+    ∙ driver-of_one laws port old.switch ∙ ap (option_and_then (number_among (port ∷ []))) old_none) in
     let ready =
     sym (ready-of_one laws port whole.0.switch) ∙ ap (λ (s : Switch). set.contains s.ready 0) same
     ∙ ready-of_one laws port old.switch ∙ ap (λ (o : Output). o.ready) free in
@@ -192,7 +192,7 @@ no_domain_no_change plan farm domain call none = ap (next_in plan farm domain ca
 -- lowering a physical input of the domain and raising it again gives it back
 pub raised-number : SwitchLaws → (ports : List ℕ) (found : Option ℕ) → IsOneToOne ports
     → ((input : ℕ) → found ≡ Some input → Contains ports input)
-    → found ≡ option_map (raised ports) (option_and_then (number_in ports) found)
+    → found ≡ option_map (raised ports) (option_and_then (number_among ports) found)
 raised-number laws ports None one own = refl
 raised-number laws ports (Some input) one own =
     let at = at_contained ports input (own input refl) in

@@ -11,7 +11,8 @@ use Rattle.domain_core.specs.Journal.{AnsweredCall, IsHistory, calls_of, replies
 use Rattle.farm_core.specs.Places.{Place, AreSeparatePlaces}
 use Rattle.farm_core.specs.Whole.{physical_answers, whole_opening}
 use Rattle.farm_core.specs.Projection.{own}
-use Rattle.farm_core.specs.Merges.{journal_at, IsMerge, calls_in, replies_in, AreHistories, EachMergeIsARun, own_place}
+use Rattle.farm_core.specs.Merges.{journal_at, IsMerge, merged_calls, merged_answers, AreHistories}
+use Rattle.farm_core.specs.Merges.{EachMergeIsARun, own_place}
 use Rattle.farm_core.specs.Merges.{own_journal, EachMergeOfDomainsIsARun}
 use Rattle.farm_core.proofs.MadeOfDomains.{tidy_after, tidy_opening}
 use Rattle.farm_core.proofs.Runs.{own-here, own-there, own-map, told_pairs, own_told}
@@ -52,17 +53,18 @@ same-list (x ∷ xs) (y ∷ ys) domains each =
 abbrev stored : List (ℕ × AnsweredCall) → List (ℕ × Answer)
 stored merge = map (λ x. (x.0, Ok x.1.reply)) merge
 
-own_calls : (domain : ℕ) (merge : List (ℕ × AnsweredCall)) → own domain (calls_in merge) ≡ calls_of (own domain merge)
+own_calls : (domain : ℕ) (merge : List (ℕ × AnsweredCall))
+    → own domain (merged_calls merge) ≡ calls_of (own domain merge)
 own_calls domain merge = own-map (λ d a. a.call) domain merge
 
 own_stored : (domain : ℕ) (merge : List (ℕ × AnsweredCall)) → own domain (stored merge) ≡ replies_of (own domain merge)
 own_stored domain merge = own-map (λ d a. Ok a.reply) domain merge
 
-call_domains : (merge : List (ℕ × AnsweredCall)) → map (λ c. c.0) (calls_in merge) ≡ map (λ t. t.0) (stored merge)
+call_domains : (merge : List (ℕ × AnsweredCall)) → map (λ c. c.0) (merged_calls merge) ≡ map (λ t. t.0) (stored merge)
 call_domains [] = refl
 call_domains (x ∷ merge) = ap (λ rest. x.0 ∷ rest) (call_domains merge)
 
-stored_replies : (merge : List (ℕ × AnsweredCall)) → map (λ t. t.1) (stored merge) ≡ replies_in merge
+stored_replies : (merge : List (ℕ × AnsweredCall)) → map (λ t. t.1) (stored merge) ≡ merged_answers merge
 stored_replies [] = refl
 stored_replies (x ∷ merge) =
     ap (λ (rest : List Answer). (let a : Answer = Ok x.1.reply in a) ∷ rest) (stored_replies merge)
@@ -108,7 +110,7 @@ own_replies : SwitchLaws
     (domain : ℕ) (found : Option Place)
     → slice_get plan domain ≡ found
     → AreSeparatePlaces plan → AreHistories plan journals states → IsMerge journals merge
-    → own domain (told_pairs plan (physical_answers plan (whole_opening plan) (calls_in merge)))
+    → own domain (told_pairs plan (physical_answers plan (whole_opening plan) (merged_calls merge)))
     ≡ own domain (stored merge)
 own_replies laws plan journals states merge domain None at separate are is =
     let out : length plan ≤ domain =
@@ -118,13 +120,13 @@ own_replies laws plan journals states merge domain None at separate are is =
     ] in
     let none : own domain merge ≡ [] =
     is domain ∙ ap journal_at (slice_get_past journals domain (omega (arith, out, are.journal_each))) in
-    let asked : own domain (calls_in merge) ≡ [] = own_calls domain merge ∙ ap calls_of none in
-    none_own domain (calls_in merge) _ (sym (told_domains plan (whole_opening plan) (calls_in merge))) asked
+    let asked : own domain (merged_calls merge) ≡ [] = own_calls domain merge ∙ ap calls_of none in
+    none_own domain (merged_calls merge) _ (sym (told_domains plan (whole_opening plan) (merged_calls merge))) asked
     ∙ sym (own_stored domain merge ∙ ap replies_of none)
 own_replies laws plan journals states merge domain (Some place) at separate are is =
     let h = history plan journals states domain place are at in
     let has : own domain merge ≡ h.0 = is domain ∙ ap journal_at h.2 in
-    own_told laws plan (calls_in merge) domain place separate at
+    own_told laws plan (merged_calls merge) domain place separate at
     ∙ ap (answers place.part (opening place.part)) (own_calls domain merge ∙ ap calls_of has)
     ∙ h.4.replies ∙ sym (own_stored domain merge ∙ ap replies_of has)
 
@@ -132,21 +134,21 @@ own_replies laws plan journals states merge domain (Some place) at separate are 
 pub each_merge_is_a_run : SwitchLaws → EachMergeIsARun
 each_merge_is_a_run laws plan journals states merge separate are is = record {
   replies =
-      let heard = physical_answers plan (whole_opening plan) (calls_in merge) in
+      let heard = physical_answers plan (whole_opening plan) (merged_calls merge) in
       sym (told_answers plan heard)
       ∙ ap (map (λ t. t.1))
       (same-list (told_pairs plan heard) (stored merge)
-      (told_domains plan (whole_opening plan) (calls_in merge) ∙ call_domains merge)
+      (told_domains plan (whole_opening plan) (merged_calls merge) ∙ call_domains merge)
       (λ d. own_replies laws plan journals states merge d (slice_get plan d) refl separate are is))
       ∙ stored_replies merge;
   ends =
-      let tidy = tidy_after laws plan (whole_opening plan) (calls_in merge) separate (tidy_opening plan) in
+      let tidy = tidy_after laws plan (whole_opening plan) (merged_calls merge) separate (tidy_opening plan) in
       record {
         state_each = are.state_each;
         each = λ domain place s there at.
             let h = history plan journals states domain place are there in
             let has : own domain merge ≡ h.0 = is domain ∙ ap journal_at h.2 in
-            (each_domain_is_private laws plan (calls_in merge) domain place separate there).state
+            (each_domain_is_private laws plan (merged_calls merge) domain place separate there).state
             ∙ ap (after place.part (opening place.part)) (own_calls domain merge ∙ ap calls_of has)
             ∙ (are.each domain place h.0 s there h.2 at).state;
         within = tidy.within;

@@ -15,7 +15,7 @@ use Rattle.c004_commands.specs.declared.message.Message.TheVariants.{Disconnect,
 use Rattle.c004_commands.specs.Grammar.{Item, Command, Stray}
 use Rattle.crossbar.specs.Switch.{Switch, connected, disconnected, all_ready, cleared}
 use Rattle.crossbar.specs.Ranges.{IsOneToOne}
-use Rattle.crossbar.specs.Row.{number_in}
+use Rattle.crossbar.specs.Row.{number_among}
 use Rattle.crossbar.specs.Laws.{SwitchLaws}
 use Rattle.virtual_switch.specs.declared.reply.ConfigReply.TheVariants.{Answer}
 use Rattle.virtual_switch.specs.PrivateSwitch.{ports_named, are_below, answer_byte, performed}
@@ -27,7 +27,7 @@ use Rattle.farm_core.specs.Projection.{own_switch, driver_at, ready_at, lowered_
 use Rattle.farm_core.specs.Domains.{DrivesItself}
 use Rattle.farm_core.proofs.OneOutputSet.{SetsOutput, contains_at, at_contained, sets_connected, sets_disconnected}
 use Rattle.farm_core.proofs.OneOutputSet.{one_set, get-own_switch, contains-own_switch, same_own_switch}
-use Rattle.farm_core.proofs.OneOutputSet.{own_switch_sets, untouched, still_drives, number_in-none, keys_of}
+use Rattle.farm_core.proofs.OneOutputSet.{own_switch_sets, untouched, still_drives, number_among-none, keys_of}
 use Rattle.farm_core.proofs.OneOutputSet.{contains-readied, get-emptied, contains-emptied}
 
 -- below the number of ports the raised number stands in their list
@@ -70,7 +70,7 @@ own_disconnected laws ports s output one o =
 
 known_driver : SwitchLaws → (ports : List ℕ) (found : Option ℕ)
     → ((input : ℕ) → found ≡ Some input → (w : ℕ) × (slice_get ports w ≡ Some input))
-    → is_some found ≡ is_some (option_and_then (number_in ports) found)
+    → is_some found ≡ is_some (option_and_then (number_among ports) found)
 known_driver laws ports None own = refl
 known_driver laws ports (Some input) own = let at = own input refl in sym (laws.numbered ports input at.0 at.1)
 
@@ -109,7 +109,7 @@ own_emptied laws ports s =
         → driver_at ports (disconnected_ports ports s) found ≡ None
     drivers q None e = refl
     drivers q (Some port) e =
-        ap (option_and_then (number_in ports))
+        ap (option_and_then (number_among ports))
         (get-emptied ports s port ∙ cond-true _ _ _ (laws.numbered ports port q e))
 
     readies : (q : ℕ) (found : Option ℕ) → slice_get ports q ≡ found
@@ -143,15 +143,15 @@ as_answered byte (Some input) some = refl
 lowered_enquiry : SwitchLaws → (ports : List ℕ) (found : Option ℕ)
     → ((input : ℕ) → found ≡ Some input → (w : ℕ) × (slice_get ports w ≡ Some input))
     → (if answer_byte found == 0 then 0
-    else lowered_byte (answer_byte found) (number_in ports (answer_byte found - 128)))
-    ≡ answer_byte (option_and_then (number_in ports) found)
+    else lowered_byte (answer_byte found) (number_among ports (answer_byte found - 128)))
+    ≡ answer_byte (option_and_then (number_among ports) found)
 lowered_enquiry laws ports None own = refl
 lowered_enquiry laws ports (Some input) own =
     let some : (128 + input == 0) ≡ false = ne_eqb _ _ (λ e. omega arith) in
     let back : 128 + input - 128 ≡ input = omega arith in
     let at = own input refl in
-    rw some (ap (λ n. lowered_byte (128 + input) (number_in ports n)) back
-    ∙ as_answered (128 + input) (number_in ports input) (laws.numbered ports input at.0 at.1))
+    rw some (ap (λ n. lowered_byte (128 + input) (number_among ports n)) back
+    ∙ as_answered (128 + input) (number_among ports input) (laws.numbered ports input at.0 at.1))
 
 own_answer : SwitchLaws → (ports : List ℕ) (s : Switch) (message : Message) → DrivesItself ports s
     → are_below (length ports) (ports_named message) ≡ true
@@ -216,17 +216,20 @@ other_readied : SwitchLaws → (ports others : List ℕ) (s : Switch) → AreApa
 other_readied laws ports others s apart =
     same_own_switch laws others s (readied ports s) (λ v port at. refl) (λ v port at.
     contains-readied ports s port
-    ∙ cond-false _ _ _ (ap is_some (number_in-none ports port (λ w is. never_both ports others w v port apart is at))))
+    ∙ cond-false _ _ _
+    (ap is_some (number_among-none ports port (λ w is. never_both ports others w v port apart is at))))
 
 other_emptied : SwitchLaws → (ports others : List ℕ) (s : Switch) → AreApart ports others
     → own_switch others (disconnected_ports ports s) ≡ own_switch others s
 other_emptied laws ports others s apart =
     same_own_switch laws others s (disconnected_ports ports s) (λ v port at.
     get-emptied ports s port
-    ∙ cond-false _ _ _ (ap is_some (number_in-none ports port (λ w is. never_both ports others w v port apart is at))))
+    ∙ cond-false _ _ _
+    (ap is_some (number_among-none ports port (λ w is. never_both ports others w v port apart is at))))
     (λ v port at.
     contains-emptied ports s port
-    ∙ cond-false _ _ _ (ap is_some (number_in-none ports port (λ w is. never_both ports others w v port apart is at))))
+    ∙ cond-false _ _ _
+    (ap is_some (number_among-none ports port (λ w is. never_both ports others w v port apart is at))))
 
 other_connected : SwitchLaws → (ports others : List ℕ) (s : Switch) (input output : ℕ) → AreApart ports others
     → output < length ports

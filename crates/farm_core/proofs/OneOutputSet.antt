@@ -13,7 +13,7 @@ use Rattle.std.specs.FinMap as map
 use Rattle.std.specs.FinSet as set
 use Rattle.crossbar.specs.Switch.{Switch, connected, disconnected, all_ready}
 use Rattle.crossbar.specs.Ranges.{IsOneToOne}
-use Rattle.crossbar.specs.Row.{number_in}
+use Rattle.crossbar.specs.Row.{number_among}
 use Rattle.crossbar.specs.Laws.{SwitchLaws}
 use Rattle.farm_core.specs.Messages.{readied, disconnected_ports, is_among}
 use Rattle.farm_core.specs.Projection.{own_switch, driver_at, ready_at}
@@ -100,7 +100,7 @@ same_own_switch laws ports old new pairs ready =
     drivers : (q : ℕ) (found : Option ℕ) → slice_get ports q ≡ found
         → driver_at ports new found ≡ driver_at ports old found
     drivers q None e = refl
-    drivers q (Some port) e = ap (option_and_then (number_in ports)) (pairs q port e)
+    drivers q (Some port) e = ap (option_and_then (number_among ports)) (pairs q port e)
 
     readies : (q : ℕ) (found : Option ℕ) → slice_get ports q ≡ found → ready_at new found ≡ ready_at old found
     readies q None e = refl
@@ -110,11 +110,11 @@ same_own_switch laws ports old new pairs ready =
 pub own_switch_sets : SwitchLaws → (ports : List ℕ) (old new : Switch) (output port : ℕ) (input : Option ℕ)
     → IsOneToOne ports → slice_get ports output ≡ Some port
     → SetsOutput old new port input
-    → SetsOutput (own_switch ports old) (own_switch ports new) output (option_and_then (number_in ports) input)
+    → SetsOutput (own_switch ports old) (own_switch ports new) output (option_and_then (number_among ports) input)
 own_switch_sets laws ports old new output port input one at h = record {
   pairs =
       λ q. get-own_switch laws ports new q ∙ drivers q (slice_get ports q) refl
-      ∙ ap (cond (eq_by_cmp nat_cmp q output) (option_and_then (number_in ports) input))
+      ∙ ap (cond (eq_by_cmp nat_cmp q output) (option_and_then (number_among ports) input))
       (sym (get-own_switch laws ports old q));
   ready =
       λ q. contains-own_switch laws ports new q ∙ readies q (slice_get ports q) refl
@@ -123,7 +123,7 @@ own_switch_sets laws ports old new output port input one at h = record {
   where
     drivers : (q : ℕ) (found : Option ℕ) → slice_get ports q ≡ found
         → driver_at ports new found
-        ≡ cond (eq_by_cmp nat_cmp q output) (option_and_then (number_in ports) input) (driver_at ports old found)
+        ≡ cond (eq_by_cmp nat_cmp q output) (option_and_then (number_among ports) input) (driver_at ports old found)
     drivers q None e =
         sym (cond-false _ _ _
         (eq-by-cmp-of-unequal q output (λ is. none-some port (sym e ∙ ap (slice_get ports) is ∙ at))))
@@ -131,10 +131,10 @@ own_switch_sets laws ports old new output port input one at h = record {
         elim (cases_eq q output) [
           | inl is ↦
               let same : p ≡ port = same_Some _ _ (sym e ∙ ap (slice_get ports) is ∙ at) in
-              ap (option_and_then (number_in ports)) (h.pairs p ∙ cond-true _ _ _ (eq-by-cmp-of-equal p port same))
+              ap (option_and_then (number_among ports)) (h.pairs p ∙ cond-true _ _ _ (eq-by-cmp-of-equal p port same))
               ∙ sym (cond-true _ _ _ (eq-by-cmp-of-equal q output is))
           | inr ne ↦
-              ap (option_and_then (number_in ports))
+              ap (option_and_then (number_among ports))
               (h.pairs p
               ∙ cond-false _ _ _
               (eq-by-cmp-of-unequal p port (λ same. ne (one q output p e (at ∙ ap (λ (x : ℕ). Some x) (sym same))))))
@@ -187,12 +187,12 @@ still_drives ports old new port input own h own_input p from at is =
 -- ---- all outputs of a domain
 
 -- a port that doesn't stand in the list has no number
-pub number_in-none : (ports : List ℕ) (port : ℕ) → ((v : ℕ) → slice_get ports v ≡ Some port → ⊥)
-    → number_in ports port ≡ None
-number_in-none [] port out = refl
-number_in-none (first ∷ ports) port out =
+pub number_among-none : (ports : List ℕ) (port : ℕ) → ((v : ℕ) → slice_get ports v ≡ Some port → ⊥)
+    → number_among ports port ≡ None
+number_among-none [] port out = refl
+number_among-none (first ∷ ports) port out =
     let t : (first == port) ≡ false = ne_eqb _ _ (λ (e : first ≡ port). out 0 (ap (λ (x : ℕ). Some x) e)) in
-    rw t (ap (option_map suc) (number_in-none ports port (λ v. out (suc v))))
+    rw t (ap (option_map suc) (number_among-none ports port (λ v. out (suc v))))
 
 chosen : (a b k : Bool) → ((a && not b) || (k && b)) ≡ cond b k a
 chosen true true true = refl

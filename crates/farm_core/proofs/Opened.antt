@@ -7,7 +7,7 @@ use Rattle.std.specs.List.{cons_option}
 use Rattle.crossbar.specs.declared.word.Word.{Word}
 use Rattle.crossbar.specs.Plain.{outputs_of, words_at}
 use Rattle.crossbar.specs.Row.{Row}
-use Rattle.crossbar.specs.Ranges.{ports_in}
+use Rattle.crossbar.specs.Ranges.{ranged_ports}
 use Rattle.crossbar.specs.declared.range.PortRange.{PortRange}
 use Rattle.crossbar.specs.Laws.{SwitchLaws}
 use Rattle.virtual_switch.specs.SwitchValue.{row_of}
@@ -21,7 +21,7 @@ use Rattle.farm_core.specs.Places.{Place, place_of, places_of}
 use Rattle.farm_core.specs.Whole.{whole_opening}
 use Rattle.farm_core.specs.Domains.{IsMadeOf}
 use Rattle.farm_core.specs.Merges.{own_place}
-use Rattle.farm_core.specs.PlainFarm.{places_in, states_in, openings}
+use Rattle.farm_core.specs.PlainFarm.{all_places, all_states, openings}
 use Rattle.farm_core.specs.Words.{IsUnused}
 use Rattle.farm_core.proofs.MadeOfDomains.{opening_is_made_of_openings}
 use Rattle.farm_core.proofs.Merging.{there_is}
@@ -52,15 +52,15 @@ pub opened_unused : {E : Type 0} (r : Result DomainValue E) (n : ℕ) (row : Row
     → IfOk r (λ d. row_of d.machine.switch ≡ row) → IfOk r IsUnused
 opened_unused (Ok d) n row ranges is same =
     subst (λ (r : Row). All (λ w. w ≡ record { bits = 0 }) r.words) (sym (same ∙ is))
-    (words_of_a_row n (record { bits = 0 }) (ports_in ranges))
+    (words_of_a_row n (record { bits = 0 }) (ranged_ports ranges))
 opened_unused (Err e) n row ranges is same = tt
 
 -- ---- domain after domain
 
 -- the domains are those of a plan, each as it is opened
 pub record AreOpened (plan : List DomainData) (domains : List DomainValue) : Type 0 where
-  pub places : places_in domains ≡ places_of plan
-  pub states : states_in domains ≡ openings (places_of plan)
+  pub places : all_places domains ≡ places_of plan
+  pub states : all_states domains ≡ openings (places_of plan)
   pub journals : All (λ d. d.journal ≡ []) domains
   pub words : All IsUnused domains
 
@@ -96,8 +96,8 @@ opened_more plan i domains d within before place state journal unused =
 
 -- the opened domains of a plan make the whole farm as it is opened
 pub opened_is_whole : SwitchLaws → (plan : List DomainData) (domains : List DomainValue)
-    → states_in domains ≡ openings (places_of plan)
-    → IsMadeOf (places_of plan) (whole_opening (places_of plan)) (states_in domains)
+    → all_states domains ≡ openings (places_of plan)
+    → IsMadeOf (places_of plan) (whole_opening (places_of plan)) (all_states domains)
 opened_is_whole laws plan domains states =
     subst (IsMadeOf (places_of plan) (whole_opening (places_of plan))) (sym states)
     (opening_is_made_of_openings laws (places_of plan))

@@ -8,7 +8,7 @@ use Rattle.std.specs.FinMap as fin
 use Rattle.crossbar.specs.declared.word.Word.{Word}
 use Rattle.crossbar.specs.declared.word.Connection.{Connection}
 use Rattle.crossbar.specs.Word.{connection_of}
-use Rattle.crossbar.specs.Row.{Row, IsRow, IsWordOf, InputIsIn, number_in, private_switch, input_of}
+use Rattle.crossbar.specs.Row.{Row, IsRow, IsWordOf, InputIsIn, number_among, private_switch, input_of}
 use Rattle.crossbar.specs.Laws.{SwitchLaws}
 use Rattle.virtual_switch.specs.SwitchValue.{row_of}
 use Rattle.domain_core.specs.Domain.{DomainValue, state_of}
@@ -16,7 +16,7 @@ use Rattle.farm_core.specs.Places.{Place, AreSeparatePlaces}
 use Rattle.farm_core.specs.Domains.{IsFree}
 use Rattle.farm_core.specs.Merges.{own_place}
 use Rattle.farm_core.specs.Messages.{raised}
-use Rattle.farm_core.specs.PlainFarm.{places_in, states_in, output_in, HasOutput, IsWordOfOwner, SaysEachWhole}
+use Rattle.farm_core.specs.PlainFarm.{all_places, all_states, output_told, HasOutput, IsWordOfOwner, SaysEachWhole}
 use Rattle.farm_core.proofs.OneOutputSet.{at_contained, contains_at}
 use Rattle.farm_core.proofs.MadeOfDomains.{each_output_is_of_its_domain, raised-number}
 use Rattle.farm_core.proofs.Merging.{domain_of}
@@ -26,25 +26,25 @@ use Rattle.farm_core.proofs.Plain.{place_at, state_at, read_there}
 abbrev pub AreNotOwners : List DomainValue → ℕ → ℕ → Type 0
 AreNotOwners domains count output =
     (k : ℕ) (d : DomainValue) → k < count → slice_get domains k ≡ Some d
-    → number_in d.machine.switch.ports output ≡ None
+    → number_among d.machine.switch.ports output ≡ None
 
 -- if the first domains don't have an output, and the next doesn't, one more doesn't
 pub one_not_owner_more : (domains : List DomainValue) (count output : ℕ) (d : DomainValue)
     → AreNotOwners domains count output
     → slice_get domains count ≡ Some d
-    → number_in d.machine.switch.ports output ≡ None → AreNotOwners domains (count + 1) output
+    → number_among d.machine.switch.ports output ≡ None → AreNotOwners domains (count + 1) output
 one_not_owner_more domains count output d before at none k e below there =
     elim (cases_eq k count) [
       | inl same ↦
           let is : d ≡ e = same_Some _ _ (sym at ∙ ap (slice_get domains) (sym same) ∙ there) in
-          subst (λ (x : DomainValue). number_in x.machine.switch.ports output ≡ None) is none
+          subst (λ (x : DomainValue). number_among x.machine.switch.ports output ≡ None) is none
       | inr ne ↦ before k e (omega arith) there
     ]
 
 -- an output that no domain has is free
 pub free_of_all : SwitchLaws → (domains : List DomainValue) (count output : ℕ) → length domains ≤ count
     → AreNotOwners domains count output
-    → IsFree (places_in domains) output
+    → IsFree (all_places domains) output
 free_of_all laws domains count output all none domain place at has =
     let d = domain_of own_place domains domain place at in
     let inside = at_contained place.ports output has in
@@ -52,13 +52,13 @@ free_of_all laws domains count output all none domain place at has =
     ap (λ (p : Place). slice_get p.ports inside.0) d.2 ∙ inside.1 in
     let within : domain < length domains = slice_get_within domains domain d.0 d.1 in
     let found = laws.numbered d.0.machine.switch.ports output inside.0 port in
-    let missing : number_in d.0.machine.switch.ports output ≡ None = none domain d.0 (omega arith) d.1 in
+    let missing : number_among d.0.machine.switch.ports output ≡ None = none domain d.0 (omega arith) d.1 in
     true≢false (sym found ∙ ap is_some missing)
 
 -- the domain that has a number for an output has that output at the number
 pub has_output : SwitchLaws → (domains : List DomainValue) (index : ℕ) (d : DomainValue) (number output : ℕ)
     → slice_get domains index ≡ Some d
-    → number_in d.machine.switch.ports output ≡ Some number
+    → number_among d.machine.switch.ports output ≡ Some number
     → HasOutput (slice_get domains index) number output
 has_output laws domains index d number output at is =
     subst (λ found. HasOutput found number output) (sym at) (laws.found d.machine.switch.ports output number is)
@@ -78,7 +78,7 @@ within_farm domains index number output has =
 
 -- the number of a domain's output is below the count of its ports
 pub within_count : (domains : List DomainValue) (index : ℕ) (d : DomainValue) (number output : ℕ)
-    → AreSeparatePlaces (places_in domains)
+    → AreSeparatePlaces (all_places domains)
     → slice_get domains index ≡ Some d
     → slice_get d.machine.switch.ports number ≡ Some output → number < d.machine.part.count
 within_count domains index d number output separate at is =
@@ -88,14 +88,14 @@ within_count domains index d number output separate at is =
 
 -- no domain has an output that is free
 pub nobody_has : (domains : List DomainValue) (index : ℕ) (d : DomainValue) (number output : ℕ)
-    → IsFree (places_in domains) output
+    → IsFree (all_places domains) output
     → slice_get domains index ≡ Some d
     → slice_get d.machine.switch.ports number ≡ Some output → ⊥
 nobody_has domains index d number output free at is =
     free index (own_place d) (place_at domains index d at) (contains_at d.machine.switch.ports number output is)
 
 -- any word says what an owner's would of an output that has none
-pub word_of_nobody : (domains : List DomainValue) (output : ℕ) (word : Word) → IsFree (places_in domains) output
+pub word_of_nobody : (domains : List DomainValue) (output : ℕ) (word : Word) → IsFree (all_places domains) output
     → IsWordOfOwner domains output word
 word_of_nobody domains output word free index number d at is =
     absurd (nobody_has domains index d number output free at is)
@@ -104,7 +104,7 @@ word_of_nobody domains output word free index number d at is =
 
 -- the word at an output's number in its domain is the owner's
 pub word_of_owner : (domains : List DomainValue) (index : ℕ) (d : DomainValue) (number output : ℕ) (word : Word)
-    → AreSeparatePlaces (places_in domains)
+    → AreSeparatePlaces (all_places domains)
     → slice_get domains index ≡ Some d
     → slice_get d.machine.switch.ports number ≡ Some output → slice_get d.machine.switch.words number ≡ Some word
     → IsWordOfOwner domains output word
@@ -148,7 +148,7 @@ driver_is laws row number word is_row within has =
 -- the word of its owner says of an output what every whole farm has there
 pub word_says : SwitchLaws
     → (domains : List DomainValue) (index : ℕ) (d : DomainValue) (number output : ℕ) (word : Word)
-    → AreSeparatePlaces (places_in domains)
+    → AreSeparatePlaces (all_places domains)
     → slice_get domains index ≡ Some d
     → slice_get d.machine.switch.ports number ≡ Some output → slice_get d.machine.switch.words number ≡ Some word
     → IsRow (row_of d.machine.switch)
@@ -156,7 +156,7 @@ pub word_says : SwitchLaws
 word_says laws domains index d number output word separate at is has row farm made =
     let own = row_of d.machine.switch in
     let within = slice_get_within own.ports number output is in
-    each_output_is_of_its_domain laws (places_in domains) farm (states_in domains) index (own_place d) (state_of d)
+    each_output_is_of_its_domain laws (all_places domains) farm (all_states domains) index (own_place d) (state_of d)
     number output separate made (place_at domains index d at) (state_at domains index d at) is
     ∙ (λ i.
     record {
@@ -166,9 +166,9 @@ word_says laws domains index d number output word separate at is has row farm ma
 
 -- a word 0 says of a free output what every whole farm has there
 pub nothing_says : (domains : List DomainValue) (output : ℕ) (word : Word)
-    → IsFree (places_in domains) output → word ≡ record { bits = 0 }
+    → IsFree (all_places domains) output → word ≡ record { bits = 0 }
     → SaysEachWhole domains output word
-nothing_says domains output word free is farm made = made.free output free ∙ ap output_in (sym is)
+nothing_says domains output word free is farm made = made.free output free ∙ ap output_told (sym is)
 
 -- ---- the owner as it is read
 

@@ -12,7 +12,7 @@ use Rattle.std.specs.FinMap as fin
 use Rattle.os_link.specs.declared.latch.Packet.{Packet}
 use Rattle.crossbar.specs.Switch.{Switch, drives, names}
 use Rattle.crossbar.specs.Ranges.{IsOneToOne}
-use Rattle.crossbar.specs.Row.{number_in}
+use Rattle.crossbar.specs.Row.{number_among}
 use Rattle.crossbar.specs.Laws.{SwitchLaws}
 use Rattle.plan_rules.specs.Part.{PartData}
 use Rattle.domain_core.specs.declared.device.Device.{Device}
@@ -28,7 +28,7 @@ use Rattle.farm_core.specs.Packets.{AllDevices, joining_in, moved_in}
 use Rattle.farm_core.specs.Projection.{own_switch, driver_at, ready_at}
 use Rattle.farm_core.specs.Domains.{EachDrivesItself}
 use Rattle.farm_core.proofs.OneOutputSet.{contains_at, at_contained}
-use Rattle.farm_core.proofs.OneOutputSet.{get-own_switch, contains-own_switch, number_in-none}
+use Rattle.farm_core.proofs.OneOutputSet.{get-own_switch, contains-own_switch, number_among-none}
 use Rattle.farm_core.proofs.Messages.{port_at, never_both}
 
 -- ---- which device is joined to a port
@@ -60,8 +60,8 @@ device-at laws first (head ∷ plan) zero place v port number there one at only 
     (subst (λ (p : Place). slice_get p.ports v ≡ Some port) same at))
     ∙ (λ i. joined_to (sym first_is i) (device_at (sym same i).part v))
 device-at laws first (head ∷ plan) (suc d) place v port number there one at only is =
-    let out : number_in head.ports port ≡ None =
-    number_in-none head.ports port (λ w. only 0 head w (λ e. omega arith) refl) in
+    let out : number_among head.ports port ≡ None =
+    number_among-none head.ports port (λ w. only 0 head w (λ e. omega arith) refl) in
     ap (λ n. device_or first head n (device_from (first + 1) plan port)) out
     ∙ device-at laws (first + 1) plan d place v port number there one at
     (λ e other w ne. only (suc e) other w (λ same. ne (omega arith))) (omega arith)
@@ -151,7 +151,7 @@ same-test a b c d to from =
 driven-alike : SwitchLaws → (ports : List ℕ) (found : Option ℕ) (w port : ℕ) → IsOneToOne ports
     → slice_get ports w ≡ Some port
     → ((input : ℕ) → found ≡ Some input → (u : ℕ) × (slice_get ports u ≡ Some input))
-    → names found port ≡ names (option_and_then (number_in ports) found) w
+    → names found port ≡ names (option_and_then (number_among ports) found) w
 driven-alike laws ports None w port one at own = refl
 driven-alike laws ports (Some input) w port one at own =
     let u = own input refl in

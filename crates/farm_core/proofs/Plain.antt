@@ -17,7 +17,7 @@ use Rattle.farm_core.specs.Whole.{whole_next}
 use Rattle.farm_core.specs.Projection.{lowered_for}
 use Rattle.farm_core.specs.Domains.{IsMadeOf}
 use Rattle.farm_core.specs.Merges.{own_place}
-use Rattle.farm_core.specs.PlainFarm.{places_in, states_in, OthersStay, IsCalledAt, IsCallOfEachWhole, IsCommitted}
+use Rattle.farm_core.specs.PlainFarm.{all_places, all_states, OthersStay, IsCalledAt, IsCallOfEachWhole, IsCommitted}
 use Rattle.farm_core.specs.PlainFarm.{IsCommittedAt, IsRestarted, IsRestartedAt}
 use Rattle.farm_core.proofs.MadeOfDomains.{get-set_same, get-set_other, each_call_is_private}
 use Rattle.crossbar.specs.Laws.{SwitchLaws}
@@ -61,27 +61,27 @@ others_stay domains later domain old new is other ne =
 -- the places of all domains stay
 pub places_stay : (domains later : List DomainValue) (domain : ℕ) (old new : DomainValue)
     → Replaces domains later domain old new
-    → places_in later ≡ places_in domains
+    → all_places later ≡ all_places domains
 places_stay domains later domain old new is =
-    ap places_in is.later_is
+    ap all_places is.later_is
     ∙ map-set_same own_place domains domain new old
     (is.place ∙ ap own_place (sym (get_or_from_slice_get domains domain old old is.there)))
 
 -- separate domains stay separate
 pub still_separate : (domains later : List DomainValue) (domain : ℕ) (old new : DomainValue)
-    → Replaces domains later domain old new → AreSeparatePlaces (places_in domains)
-    → AreSeparatePlaces (places_in later)
+    → Replaces domains later domain old new → AreSeparatePlaces (all_places domains)
+    → AreSeparatePlaces (all_places later)
 still_separate domains later domain old new is separate =
     subst AreSeparatePlaces (sym (places_stay domains later domain old new is)) separate
 
 -- the place at a domain's number is its own
 pub place_at : (domains : List DomainValue) (domain : ℕ) (d : DomainValue) → slice_get domains domain ≡ Some d
-    → slice_get (places_in domains) domain ≡ Some (own_place d)
+    → slice_get (all_places domains) domain ≡ Some (own_place d)
 place_at domains domain d at = slice_get-map own_place domains domain ∙ ap (option_map own_place) at
 
 -- the state at a domain's number is its own
 pub state_at : (domains : List DomainValue) (domain : ℕ) (d : DomainValue) → slice_get domains domain ≡ Some d
-    → slice_get (states_in domains) domain ≡ Some (state_of d)
+    → slice_get (all_states domains) domain ≡ Some (state_of d)
 state_at domains domain d at = slice_get-map state_of domains domain ∙ ap (option_map state_of) at
 
 -- ---- a call
@@ -106,23 +106,25 @@ unless_no_memory (Err NoMemory) make p q = tt
 whole_call : SwitchLaws
     → (domains later : List DomainValue) (domain : ℕ) (old new : DomainValue) (call : Call) (told : Answer)
     → Replaces domains later domain old new
-    → AreSeparatePlaces (places_in domains)
+    → AreSeparatePlaces (all_places domains)
     → told ≡ (next old.machine.part (state_of old) call).1
     → state_of new ≡ (next old.machine.part (state_of old) call).0 → IsCallOfEachWhole domain call told domains later
 whole_call laws domains later domain old new call told is separate answer state farm made =
-    let plan = places_in domains in
+    let plan = all_places domains in
     let place = place_at domains domain old is.there in
     let one =
-    each_call_is_private laws plan farm (states_in domains) domain call (own_place old) (state_of old) separate made
+    each_call_is_private laws plan farm (all_states domains) domain call (own_place old) (state_of old) separate made
     place (state_at domains domain old is.there) in
     let after = (whole_next plan farm (domain, call)).0 in
-    let states : states_in later ≡ slice_set (states_in domains) domain (next old.machine.part (state_of old) call).0 =
-    ap states_in is.later_is ∙ map-set state_of domains domain new ∙ ap (slice_set (states_in domains) domain) state in
+    let states : all_states later
+    ≡ slice_set (all_states domains) domain (next old.machine.part (state_of old) call).0 =
+    ap all_states is.later_is ∙ map-set state_of domains domain new
+    ∙ ap (slice_set (all_states domains) domain) state in
     record {
       answer =
           answer ∙ sym one.answer ∙ ap (λ found. lowered_for found (whole_next plan farm (domain, call)).1) (sym place);
       made =
-          subst (λ p. IsMadeOf p after (states_in later)) (sym (places_stay domains later domain old new is))
+          subst (λ p. IsMadeOf p after (all_states later)) (sym (places_stay domains later domain old new is))
           (subst (IsMadeOf plan after) (sym states) one.made);
     }
 
@@ -130,7 +132,7 @@ whole_call laws domains later domain old new call told is separate answer state 
 pub call_of_each_whole : SwitchLaws
     → (domains later : List DomainValue) (domain : ℕ) (old new : DomainValue) (call : Call) (told : Answer)
     → Replaces domains later domain old new
-    → AreSeparatePlaces (places_in domains)
+    → AreSeparatePlaces (all_places domains)
     → IsCalled call told old new → UnlessNoMemory told (IsCallOfEachWhole domain call told domains later)
 call_of_each_whole laws domains later domain old new call told is separate called =
     unless_no_memory told

@@ -9,7 +9,7 @@ use Rattle.std.specs.FinMap as fin
 use Rattle.std.specs.FinSet as set
 use Rattle.std.specs.Ordering.{nat_cmp}
 use Rattle.std.specs.Option.{option_and_then}
-use Rattle.crossbar.specs.Row.{number_in}
+use Rattle.crossbar.specs.Row.{number_among}
 use Rattle.crossbar.specs.Switch.{cleared}
 use Rattle.crossbar.specs.Laws.{SwitchLaws}
 use Rattle.domain_core.specs.PrivateFarm.{Call, Answer, next, answers, after, opening}
@@ -116,7 +116,7 @@ own_cleared laws ports =
   where
     driver : (found : Option ℕ) → driver_at ports cleared found ≡ None
     driver None = refl
-    driver (Some port) = ap (option_and_then (number_in ports)) (fin.get-empty nat_cmp port)
+    driver (Some port) = ap (option_and_then (number_among ports)) (fin.get-empty nat_cmp port)
 
     ready : (found : Option ℕ) → ready_at cleared found ≡ false
     ready None = refl

@@ -14,7 +14,7 @@ use Rattle.domain_core.specs.Journal.{AnsweredCall}
 use Rattle.farm_core.specs.Places.{Place, place_of, places_of, AreSeparatePlaces}
 use Rattle.farm_core.specs.Projection.{own}
 use Rattle.farm_core.specs.Merges.{journal_at, IsMerge, own_place, own_journal}
-use Rattle.farm_core.specs.PlainFarm.{places_in}
+use Rattle.farm_core.specs.PlainFarm.{all_places}
 use Rattle.farm_core.specs.Words.{HasRow, HaveAWhole}
 use Rattle.farm_core.specs.Words.{EachWholeIsAsWordsSay, EachMergeEndsAsWordsSay, FittingDomainsHaveItsPlaces}
 use Rattle.farm_core.proofs.Runs.{own-here, own-there}
@@ -75,7 +75,7 @@ joined_merges : (journals : List (List AnsweredCall)) → IsMerge journals (join
 joined_merges journals domain = own_of_joined domain 0 domain journals (omega arith)
 
 -- separate domains that are what their journals say are those of a whole farm
-pub have_a_whole : SwitchLaws → (domains : List DomainValue) → AreSeparatePlaces (places_in domains)
+pub have_a_whole : SwitchLaws → (domains : List DomainValue) → AreSeparatePlaces (all_places domains)
     → All IsMeant domains
     → HaveAWhole domains
 have_a_whole laws domains separate meant = record {
@@ -120,10 +120,10 @@ fitting_place plan number d fits =
 -- domains that fit a plan, each at its number, have its places
 pub fitting_domains_have_its_places : FittingDomainsHaveItsPlaces
 fitting_domains_have_its_places plan domains count fits =
-    ext_get_or no_place (places_in domains) (places_of plan)
+    ext_get_or no_place (all_places domains) (places_of plan)
     (length-map domains own_place ∙ count ∙ sym (length-map plan place_of)) (λ number below.
     let d = there_is domains number (omega (arith, below, length-map domains own_place)) in
-    get_or_from_slice_get (places_in domains) number (own_place d.0) no_place (place_at domains number d.0 d.1)
+    get_or_from_slice_get (all_places domains) number (own_place d.0) no_place (place_at domains number d.0 d.1)
     ∙ sym (get_or_from_slice_get (places_of plan) number (own_place d.0) no_place
     (fitting_place plan number d.0 (fits number d.0 d.1))))
 

@@ -19,12 +19,12 @@ abbrev pub IsMerge : List (List AnsweredCall) → List (ℕ × AnsweredCall) →
 IsMerge journals merge = (domain : ℕ) → own domain merge ≡ journal_at (slice_get journals domain)
 
 -- the calls of a merge, each with its domain
-abbrev pub calls_in : List (ℕ × AnsweredCall) → List (ℕ × Call)
-calls_in merge = map (λ x. (x.0, x.1.call)) merge
+abbrev pub merged_calls : List (ℕ × AnsweredCall) → List (ℕ × Call)
+merged_calls merge = map (λ x. (x.0, x.1.call)) merge
 
 -- the answers of a merge: its replies
-abbrev pub replies_in : List (ℕ × AnsweredCall) → List Answer
-replies_in merge = map (λ x. Ok x.1.reply) merge
+abbrev pub merged_answers : List (ℕ × AnsweredCall) → List Answer
+merged_answers merge = map (λ x. Ok x.1.reply) merge
 
 -- there is a journal for each domain, and it leads the domain to its state
 pub record AreHistories (plan : List Place) (journals : List (List AnsweredCall)) (states : List State) : Type 0 where
@@ -35,8 +35,8 @@ pub record AreHistories (plan : List Place) (journals : List (List AnsweredCall)
 
 -- the whole farm, from its opening, answers the calls of a merge by the stored replies, and ends made of these states
 pub record IsRun (plan : List Place) (merge : List (ℕ × AnsweredCall)) (states : List State) : Type 0 where
-  pub replies : caller_answers plan (calls_in merge) ≡ replies_in merge
-  pub ends : IsMadeOf plan (whole_after plan (whole_opening plan) (calls_in merge)) states
+  pub replies : caller_answers plan (merged_calls merge) ≡ merged_answers merge
+  pub ends : IsMadeOf plan (whole_after plan (whole_opening plan) (merged_calls merge)) states
 
 -- every merge of histories of separate places is a run of the whole farm
 abbrev pub EachMergeIsARun : Type 0

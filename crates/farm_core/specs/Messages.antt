@@ -7,7 +7,7 @@ use Rattle.c004_commands.specs.declared.message.Message.{Message}
 use Rattle.c004_commands.specs.declared.message.Message.TheVariants.{Connect, ConnectBoth, Enquire, MakeReady, Clear, Disconnect, DisconnectBoth}
 use Rattle.c004_commands.specs.Grammar.{Item, Command, Stray, item_of}
 use Rattle.crossbar.specs.Switch.{Switch}
-use Rattle.crossbar.specs.Row.{number_in}
+use Rattle.crossbar.specs.Row.{number_among}
 use Rattle.virtual_switch.specs.declared.reply.ConfigReply.{ConfigReply}
 use Rattle.virtual_switch.specs.declared.reply.ConfigReply.TheVariants.{Nothing, BadCommand, BadPort}
 use Rattle.virtual_switch.specs.PrivateSwitch.{ports_named, are_below, performed, answer_to, Configured}
@@ -29,7 +29,7 @@ raised_message ports (DisconnectBoth first second) = DisconnectBoth (raised port
 
 -- the physical port is one of these
 abbrev pub is_among : List ℕ → ℕ → Bool
-is_among ports port = is_some (number_in ports port)
+is_among ports port = is_some (number_among ports port)
 
 -- each connected output of these ports is ready
 abbrev pub readied : List ℕ → Switch → Switch

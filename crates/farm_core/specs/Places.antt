@@ -2,7 +2,7 @@
 use Rattle.std.specs.Prelude.{◌≡◌, ◌≢◌, ℕ, ◌+◌, List, [], ◌∷◌, Option, Some, None, slice_get, length, Contains, map, flat_map, if◌then◌else◌, ◌==◌}
 use Rattle.std.specs.Option.{option_map}
 use Rattle.crossbar.specs.Ranges.{IsNumbering}
-use Rattle.crossbar.specs.Row.{number_in}
+use Rattle.crossbar.specs.Row.{number_among}
 use Rattle.plan_rules.specs.Data.{DomainData}
 use Rattle.plan_rules.specs.Part.{PartData, part_of, physical_ports}
 use Rattle.domain_core.specs.declared.device.Device.{Device}
@@ -62,7 +62,7 @@ device_or domain place (Some number) later = joined_to domain (device_at place.p
 -- the same in all places, of which the first has this number
 abbrev pub device_from : ℕ → List Place → ℕ → Option Joined
 device_from domain [] port = None
-device_from domain (place ∷ plan) port = device_or domain place (number_in place.ports port) (device_from (domain + 1) plan port)
+device_from domain (place ∷ plan) port = device_or domain place (number_among place.ports port) (device_from (domain + 1) plan port)
 
 -- the device that is joined to a physical port
 abbrev pub device_in : List Place → ℕ → Option Joined

@@ -23,16 +23,16 @@ use Rattle.farm_core.specs.Domains.{Output, IsMadeOf, output_of}
 use Rattle.farm_core.specs.Merges.{own_place}
 
 -- the places of the domains
-abbrev pub places_in : List DomainValue → List Place
-places_in domains = map own_place domains
+abbrev pub all_places : List DomainValue → List Place
+all_places domains = map own_place domains
 
 -- the states of the domains
-abbrev pub states_in : List DomainValue → List State
-states_in domains = map state_of domains
+abbrev pub all_states : List DomainValue → List State
+all_states domains = map state_of domains
 
 -- the whole farm is made of what the domains are
 abbrev pub IsMadeOfDomains : Farm → List DomainValue → Type 0
-IsMadeOfDomains farm domains = IsMadeOf (places_in domains) farm (states_in domains)
+IsMadeOfDomains farm domains = IsMadeOf (all_places domains) farm (all_states domains)
 
 -- the state of each place as it is opened
 abbrev pub openings : List Place → List State
@@ -52,8 +52,8 @@ IsCalledAt call told (Some old) (Some new) = IsCalled call told old new
 
 -- the whole farm answers a call of a domain so, and is then made of these domains
 pub record IsWholeCall (farm : Farm) (domain : ℕ) (call : Call) (told : Answer) (old new : List DomainValue) : Type 0 where
-  pub answer : told ≡ lowered_for (slice_get (places_in old) domain) (whole_next (places_in old) farm (domain, call)).1
-  pub made : IsMadeOfDomains (whole_next (places_in old) farm (domain, call)).0 new
+  pub answer : told ≡ lowered_for (slice_get (all_places old) domain) (whole_next (all_places old) farm (domain, call)).1
+  pub made : IsMadeOfDomains (whole_next (all_places old) farm (domain, call)).0 new
 
 -- the same of every whole farm that is made of the domains before
 abbrev pub IsCallOfEachWhole : ℕ → Call → Answer → List DomainValue → List DomainValue → Type 0
@@ -62,8 +62,8 @@ IsCallOfEachWhole domain call told old new = (farm : Farm) → IsMadeOfDomains f
 -- ---- a ticket
 
 -- the node of this number in the domain that is there
-abbrev pub node_in : Option DomainValue → ℕ → Option Node
-node_in found number = option_and_then (λ d. slice_get d.machine.devices.nodes number) found
+abbrev pub node_there : Option DomainValue → ℕ → Option Node
+node_there found number = option_and_then (λ d. slice_get d.machine.devices.nodes number) found
 
 -- the copy is put in the node's place if the home node is still the ticket's start and the Steps are within the limit; else nothing changes
 pub record IsCommitted (t : TicketValue) (told : Result Committed Refusal) (old new : DomainValue) : Type 0 where
@@ -82,22 +82,22 @@ IsCommittedAt t told (Some old) (Some new) = IsCommitted t told old new
 -- ---- what is read of a domain that may not be there
 
 -- the word of a virtual output
-abbrev pub word_in : Option DomainValue → ℕ → Option Word
-word_in found output = option_and_then (λ d. slice_get d.machine.switch.words output) found
+abbrev pub word_there : Option DomainValue → ℕ → Option Word
+word_there found output = option_and_then (λ d. slice_get d.machine.switch.words output) found
 
 -- its journal
-abbrev pub journal_in : Option DomainValue → Option (List Entry)
-journal_in found = option_map (λ d. d.journal) found
+abbrev pub journal_there : Option DomainValue → Option (List Entry)
+journal_there found = option_map (λ d. d.journal) found
 
 -- how many events are recorded
-abbrev pub recorded_in : Option DomainValue → Option ℕ
-recorded_in found = option_map (λ d. length (expanded d.journal)) found
+abbrev pub recorded_there : Option DomainValue → Option ℕ
+recorded_there found = option_map (λ d. length (expanded d.journal)) found
 
 -- ---- a word
 
 -- what a word says of its output, the driver by its physical number
-abbrev pub output_in : Word → Output
-output_in word = record { driver = input_of (connection_of word); ready = is_ready (connection_of word) }
+abbrev pub output_told : Word → Output
+output_told word = record { driver = input_of (connection_of word); ready = is_ready (connection_of word) }
 
 -- the output has this number in the domain that is there
 abbrev pub HasOutput : Option DomainValue → ℕ → ℕ → Type 0
@@ -111,7 +111,7 @@ IsWordOfOwner domains output word =
 
 -- in every whole farm that is made of the domains the output is what the word says
 abbrev pub SaysEachWhole : List DomainValue → ℕ → Word → Type 0
-SaysEachWhole domains output word = (farm : Farm) → IsMadeOfDomains farm domains → output_of farm.switch output ≡ output_in word
+SaysEachWhole domains output word = (farm : Farm) → IsMadeOfDomains farm domains → output_of farm.switch output ≡ output_told word
 
 -- ---- an opening
 

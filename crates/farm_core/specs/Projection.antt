@@ -4,7 +4,7 @@ use Rattle.std.specs.Option.{option_and_then}
 use Rattle.std.specs.FinMap as map
 use Rattle.std.specs.FinSet as set
 use Rattle.crossbar.specs.Switch.{Switch, map_below, set_below}
-use Rattle.crossbar.specs.Row.{number_in}
+use Rattle.crossbar.specs.Row.{number_among}
 use Rattle.virtual_switch.specs.declared.reply.ConfigReply.{ConfigReply}
 use Rattle.virtual_switch.specs.declared.reply.ConfigReply.TheVariants.{Nothing, Answer, BadCommand, BadPort}
 use Rattle.virtual_switch.specs.PrivateSwitch.{answer_byte}
@@ -17,7 +17,7 @@ use Rattle.farm_core.specs.Whole.{Farm}
 -- what drives a port, by its virtual number among these
 abbrev pub driver_at : List ℕ → Switch → Option ℕ → Option ℕ
 driver_at ports s None = None
-driver_at ports s (Some port) = option_and_then (number_in ports) (map.get s.pairs port)
+driver_at ports s (Some port) = option_and_then (number_among ports) (map.get s.pairs port)
 
 -- whether a port's output is ready
 abbrev pub ready_at : Switch → Option ℕ → Bool
@@ -46,7 +46,7 @@ lowered_byte byte (Some input) = answer_byte (Some input)
 -- an enquiry's answer with the input's virtual number; 0 is kept
 abbrev pub lowered_config : List ℕ → ConfigReply → ConfigReply
 lowered_config ports Nothing = Nothing
-lowered_config ports (Answer byte) = Answer (if byte == 0 then 0 else lowered_byte byte (number_in ports (byte - 128)))
+lowered_config ports (Answer byte) = Answer (if byte == 0 then 0 else lowered_byte byte (number_among ports (byte - 128)))
 lowered_config ports BadCommand = BadCommand
 lowered_config ports BadPort = BadPort
 

@@ -10,8 +10,8 @@ use Rattle.domain_core.specs.Journal.{AnsweredCall}
 use Rattle.farm_core.specs.Places.{places_of, AreSeparatePlaces}
 use Rattle.farm_core.specs.Whole.{Farm, whole_after, whole_opening}
 use Rattle.farm_core.specs.Domains.{output_of}
-use Rattle.farm_core.specs.Merges.{own_journal, IsMerge, calls_in, IsRun}
-use Rattle.farm_core.specs.PlainFarm.{places_in, states_in, IsMadeOfDomains, output_in}
+use Rattle.farm_core.specs.Merges.{own_journal, IsMerge, merged_calls, IsRun}
+use Rattle.farm_core.specs.PlainFarm.{all_places, all_states, IsMadeOfDomains, output_told}
 
 -- its words are a row of its ports
 abbrev pub HasRow : DomainValue → Type 0
@@ -25,27 +25,27 @@ IsUnused d = All (λ word. word ≡ record { bits = 0 }) d.machine.switch.words
 abbrev pub IsAsWordsSay : List DomainValue → Switch → Type 0
 IsAsWordsSay domains s =
     (domain number output : ℕ) (d : DomainValue) (word : Word) → slice_get domains domain ≡ Some d → slice_get d.machine.switch.ports number ≡ Some output
-    → slice_get d.machine.switch.words number ≡ Some word → output_of s output ≡ output_in word
+    → slice_get d.machine.switch.words number ≡ Some word → output_of s output ≡ output_told word
 
 -- so it is in every whole farm that is made of them
 abbrev pub EachWholeIsAsWordsSay : Type 0
 EachWholeIsAsWordsSay =
-    (domains : List DomainValue) (farm : Farm) → AreSeparatePlaces (places_in domains) → All HasRow domains → IsMadeOfDomains farm domains → IsAsWordsSay domains farm.switch
+    (domains : List DomainValue) (farm : Farm) → AreSeparatePlaces (all_places domains) → All HasRow domains → IsMadeOfDomains farm domains → IsAsWordsSay domains farm.switch
 
 -- and at the end of every merge of their journals
 abbrev pub EachMergeEndsAsWordsSay : Type 0
 EachMergeEndsAsWordsSay =
-    (domains : List DomainValue) (merge : List (ℕ × AnsweredCall)) → AreSeparatePlaces (places_in domains) → All IsMeant domains → All HasRow domains
-    → IsMerge (map own_journal domains) merge → IsAsWordsSay domains (whole_after (places_in domains) (whole_opening (places_in domains)) (calls_in merge)).switch
+    (domains : List DomainValue) (merge : List (ℕ × AnsweredCall)) → AreSeparatePlaces (all_places domains) → All IsMeant domains → All HasRow domains
+    → IsMerge (map own_journal domains) merge → IsAsWordsSay domains (whole_after (all_places domains) (whole_opening (all_places domains)) (merged_calls merge)).switch
 
 -- some merge of the domains' journals leads the whole farm from its opening, by the stored replies, to one that is made of the domains
 pub record HaveAWhole (domains : List DomainValue) : Type 0 where
   pub merge : List (ℕ × AnsweredCall)
   pub merges : IsMerge (map own_journal domains) merge
-  pub run : IsRun (places_in domains) merge (states_in domains)
+  pub run : IsRun (all_places domains) merge (all_states domains)
 
 -- domains that fit a plan, each at its number, have its places
 abbrev pub FittingDomainsHaveItsPlaces : Type 0
 FittingDomainsHaveItsPlaces =
     (plan : List DomainData) (domains : List DomainValue) → length domains ≡ length plan → ((number : ℕ) (d : DomainValue) → slice_get domains number ≡ Some d → Fits plan number d)
-    → places_in domains ≡ places_of plan
+    → all_places domains ≡ places_of plan

@@ -13,7 +13,7 @@ ghost use Rattle.farm_core.specs.Places.{place_of, places_of, AreSeparatePlaces}
 ghost use Rattle.farm_core.specs.Whole.{whole_opening};
 ghost use Rattle.farm_core.specs.Domains.{IsFree, IsMadeOf};
 ghost use Rattle.farm_core.specs.Merges.{own_place};
-ghost use Rattle.farm_core.specs.PlainFarm.{places_in, states_in, openings, OthersStay, IsCalledAt, IsCallOfEachWhole, node_in, IsCommittedAt, word_in, journal_in, recorded_in, HasOutput, IsWordOfOwner, SaysEachWhole, IsRestartedAt, FitsAt};
+ghost use Rattle.farm_core.specs.PlainFarm.{all_places, all_states, openings, OthersStay, IsCalledAt, IsCallOfEachWhole, node_there, IsCommittedAt, word_there, journal_there, recorded_there, HasOutput, IsWordOfOwner, SaysEachWhole, IsRestartedAt, FitsAt};
 ghost use Rattle.farm_core.specs.Words.{HasRow, IsUnused, HaveAWhole};
 
 use crossbar::laws::switches_say_their_words;
@@ -35,13 +35,13 @@ impl Model for PlainFarm {
     ghost use Rattle.std.specs.Prelude.{List};
     ghost use Rattle.domain_core.specs.Domain.{DomainValue};
     ghost use Rattle.farm_core.specs.Places.{AreSeparatePlaces};
-    ghost use Rattle.farm_core.specs.PlainFarm.{places_in};
+    ghost use Rattle.farm_core.specs.PlainFarm.{all_places};
 
     ghost Value = { List DomainValue };
 
     ghost view = { λ f. f.domains.items };
 
-    ghost invariant = { λ f. AreSeparatePlaces (places_in f.domains.items) };
+    ghost invariant = { λ f. AreSeparatePlaces (all_places f.domains.items) };
 }
 
 // A domain of a plan as it is opened.
@@ -79,8 +79,8 @@ fn word_of(domain: &mut Domain<PlainOutputs>, output: u8) -> Option<Word>
 
 // All domains of a plan as they are opened, in its order.
 fn open_domains(alloc: Global, plan: &AcceptedPlan) -> Result<Vec<Domain<PlainOutputs>>, NoMemory>
-    ensures places { IfOk result (λ domains. places_in domains.items ≡ places_of plan.now) }
-    ensures states { IfOk result (λ domains. states_in domains.items ≡ openings (places_of plan.now)) }
+    ensures places { IfOk result (λ domains. all_places domains.items ≡ places_of plan.now) }
+    ensures states { IfOk result (λ domains. all_states domains.items ≡ openings (places_of plan.now)) }
     ensures journals { IfOk result (λ domains. All (λ d. d.journal ≡ []) domains.items) }
     ensures words { IfOk result (λ domains. All IsUnused domains.items) }
 {
@@ -99,9 +99,9 @@ impl PlainFarm {
     ///
     /// `NoMemory` where parts, memories or queues can't be allocated.
     pub fn open(alloc: Global, plan: &AcceptedPlan) -> Result<PlainFarm, NoMemory>
-        ensures whole { IfOk result (λ farm. IsMadeOf (places_of plan.now) (whole_opening (places_of plan.now)) (states_in farm)) }
-        ensures places { IfOk result (λ farm. places_in farm ≡ places_of plan.now) }
-        ensures states { IfOk result (λ farm. states_in farm ≡ openings (places_of plan.now)) }
+        ensures whole { IfOk result (λ farm. IsMadeOf (places_of plan.now) (whole_opening (places_of plan.now)) (all_states farm)) }
+        ensures places { IfOk result (λ farm. all_places farm ≡ places_of plan.now) }
+        ensures states { IfOk result (λ farm. all_states farm ≡ openings (places_of plan.now)) }
         ensures journals { IfOk result (λ farm. All (λ d. d.journal ≡ []) farm) }
         ensures words { IfOk result (λ farm. All IsUnused farm) }
     {
@@ -119,7 +119,7 @@ impl PlainFarm {
     ///
     /// The call changes nothing: its contract is the law.
     pub fn whole_law(&self)
-        ensures separate { AreSeparatePlaces (places_in self.now) }
+        ensures separate { AreSeparatePlaces (all_places self.now) }
         ensures meant { All IsMeant self.now }
         ensures rows { All HasRow self.now }
         ensures whole { HaveAWhole self.now }
@@ -151,7 +151,7 @@ impl PlainFarm {
         ensures own { IsCalledAt (record { by = by; event = event }) result (slice_get self.old domain) (slice_get self.new domain) }
         ensures others { OthersStay domain self.old self.new }
         ensures whole { UnlessNoMemory result (IsCallOfEachWhole domain (record { by = by; event = event }) result self.old self.new) }
-        ensures places { places_in self.new ≡ places_in self.old }
+        ensures places { all_places self.new ≡ all_places self.old }
         ensures err { OnErr result (self.new ≡ self.old) }
     {
         self.answer(domain, by, event)
@@ -162,7 +162,7 @@ impl PlainFarm {
         ensures own { IsCalledAt (record { by = by; event = event }) result (slice_get self.old domain) (slice_get self.new domain) }
         ensures others { OthersStay domain self.old self.new }
         ensures whole { UnlessNoMemory result (IsCallOfEachWhole domain (record { by = by; event = event }) result self.old self.new) }
-        ensures places { places_in self.new ≡ places_in self.old }
+        ensures places { all_places self.new ≡ all_places self.old }
         ensures err { OnErr result (self.new ≡ self.old) }
     {
         // What a private switch has is what its words say.
@@ -179,8 +179,8 @@ impl PlainFarm {
     ///
     /// `NoSuch` where there is no such domain or node, and else `NoMemory` where it can't be copied.
     pub fn checkout(&self, domain: u8, node: u8) -> Result<Ticket, Refusal>
-        ensures no_such { (result ≡ Err NoSuch) ↔ (node_in (slice_get self.now domain) node ≡ None) }
-        ensures ticket { IfOk result (λ t. (node_in (slice_get self.now domain) node ≡ Some t.start) × (t ≡ fresh_ticket domain node t.start)) }
+        ensures no_such { (result ≡ Err NoSuch) ↔ (node_there (slice_get self.now domain) node ≡ None) }
+        ensures ticket { IfOk result (λ t. (node_there (slice_get self.now domain) node ≡ Some t.start) × (t ≡ fresh_ticket domain node t.start)) }
         ensures full { result ≢ Err JournalFull }
     {
         let Some(home) = self.domains.get(usize::from(domain)) else {
@@ -200,7 +200,7 @@ impl PlainFarm {
     pub fn commit(&mut self, domain: u8, ticket: Ticket) -> Result<Committed, Refusal>
         ensures own { IsCommittedAt ticket result (slice_get self.old domain) (slice_get self.new domain) }
         ensures others { OthersStay domain self.old self.new }
-        ensures places { places_in self.new ≡ places_in self.old }
+        ensures places { all_places self.new ≡ all_places self.old }
         ensures unchanged { result ≢ Ok Done → self.new ≡ self.old }
     {
         let Some(home) = self.domains.get_mut(usize::from(domain)) else {
@@ -211,7 +211,7 @@ impl PlainFarm {
 
     /// What a domain answered, in order; `None` where there is no such domain.
     pub fn journal(&self, domain: u8) -> Option<&Journal>
-        ensures { option_copied result ≡ journal_in (slice_get self.now domain) }
+        ensures { option_copied result ≡ journal_there (slice_get self.now domain) }
     {
         match self.domains.get(usize::from(domain)) {
             Some(domain) => Some(domain.journal()),
@@ -221,7 +221,7 @@ impl PlainFarm {
 
     /// How many events of a domain are recorded; `None` where there is no such domain.
     pub fn recorded(&self, domain: u8) -> Option<u64>
-        ensures { result ≡ recorded_in (slice_get self.now domain) }
+        ensures { result ≡ recorded_there (slice_get self.now domain) }
     {
         match self.domains.get(usize::from(domain)) {
             Some(domain) => Some(domain.recorded()),
@@ -232,7 +232,7 @@ impl PlainFarm {
     /// The switch word of a virtual output of a domain; `None` where there is no such domain, or it
     /// has no such output. It is proper, as that of `word`. Nothing changes.
     pub fn domain_word(&mut self, domain: u8, output: u8) -> Option<Word>
-        ensures word { result ≡ word_in (slice_get self.old domain) output }
+        ensures word { result ≡ word_there (slice_get self.old domain) output }
         ensures proper { IfSome result IsProper }
         ensures unchanged { self.new ≡ self.old }
     {
@@ -248,7 +248,7 @@ impl PlainFarm {
     pub fn word(&mut self, output: u8) -> Word
         ensures proper { IsProper result }
         ensures owner { IsWordOfOwner self.old output result }
-        ensures free { IsFree (places_in self.old) output → result ≡ record { bits = 0 } }
+        ensures free { IsFree (all_places self.old) output → result ≡ record { bits = 0 } }
         ensures whole { SaysEachWhole self.old output result }
         ensures unchanged { self.new ≡ self.old }
     {
@@ -263,7 +263,7 @@ impl PlainFarm {
     // The index of the domain whose output this is, and the output's number there.
     fn owner(&self, output: u8) -> Option<(usize, u8)>
         ensures owned { IfSome result (λ owner. HasOutput (slice_get self.now owner.0) owner.1 output) }
-        ensures free { result ≡ None → IsFree (places_in self.now) output }
+        ensures free { result ≡ None → IsFree (all_places self.now) output }
     {
         // What a private switch has is what its words say.
         switches_say_their_words();
@@ -291,7 +291,7 @@ impl PlainFarm {
         requires { domain < length self.old }
         ensures own { IsRestartedAt (slice_get self.old domain) (slice_get self.new domain) }
         ensures others { OthersStay domain self.old self.new }
-        ensures places { places_in self.new ≡ places_in self.old }
+        ensures places { all_places self.new ≡ all_places self.old }
     {
         self.domains[usize::from(domain)].restart();
     }

@@ -14,7 +14,7 @@ use Rattle.domain_core.specs.PrivateFarm.{Answer, answers, after, opening}
 use Rattle.domain_core.specs.Journal.{AnsweredCall, calls_of, replies_of}
 use Rattle.farm_core.specs.Places.{places_of}
 use Rattle.farm_core.specs.Projection.{own}
-use Rattle.farm_core.specs.Merges.{journal_at, IsMerge, calls_in, replies_in}
+use Rattle.farm_core.specs.Merges.{journal_at, IsMerge, merged_calls, merged_answers}
 use Rattle.farm_core.specs.Laws.{EachOfAPlanIsToldPrivately, answers_among}
 use Rattle.farm_service.specs.declared.closed.ClosedDomain.{ClosedDomain}
 use Rattle.farm_service.specs.Closed.{EachMergeRuns, history_of}
@@ -97,7 +97,7 @@ own_in_turn (history ∷ histories) number domain (suc at) is =
 -- ---- what a merge is told
 
 zipped : (merge : List (ℕ × AnsweredCall))
-    → zip (map (λ c. c.0) (calls_in merge)) (replies_in merge) ≡ map (λ x. (x.0, Ok x.1.reply)) merge
+    → zip (map (λ c. c.0) (merged_calls merge)) (merged_answers merge) ≡ map (λ x. (x.0, Ok x.1.reply)) merge
 zipped [] = refl
 zipped (x ∷ merge) = ap (λ (ys : List (ℕ × Answer)). (x.0, Ok x.1.reply) ∷ ys) (zipped merge)
 
@@ -111,16 +111,16 @@ all_alone plan closed law separate runs domain d c at there =
     let is_merge : IsMerge histories merge = λ i. own_in_turn histories 0 i i (omega arith) in
     let theirs : own domain merge ≡ history_of c =
     is_merge domain ∙ ap journal_at (slice_get-map history_of closed domain ∙ ap (option_map history_of) there) in
-    let calls : own domain (calls_in merge) ≡ calls_of (history_of c) =
+    let calls : own domain (merged_calls merge) ≡ calls_of (history_of c) =
     own-map (λ (a : AnsweredCall). a.call) domain merge ∙ ap calls_of theirs in
-    let replies : answers_among domain (calls_in merge) (replies_in merge) ≡ replies_of (history_of c) =
+    let replies : answers_among domain (merged_calls merge) (merged_answers merge) ≡ replies_of (history_of c) =
     ap (own domain) (zipped merge) ∙ own-map (λ (a : AnsweredCall). Ok a.reply) domain merge ∙ ap replies_of theirs in (
       after (part_of d) (opening (part_of d)) (calls_of (history_of c)),
       record {
         state = refl;
         replies =
             ap (answers (part_of d) (opening (part_of d))) (sym calls)
-            ∙ sym (law plan (calls_in merge) domain d separate at)
-            ∙ ap (answers_among domain (calls_in merge)) (runs merge is_merge).replies ∙ replies;
+            ∙ sym (law plan (merged_calls merge) domain d separate at)
+            ∙ ap (answers_among domain (merged_calls merge)) (runs merge is_merge).replies ∙ replies;
       },
     )

@@ -7,7 +7,7 @@ use Rattle.std.proofs.lemmas.List.{map-append}
 use Rattle.std.proofs.Math.Seq.{take-append_seam}
 use Rattle.plan_rules.specs.Data.{DomainData}
 use Rattle.farm_service.specs.declared.closed.ClosedDomain.{ClosedDomain}
-use Rattle.farm_service.specs.Passes.{SessionValue, UserPassValue, fresh_pass, passes_in, passes_from, fresh_passes}
+use Rattle.farm_service.specs.Passes.{SessionValue, UserPassValue, fresh_pass, passes_opened, passes_from, fresh_passes}
 use Rattle.farm_service.specs.Closed.{AreListed}
 use Rattle.farm_program.specs.declared.users.User.{User}
 use Rattle.farm_program.specs.Closing.{ArePassesOf, AreAllListed}
@@ -28,16 +28,16 @@ written len old lent new is all count =
     let counted : len ≡ length new = sym all ∙ sym count in
     (λ k. take (counted k) (new ++ drop (length new) old)) ∙ take-append_seam new (drop (length new) old)
 
-fresh_in : (domain count : ℕ) → map unasked (passes_in domain count) ≡ passes_in domain count
+fresh_in : (domain count : ℕ) → map unasked (passes_opened domain count) ≡ passes_opened domain count
 fresh_in domain zero = refl
 fresh_in domain (suc count) =
-    map-append unasked (passes_in domain count) (fresh_pass domain count ∷ [])
+    map-append unasked (passes_opened domain count) (fresh_pass domain count ∷ [])
     ∙ ap (λ (ps : List UserPassValue). ps ++ fresh_pass domain count ∷ []) (fresh_in domain count)
 
 fresh_from : (number : ℕ) (plan : List DomainData) → map unasked (passes_from number plan) ≡ passes_from number plan
 fresh_from number [] = refl
 fresh_from number (d ∷ plan) =
-    map-append unasked (passes_in number (length d.users)) (passes_from (suc number) plan)
+    map-append unasked (passes_opened number (length d.users)) (passes_from (suc number) plan)
     ∙ (λ k. fresh_in number (length d.users) k ++ fresh_from (suc number) plan k)
 
 by_session : (users : List User)

@@ -11,9 +11,9 @@ use Rattle.std.proofs.lemmas.Grind.{flat_map-append}
 use Rattle.std.proofs.lemmas.Option.{slice_get_within, get_or_from_slice_get}
 use Rattle.plan_rules.specs.Data.{DomainData, UserData}
 use Rattle.script_lines.specs.declared.script.ScriptLine.{ScriptLine}
-use Rattle.farm_service.specs.Passes.{UserPassValue, passes_in, passes_from, fresh_passes}
+use Rattle.farm_service.specs.Passes.{UserPassValue, passes_opened, passes_from, fresh_passes}
 use Rattle.farm_program.specs.declared.users.User.{User}
-use Rattle.farm_program.specs.Users.{names_in, commands_at, session_of, AreUsersOf}
+use Rattle.farm_program.specs.Users.{all_names, commands_at, session_of, AreUsersOf}
 
 -- what texts that are lent hold
 abbrev pub texts : List (Bor (List ℕ)) → List (List ℕ)
@@ -54,11 +54,11 @@ name_more (Some d) names more start user name within named is before =
     there_is (u ∷ us) (suc i) less = there_is us i (omega arith)
 
 names_of_more : (plan : List DomainData) (i : ℕ) (d : DomainData) → slice_get plan i ≡ Some d
-    → names_in (take (i + 1) plan) ≡ names_in (take i plan) ++ map (λ u. u.name) d.users
+    → all_names (take (i + 1) plan) ≡ all_names (take i plan) ++ map (λ u. u.name) d.users
 names_of_more plan i d at =
     let within = slice_get_within plan i d at in
-    ap names_in (take_more plan i d within)
-    ∙ ap (λ (e : DomainData). names_in (take i plan ++ e ∷ [])) (get_or_from_slice_get plan i d d at)
+    ap all_names (take_more plan i d within)
+    ∙ ap (λ (e : DomainData). all_names (take i plan ++ e ∷ [])) (get_or_from_slice_get plan i d d at)
     ∙ ap (map (λ (u : UserData). u.name)) (flat_map-append (λ (e : DomainData). e.users) (take i plan) (d ∷ []))
     ∙ ap (λ (us : List UserData). map (λ (u : UserData). u.name)
     (flat_map (λ (e : DomainData). e.users) (take i plan) ++ us))
@@ -67,9 +67,9 @@ names_of_more plan i d at =
 
 -- names of the first domains, with those of the next domain, are those of one domain more
 pub domain_names : (plan : List DomainData) (i : ℕ) (names more : List (Bor (List ℕ)))
-    → i < length plan → map (λ n. n.now) names ≡ names_in (take i plan)
+    → i < length plan → map (λ n. n.now) names ≡ all_names (take i plan)
     → IfSome (slice_get plan i) (λ d. map (λ n. n.now) more ≡ map (λ n. n.now) names ++ map (λ u. u.name) d.users)
-    → map (λ n. n.now) more ≡ names_in (take (i + 1) plan)
+    → map (λ n. n.now) more ≡ all_names (take (i + 1) plan)
 domain_names plan i names more within before step =
     let at = there_is plan i within in
     let stepped =
@@ -84,16 +84,16 @@ domain_names plan i names more within before step =
     there_is (d ∷ ds) zero less = (d, refl)
     there_is (d ∷ ds) (suc k) less = there_is ds k (omega arith)
 
-length_in : (number count : ℕ) → length (passes_in number count) ≡ count
+length_in : (number count : ℕ) → length (passes_opened number count) ≡ count
 length_in number zero = refl
 length_in number (suc count) =
     omega (
       arith,
-      length-append (passes_in number count) (record { domain = number; user = count; told = [] } ∷ []),
+      length-append (passes_opened number count) (record { domain = number; user = count; told = [] } ∷ []),
       length_in number count,
     )
 
-length_names : (number : ℕ) (plan : List DomainData) → length (names_in plan) ≡ length (passes_from number plan)
+length_names : (number : ℕ) (plan : List DomainData) → length (all_names plan) ≡ length (passes_from number plan)
 length_names number [] = refl
 length_names number (d ∷ plan) =
     omega (
@@ -101,13 +101,13 @@ length_names number (d ∷ plan) =
       length-map (flat_map (λ (e : DomainData). e.users) (d ∷ plan)) (λ (u : UserData). u.name),
       length-map (flat_map (λ (e : DomainData). e.users) plan) (λ (u : UserData). u.name),
       length-append d.users (flat_map (λ (e : DomainData). e.users) plan),
-      length-append (passes_in number (length d.users)) (passes_from (suc number) plan),
+      length-append (passes_opened number (length d.users)) (passes_from (suc number) plan),
       length_in number (length d.users),
       length_names (suc number) plan,
     )
 
 -- a plan has as many names as passes
-pub as_many : (plan : List DomainData) → length (names_in plan) ≡ length (fresh_passes plan)
+pub as_many : (plan : List DomainData) → length (all_names plan) ≡ length (fresh_passes plan)
 as_many plan = length_names 0 plan
 
 -- ---- users
@@ -117,7 +117,7 @@ pub record AreUsersSoFar (plan : List DomainData) (lines : List ScriptLine) (ste
     (passes : List UserPassValue) (users : List User) : Type 0 where
   pub count : length users ≡ length passes
   pub sessions : map (λ u. u.session) users ≡ map (session_of plan) passes
-  pub names : map (λ u. u.name.now) users ≡ take (length passes) (names_in plan)
+  pub names : map (λ u. u.name.now) users ≡ take (length passes) (all_names plan)
   pub commands :
       map (λ u. map (λ c. c.now) u.commands.items) users ≡ map (commands_at lines) (range_with_len 0 (length passes))
   pub quantum : All (λ u. u.quantum.steps ≡ steps) users
@@ -125,7 +125,7 @@ pub record AreUsersSoFar (plan : List DomainData) (lines : List ScriptLine) (ste
 -- the place of the next pass has a name
 pub place_within : (plan : List DomainData) (names : List (Bor (List ℕ)))
     (passes : List UserPassValue) (n place : ℕ)
-    → n < length passes → passes ≡ fresh_passes plan → texts names ≡ names_in plan → place ≡ n
+    → n < length passes → passes ≡ fresh_passes plan → texts names ≡ all_names plan → place ≡ n
     → place < length names
 place_within plan names passes n place less fresh named is =
     omega (
@@ -141,16 +141,16 @@ place_within plan names passes n place less fresh named is =
 -- users of the first passes, with one of the next pass, are those of one pass more
 pub user_more : (plan : List DomainData) (lines : List ScriptLine) (steps : ℕ) (passes : List UserPassValue)
     (pass : UserPassValue) (users more : List User) (u : User) (names : List (Bor (List ℕ))) (place : ℕ)
-    → AreUsersSoFar plan lines steps passes users → texts names ≡ names_in plan → place ≡ length passes
+    → AreUsersSoFar plan lines steps passes users → texts names ≡ all_names plan → place ≡ length passes
     → place < length names → u.session ≡ session_of plan pass → u.name ≡ get_or names place u.name
     → map (λ c. c.now) u.commands.items ≡ commands_at lines place → u.quantum.steps ≡ steps → more ≡ users ++ u ∷ []
     → AreUsersSoFar plan lines steps (passes ++ pass ∷ []) more
 user_more plan lines steps passes pass users more u names place before named at within session name asked quantum is =
     let n : ℕ = length passes in
     let longer : length (passes ++ pass ∷ []) ≡ n + 1 = length-append passes (pass ∷ []) in
-    let names_there : length (names_in plan) ≡ length names =
+    let names_there : length (all_names plan) ≡ length names =
     ap length (sym named) ∙ length-map names (λ (m : Bor (List ℕ)). m.now) in
-    let text : u.name.now ≡ get_or (names_in plan) n u.name.now =
+    let text : u.name.now ≡ get_or (all_names plan) n u.name.now =
     ap (λ (m : Bor (List ℕ)). m.now) name
     ∙ sym (get_or-map (λ (m : Bor (List ℕ)). m.now) names place u.name u.name.now within)
     ∙ (λ k. get_or (named k) (at k) u.name.now) in
@@ -165,8 +165,8 @@ user_more plan lines steps passes pass users more u names place before named at 
           ap (map (λ (v : User). v.name.now)) is
           ∙ map-append (λ (v : User). v.name.now) users (u ∷ [])
           ∙ (λ k. before.names k ++ text k ∷ [])
-          ∙ sym (take_more (names_in plan) n u.name.now (omega (arith, at, within, names_there)))
-          ∙ ap (λ (m : ℕ). take m (names_in plan)) (sym longer);
+          ∙ sym (take_more (all_names plan) n u.name.now (omega (arith, at, within, names_there)))
+          ∙ ap (λ (m : ℕ). take m (all_names plan)) (sym longer);
       commands =
           ap (map (λ (v : User). map (λ c. c.now) v.commands.items)) is
           ∙ map-append (λ (v : User). map (λ c. c.now) v.commands.items) users (u ∷ [])
@@ -183,14 +183,14 @@ user_more plan lines steps passes pass users more u names place before named at 
 pub all_users : (plan : List DomainData) (lines : List ScriptLine) (steps : ℕ)
     (yielded passes : List UserPassValue) (users : List User)
     → AreUsersSoFar plan lines steps yielded users → map (λ p. p) yielded ≡ passes → passes ≡ fresh_passes plan
-    → All (λ l. l.user < length (names_in plan)) lines
+    → All (λ l. l.user < length (all_names plan)) lines
     → AreUsersOf plan lines steps users
 all_users plan lines steps yielded passes users so_far ended fresh within =
     let all : yielded ≡ fresh_passes plan = sym (map-id yielded) ∙ ended ∙ fresh in
-    let count : length users ≡ length (names_in plan) = so_far.count ∙ ap length all ∙ sym (as_many plan) in
+    let count : length users ≡ length (all_names plan) = so_far.count ∙ ap length all ∙ sym (as_many plan) in
     record {
       sessions = so_far.sessions ∙ ap (map (session_of plan)) all;
-      names = so_far.names ∙ take_all (length yielded) (names_in plan) (omega (arith, so_far.count, count));
+      names = so_far.names ∙ take_all (length yielded) (all_names plan) (omega (arith, so_far.count, count));
       commands = so_far.commands ∙ ap (λ (n : ℕ). map (commands_at lines) (range_with_len 0 n)) (sym so_far.count);
       nobody_else = subst (λ (n : ℕ). All (λ (l : ScriptLine). l.user < n) lines) (sym count) within;
       quantum = so_far.quantum;

@@ -13,7 +13,7 @@ use Rattle.script_lines.specs.declared.command.Command.{Command}
 use Rattle.script_lines.specs.declared.script.ScriptLine.{ScriptLine}
 use Rattle.farm_service.specs.declared.told.Told.{Told}
 use Rattle.farm_service.specs.declared.closed.ClosedDomain.{ClosedDomain}
-use Rattle.farm_service.specs.Passes.{SessionValue, UserPassValue, fresh_pass, passes_in, passes_from, fresh_passes}
+use Rattle.farm_service.specs.Passes.{SessionValue, UserPassValue, fresh_pass, passes_opened, passes_from, fresh_passes}
 use Rattle.farm_service.specs.Closed.{AreListed, IsListed, history_of}
 use Rattle.farm_service.specs.Commands.{commands_of}
 use Rattle.line_answers.specs.Lines.{AreAnsweredLines}
@@ -21,7 +21,7 @@ use Rattle.line_answers.specs.Sessions.{with_all}
 use Rattle.farm_program.specs.declared.farm.ScriptEnd.{ScriptEnd}
 use Rattle.farm_program.specs.declared.farm.UsersEnd.{UsersEnd}
 use Rattle.farm_program.specs.declared.users.User.{User}
-use Rattle.farm_program.specs.Users.{names_in, commands_at, session_of, AreUsersOf, HasAnswered, HaveAnswered}
+use Rattle.farm_program.specs.Users.{all_names, commands_at, session_of, AreUsersOf, HasAnswered, HaveAnswered}
 use Rattle.farm_program.specs.Screens.{IsScreen, AreScreens}
 
 -- ---- lists
@@ -56,16 +56,16 @@ long_enough i n less = omega (arith, less, length-range_with_len 0 n)
 
 -- ---- a pass before its user has asked anything
 
-unasked_in : (domain count : ℕ) → All (λ p. p.told ≡ []) (passes_in domain count)
+unasked_in : (domain count : ℕ) → All (λ p. p.told ≡ []) (passes_opened domain count)
 unasked_in domain zero = All-from_recursion (λ p. p.told ≡ []) [] tt
 unasked_in domain (suc count) =
-    All-append (λ p. p.told ≡ []) (passes_in domain count) (fresh_pass domain count ∷ []) (unasked_in domain count)
+    All-append (λ p. p.told ≡ []) (passes_opened domain count) (fresh_pass domain count ∷ []) (unasked_in domain count)
     (All-from_recursion (λ p. p.told ≡ []) (fresh_pass domain count ∷ []) (refl, tt))
 
 unasked_from : (number : ℕ) (plan : List DomainData) → All (λ p. p.told ≡ []) (passes_from number plan)
 unasked_from number [] = All-from_recursion (λ p. p.told ≡ []) [] tt
 unasked_from number (d ∷ plan) =
-    All-append (λ p. p.told ≡ []) (passes_in number (length d.users)) (passes_from (suc number) plan)
+    All-append (λ p. p.told ≡ []) (passes_opened number (length d.users)) (passes_from (suc number) plan)
     (unasked_in number (length d.users)) (unasked_from (suc number) plan)
 
 -- ---- screens
@@ -155,7 +155,7 @@ all_screens plan lines steps opened after passes screens closed users count answ
           one_screen plan closed pass name screen (commands_at lines place) u.0 v.0 unasked
           (read_at (λ (w : User). w.session) opened (map (session_of plan) (fresh_passes plan)) place u.0
           (session_of plan pass) users.sessions u.1 (mapped (session_of plan) (fresh_passes plan) place pass at_pass))
-          (read_at (λ (w : User). w.name.now) opened (names_in plan) place u.0 name users.names u.1 at_name)
+          (read_at (λ (w : User). w.name.now) opened (all_names plan) place u.0 name users.names u.1 at_name)
           (read_at (λ (w : User). map (λ c. c.now) w.commands.items) opened
           (map (commands_at lines) (range_with_len 0 (length opened))) place u.0 (commands_at lines place)
           users.commands u.1

@@ -20,7 +20,7 @@ use Rattle.farm_program.specs.declared.failure.FarmFailure.{FarmFailure}
 use Rattle.farm_program.specs.declared.failure.FarmFailure.TheVariants.{Plan, Line, Memory, Io}
 use Rattle.farm_program.specs.declared.failure.Ending.{Ending}
 use Rattle.farm_program.specs.Requests.{IsAcceptedText, IsPartedText}
-use Rattle.farm_program.specs.Users.{names_in}
+use Rattle.farm_program.specs.Users.{all_names}
 
 -- a text is no plan's, for this fault; or the plan's smallest fault is this
 abbrev pub IsPlanFault : List ℕ → PlanFault → Type 0
@@ -44,7 +44,7 @@ IsScriptFailure names script_lines failure = ⊥
 
 -- a script is refused: the plan's text is accepted, and this is the first line that is wrong, the first being number 1
 abbrev pub IsRefusedScript : List ℕ → List ℕ → ℕ → LineFault → Type 0
-IsRefusedScript plan_text rest number fault = (plan : List DomainData) × IsAcceptedText plan_text plan × IsFirstFault (names_in plan) (lines rest) number fault
+IsRefusedScript plan_text rest number fault = (plan : List DomainData) × IsAcceptedText plan_text plan × IsFirstFault (all_names plan) (lines rest) number fault
 
 -- why a text has no output. Of memory and of streams nothing is said
 abbrev pub IsFailure : List ℕ → FarmFailure → Type 0

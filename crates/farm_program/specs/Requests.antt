@@ -7,7 +7,7 @@ use Rattle.plan_checker.specs.Document.{IsPlan}
 use Rattle.script_text.specs.Lines.{IsDivided}
 use Rattle.script_lines.specs.declared.script.ScriptLine.{ScriptLine}
 use Rattle.script_lines.specs.Script.{IsScript}
-use Rattle.farm_program.specs.Users.{names_in}
+use Rattle.farm_program.specs.Users.{all_names}
 
 -- the parts of a text, before and after its first line `---`, are so
 abbrev pub IsPartedText : List ℕ → (List ℕ → List ℕ → Type 0) → Type 0
@@ -19,4 +19,4 @@ IsAcceptedText text plan = IsPlan text plan × IsSeparate plan
 
 -- a text gives this plan, and its script's lines ask this, each for one of the plan's users
 abbrev pub IsTextOf : List ℕ → List DomainData → List ScriptLine → Type 0
-IsTextOf text plan asked = IsPartedText text (λ plan_text script. IsAcceptedText plan_text plan × IsScript (names_in plan) (lines script) asked)
+IsTextOf text plan asked = IsPartedText text (λ plan_text script. IsAcceptedText plan_text plan × IsScript (all_names plan) (lines script) asked)

@@ -8,7 +8,7 @@ use Rattle.farm_service.specs.Passes.{UserPassValue, fresh_passes}
 use Rattle.farm_service.specs.Closed.{history_of}
 use Rattle.farm_service.specs.Commands.{commands_of}
 use Rattle.line_answers.specs.Lines.{AreAnsweredLines}
-use Rattle.farm_program.specs.Users.{names_in, commands_at, session_of}
+use Rattle.farm_program.specs.Users.{all_names, commands_at, session_of}
 
 -- the screen of a user: the output lines of his lines, over his own commands in the history of his domain
 abbrev pub IsScreen : List DomainData → List ClosedDomain → UserPassValue → List ℕ → List Command → List ℕ → Type 0
@@ -18,5 +18,5 @@ IsScreen plan closed pass name commands screen =
 -- a screen for each user of the plan, in its order, and none besides
 pub record AreScreens (plan : List DomainData) (lines : List ScriptLine) (closed : List ClosedDomain) (screens : List (List ℕ)) : Type 0 where
   pub count : length screens ≡ length (fresh_passes plan)
-  pub each : (place : ℕ) (pass : UserPassValue) (name screen : List ℕ) → slice_get (fresh_passes plan) place ≡ Some pass → slice_get (names_in plan) place ≡ Some name
+  pub each : (place : ℕ) (pass : UserPassValue) (name screen : List ℕ) → slice_get (fresh_passes plan) place ≡ Some pass → slice_get (all_names plan) place ≡ Some name
       → slice_get screens place ≡ Some screen → IsScreen plan closed pass name (commands_at lines place) screen

@@ -9,8 +9,8 @@ use Rattle.line_answers.specs.Sessions.{AreAnswered}
 use Rattle.farm_program.specs.declared.users.User.{User}
 
 -- the names of all users of a plan, in its order
-abbrev pub names_in : List DomainData → List (List ℕ)
-names_in plan = map (λ u. u.name) (flat_map (λ d. d.users) plan)
+abbrev pub all_names : List DomainData → List (List ℕ)
+all_names plan = map (λ u. u.name) (flat_map (λ d. d.users) plan)
 
 -- what a script's lines ask for the user of a place among all, in order
 abbrev pub commands_at : List ScriptLine → ℕ → List Command
@@ -36,7 +36,7 @@ AreStill before after = (i : ℕ) (d : User) → i < length before → as_opened
 -- All settle by so many Steps
 pub record AreUsersOf (plan : List DomainData) (lines : List ScriptLine) (steps : ℕ) (users : List User) : Type 0 where
   pub sessions : map (λ u. u.session) users ≡ map (session_of plan) (fresh_passes plan)
-  pub names : map (λ u. u.name.now) users ≡ names_in plan
+  pub names : map (λ u. u.name.now) users ≡ all_names plan
   pub commands : map (λ u. map (λ c. c.now) u.commands.items) users ≡ map (commands_at lines) (range_with_len 0 (length users))
   pub nobody_else : All (λ l. l.user < length users) lines
   pub quantum : All (λ u. u.quantum.steps ≡ steps) users

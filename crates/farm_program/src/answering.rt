@@ -9,7 +9,7 @@ ghost use Rattle.farm_program.specs.Failures.{EndsAs, IsFailure, IsPlanFailure, 
 ghost use Rattle.farm_program.specs.Output.{IsOutput, Prints};
 ghost use Rattle.farm_program.specs.Requests.{IsAcceptedText};
 ghost use Rattle.farm_program.specs.Settings.{InRange};
-ghost use Rattle.farm_program.specs.Users.{names_in};
+ghost use Rattle.farm_program.specs.Users.{all_names};
 
 use crate::configuration::Settings;
 use crate::explaining::end_by;
@@ -40,9 +40,9 @@ pub fn lines_of(
     plan: &AcceptedPlan,
     script: &[u8],
 ) -> Result<Vec<ScriptLine>, FarmFailure>
-    ensures asked { IfOk result (λ asked. IsScript (names_in plan.now) (lines script.now) asked.items) }
-    ensures users { IfOk result (λ asked. All (λ l. l.user < length (names_in plan.now)) asked.items) }
-    ensures fault { IfErr result (IsScriptFailure (names_in plan.now) (lines script.now)) }
+    ensures asked { IfOk result (λ asked. IsScript (all_names plan.now) (lines script.now) asked.items) }
+    ensures users { IfOk result (λ asked. All (λ l. l.user < length (all_names plan.now)) asked.items) }
+    ensures fault { IfErr result (IsScriptFailure (all_names plan.now) (lines script.now)) }
 {
     let names = names_of(alloc, plan)?;
     Ok(read_script(alloc, names.as_slice(), script)?)

@@ -6,7 +6,7 @@ ghost use Rattle.farm_service.specs.Closed.{AreDomainsOf, AreListed, EachMergeRu
 ghost use Rattle.farm_program.specs.Closing.{AreAllListed};
 ghost use Rattle.farm_program.specs.Settings.{InRange};
 ghost use Rattle.farm_program.specs.Screens.{AreScreens};
-ghost use Rattle.farm_program.specs.Users.{AreStill, HaveAnswered, names_in};
+ghost use Rattle.farm_program.specs.Users.{AreStill, HaveAnswered, all_names};
 
 use crate::configuration::Settings;
 use crate::users::{User, users_of};
@@ -120,7 +120,7 @@ pub fn run_script<R: Threads + Wait + Sync>(
     settings: Settings,
 ) -> Result<ScriptEnd, NoMemory>
     requires settings { InRange settings }
-    requires lines { All (λ l. l.user < length (names_in plan)) lines.now }
+    requires lines { All (λ l. l.user < length (all_names plan)) lines.now }
     ensures domains { IfOk result (λ ended. AreDomainsOf plan ended.closed.domains.items) }
     ensures runs { IfOk result (λ ended. EachMergeRuns (places_of plan) ended.closed.domains.items) }
     ensures users { IfOk result (λ ended. AreAllListed plan ended.closed.domains.items) }

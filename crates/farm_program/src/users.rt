@@ -1,7 +1,7 @@
 //! Users at a service, each in a session of his own, and what they are shown.
 ghost use Rattle.std.specs.Prelude.{◌≡◌, ◌<◌, ◌++◌, length, map, slice_get, All, IfOk, IfSome, OnOk};
 ghost use Rattle.farm_service.specs.Passes.{fresh_passes};
-ghost use Rattle.farm_program.specs.Users.{AreUsersOf, HasAnswered, as_opened, commands_at, names_in, session_of};
+ghost use Rattle.farm_program.specs.Users.{AreUsersOf, HasAnswered, as_opened, commands_at, all_names, session_of};
 
 use farm_service::{NoMemory, Service, Session, UserPass};
 use line_answers::{Quantum, answer_lines};
@@ -45,7 +45,7 @@ fn add_names<'a>(
 
 /// The names of all users of a plan, in its order.
 pub fn names_of(alloc: Global, plan: &AcceptedPlan) -> Result<Vec<&str>, NoMemory>
-    ensures { IfOk result (λ names. map (λ n. n.now) names.items ≡ names_in plan.now) }
+    ensures { IfOk result (λ names. map (λ n. n.now) names.items ≡ all_names plan.now) }
 {
     let mut names = Vec::new(alloc);
     for domain in 0..plan.domains() {
@@ -76,7 +76,7 @@ pub fn users_of<'a>(
     quantum: Quantum,
 ) -> Result<Vec<User<'a>>, NoMemory>
     requires passes { passes.items ≡ fresh_passes service.now.plan }
-    requires lines { All (λ l. l.user < length (names_in service.now.plan)) lines.now }
+    requires lines { All (λ l. l.user < length (all_names service.now.plan)) lines.now }
     ensures { IfOk result (λ users. AreUsersOf service.now.plan lines.now quantum.steps users.items) }
 {
     let names = names_of(alloc, service.plan())?;

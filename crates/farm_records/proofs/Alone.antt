@@ -3,7 +3,7 @@ use Rattle.std.specs.Prelude.{◌≡◌, ◌<◌, ℕ, List, [], ◌∷◌, leng
 use Rattle.std.proofs.Common.{inl, inr, refl, ap, sym, ◌∙◌, subst, arith}
 use Rattle.std.proofs.lemmas.Option.{slice_get_cases}
 use Rattle.crossbar.specs.declared.range.PortRange.{PortRange}
-use Rattle.crossbar.specs.Ranges.{ports_in}
+use Rattle.crossbar.specs.Ranges.{ranged_ports}
 use Rattle.plan_rules.specs.Data.{DomainData}
 use Rattle.plan_rules.specs.Part.{PartData, part_of, four_ranges}
 use Rattle.farm_records.specs.Heads.{AreAlike, AreNamedAlike, IsOnlyDomain}
@@ -19,7 +19,7 @@ alike_if None other part other_part ranges other_ranges p q same r s alike names
 alike_if (Some d) None part other_part ranges other_ranges p q same r s alike names = tt
 alike_if (Some d) (Some e) part other_part ranges other_ranges p q same r s alike names = record {
   part = sym p ∙ (same ∙ q);
-  ports = ap ports_in (sym r ∙ (alike ∙ s));
+  ports = ap ranged_ports (sym r ∙ (alike ∙ s));
   names = names;
 }
 

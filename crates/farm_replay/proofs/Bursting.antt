@@ -9,7 +9,7 @@ use Rattle.bootstrap.specs.Step.{is_quiet}
 use Rattle.bootstrap.specs.Steps.{after_steps, last_answer, IsAfter}
 use Rattle.domain_core.specs.Domain.{DomainValue}
 use Rattle.domain_core.specs.Ticket.{TicketValue, Bursts, fresh_ticket, most_steps}
-use Rattle.farm_core.specs.PlainFarm.{node_in}
+use Rattle.farm_core.specs.PlainFarm.{node_there}
 use Rattle.farm_replay.specs.Answering.{IsAtRest}
 
 -- just so many Steps more were done of a ticket
@@ -105,7 +105,7 @@ without_last n t u did fresh none =
 
 -- if some Steps were asked of a fresh ticket, and none was done, its node has none that would be recorded
 pub rests : (n domain node : ℕ) (found : Option DomainValue) (t u : TicketValue)
-    → node_in found node ≡ Some t.start → t ≡ fresh_ticket domain node t.start → Bursts n t u → u.steps ≡ 0 → 0 < n
+    → node_there found node ≡ Some t.start → t ≡ fresh_ticket domain node t.start → Bursts n t u → u.steps ≡ 0 → 0 < n
     → IsAtRest found node
 rests n domain node found t u there fresh did none some =
     let begun : t.steps ≡ 0 = ap (λ (it : TicketValue). it.steps) fresh in

@@ -28,7 +28,7 @@ use Rattle.farm_core.specs.Projection.{lowered_for}
 use Rattle.farm_core.specs.Domains.{IsMadeOf, EachCallIsPrivate}
 use Rattle.farm_core.specs.Laws.{caller_answers_from}
 use Rattle.farm_core.specs.Merges.{own_place}
-use Rattle.farm_core.specs.PlainFarm.{places_in, states_in, recorded_in, OthersStay, IsCalledAt, IsCommittedAt}
+use Rattle.farm_core.specs.PlainFarm.{all_places, all_states, recorded_there, OthersStay, IsCalledAt, IsCommittedAt}
 use Rattle.farm_replay.specs.Answering.{StayIfUnrecorded, step_calls, steps_answers}
 use Rattle.farm_replay.specs.Runs.{HaveRun}
 
@@ -158,15 +158,15 @@ meant_at domains domain d all at =
     (All-get_or IsMeant domains domain d (slice_get_within domains domain d at) all)
 
 place_at : (domains : List DomainValue) (domain : ℕ) (d : DomainValue) → slice_get domains domain ≡ Some d
-    → slice_get (places_in domains) domain ≡ Some (own_place d)
+    → slice_get (all_places domains) domain ≡ Some (own_place d)
 place_at domains domain d at = slice_get-map own_place domains domain ∙ ap (option_map own_place) at
 
 state_at : (domains : List DomainValue) (domain : ℕ) (d : DomainValue) → slice_get domains domain ≡ Some d
-    → slice_get (states_in domains) domain ≡ Some (state_of d)
+    → slice_get (all_states domains) domain ≡ Some (state_of d)
 state_at domains domain d at = slice_get-map state_of domains domain ∙ ap (option_map state_of) at
 
 same_part : (domain : ℕ) (old new : List DomainValue) (d e : DomainValue)
-    → places_in new ≡ places_in old → slice_get old domain ≡ Some d → slice_get new domain ≡ Some e
+    → all_places new ≡ all_places old → slice_get old domain ≡ Some d → slice_get new domain ≡ Some e
     → e.machine.part ≡ d.machine.part
 same_part domain old new d e places there here =
     ap (λ (p : Place). p.part)
@@ -176,27 +176,27 @@ same_part domain old new d e places there here =
 new_states : (domain : ℕ) (old new : List DomainValue) (d e : DomainValue)
     → OthersStay domain old new → slice_get old domain ≡ Some d
     → slice_get new domain ≡ Some e
-    → states_in new ≡ slice_set (states_in old) domain (state_of e)
+    → all_states new ≡ slice_set (all_states old) domain (state_of e)
 new_states domain old new d e others there here =
-    same_lists (states_in new) (slice_set (states_in old) domain (state_of e)) each
+    same_lists (all_states new) (slice_set (all_states old) domain (state_of e)) each
   where
-    each : (i : ℕ) → slice_get (states_in new) i ≡ slice_get (slice_set (states_in old) domain (state_of e)) i
+    each : (i : ℕ) → slice_get (all_states new) i ≡ slice_get (slice_set (all_states old) domain (state_of e)) i
     each i = elim (cases_eq i domain) [
       | inl same ↦
-          ap (slice_get (states_in new)) same ∙ state_at new domain e here
-          ∙ sym (get_same (states_in old) domain (state_of e) (state_of d) (state_at old domain d there))
-          ∙ ap (slice_get (slice_set (states_in old) domain (state_of e))) (sym same)
+          ap (slice_get (all_states new)) same ∙ state_at new domain e here
+          ∙ sym (get_same (all_states old) domain (state_of e) (state_of d) (state_at old domain d there))
+          ∙ ap (slice_get (slice_set (all_states old) domain (state_of e))) (sym same)
       | inr ne ↦
           slice_get-map state_of new i ∙ ap (option_map state_of) (others i ne) ∙ sym (slice_get-map state_of old i)
-          ∙ sym (get_other (states_in old) domain i (state_of e) ne)
+          ∙ sym (get_other (all_states old) domain i (state_of e) ne)
     ]
 
 -- what the contracts of a call that changes one domain say of all of them
 pub record Changes (domain : ℕ) (old new : List DomainValue) : Type 0 where
-  pub separate : AreSeparatePlaces (places_in old)
+  pub separate : AreSeparatePlaces (all_places old)
   pub before : All IsMeant old
   pub now : All IsMeant new
-  pub places : places_in new ≡ places_in old
+  pub places : all_places new ≡ all_places old
   pub others : OthersStay domain old new
 
 -- the domain answers what its journal gains
@@ -210,18 +210,20 @@ gained_run law domain old new d e more is there here grown =
     let on =
     goes_on d e more (meant_at old domain d is.before there) (meant_at new domain e is.now here)
     (same_part domain old new d e is.places there here) grown in
-    let states : slice_set (states_in old) domain (after d.machine.part (state_of d) (calls_of more)) ≡ states_in new =
-    ap (slice_set (states_in old) domain) on.left ∙ sym (new_states domain old new d e is.others there here) in
+    let states : slice_set (all_states old) domain (after d.machine.part (state_of d) (calls_of more))
+    ≡ all_states new =
+    ap (slice_set (all_states old) domain) on.left ∙ sym (new_states domain old new d e is.others there here) in
     record {
       places = is.places;
       each = λ farm made.
           let run =
-          own_run law (places_in old) farm (states_in old) domain (own_place d) (state_of d) (calls_of more) is.separate
+          own_run law (all_places old) farm (all_states old) domain (own_place d) (state_of d) (calls_of more)
+          is.separate
           made (place_at old domain d there) (state_at old domain d there) in
           record {
             told_is = sym (run.told ∙ on.told);
             made =
-                subst (IsMadeOf (places_in old) (whole_after (places_in old) farm (in_domain domain (calls_of more))))
+                subst (IsMadeOf (all_places old) (whole_after (all_places old) farm (in_domain domain (calls_of more))))
                 states run.made;
           };
     }
@@ -297,7 +299,8 @@ no_steps_run law domain old new t is committed none =
 unrecorded-by : (domain : ℕ) (call : Call) (told : Reply) (old new : List DomainValue) (found left : Option DomainValue)
     → Changes domain old new → slice_get old domain ≡ found
     → slice_get new domain ≡ left
-    → IsCalledAt call (Ok told) found left → recorded_in left ≡ recorded_in found → states_in new ≡ states_in old
+    → IsCalledAt call (Ok told) found left → recorded_there left ≡ recorded_there found
+    → all_states new ≡ all_states old
 unrecorded-by domain call told old new None left is there here called same = absurd cc
 unrecorded-by domain call told old new (Some d) None is there here called same = absurd called
 unrecorded-by domain call told old new (Some d) (Some e) is there here called same =
@@ -309,8 +312,8 @@ unrecorded-by domain call told old new (Some d) (Some e) is there here called sa
     (same_part domain old new d e is.places there here)
     (called.journal
     ∙ ap (λ (xs : List AnsweredCall). expanded d.journal ++ xs) (no_more more (length (expanded d.journal)) count)) in
-    new_states domain old new d e is.others there here ∙ ap (slice_set (states_in old) domain) (sym on.left)
-    ∙ set_itself (states_in old) domain (state_of d) (state_at old domain d there)
+    new_states domain old new d e is.others there here ∙ ap (slice_set (all_states old) domain) (sym on.left)
+    ∙ set_itself (all_states old) domain (state_of d) (state_at old domain d there)
 
 -- a call of which the domain records nothing leaves what the domains stand for
 pub unrecorded_stays : (domain : ℕ) (call : Call) (told : Result Reply Refusal) (old new : List DomainValue)
@@ -319,4 +322,4 @@ pub unrecorded_stays : (domain : ℕ) (call : Call) (told : Result Reply Refusal
     → OnErr told (new ≡ old) → StayIfUnrecorded domain old new
 unrecorded_stays domain call (Ok told) old new is called err same =
     unrecorded-by domain call told old new (slice_get old domain) (slice_get new domain) is refl refl called same
-unrecorded_stays domain call (Err refusal) old new is called err same = ap states_in err
+unrecorded_stays domain call (Err refusal) old new is called err same = ap all_states err

@@ -6,7 +6,7 @@ use Rattle.domain_core.specs.Domain.{DomainValue}
 use Rattle.farm_core.specs.Places.{Place}
 use Rattle.farm_core.specs.Whole.{Farm, whole_opening}
 use Rattle.farm_core.specs.Domains.{IsMadeOf}
-use Rattle.farm_core.specs.PlainFarm.{places_in, states_in}
+use Rattle.farm_core.specs.PlainFarm.{all_places, all_states}
 use Rattle.farm_replay.specs.declared.request.RepeatedRequest.{RepeatedRequest}
 use Rattle.farm_replay.specs.Plain.{asked_by, IsShownIn, AreLines, Asked, Calls, Looks, Opens, Else}
 use Rattle.farm_replay.specs.Runs.{IsRunTo, IsOpenedFarm, ShowsAsked}
@@ -15,7 +15,7 @@ use Rattle.farm_replay.specs.Runs.{IsRunTo, IsOpenedFarm, ShowsAsked}
 abbrev pub AreLinesSoFar : List Place → List Asked → List (List ℕ) → List DomainValue → Type 0
 AreLinesSoFar plan asked lines domains =
     (rest : List Asked) (more : List (List ℕ))
-    → ((farm : Farm) → places_in domains ≡ plan → IsMadeOf plan farm (states_in domains)
+    → ((farm : Farm) → all_places domains ≡ plan → IsMadeOf plan farm (all_states domains)
     → AreLines plan farm rest more)
     → AreLines plan (whole_opening plan) (asked ++ rest) (lines ++ more)
 
@@ -26,19 +26,19 @@ no_lines plan domains opened rest more well = well (whole_opening plan) opened.p
 
 one_line : (plan : List Place) (farm : Farm) (asked : Asked) (line : List ℕ) (old new : List DomainValue)
     (rest : List Asked) (more : List (List ℕ))
-    → places_in old ≡ plan → IsMadeOf plan farm (states_in old) → ShowsAsked plan asked old new line
-    → ((after : Farm) → places_in new ≡ plan → IsMadeOf plan after (states_in new) → AreLines plan after rest more)
+    → all_places old ≡ plan → IsMadeOf plan farm (all_states old) → ShowsAsked plan asked old new line
+    → ((after : Farm) → all_places new ≡ plan → IsMadeOf plan after (all_states new) → AreLines plan after rest more)
     → AreLines plan farm (asked ∷ rest) (line ∷ more)
 one_line plan farm Else line old new rest more places made shows well = tt
 one_line plan farm Looks line old new rest more places made same well =
-    well farm (subst (λ d. places_in d ≡ plan) (sym same) places)
-    (subst (λ d. IsMadeOf plan farm (states_in d)) (sym same) made)
+    well farm (subst (λ d. all_places d ≡ plan) (sym same) places)
+    (subst (λ d. IsMadeOf plan farm (all_states d)) (sym same) made)
 one_line plan farm Opens line old new rest more places made opened well =
     well (whole_opening plan) opened.places opened.made
 one_line plan farm (Calls calls) line old new rest more places made shows well =
     let run : IsRunTo plan farm calls shows.told new =
     subst (λ p. IsRunTo p farm calls shows.told new) places
-    (shows.run.each farm (subst (λ p. IsMadeOf p farm (states_in old)) (sym places) made)) in
+    (shows.run.each farm (subst (λ p. IsMadeOf p farm (all_states old)) (sym places) made)) in
     (subst (IsShownIn line) run.told_is shows.shown, well _ (shows.run.places ∙ places) run.made)
 
 -- if a further request shows its line, the lines of all requests up to it are well

@@ -22,7 +22,7 @@ use Rattle.farm_core.specs.Whole.{Farm, whole_after, whole_next}
 use Rattle.farm_core.specs.Domains.{IsMadeOf}
 use Rattle.farm_core.specs.Laws.{RunsAddUp}
 use Rattle.farm_core.specs.Places.{Place}
-use Rattle.farm_core.specs.PlainFarm.{places_in, states_in, IsCallOfEachWhole}
+use Rattle.farm_core.specs.PlainFarm.{all_places, all_states, IsCallOfEachWhole}
 use Rattle.farm_replay.specs.Kept.{KeptList, HoldsTexts}
 use Rattle.farm_replay.specs.Listing.{IsListing}
 use Rattle.farm_replay.specs.Plain.{Asked, Calls, Looks, Opens, Else, asked_times, answer_words, event_calls}
@@ -38,14 +38,14 @@ no_calls domains = record { places = refl; each = λ farm made. record { told_is
 
 one_call : (domain : ℕ) (call : Call) (told : Answer) (old new : List DomainValue)
     → IsCallOfEachWhole domain call told old new
-    → places_in new ≡ places_in old
+    → all_places new ≡ all_places old
     → HaveRun old new ((domain, call) ∷ []) (told ∷ [])
 one_call domain call told old new is places = record {
   places = places;
   each = λ farm made. record {
     told_is = ap (λ (a : Answer). a ∷ []) (is farm made).answer;
     made =
-        subst (λ p. IsMadeOf p (whole_next (places_in old) farm (domain, call)).0 (states_in new)) places
+        subst (λ p. IsMadeOf p (whole_next (all_places old) farm (domain, call)).0 (all_states new)) places
         (is farm made).made;
   };
 }
@@ -57,23 +57,23 @@ more_calls : RunsAddUp → (a b c : List DomainValue) (calls later : List (ℕ �
 more_calls law a b c calls later told after one two = record {
   places = two.places ∙ one.places;
   each = λ farm made.
-      let plan = places_in a in
+      let plan = all_places a in
       let first = one.each farm made in
       let half : Farm = whole_after plan farm calls in
       let then =
       subst (λ p. IsRunTo p half later after c) one.places
-      (two.each half (subst (λ p. IsMadeOf p half (states_in b)) (sym one.places) first.made)) in
+      (two.each half (subst (λ p. IsMadeOf p half (all_states b)) (sym one.places) first.made)) in
       let both = law plan farm calls later in
       record {
         told_is = (λ i. first.told_is i ++ then.told_is i) ∙ sym both.told;
-        made = subst (λ f. IsMadeOf plan f (states_in c)) (sym both.left) then.made;
+        made = subst (λ f. IsMadeOf plan f (all_states c)) (sym both.left) then.made;
       };
 }
 
 -- a call of the farm, unless memory runs out
 pub asked_call : (domain : ℕ) (call : Call) (told : Answer) (old new : List DomainValue)
     → UnlessNoMemory told (IsCallOfEachWhole domain call told old new)
-    → places_in new ≡ places_in old → UnlessNoMemory told (HaveRun old new ((domain, call) ∷ []) (told ∷ []))
+    → all_places new ≡ all_places old → UnlessNoMemory told (HaveRun old new ((domain, call) ∷ []) (told ∷ []))
 asked_call domain call (Ok reply) old new is places = one_call domain call (Ok reply) old new is places
 asked_call domain call (Err NoSuch) old new is places = one_call domain call (Err NoSuch) old new is places
 asked_call domain call (Err JournalFull) old new is places = one_call domain call (Err JournalFull) old new is places
@@ -238,19 +238,19 @@ answers_steps domain node before last ran text old new k l m run first second ma
 
 -- what was run goes on so from there
 again : (b c : List DomainValue) (calls : List (ℕ × Call)) (told : List Answer)
-    → HaveRun b c calls told → states_in c ≡ states_in b
+    → HaveRun b c calls told → all_states c ≡ all_states b
     → HaveRun c c calls told
 again b c calls told run same = record {
   places = refl;
   each = λ farm made.
-      let was : IsMadeOf (places_in b) farm (states_in b) =
-      subst (IsMadeOf (places_in b) farm) same (subst (λ p. IsMadeOf p farm (states_in c)) run.places made) in
+      let was : IsMadeOf (all_places b) farm (all_states b) =
+      subst (IsMadeOf (all_places b) farm) same (subst (λ p. IsMadeOf p farm (all_states c)) run.places made) in
       subst (λ p. IsRunTo p farm calls told c) (sym run.places) (run.each farm was);
 }
 
 run_alike : RunsAddUp → (b c : List DomainValue) (call : ℕ × Call) (told : Answer) (n : ℕ)
     → HaveRun b c (call ∷ []) (told ∷ [])
-    → states_in c ≡ states_in b
+    → all_states c ≡ all_states b
     → HaveRun b c (repeat (suc n) (call ∷ [])) (replicate (suc n) told)
 run_alike law b c call told zero run same = run
 run_alike law b c call told (suc n) run same =
@@ -259,7 +259,7 @@ run_alike law b c call told (suc n) run same =
 
 answers_alike : RunsAddUp → (call : ℕ × Call) (n : ℕ) (old new : List DomainValue) (text : List ℕ) (l m : KeptList)
     → 0 < n → ShowsCall call old new text
-    → states_in new ≡ states_in old
+    → all_states new ≡ all_states old
     → ((texts : List (List ℕ)) → HoldsTexts texts l → HoldsTexts (texts ++ replicate n text) m)
     → AnswersCalls (repeat n (call ∷ [])) old new l m
 answers_alike law call zero old new text l m some shows same more = absurd (omega (arith, some))
@@ -272,7 +272,7 @@ answers_alike law call (suc n) old new text l m some shows same more = record {
 -- a call that is answered by these words, unless memory runs out
 pub shows_call : (domain : ℕ) (call : Call) (told : Answer) (old new : List DomainValue) (text : List ℕ)
     → UnlessNoMemory told (IsCallOfEachWhole domain call told old new)
-    → places_in new ≡ places_in old → answer_words told ≡ Some text → ShowsCall (domain, call) old new text
+    → all_places new ≡ all_places old → answer_words told ≡ Some text → ShowsCall (domain, call) old new text
 shows_call domain call (Ok reply) old new text is places words =
     record { answer = Ok reply; run = one_call domain call (Ok reply) old new is places; words = words }
 shows_call domain call (Err NoSuch) old new text is places words =
@@ -325,7 +325,7 @@ answers_both law a b c k l m calls i j n sum one two =
 pub answers_rest : RunsAddUp
     → (a b c : List DomainValue) (k l m : KeptList) (call : ℕ × Call) (i j n : ℕ) (text : List ℕ) → i + j ≡ n → 0 < j
     → AnswersCalls (repeat i (call ∷ [])) a b k l
-    → ShowsCall call b c text → states_in c ≡ states_in b
+    → ShowsCall call b c text → all_states c ≡ all_states b
     → ((texts : List (List ℕ)) → HoldsTexts texts l → HoldsTexts (texts ++ replicate j text) m)
     → AnswersCalls (repeat n (call ∷ [])) a c k m
 answers_rest law a b c k l m call i j n text sum some one shows same more =

@@ -12,7 +12,7 @@ use Rattle.domain_core.specs.declared.event.Reply.TheVariants as reply
 use Rattle.domain_core.specs.PrivateFarm.{Answer, Call}
 use Rattle.domain_core.specs.Domain.{DomainValue}
 use Rattle.farm_core.specs.Places.{Place}
-use Rattle.farm_core.specs.PlainFarm.{states_in, recorded_in, node_in}
+use Rattle.farm_core.specs.PlainFarm.{all_states, recorded_there, node_there}
 use Rattle.farm_replay.specs.Kept.{KeptList, HoldsTexts}
 use Rattle.farm_replay.specs.Runs.{HaveRun, IsOpenedFarm}
 use Rattle.farm_replay.specs.declared.bursts.DoneSteps.{DoneSteps}
@@ -26,7 +26,7 @@ pub record ShowsCall (call : ℕ × Call) (old new : List DomainValue) (text : L
 
 -- the domain has recorded no more than before: then the domains stand for the states that they did
 abbrev pub StayIfUnrecorded : ℕ → List DomainValue → List DomainValue → Type 0
-StayIfUnrecorded domain old new = recorded_in (slice_get new domain) ≡ recorded_in (slice_get old domain) → states_in new ≡ states_in old
+StayIfUnrecorded domain old new = recorded_there (slice_get new domain) ≡ recorded_there (slice_get old domain) → all_states new ≡ all_states old
 
 -- so many Steps of a node for which the farm asks
 abbrev pub step_calls : ℕ → ℕ → ℕ → List (ℕ × Call)
@@ -44,7 +44,7 @@ HaveStepped domain node most (Some done) old new =
 
 -- the node is there, and its next Step would not be recorded
 abbrev pub IsAtRest : Option DomainValue → ℕ → Type 0
-IsAtRest found node = IfSome (node_in found node) (λ n. is_quiet n ≡ true)
+IsAtRest found node = IfSome (node_there found node) (λ n. is_quiet n ≡ true)
 
 -- the list has these answers, in words
 pub record HasAnswers (told : List Answer) (l : KeptList) : Type 0 where

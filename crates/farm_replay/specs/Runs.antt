@@ -7,23 +7,23 @@ use Rattle.farm_core.specs.Places.{Place}
 use Rattle.farm_core.specs.Whole.{Farm, whole_after, whole_opening}
 use Rattle.farm_core.specs.Domains.{IsMadeOf}
 use Rattle.farm_core.specs.Laws.{caller_answers_from}
-use Rattle.farm_core.specs.PlainFarm.{places_in, states_in, IsMadeOfDomains}
+use Rattle.farm_core.specs.PlainFarm.{all_places, all_states, IsMadeOfDomains}
 use Rattle.farm_replay.specs.Plain.{Asked, Calls, Looks, Opens, Else, IsShownIn}
 
 -- the whole farm answers calls so, and is then made of these domains
 pub record IsRunTo (plan : List Place) (farm : Farm) (calls : List (ℕ × Call)) (told : List Answer) (new : List DomainValue) : Type 0 where
   pub told_is : told ≡ caller_answers_from plan farm calls
-  pub made : IsMadeOf plan (whole_after plan farm calls) (states_in new)
+  pub made : IsMadeOf plan (whole_after plan farm calls) (all_states new)
 
 -- the same of every whole farm that is made of the domains before
 pub record HaveRun (old new : List DomainValue) (calls : List (ℕ × Call)) (told : List Answer) : Type 0 where
-  pub places : places_in new ≡ places_in old
-  pub each : (farm : Farm) → IsMadeOfDomains farm old → IsRunTo (places_in old) farm calls told new
+  pub places : all_places new ≡ all_places old
+  pub each : (farm : Farm) → IsMadeOfDomains farm old → IsRunTo (all_places old) farm calls told new
 
 -- the domains are those of an opened farm
 pub record IsOpenedFarm (plan : List Place) (domains : List DomainValue) : Type 0 where
-  pub places : places_in domains ≡ plan
-  pub made : IsMadeOf plan (whole_opening plan) (states_in domains)
+  pub places : all_places domains ≡ plan
+  pub made : IsMadeOf plan (whole_opening plan) (all_states domains)
 
 -- a call of a domain for which the farm asks
 abbrev pub IsOfTheFarm : ℕ → ℕ × Call → Type 0

@@ -4,7 +4,7 @@ ghost use Rattle.std.specs.Option.{unwrap_or};
 ghost use Rattle.answer_text.specs.Replies.{stepped_text};
 ghost use Rattle.domain_core.specs.Domain.{UnlessNoMemory};
 ghost use Rattle.farm_core.specs.Places.{places_of};
-ghost use Rattle.farm_core.specs.PlainFarm.{journal_in};
+ghost use Rattle.farm_core.specs.PlainFarm.{journal_there};
 ghost use Rattle.farm_replay.specs.Plain.{event_calls, asked_once, asked_of_domain};
 ghost use Rattle.farm_replay.specs.Answering.{ShowsCall, StayIfUnrecorded, AnswersCalls, AnswersTimes, AnswersAsked, StaysIfLooked};
 ghost use Rattle.farm_replay.specs.Runs.{HasGoneOn, HaveRun, IsOpenedFarm};
@@ -463,7 +463,7 @@ impl OpenFarm {
     /// What a domain answered since it was opened or restarted, entry by entry; nothing if there is no such domain.
     #[tactic(auto, using(crate::proofs::Entries::one_more_entry, crate::proofs::Entries::all_entries))]
     pub fn entries(&self, domain: u8) -> Result<Vec<Entry>, NoMemory>
-        ensures { IfOk result (λ entries. entries.items ≡ unwrap_or (journal_in (slice_get self.now.farm domain)) []) }
+        ensures { IfOk result (λ entries. entries.items ≡ unwrap_or (journal_there (slice_get self.now.farm domain)) []) }
     {
         let mut entries = Vec::new(self.alloc);
         let Some(journal) = self.farm.journal(domain) else {

@@ -12,7 +12,7 @@ use Rattle.plan_rules.specs.Part.{physical_ports}
 use Rattle.domain_core.specs.Domain.{DomainValue, IsMeant}
 use Rattle.domain_core.specs.Journal.{AnsweredCall, expanded}
 use Rattle.farm_core.specs.Places.{Place, place_of, places_of, AreSeparatePlaces}
-use Rattle.farm_core.specs.PlainFarm.{places_in}
+use Rattle.farm_core.specs.PlainFarm.{all_places}
 use Rattle.farm_core.specs.Merges.{own_place, own_journal, IsMerge, EachMergeOfDomainsIsARun}
 use Rattle.farm_core.specs.Words.{HasRow, EachMergeEndsAsWordsSay}
 use Rattle.farm_service.specs.declared.closed.ClosedDomain.{ClosedDomain}
@@ -21,7 +21,7 @@ use Rattle.farm_service.specs.Endings.{IsEndOf}
 
 -- what is closed was these domains, which are those of a plan
 pub record AreEnds (plan : List DomainData) (domains : List DomainValue) (closed : List ClosedDomain) : Type 0 where
-  pub places : places_in domains ≡ places_of plan
+  pub places : all_places domains ≡ places_of plan
   pub meant : All IsMeant domains
   pub rows : All HasRow domains
   pub numbers : map (λ c. c.domain) closed ≡ range_with_len 0 (length plan)
@@ -125,10 +125,10 @@ domain_of : (domains : List DomainValue) (i : ℕ) (place : Place) → slice_get
 domain_of domains i place at = made_of (slice_get domains i) place (sym (slice_get-map own_place domains i) ∙ at)
 
 runs_in : (domains : List DomainValue) (closed : List ClosedDomain)
-    → EachMergeOfDomainsIsARun → EachMergeEndsAsWordsSay → AreSeparatePlaces (places_in domains) → All IsMeant domains
+    → EachMergeOfDomainsIsARun → EachMergeEndsAsWordsSay → AreSeparatePlaces (all_places domains) → All IsMeant domains
     → All HasRow domains → map history_of closed ≡ map own_journal domains
     → map (λ c. c.words.items) closed ≡ map (λ d. d.machine.switch.words) domains
-    → EachMergeRuns (places_in domains) closed
+    → EachMergeRuns (all_places domains) closed
 runs_in domains closed law says_law separate meant rows journals words merge is =
     let merges = subst (λ (js : List (List AnsweredCall)). IsMerge js merge) journals is in
     let run = law domains merge separate meant merges in record {

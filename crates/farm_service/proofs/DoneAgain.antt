@@ -11,7 +11,7 @@ use Rattle.domain_core.specs.Domain.{DomainValue, Fits}
 use Rattle.domain_core.specs.Journal.{expanded}
 use Rattle.domain_core.specs.Laws.{JournalsAddUp}
 use Rattle.farm_service.specs.declared.told.Told.{Told}
-use Rattle.farm_service.specs.Commands.{command_in, commands_of}
+use Rattle.farm_service.specs.Commands.{command_from, commands_of}
 use Rattle.farm_service.specs.Histories.{AreInPlaces}
 
 -- what holds of each member at its place, and of one more
@@ -41,7 +41,7 @@ commands_more law user journal i entry there =
     ap (λ (xs : List Entry). commands_of user (expanded xs))
     (take_more journal i entry (slice_get_within journal i entry there))
     ∙ ap (commands_of user) (law (take i journal) _)
-    ∙ filter_map-append (command_in user) (expanded (take i journal)) _
+    ∙ filter_map-append (command_from user) (expanded (take i journal)) _
     ∙ ap (λ (e : Entry). commands_of user (expanded (take i journal)) ++ commands_of user (expanded (e ∷ [])))
     (get_or_from_slice_get journal i entry entry there)
 

@@ -1,5 +1,5 @@
--- A user's commands in a journal, entry by entry: the contracts of `command_in` and `lists`, and the clause `listed` of
--- `listed_after`.
+-- A user's commands in a journal, entry by entry: the contracts of `command_from` and `lists`, and the clause `listed`
+-- of `listed_after`.
 use Rattle.std.proofs.Common.{◌≡◌, ℕ, zero, suc, ◌+◌, ◌<◌, List, [], ◌∷◌, ◌++◌, length, take, get_or, replicate}
 use Rattle.std.proofs.Common.{Bool, true, false, ◌==◌, Some, None, refl, sym, ap, ◌∙◌, append_assoc, cond, ◌&&◌}
 use Rattle.std.specs.Prelude.{option_to_list}
@@ -14,14 +14,15 @@ use Rattle.domain_core.specs.declared.journal.Entry.TheVariants.{Run}
 use Rattle.domain_core.specs.Journal.{AnsweredCall, expanded, answered_step}
 use Rattle.domain_core.specs.Laws.{JournalsAddUp}
 use Rattle.farm_service.specs.declared.told.Told.{Told}
-use Rattle.farm_service.specs.Commands.{command_in, commands_of}
+use Rattle.farm_service.specs.Commands.{command_from, commands_of}
 
 and_none : (b : Bool) (x : Told) → cond (b && false) (Some x) None ≡ None
 and_none true x = refl
 and_none false x = refl
 
 -- a Step is no command
-no_command : (user : ℕ) (by : By) (node : ℕ) (answer : Stepped) → command_in user (answered_step by node answer) ≡ None
+no_command : (user : ℕ) (by : By) (node : ℕ) (answer : Stepped)
+    → command_from user (answered_step by node answer) ≡ None
 no_command user Farm node answer = refl
 no_command user (User other) node answer = and_none (other == user) _
 
@@ -48,7 +49,7 @@ pub more_listed : JournalsAddUp
 more_listed law user journal told i listed n d within so_far next =
     ap (λ (xs : List Entry). commands_of user (expanded xs)) (take_more journal i d within)
     ∙ ap (commands_of user) (law (take i journal) (get_or journal i d ∷ []))
-    ∙ filter_map-append (command_in user) (expanded (take i journal)) (expanded (get_or journal i d ∷ []))
+    ∙ filter_map-append (command_from user) (expanded (take i journal)) (expanded (get_or journal i d ∷ []))
     ∙ ap (λ (xs : List Told). xs ++ commands_of user (expanded (get_or journal i d ∷ []))) so_far
     ∙ sym next
 

@@ -25,14 +25,14 @@ abbrev pub fresh_pass : ℕ → ℕ → UserPassValue
 fresh_pass domain user = record { domain = domain; user = user; told = [] }
 
 -- the passes of so many users of a domain
-abbrev pub passes_in : ℕ → ℕ → List UserPassValue
-passes_in domain zero = []
-passes_in domain (suc count) = passes_in domain count ++ fresh_pass domain count ∷ []
+abbrev pub passes_opened : ℕ → ℕ → List UserPassValue
+passes_opened domain zero = []
+passes_opened domain (suc count) = passes_opened domain count ++ fresh_pass domain count ∷ []
 
 -- the passes of the users of domains, the first of which has this number
 abbrev pub passes_from : ℕ → List DomainData → List UserPassValue
 passes_from number [] = []
-passes_from number (d ∷ plan) = passes_in number (length d.users) ++ passes_from (suc number) plan
+passes_from number (d ∷ plan) = passes_opened number (length d.users) ++ passes_from (suc number) plan
 
 -- one pass for each user of a plan, in its order
 abbrev pub fresh_passes : List DomainData → List UserPassValue

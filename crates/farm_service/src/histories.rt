@@ -10,7 +10,7 @@ use crate::NoMemory;
 use crate::opening::open_domains;
 use crate::pass::UserPass;
 use crate::service::SeatedDomain;
-use crate::told::{Told, command_in};
+use crate::told::{Told, command_from};
 use domain_core::laws::journals_add_up;
 use domain_core::{Entry, Journal};
 use plan_rules::AcceptedPlan;
@@ -86,7 +86,7 @@ fn are_domains_in(plan: &AcceptedPlan, domains: &[SeatedDomain]) -> bool
 fn list_command(entry: &Entry, user: u8, told: &mut Vec<Told>) -> Result<(), NoMemory>
     ensures { IfOk result (λ _. told.new.items ≡ told.old.items ++ commands_of user (expanded (entry.now ∷ []))) }
 {
-    if let Some(command) = command_in(user, entry) {
+    if let Some(command) = command_from(user, entry) {
         told.push(command)?;
     }
     Ok(())

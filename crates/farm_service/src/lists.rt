@@ -6,7 +6,7 @@ ghost use Rattle.farm_service.specs.Closed.{IsListed, AreListed};
 
 use crate::closed::ClosedDomain;
 use crate::pass::UserPass;
-use crate::told::{Told, command_in};
+use crate::told::{Told, command_from};
 use domain_core::laws::journals_add_up;
 use domain_core::{Entry, Journal};
 
@@ -23,7 +23,7 @@ fn listed_after(entry: &Entry, user: u8, told: &[Told], listed: usize) -> Option
     ensures listed { IfSome result (λ n. take n told.now ≡ take listed told.now ++ commands_of user (expanded (entry.now ∷ []))) }
     ensures within { IfSome result (λ n. n ≤ length told.now) }
 {
-    match command_in(user, entry) {
+    match command_from(user, entry) {
         None => Some(listed),
         Some(command) => {
             if listed < told.len() && is_same(&told[listed], &command) {

@@ -17,7 +17,7 @@ use Rattle.domain_core.specs.declared.event.Refusal.{Refusal}
 use Rattle.farm_service.specs.declared.told.Told.{Told}
 use Rattle.farm_service.specs.Answers.{IsTold}
 use Rattle.farm_service.specs.Passes.{SessionValue, with_told, Gains}
-use Rattle.line_answers.specs.Asks.{is_write, is_read, had_no_room, is_byte, replies_told, writes_in, reads_in}
+use Rattle.line_answers.specs.Asks.{is_write, is_read, had_no_room, is_byte, replies_told, write_replies, read_replies}
 use Rattle.line_answers.specs.Asks.{next_config, next_write, next_read, next_collect, AreAsked}
 use Rattle.line_answers.specs.Sessions.{with_all, AsksJust}
 
@@ -130,13 +130,13 @@ config_refused bytes s t u i refusal was within same is =
 -- ---- bytes for a host
 
 writes_more : (host byte : ℕ) (told : List Told) (r : Reply)
-    → writes_in (told ++ told_of (event.Write host byte) r ∷ []) ≡ writes_in told ++ r ∷ []
+    → write_replies (told ++ told_of (event.Write host byte) r ∷ []) ≡ write_replies told ++ r ∷ []
 writes_more host byte told r =
     ap replies_told (filter-append (λ t. is_write t.event) told (told_of (event.Write host byte) r ∷ []))
     ∙ map-append (λ t. t.reply) (filter (λ t. is_write t.event) told) (told_of (event.Write host byte) r ∷ [])
 
 reads_more : (host : ℕ) (told : List Told) (r : Reply)
-    → reads_in (told ++ told_of (event.Read host) r ∷ []) ≡ reads_in told ++ r ∷ []
+    → read_replies (told ++ told_of (event.Read host) r ∷ []) ≡ read_replies told ++ r ∷ []
 reads_more host told r =
     ap replies_told (filter-append (λ t. is_read t.event) told (told_of (event.Read host) r ∷ []))
     ∙ map-append (λ t. t.reply) (filter (λ t. is_read t.event) told) (told_of (event.Read host) r ∷ [])
@@ -145,11 +145,11 @@ reads_more host told r =
 pub record IsWriting (host : ℕ) (bytes : List ℕ) (s t : SessionValue) (i : ℕ) : Type 0 where
   pub told : List Told
   pub so_far : IsAsking (next_write host bytes) s t told
-  pub room : list_any had_no_room (writes_in told) ≡ false
-  pub count : length (writes_in told) ≡ i
+  pub room : list_any had_no_room (write_replies told) ≡ false
+  pub count : length (write_replies told) ≡ i
 
 write_next : (host : ℕ) (bytes : List ℕ) (told : List Told) (i : ℕ)
-    → list_any had_no_room (writes_in told) ≡ false → length (writes_in told) ≡ i
+    → list_any had_no_room (write_replies told) ≡ false → length (write_replies told) ≡ i
     → i < length bytes
     → next_write host bytes told ≡ Some (event.Write host (get_or bytes i 0))
 write_next host bytes told i room count within =
@@ -171,9 +171,9 @@ write_more host bytes s t u i r was within gains roomy =
           grown (next_write host bytes) s t u was.told _ r was.so_far
           (write_next host bytes was.told i was.room was.count within) gains;
       room =
-          ap (list_any had_no_room) more ∙ list_any-append had_no_room (writes_in was.told) (r ∷ [])
+          ap (list_any had_no_room) more ∙ list_any-append had_no_room (write_replies was.told) (r ∷ [])
           ∙ rw was.room (rw roomy refl);
-      count = ap length more ∙ one_longer (writes_in was.told) r i was.count;
+      count = ap length more ∙ one_longer (write_replies was.told) r i was.count;
     }
 
 -- the host was full
@@ -184,9 +184,9 @@ pub write_full : {A : Type 0} (host : ℕ) (bytes : List ℕ) (s t u : SessionVa
     → AsksJust (next_write host bytes) s (Ok a) u
 write_full host bytes s t u i r a was within gains full =
     let more = writes_more host (get_or bytes i 0) was.told r in
-    let over : list_any had_no_room (writes_in (was.told ++ told_of (event.Write host (get_or bytes i 0)) r ∷ []))
+    let over : list_any had_no_room (write_replies (was.told ++ told_of (event.Write host (get_or bytes i 0)) r ∷ []))
     ≡ true =
-    ap (list_any had_no_room) more ∙ list_any-append had_no_room (writes_in was.told) (r ∷ [])
+    ap (list_any had_no_room) more ∙ list_any-append had_no_room (write_replies was.told) (r ∷ [])
     ∙ rw was.room (rw full refl) in
     ended (next_write host bytes) s u _ a
     (grown (next_write host bytes) s t u was.told _ r was.so_far
@@ -219,11 +219,11 @@ write_refused host bytes s t u i refusal was within same is =
 pub record IsReading (host count : ℕ) (s t : SessionValue) (i : ℕ) : Type 0 where
   pub told : List Told
   pub so_far : IsAsking (next_read host count) s t told
-  pub bytes : list_all is_byte (reads_in told) ≡ true
-  pub so_many : length (reads_in told) ≡ i
+  pub bytes : list_all is_byte (read_replies told) ≡ true
+  pub so_many : length (read_replies told) ≡ i
 
 read_next : (host count : ℕ) (told : List Told) (i : ℕ)
-    → list_all is_byte (reads_in told) ≡ true → length (reads_in told) ≡ i
+    → list_all is_byte (read_replies told) ≡ true → length (read_replies told) ≡ i
     → i < count
     → next_read host count told ≡ Some (event.Read host)
 read_next host count told i bytes length_is within = rw bytes (rw length_is (rw (lt-ltb i count within) refl))
@@ -242,9 +242,9 @@ read_more host count s t u i r was within gains byte =
           grown (next_read host count) s t u was.told _ r was.so_far
           (read_next host count was.told i was.bytes was.so_many within) gains;
       bytes =
-          ap (list_all is_byte) more ∙ list_all-append is_byte (reads_in was.told) (r ∷ [])
+          ap (list_all is_byte) more ∙ list_all-append is_byte (read_replies was.told) (r ∷ [])
           ∙ rw was.bytes (rw byte refl);
-      so_many = ap length more ∙ one_longer (reads_in was.told) r i was.so_many;
+      so_many = ap length more ∙ one_longer (read_replies was.told) r i was.so_many;
     }
 
 -- none had come
@@ -254,8 +254,9 @@ pub read_none : {A : Type 0} (host count : ℕ) (s t u : SessionValue) (i : ℕ)
     → Gains t (event.Read host) (Ok r) u → is_byte r ≡ false → AsksJust (next_read host count) s (Ok a) u
 read_none host count s t u i r a was within gains none =
     let more = reads_more host was.told r in
-    let over : list_all is_byte (reads_in (was.told ++ told_of (event.Read host) r ∷ [])) ≡ false =
-    ap (list_all is_byte) more ∙ list_all-append is_byte (reads_in was.told) (r ∷ []) ∙ rw was.bytes (rw none refl) in
+    let over : list_all is_byte (read_replies (was.told ++ told_of (event.Read host) r ∷ [])) ≡ false =
+    ap (list_all is_byte) more ∙ list_all-append is_byte (read_replies was.told) (r ∷ [])
+    ∙ rw was.bytes (rw none refl) in
     ended (next_read host count) s u _ a
     (grown (next_read host count) s t u was.told _ r was.so_far
     (read_next host count was.told i was.bytes was.so_many within) gains)
@@ -282,13 +283,13 @@ read_refused host count s t u i refusal was within same is =
 pub record IsCollecting (host : ℕ) (s t : SessionValue) : Type 0 where
   pub told : List Told
   pub so_far : IsAsking (next_collect host) s t told
-  pub bytes : list_all is_byte (reads_in told) ≡ true
+  pub bytes : list_all is_byte (read_replies told) ≡ true
 
 -- at the beginning nothing was read
 pub collect_begun : (host : ℕ) (s : SessionValue) → IsCollecting host s s
 collect_begun host s = record { told = []; so_far = begun (next_collect host) s; bytes = refl }
 
-collect_next : (host : ℕ) (told : List Told) → list_all is_byte (reads_in told) ≡ true
+collect_next : (host : ℕ) (told : List Told) → list_all is_byte (read_replies told) ≡ true
     → next_collect host told ≡ Some (event.Read host)
 collect_next host told bytes = rw bytes refl
 
@@ -301,7 +302,7 @@ collect_more host s t u r was gains byte =
       told = was.told ++ told_of (event.Read host) r ∷ [];
       so_far = grown (next_collect host) s t u was.told _ r was.so_far (collect_next host was.told was.bytes) gains;
       bytes =
-          ap (list_all is_byte) more ∙ list_all-append is_byte (reads_in was.told) (r ∷ [])
+          ap (list_all is_byte) more ∙ list_all-append is_byte (read_replies was.told) (r ∷ [])
           ∙ rw was.bytes (rw byte refl);
     }
 
@@ -312,8 +313,9 @@ pub collect_none : {A : Type 0} (host : ℕ) (s t u : SessionValue) (r : Reply) 
     → AsksJust (next_collect host) s (Ok a) u
 collect_none host s t u r a was gains none =
     let more = reads_more host was.told r in
-    let over : list_all is_byte (reads_in (was.told ++ told_of (event.Read host) r ∷ [])) ≡ false =
-    ap (list_all is_byte) more ∙ list_all-append is_byte (reads_in was.told) (r ∷ []) ∙ rw was.bytes (rw none refl) in
+    let over : list_all is_byte (read_replies (was.told ++ told_of (event.Read host) r ∷ [])) ≡ false =
+    ap (list_all is_byte) more ∙ list_all-append is_byte (read_replies was.told) (r ∷ [])
+    ∙ rw was.bytes (rw none refl) in
     ended (next_collect host) s u _ a
     (grown (next_collect host) s t u was.told _ r was.so_far (collect_next host was.told was.bytes) gains)
     (rw over refl)

@@ -22,7 +22,7 @@ use Rattle.farm_service.specs.declared.told.Told.{Told}
 use Rattle.farm_service.specs.Passes.{SessionValue}
 use Rattle.script_lines.specs.declared.command.Command.{Command}
 use Rattle.script_lines.specs.declared.command.Command.TheVariants as command
-use Rattle.line_answers.specs.Asks.{is_write, is_read, had_no_room, is_byte, replies_told, writes_in, reads_in}
+use Rattle.line_answers.specs.Asks.{is_write, is_read, had_no_room, is_byte, replies_told, write_replies, read_replies}
 use Rattle.line_answers.specs.Asks.{next_write, next_boot, next_read, next_event, AreAsked}
 use Rattle.line_answers.proofs.Exchange.{begun}
 use Rattle.line_answers.specs.Lines.{LineHasEnded, IsOfSettling, IsAnsweredLine, AreAnsweredLines}
@@ -117,12 +117,12 @@ code_refused host code s long short = record {
 
 -- ---- a peek
 
-writes-append : (xs ys : List Told) → writes_in (xs ++ ys) ≡ writes_in xs ++ writes_in ys
+writes-append : (xs ys : List Told) → write_replies (xs ++ ys) ≡ write_replies xs ++ write_replies ys
 writes-append xs ys =
     ap replies_told (filter-append (λ t. is_write t.event) xs ys)
     ∙ map-append (λ t. t.reply) (filter (λ t. is_write t.event) xs) (filter (λ t. is_write t.event) ys)
 
-reads-append : (xs ys : List Told) → reads_in (xs ++ ys) ≡ reads_in xs ++ reads_in ys
+reads-append : (xs ys : List Told) → read_replies (xs ++ ys) ≡ read_replies xs ++ read_replies ys
 reads-append xs ys =
     ap replies_told (filter-append (λ t. is_read t.event) xs ys)
     ∙ map-append (λ t. t.reply) (filter (λ t. is_read t.event) xs) (filter (λ t. is_read t.event) ys)
@@ -151,13 +151,13 @@ writes_over : (host : ℕ) (bytes : List ℕ) (xs ys : List Told) → next_write
 unfolding after_writes
 writes_over host bytes xs ys over =
     ap (λ (rs : List Reply). after_writes host bytes (list_any had_no_room rs) (length rs)) (writes-append xs ys)
-    ∙ ap (λ (full : Bool). after_writes host bytes full (length (writes_in xs ++ writes_in ys)))
-    (list_any-append had_no_room (writes_in xs) (writes_in ys))
+    ∙ ap (λ (full : Bool). after_writes host bytes full (length (write_replies xs ++ write_replies ys)))
+    (list_any-append had_no_room (write_replies xs) (write_replies ys))
     ∙ ap (λ (count : ℕ).
-    after_writes host bytes (list_any had_no_room (writes_in xs) || list_any had_no_room (writes_in ys)) count)
-    (length-append (writes_in xs) (writes_in ys))
-    ∙ over_after host bytes (list_any had_no_room (writes_in xs)) (list_any had_no_room (writes_in ys))
-    (length (writes_in xs)) (length (writes_in ys)) over
+    after_writes host bytes (list_any had_no_room (write_replies xs) || list_any had_no_room (write_replies ys)) count)
+    (length-append (write_replies xs) (write_replies ys))
+    ∙ over_after host bytes (list_any had_no_room (write_replies xs)) (list_any had_no_room (write_replies ys))
+    (length (write_replies xs)) (length (write_replies ys)) over
 
 -- ---- writes are no reads
 
@@ -179,11 +179,11 @@ unfolding reads_next
 no_read host full byte e is = sym (ap reads_next is) ∙ no_read_next host full byte
 
 no_reads : (host : ℕ) (bytes : List ℕ) (before told : List Told) → AreAsked (next_write host bytes) before told
-    → reads_in told ≡ []
+    → read_replies told ≡ []
 no_reads host bytes before [] asked = refl
 no_reads host bytes before (t ∷ told) asked =
-    rw (no_read host (list_any had_no_room (writes_in before)) (slice_get bytes (length (writes_in before))) t.event
-    asked.0)
+    rw (no_read host (list_any had_no_room (write_replies before)) (slice_get bytes (length (write_replies before)))
+    t.event asked.0)
     (no_reads host bytes (before ++ t ∷ []) told asked.1)
 
 -- ---- a peek
@@ -197,7 +197,7 @@ reads_behind host address xs ys asked over =
     (writes_over host (1 ∷ bytes_of_word address) xs ys over)
     ∙ ap (λ (rs : List Reply). if list_all is_byte rs && nat_lt (length rs) 4 then Some (event.Read host) else None)
     (reads-append xs ys
-    ∙ ap (λ (rs : List Reply). rs ++ reads_in ys) (no_reads host (1 ∷ bytes_of_word address) [] xs asked))
+    ∙ ap (λ (rs : List Reply). rs ++ read_replies ys) (no_reads host (1 ∷ bytes_of_word address) [] xs asked))
 
 writes_of_peek : (host address : ℕ) (told : List Told) (e : Event)
     → next_write host (1 ∷ bytes_of_word address) told ≡ Some e

@@ -8,7 +8,7 @@ use Rattle.domain_core.specs.declared.event.Reply.{Reply}
 use Rattle.farm_service.specs.declared.told.Told.{Told}
 use Rattle.answer_text.specs.Digits.{byte_text}
 use Rattle.line_answers.specs.Asks.{replies_told}
-use Rattle.line_answers.specs.Results.{byte_in, bytes_in}
+use Rattle.line_answers.specs.Results.{byte_in, bytes_read}
 
 -- one reply more
 replies_more : (told : List Told) (i : ℕ) (d : Told) → i < length told
@@ -25,18 +25,20 @@ grows f split told i d within =
     ap f (replies_more told i d within) ∙ split (replies_told (take i told)) ((get_or told i d).reply ∷ [])
 
 bytes_split : (xs ys : List Reply)
-    → flat_map byte_text (bytes_in (xs ++ ys)) ≡ flat_map byte_text (bytes_in xs) ++ flat_map byte_text (bytes_in ys)
+    → flat_map byte_text (bytes_read (xs ++ ys))
+    ≡ flat_map byte_text (bytes_read xs) ++ flat_map byte_text (bytes_read ys)
 bytes_split xs ys =
-    ap (flat_map byte_text) (filter_map-append byte_in xs ys) ∙ flat_map-append byte_text (bytes_in xs) (bytes_in ys)
+    ap (flat_map byte_text) (filter_map-append byte_in xs ys)
+    ∙ flat_map-append byte_text (bytes_read xs) (bytes_read ys)
 
 -- a text that had what the first replies brought, and gained what one more did
 pub bytes_more : (told : List Told) (i : ℕ) (d : Told) (start before after : List ℕ) → i < length told
-    → before ≡ start ++ flat_map byte_text (bytes_in (replies_told (take i told)))
-    → after ≡ before ++ flat_map byte_text (bytes_in ((get_or told i d).reply ∷ []))
-    → after ≡ start ++ flat_map byte_text (bytes_in (replies_told (take (i + 1) told)))
+    → before ≡ start ++ flat_map byte_text (bytes_read (replies_told (take i told)))
+    → after ≡ before ++ flat_map byte_text (bytes_read ((get_or told i d).reply ∷ []))
+    → after ≡ start ++ flat_map byte_text (bytes_read (replies_told (take (i + 1) told)))
 bytes_more told i d start before after within had gains =
-    gains ∙ ap (λ (text : List ℕ). text ++ flat_map byte_text (bytes_in ((get_or told i d).reply ∷ []))) had
-    ∙ append_assoc start (flat_map byte_text (bytes_in (replies_told (take i told))))
-    (flat_map byte_text (bytes_in ((get_or told i d).reply ∷ [])))
+    gains ∙ ap (λ (text : List ℕ). text ++ flat_map byte_text (bytes_read ((get_or told i d).reply ∷ []))) had
+    ∙ append_assoc start (flat_map byte_text (bytes_read (replies_told (take i told))))
+    (flat_map byte_text (bytes_read ((get_or told i d).reply ∷ [])))
     ∙ ap (λ (more : List ℕ). start ++ more)
-    (sym (grows (λ (rs : List Reply). flat_map byte_text (bytes_in rs)) bytes_split told i d within))
+    (sym (grows (λ (rs : List Reply). flat_map byte_text (bytes_read rs)) bytes_split told i d within))

@@ -28,12 +28,12 @@ abbrev pub replies_told : List Told → List Reply
 replies_told told = map (λ t. t.reply) told
 
 -- the replies to writes, in order
-abbrev pub writes_in : List Told → List Reply
-writes_in told = replies_told (filter (λ t. is_write t.event) told)
+abbrev pub write_replies : List Told → List Reply
+write_replies told = replies_told (filter (λ t. is_write t.event) told)
 
 -- the replies to reads, in order
-abbrev pub reads_in : List Told → List Reply
-reads_in told = replies_told (filter (λ t. is_read t.event) told)
+abbrev pub read_replies : List Told → List Reply
+read_replies told = replies_told (filter (λ t. is_read t.event) told)
 
 -- whether a host had no room for a byte
 abbrev pub had_no_room : Reply → Bool
@@ -54,15 +54,15 @@ next_config bytes told = option_map event.Config (slice_get bytes (length told))
 -- bytes for a host: each, until the host is full
 abbrev pub next_write : ℕ → List ℕ → List Told → Option Event
 next_write host bytes told =
-    if list_any had_no_room (writes_in told) then None else option_map (event.Write host) (slice_get bytes (length (writes_in told)))
+    if list_any had_no_room (write_replies told) then None else option_map (event.Write host) (slice_get bytes (length (write_replies told)))
 
 -- bytes of a host: so many, until none has come
 abbrev pub next_read : ℕ → ℕ → List Told → Option Event
-next_read host count told = if list_all is_byte (reads_in told) && nat_lt (length (reads_in told)) count then Some (event.Read host) else None
+next_read host count told = if list_all is_byte (read_replies told) && nat_lt (length (read_replies told)) count then Some (event.Read host) else None
 
 -- bytes of a host: all, until none has come
 abbrev pub next_collect : ℕ → List Told → Option Event
-next_collect host told = if list_all is_byte (reads_in told) then Some (event.Read host) else None
+next_collect host told = if list_all is_byte (read_replies told) then Some (event.Read host) else None
 
 -- one event
 abbrev pub once : Event → List Told → Option Event

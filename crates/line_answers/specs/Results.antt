@@ -58,11 +58,11 @@ byte_in (reply.Read answer) = answer
 byte_in r = None
 
 -- the bytes that came
-abbrev pub bytes_in : List Reply → List ℕ
-bytes_in replies = filter_map byte_in replies
+abbrev pub bytes_read : List Reply → List ℕ
+bytes_read replies = filter_map byte_in replies
 
 abbrev pub bytes_told : List Told → List ℕ
-bytes_told told = bytes_in (replies_told told)
+bytes_told told = bytes_read (replies_told told)
 
 -- a word of four bytes, which come with the least significant first; or a hyphen
 abbrev pub word_text : List ℕ → List ℕ
@@ -91,8 +91,8 @@ result_text (command.Config bytes) replies = configured_text replies
 result_text (command.Write host bytes) replies = taken_text replies
 result_text (command.Boot host code) replies = booted_text code.items replies
 result_text (command.Poke host address word) replies = taken_text replies
-result_text (command.Peek host address) replies = word_text (bytes_in replies)
-result_text (command.Collect host) replies = bytes_text (bytes_in replies)
+result_text (command.Peek host address) replies = word_text (bytes_read replies)
+result_text (command.Collect host) replies = bytes_text (bytes_read replies)
 result_text (command.Reset node) replies = flat_map reset_text replies
 result_text (command.Look node) replies = flat_map look_text replies
 

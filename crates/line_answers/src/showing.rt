@@ -4,7 +4,7 @@ ghost use Rattle.std.specs.List.{filter, flat_map, list_any};
 ghost use Rattle.answer_text.specs.Digits.{byte_text};
 ghost use Rattle.answer_text.specs.Replies.{reply_text};
 ghost use Rattle.line_answers.specs.Asks.{replies_told};
-ghost use Rattle.line_answers.specs.Results.{is_shown, is_written, byte_in, bytes_in, bytes_told, shown_text, configured_text, taken_text, booted_text, word_text, bytes_text, behind_blank, reset_text, look_text, result_text, outcome_text, line_text};
+ghost use Rattle.line_answers.specs.Results.{is_shown, is_written, byte_in, bytes_read, bytes_told, shown_text, configured_text, taken_text, booted_text, word_text, bytes_text, behind_blank, reset_text, look_text, result_text, outcome_text, line_text};
 ghost use Rattle.std.specs.Fmt.{decimal};
 ghost use Rattle.bootstrap.specs.Messages.{boot_fault_number};
 
@@ -156,7 +156,7 @@ fn write_word(text: &mut String, told: &[Told]) -> Result<(), NoMemory>
 
 // The byte that a read brought, if it brought one.
 fn write_read(text: &mut String, reply: Reply) -> Result<(), NoMemory>
-    ensures { OnOk result (string_bytes text.new ≡ string_bytes text.old ++ flat_map byte_text (bytes_in (reply ∷ []))) }
+    ensures { OnOk result (string_bytes text.new ≡ string_bytes text.old ++ flat_map byte_text (bytes_read (reply ∷ []))) }
 {
     match byte_in(reply) {
         Some(byte) => write_byte(text, byte),

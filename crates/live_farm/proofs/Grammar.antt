@@ -3,7 +3,7 @@ use Rattle.std.proofs.Common.{◌≡◌, ℕ, List, [], ◌∷◌, Ok, Err, fals
 use Rattle.std.specs.Prelude.{IfErr, Result}
 use Rattle.script_lines.specs.declared.fault.LineFault.{LineFault}
 use Rattle.script_lines.specs.declared.fault.LineFault.TheVariants as fault
-use Rattle.script_lines.specs.Words.{words_in}
+use Rattle.script_lines.specs.Words.{words_between}
 use Rattle.script_lines.specs.Lines.{IsRestFault}
 use Rattle.live_farm.specs.declared.asked.LiveLine.{LiveLine}
 use Rattle.live_farm.specs.declared.fault.LiveFault.{LiveFault}
@@ -35,7 +35,7 @@ live_refused rest fault.Hex none wrong = wrong
 -- if a line isn't the operator's, what is wrong with it as a user's line is wrong with it
 pub user_line_refused : (names : List (List ℕ)) (line : List ℕ) (words : List (List ℕ))
     (r : Result LiveLine LiveFault)
-    → is_operators line ≡ false → words ≡ words_in line → IfErr r (IsUserFault names words)
+    → is_operators line ≡ false → words ≡ words_between line → IfErr r (IsUserFault names words)
     → IfErr r (IsLiveFault names line)
 user_line_refused names line words (Ok l) theirs is wrong = tt
 user_line_refused names line words (Err live_fault.UnknownUser) theirs is wrong =

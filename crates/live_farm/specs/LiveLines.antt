@@ -3,7 +3,7 @@
 use Rattle.std.specs.Prelude.{◌≡◌, ◌==◌, ◌⊎◌, ℕ, Bool, true, false, List, [], ◌∷◌, Some, None, ⊤}
 use Rattle.script_lines.specs.declared.fault.LineFault.{LineFault}
 use Rattle.script_lines.specs.declared.fault.LineFault.TheVariants as fault
-use Rattle.script_lines.specs.Words.{words_in, IsDecimal}
+use Rattle.script_lines.specs.Words.{words_between, IsDecimal}
 use Rattle.script_lines.specs.Lines.{BeginsWith, IsUserName, IsPlaceNumber, IsRequest, IsRestFault}
 use Rattle.live_farm.specs.declared.asked.WholeRequest.{WholeRequest}
 use Rattle.live_farm.specs.declared.asked.WholeRequest.TheVariants as whole
@@ -117,12 +117,12 @@ IsOperatorFault names words f = (v : OperatorVerb) × (arguments : List (List �
 
 -- a line asks this
 abbrev pub IsLiveLine : List (List ℕ) → List ℕ → LiveLine → Type 0
-IsLiveLine names line (live.User user asked) = (is_operators line ≡ false) × IsUserLine names (words_in line) (live.User user asked)
-IsLiveLine names line (live.Operator asked) = (is_operators line ≡ true) × IsOperatorLine names (words_in line) asked
+IsLiveLine names line (live.User user asked) = (is_operators line ≡ false) × IsUserLine names (words_between line) (live.User user asked)
+IsLiveLine names line (live.Operator asked) = (is_operators line ≡ true) × IsOperatorLine names (words_between line) asked
 
 -- why a line asks nothing
 abbrev pub IsLiveFault : List (List ℕ) → List ℕ → LiveFault → Type 0
-IsLiveFault names line live_fault.UnknownUser = (is_operators line ≡ false) × IsUserFault names (words_in line) live_fault.UnknownUser
-IsLiveFault names line (live_fault.User user f) = (is_operators line ≡ false) × IsUserFault names (words_in line) (live_fault.User user f)
-IsLiveFault names line (live_fault.Operator f) = (is_operators line ≡ true) × IsOperatorFault names (words_in line) f
+IsLiveFault names line live_fault.UnknownUser = (is_operators line ≡ false) × IsUserFault names (words_between line) live_fault.UnknownUser
+IsLiveFault names line (live_fault.User user f) = (is_operators line ≡ false) × IsUserFault names (words_between line) (live_fault.User user f)
+IsLiveFault names line (live_fault.Operator f) = (is_operators line ≡ true) × IsOperatorFault names (words_between line) f
 IsLiveFault names line live_fault.NoMemory = ⊤

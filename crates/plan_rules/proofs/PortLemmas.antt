@@ -14,7 +14,7 @@ use Rattle.std.proofs.lemmas.List.Concat.{flat_map-cons}
 use Rattle.std.proofs.lemmas.List.Elements.{All-head, All-tail, All-cons, All-nil, All-contains}
 use Rattle.std.proofs.lemmas.Map.Made.{IsDistinct-from_AllPairs}
 use Rattle.std.proofs.lemmas.Map.Steps.{length-le_from_distinct_below}
-use Rattle.crossbar.specs.Ranges.{ports_of, ports_in, IsOneToOne, IsNumbering, AreRanges, IsPortRange as IsPlace}
+use Rattle.crossbar.specs.Ranges.{ports_of, ranged_ports, IsOneToOne, IsNumbering, AreRanges, IsPortRange as IsPlace}
 use Rattle.plan_rules.specs.declared.plan.RangePlan.{RangePlan}
 use Rattle.plan_rules.specs.Separate.{IsRange, ShareNoPort, HasPort, length_of, count_of}
 use Rattle.plan_rules.specs.Part.{port_range}
@@ -28,13 +28,13 @@ own_ports r = ports_of (port_range r)
 abbrev pub all_ports : List RangePlan → List ℕ
 all_ports rs = flat_map own_ports rs
 
-no_ports : (n : ℕ) → ports_in (replicate n None) ≡ []
+no_ports : (n : ℕ) → ranged_ports (replicate n None) ≡ []
 no_ports zero = refl
 no_ports (suc n) = no_ports n
 
 -- the ports of a row of places are those of its ranges
 pub ports_in_row : (rs : List RangePlan) (n : ℕ)
-    → ports_in (map (λ r. Some (port_range r)) rs ++ replicate n None) ≡ all_ports rs
+    → ranged_ports (map (λ r. Some (port_range r)) rs ++ replicate n None) ≡ all_ports rs
 ports_in_row [] n = no_ports n
 ports_in_row (r ∷ rs) n = ap (λ ps. own_ports r ++ ps) (ports_in_row rs n) ∙ sym (flat_map-cons own_ports r rs)
 

@@ -3,7 +3,7 @@ use Rattle.std.specs.Prelude.{◌≡◌, ◌<◌, ◌≤◌, ◌+◌, ◌-◌, �
 use Rattle.std.specs.List.{Contains}
 use Rattle.std.specs.Option.{option_map}
 use Rattle.crossbar.specs.declared.range.PortRange.{PortRange}
-use Rattle.crossbar.specs.Ranges.{ports_in, AreRanges, IsNumbering}
+use Rattle.crossbar.specs.Ranges.{ranged_ports, AreRanges, IsNumbering}
 use Rattle.plan_rules.specs.declared.plan.NodePlan.{NodePlan}
 use Rattle.plan_rules.specs.declared.plan.RangePlan.{RangePlan}
 use Rattle.plan_rules.specs.declared.part.NodePart.{NodePart}
@@ -89,7 +89,7 @@ four_ranges d = map (λ r. Some (port_range r)) d.ranges ++ replicate (4 - lengt
 
 -- the physical ports of a domain: virtual port v is the v-th of them
 abbrev pub physical_ports : DomainData → List ℕ
-physical_ports d = ports_in (four_ranges d)
+physical_ports d = ranged_ports (four_ranges d)
 
 -- a separate plan, and the parts and the ports of its domains
 pub record IsAccepted (plan : List DomainData) (parts : List PartData) (ports : List (List ℕ)) : Type 0 where

@@ -17,7 +17,7 @@ use Rattle.std.proofs.lemmas.Str.Parse.{digit_at}
 use Rattle.script_text.specs.Lines.{asks_nothing, line_of, after_line}
 use Rattle.script_lines.specs.declared.script.ScriptLine.{ScriptLine}
 use Rattle.script_lines.specs.declared.fault.LineFault.{LineFault}
-use Rattle.script_lines.specs.Words.{words_in}
+use Rattle.script_lines.specs.Words.{words_between}
 use Rattle.script_lines.specs.Lines.{IsLineFault, IsUserName}
 use Rattle.script_lines.specs.Script.{IsScript, IsAsked, IsFirstFault, asking}
 use Rattle.script_lines.proofs.Splitting.{first_line}
@@ -103,7 +103,7 @@ read_more names text rest after asked more l count read some asks one is items =
 -- if it is read up to a line that is wrong, that is its first wrong line
 pub read_wrong : (names : List (List ℕ)) (text rest : List ℕ) (asked : List ScriptLine) (count : ℕ) (f : LineFault)
     → IsReadTo names text rest asked count → 0 < length rest → asks_nothing (line_of rest) ≡ false
-    → IsLineFault names (words_in (line_of rest)) f
+    → IsLineFault names (words_between (line_of rest)) f
     → IsFirstFault names (lines text) (count + 1) f
 read_wrong names text rest asked count f read some asks wrong =
     record {

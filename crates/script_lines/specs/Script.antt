@@ -6,7 +6,7 @@ use Rattle.script_lines.specs.declared.fault.LineFault.{LineFault}
 use Rattle.script_lines.specs.declared.fault.ScriptFault.{ScriptFault}
 use Rattle.script_lines.specs.declared.fault.ScriptFault.TheVariants.{Line, NoMemory}
 use Rattle.script_lines.specs.declared.script.ScriptLine.{ScriptLine}
-use Rattle.script_lines.specs.Words.{words_in}
+use Rattle.script_lines.specs.Words.{words_between}
 use Rattle.script_lines.specs.Lines.{AskFor, IsLineFault}
 
 -- the lines that ask something
@@ -15,7 +15,7 @@ asking lines = filter (λ line. not (asks_nothing line)) lines
 
 -- a line asks this of its user
 abbrev pub IsAsked : List (List ℕ) → List ℕ → ScriptLine → Type 0
-IsAsked names line l = AskFor names (words_in line) l.user l.command
+IsAsked names line l = AskFor names (words_between line) l.user l.command
 
 -- the lines ask just this, in order
 abbrev pub IsScript : List (List ℕ) → List (List ℕ) → List ScriptLine → Type 0
@@ -31,7 +31,7 @@ pub record IsFirstFault (names lines : List (List ℕ)) (number : ℕ) (fault : 
   pub count : number ≡ length before + 1
   pub readable : IsScript names before asked
   pub asks : asks_nothing line ≡ false
-  pub wrong : IsLineFault names (words_in line) fault
+  pub wrong : IsLineFault names (words_between line) fault
 
 -- why the lines aren't read
 abbrev pub IsScriptFault : List (List ℕ) → List (List ℕ) → ScriptFault → Type 0

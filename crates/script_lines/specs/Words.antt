@@ -10,8 +10,8 @@ abbrev pub is_blank : ℕ → Bool
 is_blank byte = byte == 32
 
 -- the words of a line: what stands between single blanks
-abbrev pub words_in : List ℕ → List (List ℕ)
-words_in line = slice_split is_blank line
+abbrev pub words_between : List ℕ → List (List ℕ)
+words_between line = slice_split is_blank line
 
 -- a word spells the number of a host or node: decimal digits, at least one, whose value is below 256
 pub record IsDecimal (word : List ℕ) (number : ℕ) : Type 0 where

@@ -5,7 +5,7 @@ ghost use Rattle.script_lines.specs.declared.fault.LineFault.{LineFault as SpecL
 ghost use Rattle.script_lines.specs.declared.fault.Unread.TheVariants.{Faulty};
 ghost use Rattle.script_lines.specs.Lines.{Requests, IsRequest, IsArgumentFault, IsRestFault, IsLineFault, IsUserName};
 ghost use Rattle.script_lines.specs.Script.{IsAsked};
-ghost use Rattle.script_lines.specs.Words.{words_in};
+ghost use Rattle.script_lines.specs.Words.{words_between};
 
 use crate::command::Command;
 use crate::fault::{LineFault, Unread};
@@ -131,7 +131,7 @@ pub fn parse_request(alloc: Global, mut words: LineWords<'_>) -> Result<Command,
 /// A line that asks something, tested in the order user, verb, args, hex.
 pub(crate) fn parse_line(alloc: Global, names: &[&str], line: &[u8]) -> Result<ScriptLine, Unread>
     ensures asked { IfOk result (IsAsked (map (λ n. n.now) names.now) line.now) }
-    ensures fault { IfErr result (λ u. (f : SpecLineFault) → u ≡ Faulty f → IsLineFault (map (λ n. n.now) names.now) (words_in line.now) f) }
+    ensures fault { IfErr result (λ u. (f : SpecLineFault) → u ≡ Faulty f → IsLineFault (map (λ n. n.now) names.now) (words_between line.now) f) }
 {
     let mut words = LineWords::of(line);
     let Some(name) = words.take() else {

@@ -1,7 +1,7 @@
 //! The words of a line.
 ghost use Rattle.std.specs.Prelude.{◌≡◌, ◌∷◌, []};
 ghost use Rattle.std.specs.Prelude.{MatchOption};
-ghost use Rattle.script_lines.specs.Words.{words_in};
+ghost use Rattle.script_lines.specs.Words.{words_between};
 
 use std::marker::Model;
 
@@ -15,17 +15,17 @@ pub struct LineWords<'a> {
 impl<'a> Model for LineWords<'a> {
     ghost use Rattle.std.specs.Prelude.{ℕ, List, []};
     ghost use Rattle.std.specs.Option.{option_map_or};
-    ghost use Rattle.script_lines.specs.Words.{words_in};
+    ghost use Rattle.script_lines.specs.Words.{words_between};
 
     ghost Value = { List (List ℕ) };
 
-    ghost view = { λ w. option_map_or (λ rest. words_in rest.now) w.rest [] };
+    ghost view = { λ w. option_map_or (λ rest. words_between rest.now) w.rest [] };
 }
 
 impl<'a> LineWords<'a> {
     /// The words of a line.
     pub fn of(line: &'a [u8]) -> LineWords<'a>
-        ensures { result ≡ words_in line.now }
+        ensures { result ≡ words_between line.now }
     {
         LineWords { rest: Some(line) }
     }

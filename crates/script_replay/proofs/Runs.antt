@@ -6,7 +6,7 @@ use Rattle.domain_core.specs.Domain.{DomainValue}
 use Rattle.farm_core.specs.Whole.{Farm, whole_after}
 use Rattle.farm_core.specs.Domains.{IsMadeOf}
 use Rattle.farm_core.specs.Laws.{RunsAddUp}
-use Rattle.farm_core.specs.PlainFarm.{places_in, states_in}
+use Rattle.farm_core.specs.PlainFarm.{all_places, all_states}
 use Rattle.farm_replay.specs.Runs.{IsRunTo, HaveRun, IsOfTheFarm, HasGoneOn}
 
 -- no call leaves the domains as they are
@@ -21,16 +21,16 @@ pub more_calls : RunsAddUp
 more_calls law a b c calls later told after one two = record {
   places = two.places ∙ one.places;
   each = λ farm made.
-      let plan = places_in a in
+      let plan = all_places a in
       let first = one.each farm made in
       let half : Farm = whole_after plan farm calls in
       let then =
       subst (λ p. IsRunTo p half later after c) one.places
-      (two.each half (subst (λ p. IsMadeOf p half (states_in b)) (sym one.places) first.made)) in
+      (two.each half (subst (λ p. IsMadeOf p half (all_states b)) (sym one.places) first.made)) in
       let both = law plan farm calls later in
       record {
         told_is = (λ i. first.told_is i ++ then.told_is i) ∙ sym both.told;
-        made = subst (λ f. IsMadeOf plan f (states_in c)) (sym both.left) then.made;
+        made = subst (λ f. IsMadeOf plan f (all_states c)) (sym both.left) then.made;
       };
 }
 

@@ -1,7 +1,7 @@
 //! The event that a line asks next.
 ghost use Rattle.std.specs.Prelude.{◌≡◌, ◌≤◌, ◌∷◌, length, slice_get};
 ghost use Rattle.std.specs.List.{list_all, list_any};
-ghost use Rattle.line_answers.specs.Asks.{is_write, is_read, had_no_room, is_byte, writes_in, reads_in, next_config, next_write, next_read, next_collect, once, next_boot, next_event};
+ghost use Rattle.line_answers.specs.Asks.{is_write, is_read, had_no_room, is_byte, write_replies, read_replies, next_config, next_write, next_read, next_collect, once, next_boot, next_event};
 ghost use Rattle.script_lines.specs.declared.command.Command.TheVariants.{Peek};
 ghost use Rattle.script_replay.specs.Lines.{is_peek};
 
@@ -44,7 +44,7 @@ fn is_byte(reply: Reply) -> bool
 
 // How many bytes were put in a host's queue, or refused because it was full.
 fn writes(told: &[Told]) -> usize
-    ensures { result ≡ length (writes_in told.now) }
+    ensures { result ≡ length (write_replies told.now) }
 {
     let mut count = 0;
     for it in told {
@@ -57,7 +57,7 @@ fn writes(told: &[Told]) -> usize
 
 // How often a host's queue was read.
 fn reads(told: &[Told]) -> usize
-    ensures { result ≡ length (reads_in told.now) }
+    ensures { result ≡ length (read_replies told.now) }
 {
     let mut count = 0;
     for it in told {
@@ -70,7 +70,7 @@ fn reads(told: &[Told]) -> usize
 
 // Whether a host had no room for a byte.
 fn was_full(told: &[Told]) -> bool
-    ensures { result ≡ list_any had_no_room (writes_in told.now) }
+    ensures { result ≡ list_any had_no_room (write_replies told.now) }
 {
     let mut was = false;
     for it in told {
@@ -83,7 +83,7 @@ fn was_full(told: &[Told]) -> bool
 
 // Whether each read brought a byte.
 fn all_came(told: &[Told]) -> bool
-    ensures { result ≡ list_all is_byte (reads_in told.now) }
+    ensures { result ≡ list_all is_byte (read_replies told.now) }
 {
     let mut all = true;
     for it in told {

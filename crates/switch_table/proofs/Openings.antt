@@ -4,7 +4,7 @@ use Rattle.std.proofs.Common.{Contains, inl, inr, refl, sym, ap, ◌∙◌, subs
 use Rattle.std.proofs.lemmas.Bool.{cases_order}
 use Rattle.std.proofs.lemmas.Option.{none-some, same_Some, get_or_from_slice_get, slice_get_within}
 use Rattle.crossbar.specs.declared.range.PortRange.{PortRange}
-use Rattle.crossbar.specs.Ranges.{ports_in}
+use Rattle.crossbar.specs.Ranges.{ranged_ports}
 use Rattle.plan_rules.specs.Data.{DomainData}
 use Rattle.plan_rules.specs.Part.{four_ranges, physical_ports, AreSeparate}
 use Rattle.switch_table.specs.Domains.{domains_of, AreDisjoint}
@@ -41,11 +41,11 @@ separate_domains plan h m n port d e is_d is_e in_d in_e =
 
 -- the numbering of a domain's ranges is its list of ports
 pub own_domain : (plan : List DomainData) (i : ℕ) (ranges : List (Option PortRange)) (numbering : List ℕ)
-    → i < length plan → IfSome (slice_get plan i) (λ d. ranges ≡ four_ranges d) → numbering ≡ ports_in ranges
+    → i < length plan → IfSome (slice_get plan i) (λ d. ranges ≡ four_ranges d) → numbering ≡ ranged_ports ranges
     → slice_get (domains_of plan) i ≡ Some numbering
 own_domain [] i ranges numbering inside row is = absurd (omega arith)
 own_domain (d ∷ plan) zero ranges numbering inside row is =
-    ap (λ (ports : List ℕ). Some ports) (sym (is ∙ ap ports_in row))
+    ap (λ (ports : List ℕ). Some ports) (sym (is ∙ ap ranged_ports row))
 own_domain (d ∷ plan) (suc i) ranges numbering inside row is = own_domain plan i ranges numbering (omega arith) row is
 
 -- there are as many lists of ports as the plan has domains

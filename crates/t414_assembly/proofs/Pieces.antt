@@ -19,9 +19,9 @@ tight_prefix room f (Number n) tight on = tight.0 on
 tight_prefix room f (Label p m) tight on = tight on
 tight_prefix room f (Difference p q m) tight on = tight on
 
-abbrev number_in : Operand → ℕ
-number_in (Number n) = n
-number_in _ = 0
+abbrev number_among : Operand → ℕ
+number_among (Number n) = n
+number_among _ = 0
 
 not_padded : (room : ℕ) (short : List ℕ) → room ≤ length short → replicate (room - length short) 0x20 ++ short ≡ short
 not_padded room short h =
@@ -33,7 +33,7 @@ number_short : (address : ℕ → ℕ) (next room : ℕ) (f : Function) (o : Ope
     → (n : ℕ) → o ≡ Number n → continues f ≡ false
     → IsShortest (replicate (room - length short) 0x20 ++ short) f n
 number_short address next room f (Number m) short means shortest tight n is off =
-    let same : m ≡ n = ap number_in is in
+    let same : m ≡ n = ap number_among is in
     let less : room ≤ length short = no_pads short room f m (means off) (λ others h. tight.1 others off h) in
     subst (λ k. IsShortest (replicate (room - length short) 0x20 ++ short) f k) same
     (subst (λ bytes. IsShortest bytes f m) (sym (not_padded room short less)) (shortest off))
@@ -53,7 +53,7 @@ number_usual : (address : ℕ → ℕ) (next room : ℕ) (f : Function) (o : Ope
     → short ≡ usual f (operand_of address next f o) → IsTight room (Instruction f o) → (n : ℕ) → o ≡ Number n
     → replicate (room - length short) 0x20 ++ short ≡ usual f n
 number_usual address next room f (Number m) short means prefix usual_is tight n is =
-    let same : m ≡ n = ap number_in is in
+    let same : m ≡ n = ap number_among is in
     let less : room ≤ length short = (elim (continues f) as (λ g. continues f ≡ g → room ≤ length short) [
       | true ↦ λ on. (let count : length short ≡ 1 = ap length (prefix on).1 in omega (arith, tight.0 on, count))
       | false ↦ λ off. no_pads short room f m (means off) (λ others h. tight.1 others off h)

@@ -1,6 +1,6 @@
 //! Doing journals again on one thread, and comparing what is answered.
 ghost use Rattle.std.specs.Prelude.{◌≡◌, ◌<◌, ◌↔◌, IsTrue, IfSome, Some, length, slice_get};
-ghost use Rattle.farm_core.specs.PlainFarm.{word_in};
+ghost use Rattle.farm_core.specs.PlainFarm.{word_there};
 
 use crate::draws::Draws;
 use crate::watch::Watch;
@@ -101,7 +101,7 @@ fn are_journals(farm: &PlainFarm, closed: &[ClosedDomain]) -> bool {
 
 // Whether an output of a domain has this word.
 fn is_word(farm: &mut PlainFarm, domain: u8, output: u8, word: Word) -> bool
-    ensures word { IsTrue result ↔ (word_in (slice_get farm.old domain) output ≡ Some word) }
+    ensures word { IsTrue result ↔ (word_there (slice_get farm.old domain) output ≡ Some word) }
     ensures unchanged { farm.new ≡ farm.old }
 {
     farm.domain_word(domain, output) == Some(word)

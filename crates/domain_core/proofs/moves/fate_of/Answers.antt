@@ -2,14 +2,14 @@ use Rattle.std.proofs.Common.{◌∙◌, ap, sym, ◌++◌, ◌∷◌, [], List,
 use Rattle.std.specs.List.{range_with_len}
 use Rattle.virtual_switch.specs.SwitchValue.{SwitchValue, private_of}
 use Rattle.domain_core.specs.Moves.{outcome}
-use Rattle.domain_core.specs.Routes.{marked_in}
+use Rattle.domain_core.specs.Routes.{marked_by}
 use Rattle.domain_core.proofs.Outcomes.{marked_more}
 use Rattle.domain_core.proofs.moves.fate_of.Goals as goal
 
 pub loop-output-preserved : goal.loop-output-preserved
 loop-output-preserved g c =
-    let before : List ℕ = marked_in c.args.outputs (range_with_len 0 c.loop-output.output) in
-    let more : List ℕ = before ++ marked_in c.args.outputs (c.loop-output.output ∷ []) in (
+    let before : List ℕ = marked_by c.args.outputs (range_with_len 0 c.loop-output.output) in
+    let more : List ℕ = before ++ marked_by c.args.outputs (c.loop-output.output ∷ []) in (
       c.fate_with-fate.ensures.unchanged ∙ c.loop-output.invariant.0,
       c.fate_with-fate.ensures.answer before
           (c.loop-output.invariant.1

@@ -1,7 +1,7 @@
 use Rattle.std.proofs.Common.{◌≡◌, ◌∙◌, refl, rules, ap, length}
 use Rattle.std.proofs.lemmas.Iterator.Consumers.{YieldsList-turn, YieldsList-end}
 use Rattle.std.proofs.lemmas.Iterator.Adapters.{YieldsList-from_vec}
-use Rattle.farm_program.specs.Users.{names_in}
+use Rattle.farm_program.specs.Users.{all_names}
 use Rattle.farm_program.proofs.Openings.{place_within, user_more, all_users}
 use Rattle.farm_program.proofs.users.users_of.Goals as goal
 
@@ -12,7 +12,7 @@ index-requires c =
     (YieldsList-from_vec {s = c.into_iter-pass-iterator.result} c.args.passes.items (search rules) (search rules))
     c.loop-pass.yielded c.loop-pass.pass-iterator c.loop-pass.yielded_by c.next.result c.next.new.self c.in-Some.pass
     c.in-Some.is c.next.ensures.steps in
-    let names = c.in_ok-names.ensures ∙ ap names_in c.plan.ensures in
+    let names = c.in_ok-names.ensures ∙ ap all_names c.plan.ensures in
     let count = c.loop-pass.invariant.count in
     let place : c.len-place.result ≡ length c.loop-pass.yielded = search rules in
     let within =
@@ -27,7 +27,7 @@ loop-pass-preserved c =
     (YieldsList-from_vec {s = c.into_iter-pass-iterator.result} c.args.passes.items (search rules) (search rules))
     c.loop-pass.yielded c.loop-pass.pass-iterator c.loop-pass.yielded_by c.next.result c.next.new.self c.in-Some.pass
     c.in-Some.is c.next.ensures.steps in
-    let names = c.in_ok-names.ensures ∙ ap names_in c.plan.ensures in
+    let names = c.in_ok-names.ensures ∙ ap all_names c.plan.ensures in
     let count = c.loop-pass.invariant.count in
     let place : c.len-place.result ≡ length c.loop-pass.yielded = search rules in
     let within =

@@ -1,10 +1,10 @@
 use Rattle.std.proofs.Common.{◌≡◌, length}
 use Rattle.line_answers.specs.Asks.{replies_told}
-use Rattle.line_answers.specs.Results.{bytes_in}
+use Rattle.line_answers.specs.Results.{bytes_read}
 use Rattle.line_answers.proofs.showing.first_byte.Given as goal
 
 abbrev pub invariant-loop-first : goal.invariant-loop-first
-invariant-loop-first l = bytes_in (replies_told l.told) ≡ bytes_in (replies_told l.rest)
+invariant-loop-first l = bytes_read (replies_told l.told) ≡ bytes_read (replies_told l.rest)
 
 abbrev pub decreases-loop-first : goal.decreases-loop-first
 decreases-loop-first l = length l.rest

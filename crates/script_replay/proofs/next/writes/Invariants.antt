@@ -1,6 +1,6 @@
 use Rattle.std.proofs.Common.{◌≡◌, ◌≤◌, length, take}
-use Rattle.line_answers.specs.Asks.{writes_in}
+use Rattle.line_answers.specs.Asks.{write_replies}
 use Rattle.script_replay.proofs.next.writes.Given as goal
 
 abbrev pub invariant-loop-it : goal.invariant-loop-it
-invariant-loop-it l = (l.count ≡ length (writes_in (take l.it-index l.told))) × (l.count ≤ l.it-index)
+invariant-loop-it l = (l.count ≡ length (write_replies (take l.it-index l.told))) × (l.count ≤ l.it-index)

@@ -2,7 +2,7 @@ use Rattle.std.proofs.Common.{refl}
 use Rattle.std.specs.List.{range_with_len}
 use Rattle.domain_core.specs.Devices.{taken_from_device}
 use Rattle.domain_core.specs.MachineValue.{MachineValue}
-use Rattle.domain_core.specs.Routes.{marked_in}
+use Rattle.domain_core.specs.Routes.{marked_by}
 use Rattle.domain_core.proofs.Sizes.{still_of_part, large_by, large_taken, large_gone}
 use Rattle.domain_core.proofs.machine.RunningMachine.follow.Goals as goal
 
@@ -22,7 +22,7 @@ invariant_of-self-in-Passed g c =
     record { part = c.self.inside.part; switch = c.self.inside.switch; devices = c.self.inside.devices } in (
       still_of_part v v.switch c.copy_to.new.devices c.self.invariant.0 refl
           (large_gone v.part c.in-Passed.device c.in-Passed.packet
-          (marked_in c.in-Passed.outputs (range_with_len 0 v.part.count)) v.devices c.take-in-Passed.new.self
+          (marked_by c.in-Passed.outputs (range_with_len 0 v.part.count)) v.devices c.take-in-Passed.new.self
           c.copy_to.new.devices c.take-in-Passed.ensures.state c.copy_to.ensures),
       c.self.invariant.1,
     )

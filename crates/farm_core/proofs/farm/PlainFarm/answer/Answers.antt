@@ -1,7 +1,7 @@
 use Rattle.std.proofs.Common.{◌≡◌, ◌<◌, List, length, slice_set, subst}
 use Rattle.domain_core.specs.Domain.{DomainValue}
 use Rattle.farm_core.specs.Places.{AreSeparatePlaces}
-use Rattle.farm_core.specs.PlainFarm.{places_in}
+use Rattle.farm_core.specs.PlainFarm.{all_places}
 use Rattle.farm_core.proofs.Plain.{Replaces, read_at, still_separate, called_at}
 use Rattle.farm_core.proofs.Plain.{others_stay, places_stay, call_of_each_whole}
 use Rattle.farm_core.proofs.farm.PlainFarm.answer.Goals as goal
@@ -21,8 +21,8 @@ replaces c =
       place = λ i. record { part = c.apply.ensures.part i; ports = c.apply.ensures.ports i };
     }
 
-separate : (c : goal.After-self-2-1) → AreSeparatePlaces (places_in c.args.self.now)
-separate c = subst (λ (ds : List DomainValue). AreSeparatePlaces (places_in ds)) c.self.view_is c.self.invariant
+separate : (c : goal.After-self-2-1) → AreSeparatePlaces (all_places c.args.self.now)
+separate c = subst (λ (ds : List DomainValue). AreSeparatePlaces (all_places ds)) c.self.view_is c.self.invariant
 
 pub invariant_of-self-2 : goal.invariant_of-self-2
 invariant_of-self-2 c = still_separate _ _ _ _ _ (replaces c) (separate c)

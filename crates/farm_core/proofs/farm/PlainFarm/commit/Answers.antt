@@ -1,7 +1,7 @@
 use Rattle.std.proofs.Common.{◌<◌, List, length, slice_set, subst}
 use Rattle.domain_core.specs.Domain.{DomainValue}
 use Rattle.farm_core.specs.Places.{AreSeparatePlaces}
-use Rattle.farm_core.specs.PlainFarm.{places_in, IsCommitted}
+use Rattle.farm_core.specs.PlainFarm.{all_places, IsCommitted}
 use Rattle.farm_core.proofs.Plain.{Replaces, read_at, still_separate, committed_at, place_of_committed, others_stay}
 use Rattle.farm_core.proofs.Plain.{places_stay, all_stay}
 use Rattle.farm_core.proofs.farm.PlainFarm.commit.Goals as goal
@@ -34,7 +34,7 @@ replaces c =
 pub invariant_of-self-2 : goal.invariant_of-self-2
 invariant_of-self-2 c =
     still_separate _ _ _ _ _ (replaces c)
-    (subst (λ (ds : List DomainValue). AreSeparatePlaces (places_in ds)) c.self.view_is c.self.invariant)
+    (subst (λ (ds : List DomainValue). AreSeparatePlaces (all_places ds)) c.self.view_is c.self.invariant)
 
 pub returns-clause-own : goal.returns-clause-own
 returns-clause-own c = committed_at _ _ _ _ _ _ _ (replaces c) (committed c)

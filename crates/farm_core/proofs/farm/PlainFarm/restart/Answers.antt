@@ -1,7 +1,7 @@
 use Rattle.std.proofs.Common.{List, slice_set, subst}
 use Rattle.domain_core.specs.Domain.{DomainValue}
 use Rattle.farm_core.specs.Places.{AreSeparatePlaces}
-use Rattle.farm_core.specs.PlainFarm.{places_in}
+use Rattle.farm_core.specs.PlainFarm.{all_places}
 use Rattle.farm_core.proofs.Plain.{Replaces, read_there, still_separate, others_stay, places_stay, restarted_at}
 use Rattle.farm_core.proofs.farm.PlainFarm.restart.Goals as goal
 
@@ -20,7 +20,7 @@ replaces c = record {
 pub invariant_of-self : goal.invariant_of-self
 invariant_of-self c =
     still_separate _ _ _ _ _ (replaces c)
-    (subst (λ (ds : List DomainValue). AreSeparatePlaces (places_in ds)) c.self.view_is c.self.invariant)
+    (subst (λ (ds : List DomainValue). AreSeparatePlaces (all_places ds)) c.self.view_is c.self.invariant)
 
 pub returns-clause-own : goal.returns-clause-own
 returns-clause-own c =

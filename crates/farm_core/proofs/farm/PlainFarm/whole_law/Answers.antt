@@ -1,7 +1,7 @@
 use Rattle.std.proofs.Common.{◌≤◌, List, length, refl, ◌∙◌, subst}
 use Rattle.domain_core.specs.Domain.{DomainValue}
 use Rattle.farm_core.specs.Places.{AreSeparatePlaces}
-use Rattle.farm_core.specs.PlainFarm.{places_in}
+use Rattle.farm_core.specs.PlainFarm.{all_places}
 use Rattle.farm_core.proofs.Plain.{read_at}
 use Rattle.farm_core.proofs.Wholes.{one_meant_more, all_meant, all_rows, have_a_whole}
 use Rattle.farm_core.proofs.farm.PlainFarm.whole_law.Goals as goal
@@ -34,7 +34,7 @@ pub returns-clause-whole : goal.returns-clause-whole
 returns-clause-whole c =
     let same = c.deref-domain-items.ensures.value ∙ c.self.view_is in
     have_a_whole c.switches_say_their_words.ensures.laws c.args.self.now
-    (subst (λ (ds : List DomainValue). AreSeparatePlaces (places_in ds)) c.self.view_is c.self.invariant)
+    (subst (λ (ds : List DomainValue). AreSeparatePlaces (all_places ds)) c.self.view_is c.self.invariant)
     (all_meant c.args.self.now c.loop-domain.domain-index
     (subst (λ (ds : List DomainValue). length ds ≤ c.loop-domain.domain-index) same c.loop-domain-test.false)
     c.loop-domain.invariant)

@@ -1,7 +1,7 @@
 use Rattle.std.proofs.Common.{◌<◌, List, length, arith, refl, sym, subst}
 use Rattle.domain_core.specs.Domain.{DomainValue}
 use Rattle.farm_core.specs.Places.{AreSeparatePlaces}
-use Rattle.farm_core.specs.PlainFarm.{places_in}
+use Rattle.farm_core.specs.PlainFarm.{all_places}
 use Rattle.farm_core.proofs.Owners.{IsOwner, owner_read, within_farm, within_count, nobody_has, word_of_nobody}
 use Rattle.farm_core.proofs.Owners.{word_of_owner, word_says, nothing_says, word_within}
 use Rattle.farm_core.proofs.farm.PlainFarm.word.Goals as goal
@@ -25,7 +25,7 @@ word-requires c =
     owner_read c.self.inside.domains.items c.args.self.now c.in-Some.domain c.index_mut.result.now c.in-Some.number
     c.args.output c.self.view_is c.in-Some.ensures.owned c.index_mut.ensures.value in
     let separate =
-    subst (λ (ds : List DomainValue). AreSeparatePlaces (places_in ds)) c.self.view_is c.self.invariant in
+    subst (λ (ds : List DomainValue). AreSeparatePlaces (all_places ds)) c.self.view_is c.self.invariant in
     within_count c.args.self.now c.in-Some.domain c.index_mut.result.now c.in-Some.number c.args.output separate
     owner.there owner.port
 
@@ -39,8 +39,8 @@ owner c =
     owner_read c.self.inside.domains.items c.args.self.now c.in-Some.domain c.index_mut.result.now c.in-Some.number
     c.args.output c.self.view_is c.in-Some.ensures.owned c.index_mut.ensures.value
 
-separate : (c : goal.After-self-1) → AreSeparatePlaces (places_in c.args.self.now)
-separate c = subst (λ (ds : List DomainValue). AreSeparatePlaces (places_in ds)) c.self.view_is c.self.invariant
+separate : (c : goal.After-self-1) → AreSeparatePlaces (all_places c.args.self.now)
+separate c = subst (λ (ds : List DomainValue). AreSeparatePlaces (all_places ds)) c.self.view_is c.self.invariant
 
 pub returns-clause-owner : goal.returns-clause-owner
 returns-clause-owner c = word_of_owner _ _ _ _ _ _ (separate c) (owner c).there (owner c).port c.word.ensures.word
