@@ -9,7 +9,7 @@ pub const VERBS: WordForm = WordForm::OneOf(&[
     "config", "write", "boot", "poke", "peek", "collect", "reset", "look",
 ]);
 
-/// The same, with those of lines that help, which not every program takes.
+/// The verbs of lines that help, and no others. Not every program takes them.
 pub const VERBS_THAT_HELP: [&str; 4] = ["load", "join", "send", "text"];
 
 /// What a word behind a verb stands for.

@@ -6,3 +6,4 @@ mod told;
 mod wrong;
 
 pub use told::{WrongLines, tell_wrong_line, tell_wrong_lines};
+pub use wrong::has_verb;

@@ -1,7 +1,9 @@
 //! A wrong line of a script, and what is told of it.
 
 use crate::form::{ScriptArgument, VERBS, VERBS_THAT_HELP, arguments_of, write_form};
-use line_words::{MetText, NumberedLine, ShownWord, Wanted, WordForm, WordHint, WordRole};
+use line_words::{
+    MetText, NumberedLine, ShownWord, Wanted, WordForm, WordHint, WordRole, nearest_name,
+};
 use script_lines::LineFault;
 use script_text::TextWriter;
 
@@ -59,10 +61,24 @@ fn write_wrong_user(text: &mut TextWriter, names: &[&str], word: &[u8]) {
             text.push(*name);
             text.push(")");
         }
-        None if !arguments_of(word).is_empty() || helping_verb(word).is_some() => {
+        None if is_verb(word) => {
             text.push(" (a line begins with the name of its user, and then comes the verb)");
         }
         None => write_hint(text, word, Wanted::Word(WordRole::User, WordForm::Asker)),
+    }
+}
+
+// Whether a word is the verb of a script line, or that of a line that helps.
+fn is_verb(word: &[u8]) -> bool {
+    !arguments_of(word).is_empty() || helping_verb(word).is_some()
+}
+
+/// Whether a line begins as one of a script does: with a word, a blank and a verb.
+pub fn has_verb(line: &[u8]) -> bool {
+    let mut words = line.split(|byte| *byte == b' ');
+    match (words.next(), words.next()) {
+        (Some(user), Some(verb)) => !user.is_empty() && is_verb(verb),
+        _ => false,
     }
 }
 
@@ -106,7 +122,24 @@ fn write_wrong_verb(text: &mut TextWriter, words: &[&[u8]]) {
             text.push(verb);
             text.push(" helps, in small letters, in `lab run`; `lab expand` spells its line out)");
         }
-        None => write_hint(text, *word, Wanted::Word(WordRole::NodeVerb, VERBS)),
+        None => write_hint_of_verb(text, *word),
+    }
+}
+
+// What helps where a word should be a verb, and is none.
+fn write_hint_of_verb(text: &mut TextWriter, word: &[u8]) {
+    match hint_of(word, Wanted::Word(WordRole::NodeVerb, VERBS)) {
+        Some(hint) => write_in_brackets(text, hint),
+        None => write_near_help(text, std::str::from_utf8(word).unwrap_or("")),
+    }
+}
+
+// The verb of a line that helps which is nearest to a word.
+fn write_near_help(text: &mut TextWriter, word: &str) {
+    if let Some(verb) = nearest_name(word, &VERBS_THAT_HELP) {
+        text.push(" (is it ");
+        text.push(verb);
+        text.push("? That helps in `lab run`; `lab expand` spells its line out)");
     }
 }
 

@@ -1,5 +1,6 @@
 //! What helps where a word is wrong.
 
+use crate::nearest::nearest_name;
 use crate::wanted::{Wanted, WordForm, WordRole};
 use std::fmt;
 
@@ -24,6 +25,8 @@ pub enum WordHint {
     OddDigits,
     /// The same letters, small and capital, are this name.
     Capitals(&'static str),
+    /// This name differs from the word by a slip or two.
+    Nearest(&'static str),
     /// Names of instructions have no capitals.
     SmallLetters,
     /// A line begins with a domain's number, or with a user's name.
@@ -80,6 +83,7 @@ impl WordHint {
             WordHint::Sign => "write the digits alone, without a sign",
             WordHint::OddDigits => "each byte has two digits, as 05",
             WordHint::Capitals(_) => "small and capital letters differ",
+            WordHint::Nearest(_) => "is it",
             WordHint::SmallLetters => "names of instructions are in small letters",
             WordHint::DomainFirst =>
                 "a line begins with a domain's number in the plan, from 0, or with a user's name, and not with a verb",
@@ -97,6 +101,7 @@ impl fmt::Display for WordHint {
         f.write_str(self.text())?;
         match self {
             WordHint::Capitals(name) => write!(f, ": write {name}"),
+            WordHint::Nearest(name) => write!(f, " {name}?"),
             WordHint::LeftOut(group) => write!(f, " {group}"),
             _ => Ok(()),
         }
@@ -110,7 +115,9 @@ impl WordHint {
             return Some(WordHint::Blank);
         }
         hint_of_character(word).or(match wanted {
-            Wanted::Word(role, form) => hint_of_form(word, form).or(hint_of_role(word, role)),
+            Wanted::Word(role, form) => hint_of_form(word, form)
+                .or(hint_of_role(word, role))
+                .or(hint_of_slip(word, form)),
             Wanted::End if word.starts_with("#") => Some(WordHint::Remark),
             Wanted::End | Wanted::Utf8 => None,
         })
@@ -140,6 +147,16 @@ fn hint_of_form(word: &str, form: WordForm) -> Option<WordHint> {
             .map(|name| WordHint::Capitals(*name)),
         WordForm::Asker | WordForm::Instruction | WordForm::Once => None,
         form => hint_of_digits(word.as_bytes(), form),
+    }
+}
+
+// What helps where a name of some is mistyped.
+fn hint_of_slip(word: &str, form: WordForm) -> Option<WordHint> {
+    match form {
+        WordForm::OneOf(names) | WordForm::InstructionOr(names) => nearest_name(word, names).map(
+            |name| WordHint::Nearest(name),
+        ),
+        _ => None,
     }
 }
 
@@ -176,15 +193,19 @@ fn hint_of_role(word: &str, role: WordRole) -> Option<WordHint> {
     }
 }
 
+// What may stand in a line in place of a domain's number.
+const ALONE: [&str; 2] = ["words", "reopen"];
+
 // What helps where a line should begin with a domain's number.
 fn hint_of_begin(word: &str) -> Option<WordHint> {
     let is_of_letters = word
         .as_bytes()
         .iter()
         .any(|byte| byte.is_ascii_alphabetic());
-    ["words", "reopen"]
+    ALONE
         .iter()
         .find(|name| name.eq_ignore_ascii_case(word))
         .map(|name| WordHint::Capitals(*name))
+        .or(nearest_name(word, &ALONE).map(|name| WordHint::Nearest(name)))
         .or(is_of_letters.then_some(WordHint::DomainFirst))
 }

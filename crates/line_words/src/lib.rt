@@ -5,6 +5,7 @@
 mod fault;
 mod hint;
 mod mistake;
+mod nearest;
 mod numbered;
 mod questions;
 mod wanted;
@@ -13,6 +14,7 @@ mod words;
 pub use fault::{NumberedLineFault, WordFault};
 pub use hint::{OperationGroup, WordHint};
 pub use mistake::{MetText, ShownWord, WordMistake, WrongLine};
+pub use nearest::{is_near, nearest_entry, nearest_name};
 pub use numbered::{NumberedLine, numbered_lines};
 pub use questions::{Answered, Question, read_questions};
 pub use wanted::{Wanted, WordForm, WordRole};

@@ -1,7 +1,7 @@
 //! What helps to mend a fault of a text.
 
 use crate::fault::Expected;
-use crate::mnemonics::{Omission, name_in_lower_case, omission_named};
+use crate::mnemonics::{Omission, name_in_lower_case, nearest_statement, omission_named};
 use std::fmt;
 
 /// What helps to mend a fault.
@@ -15,6 +15,8 @@ pub enum Hint<'a> {
     Sums,
     /// An instruction as it is written.
     LowerCase(&'static str),
+    /// The name of an instruction or a directive that is mistyped.
+    Nearest(&'static str),
     /// An operation that the processor leaves out.
     Omitted(Omission),
     /// An operation that takes no operand.
@@ -46,6 +48,7 @@ impl<'a> fmt::Display for Hint<'a> {
             Hint::Hexadecimal(digits) => write!(f, "Hexadecimal digits stand behind #: #{digits}"),
             Hint::Sums => f.write_str("Operands have + and - alone, and no parentheses"),
             Hint::LowerCase(name) => write!(f, "It is written in lower case: {name}"),
+            Hint::Nearest(name) => write!(f, "Is it {name}?"),
             Hint::Omitted(omission) => f.write_str(omission.text()),
             Hint::NoOperand(name) => write!(f, "{name} takes no operand"),
             Hint::Colon => f.write_str("The colon of a label stands right behind its name"),
@@ -94,7 +97,7 @@ fn statement_hint<'a>(rest: &[u8], word: &'a str) -> Option<Hint<'a>> {
         (Some(b':'), _) => Some(Hint::OneLabel),
         (_, Some(b':')) => Some(Hint::Colon),
         (_, Some(b'=')) => Some(Hint::Naming),
-        _ => None,
+        _ => nearest_statement(word).map(|name| Hint::Nearest(name)),
     }
 }
 

@@ -29,7 +29,7 @@ pub use fault::{Expected, Position, TextFault};
 pub use laws::reassembled_code_is_the_same;
 pub use layout::{Image, LayoutFault, lay_out};
 pub use loading::{BOOTED, LOADED, loader};
-pub use mnemonics::{Mnemonic, mnemonic_named};
+pub use mnemonics::{Mnemonic, mnemonic_named, nearest_instruction};
 pub use printing::{hexadecimal, instructions_as_text, listing, pokes, write_instruction};
 pub use shortest::spell;
 pub use spelling::Spelling;

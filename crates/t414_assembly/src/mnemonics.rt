@@ -1,6 +1,7 @@
 //! The handbook's names of functions and operations.
 
 use crate::codes::byte_of;
+use line_words::is_near;
 use script_text::value_named;
 use t414_decode::{Function, decode};
 
@@ -204,4 +205,29 @@ pub fn name_in_lower_case(name: &str) -> Option<&'static str> {
         .or(other)
         .copied()
         .or(operation.map(|entry| entry.0))
+}
+
+// The first name of an instruction that is so near to a word.
+fn instruction_near(word: &str, slips: u8) -> Option<&'static str> {
+    let function = FUNCTIONS.iter().find(|it| is_near(word, **it, slips));
+    let operation = OPERATIONS
+        .iter()
+        .find(|entry| is_near(word, entry.0, slips));
+    function.copied().or(operation.map(|entry| entry.0))
+}
+
+// The same of all names that begin a statement, directives before instructions.
+fn statement_near(word: &str, slips: u8) -> Option<&'static str> {
+    let other = OTHERS.iter().find(|it| is_near(word, **it, slips));
+    other.copied().or(instruction_near(word, slips))
+}
+
+/// The name of the instruction that is nearest to a word, as `nearest_name` has it.
+pub fn nearest_instruction(word: &str) -> Option<&'static str> {
+    instruction_near(word, 1).or(instruction_near(word, 2))
+}
+
+/// The name that begins a statement and is nearest to a word, in the same way.
+pub fn nearest_statement(word: &str) -> Option<&'static str> {
+    statement_near(word, 1).or(statement_near(word, 2))
 }
