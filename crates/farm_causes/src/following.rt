@@ -160,7 +160,12 @@ impl Follower {
     }
 
     /// Does what a line says, compares what the domain answers with what it says, and gives the answer, of several Steps that of
-    /// each. After an error nothing is said of the moment.
+    /// each.
+    ///
+    /// # Errors
+    ///
+    /// `Follow` with why the line can't be done, and `Differs` there if the domain answers otherwise than it says; `Steps` if the
+    /// line has more Steps than the meter allows. After either nothing is said of the moment.
     pub fn answer<M: StepMeter>(
         &mut self,
         line: &RecordedLine,

@@ -57,7 +57,11 @@ impl OpenFarm {
         })
     }
 
-    /// Adds the answers to a request, if it needs no more Steps than the meter allows.
+    /// Adds the answers to a request.
+    ///
+    /// # Errors
+    ///
+    /// `Steps` if it needs more Steps than the meter allows; `Memory` if an allocation fails.
     pub fn answer<M: StepMeter>(
         &mut self,
         plan: &AcceptedPlan,
