@@ -7,3 +7,4 @@ mod refusal;
 mod shape;
 
 pub use refusal::{PlanRefusal, accepted};
+pub use shape::{UnreadLine, line_unread};

@@ -1,7 +1,7 @@
 //! Where a text isn't TOML, or a document isn't a plan's.
 
 use crate::names::{write_place, write_quoted};
-use script_text::TextWriter;
+use script_text::{TextWriter, split_line};
 use std::alloc::{AllocError, Global};
 use toml::{Table, Value};
 
@@ -80,6 +80,44 @@ pub fn unread(alloc: Global, text: &[u8]) -> Result<Option<String>, AllocError> 
             Ok(Some(joined(alloc, told.as_str())?))
         }
     }
+}
+
+/// A line at which a text stops being TOML.
+#[derive(Clone, Copy)]
+pub struct UnreadLine<'a> {
+    /// Its number in the text, from 1.
+    pub number: u64,
+    /// Its bytes, without its end.
+    pub text: &'a [u8],
+}
+
+/// The line at which a text in UTF-8 stops being TOML; `None` if it is a document, or isn't UTF-8.
+pub fn line_unread<'a>(
+    alloc: Global,
+    text: &'a [u8],
+) -> Result<Option<UnreadLine<'a>>, AllocError> {
+    let Ok(document) = std::str::from_utf8(text) else {
+        return Ok(None);
+    };
+    match toml::table_from_str(alloc, document) {
+        Ok(_) => Ok(None),
+        Err(error) if error.is_memory() => Err(AllocError),
+        Err(error) => Ok(error.span().map(|span| line_at(text, span.start))),
+    }
+}
+
+// The line in which the byte of this place stands.
+fn line_at(text: &[u8], place: usize) -> UnreadLine<'_> {
+    let mut number: u64 = 1;
+    let mut start: usize = 0;
+    for (index, byte) in text.iter().take(place).enumerate() {
+        if *byte == b'\n' {
+            number = number.saturating_add(1);
+            start = index.saturating_add(1);
+        }
+    }
+    let (line, _) = split_line(text.get(start..).unwrap_or(&[]));
+    UnreadLine { number, text: line }
 }
 
 // The lines of a text as one.
