@@ -93,7 +93,7 @@ impl Argument {
                 "steps",
                 "N",
                 Form::Number,
-                "How many Steps are traced at most of booted code or of a plan, 1000 unless given; how many the lines may do in all",
+                "How many Steps of booted code are traced at most, 1000 unless given; how many the lines, or the script of a plan, may do in all",
             ),
             Argument::Steps => words_of(
                 "steps",

@@ -6,7 +6,7 @@ use crate::debugging::Debugging;
 use crate::failure::{ArgumentFault, LabFailure};
 use crate::film::Showing;
 use crate::rows::RowFiles;
-use crate::scripts::ScriptUse;
+use crate::scripts::{ScriptUse, USUAL_STEPS};
 use crate::why::Explaining;
 use clap::error::ErrorKind;
 use clap::{ArgMatches, Command};
@@ -16,9 +16,6 @@ use node_trace::{LinkInput, LinkNumber, link_of};
 use script_text::{HexFault, bytes_of, decimal_number, value_named};
 use std::alloc::{AllocError, Global};
 use std::convert::AsStr;
-
-/// How many Steps of booted code are traced unless the words say it.
-const USUAL_STEPS: u64 = 1000;
 
 /// What stands below the help.
 const AFTER_HELP: &str = "\
@@ -465,7 +462,7 @@ fn read_trace<'a>(alloc: Global, matches: &ArgMatches<'a>) -> Result<LabRequest<
             Some(script),
             ScriptUse::Trace {
                 domain: matches.get_one::<u8>("domain").unwrap_or(0),
-                steps: steps.unwrap_or(USUAL_STEPS),
+                most: steps,
             },
         ),
         None => LabRequest::Read(Reading::Trace(steps)),

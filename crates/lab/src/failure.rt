@@ -62,6 +62,11 @@ pub enum LabFailure {
     RefusedPlan(PlanRefusal),
     /// The same, and no line divides it from what stands behind it.
     UnmarkedPlan(PlanRefusal),
+    /// A plan is refused at a line of this number that begins like one of a script.
+    MissingMark {
+        refusal: PlanRefusal,
+        line: u64,
+    },
     /// No line divides a plan from a script.
     NoMark,
     /// A line has a mistake.
@@ -148,6 +153,10 @@ impl fmt::Display for LabFailure {
                 f,
                 "{refusal} (no line behind it is just ---, so all was read as the plan)\n"
             ),
+            LabFailure::MissingMark { refusal, line } => write!(
+                f,
+                "{refusal} (line {line} begins like one of a script, and no line before it is just ---)\n"
+            ),
             LabFailure::NoMark => {
                 f.write_str("no line is just ---: it stands between a plan and its script\n")
             }
@@ -206,7 +215,8 @@ impl LabFailure {
             | LabFailure::Booted(_) => 2,
             LabFailure::ReplayedPlan(_)
             | LabFailure::RefusedPlan(_)
-            | LabFailure::UnmarkedPlan(_) => 3,
+            | LabFailure::UnmarkedPlan(_)
+            | LabFailure::MissingMark { .. } => 3,
             LabFailure::Record(WhyFault::Plan(_) | WhyFault::Domains(_)) => 3,
             LabFailure::Record(_)
             | LabFailure::NoMark

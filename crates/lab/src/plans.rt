@@ -1,8 +1,8 @@
 //! Plans that stand in files, each with what the checker is to answer.
 
 use line_words::{
-    Answered, NumberedLineFault, Question, Wanted, WordForm, WordMistake, WordRole, WrongLine,
-    numbered_lines,
+    Answered, NumberedLine, NumberedLineFault, Question, Wanted, WordForm, WordMistake, WordRole,
+    WrongLine, numbered_lines,
 };
 use plan_faults::{PlanRefusal, accepted};
 use script_text::TextWriter;
@@ -45,11 +45,18 @@ pub fn try_plans(alloc: Global, text: &[u8]) -> Result<Vec<Answered<'_>>, Number
 }
 
 fn read_lines(alloc: Global, text: &[u8]) -> Result<Vec<&str>, NumberedLineFault> {
+    let numbered = numbered_lines(alloc, text)?;
     let mut lines = Vec::new(alloc);
-    for line in &numbered_lines(alloc, text)? {
-        lines.push(line.as_str()?)?;
+    for line in &numbered {
+        add_line(&mut lines, *line)?;
     }
     Ok(lines)
+}
+
+fn add_line<'a>(lines: &mut Vec<&'a str>, line: NumberedLine<'a>) -> Result<(), NumberedLineFault> {
+    let text = line.as_str()?;
+    lines.push(text)?;
+    Ok(())
 }
 
 // The number of the line of this index.

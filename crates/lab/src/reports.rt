@@ -5,9 +5,10 @@ use crate::command_line::{Drawing, Reading};
 use crate::failure::LabFailure;
 use crate::meter::TerminalMeter;
 use crate::scripts::read_files;
+use line_faults::has_verb;
 use line_words::Answered;
 use node_trace::trace;
-use plan_faults::accepted;
+use plan_faults::{PlanRefusal, accepted, line_unread};
 use plan_views::{draw, draw_network, table_of};
 use script_replay::{Replayed, files_loaded, replay};
 use script_text::{TextWriter, divide};
@@ -77,8 +78,28 @@ fn print_traced(rt: &HostRuntime, most: Option<u64>, text: &[u8]) -> Result<Stri
 
 // The plan of a text as a table.
 fn print_plan(alloc: Global, text: &[u8]) -> Result<String, LabFailure> {
-    let plan = accepted(alloc, divide(text, b"---").0)?;
-    Ok(table_of(alloc, &plan)?)
+    let (plan, _) = divide(text, b"---");
+    match accepted(alloc, plan) {
+        Ok(plan) => Ok(table_of(alloc, &plan)?),
+        Err(refusal) => Err(refused_plan(alloc, plan, refusal)),
+    }
+}
+
+// What is told of a plan that is refused. If what can't be read of it is a line of a script, the mark before that is missing.
+fn refused_plan(alloc: Global, plan: &[u8], refusal: PlanRefusal) -> LabFailure {
+    match script_line(alloc, plan) {
+        Ok(Some(line)) => LabFailure::MissingMark { refusal, line },
+        Ok(None) => LabFailure::from(refusal),
+        Err(_) => LabFailure::Memory,
+    }
+}
+
+// The number of the line at which a text stops being TOML, if it begins as a line of a script does.
+fn script_line(alloc: Global, plan: &[u8]) -> Result<Option<u64>, AllocError> {
+    match line_unread(alloc, plan)? {
+        Some(line) if has_verb(line.text) => Ok(Some(line.number)),
+        _ => Ok(None),
+    }
 }
 
 // The switch of the last farm of a text, or the network of one of its domains.

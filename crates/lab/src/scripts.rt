@@ -5,11 +5,15 @@ use crate::failure::LabFailure;
 use crate::files::read_file;
 use crate::meter::TerminalMeter;
 use crate::reports::Report;
+use lab_debug::DebugFault;
 use lab_script::{Expanded, LoadedFile, expand, files_named};
 use script_replay::{record_script, run_script};
 use script_text::{TextWriter, divide, read_whole};
 use std::alloc::{AllocError, Global};
 use std::fs;
+
+/// How many Steps are traced unless the words say it.
+pub const USUAL_STEPS: u64 = 1000;
 
 /// What is done with the text of a script.
 #[derive(Clone, Copy)]
@@ -20,8 +24,8 @@ pub enum ScriptUse {
     Run(Option<u64>),
     /// The same, and the record of the domain of this number is printed.
     Record { domain: u8, most: Option<u64> },
-    /// It is run, and up to so many Steps of the nodes of the domain of this number are traced, with the packets between.
-    Trace { domain: u8, steps: u64 },
+    /// The same, and the Steps of that domain's nodes are traced, with the packets between.
+    Trace { domain: u8, most: Option<u64> },
 }
 
 /// Does this with the script in a file, or with the one on standard input. The files that it loads have their names from the
@@ -67,7 +71,7 @@ fn report_text(
             text: record_of(rt, text, files, domain, most)?,
             status: 0,
         }),
-        ScriptUse::Trace { domain, steps } => report_trace(rt, text, files, domain, steps),
+        ScriptUse::Trace { domain, most } => report_trace(rt, text, files, domain, most),
     }
 }
 
@@ -106,16 +110,22 @@ fn report_trace(
     text: &[u8],
     files: &[LoadedFile],
     domain: u8,
-    steps: u64,
+    most: Option<u64>,
 ) -> Result<Report, LabFailure> {
-    let record = record_of(rt, text, files, domain, None)?;
-    let mut debugger = opened(rt, record.as_bytes(), None)?;
-    let mut traced = TextWriter::new(rt.alloc());
-    debugger.trace_from_opening(steps, &mut traced)?;
+    let record = record_of(rt, text, files, domain, most)?;
+    let steps = most.unwrap_or(USUAL_STEPS);
     Ok(Report {
-        text: traced.finish()?,
+        text: traced_record(rt, record.as_bytes(), steps)?,
         status: 0,
     })
+}
+
+// What the events of a record do, up to so many Steps.
+fn traced_record(rt: &HostRuntime, record: &[u8], steps: u64) -> Result<String, DebugFault> {
+    let mut debugger = opened(rt, record, None)?;
+    let mut traced = TextWriter::new(rt.alloc());
+    debugger.trace_from_opening(steps, &mut traced)?;
+    Ok(traced.finish()?)
 }
 
 fn report_expansion(

@@ -1,6 +1,7 @@
 //! The commands of the debugger, as they are read.
 ghost use Rattle.std.specs.Prelude.{◌≤◌, IfOk};
 
+use line_words::nearest_entry;
 use script_text::{TextWriter, decimal_number, hexadecimal_word, value_named};
 
 /// An address, as it is written.
@@ -144,8 +145,12 @@ pub struct CommandFault<'a> {
     // Empty if a word is missing.
     word: &'a str,
     wrong: &'static str,
+    // What it may be meant for.
+    nearest: Option<&'static str>,
     written: &'static str,
 }
+
+const NO_COMMAND: &str = " is no command";
 
 const NO_NUMBER: &str = " is no number that fits there";
 
@@ -161,6 +166,11 @@ impl CommandFault<'_> {
             text.push(self.word);
             text.push("`");
             text.push(self.wrong);
+        }
+        if let Some(name) = self.nearest {
+            text.push(" (is it ");
+            text.push(name);
+            text.push("?)");
         }
         text.push(": try ");
         text.push(self.written);
@@ -249,6 +259,22 @@ impl<'a> CommandWords<'a> {
         CommandFault {
             word,
             wrong,
+            nearest: None,
+            written: self.written,
+        }
+    }
+
+    // The same of a word in place of those of a table, with the one that is nearest to it.
+    fn fault_among<T: Copy>(
+        &self,
+        word: &'a str,
+        wrong: &'static str,
+        table: &[(&'static str, T)],
+    ) -> CommandFault<'a> {
+        CommandFault {
+            word,
+            wrong,
+            nearest: nearest_entry(word, table),
             written: self.written,
         }
     }
@@ -324,7 +350,7 @@ impl<'a> CommandWords<'a> {
             Some(SoughtWord::Byte) => Ok(Sought::Byte(self.small()?)),
             Some(SoughtWord::Node) => self.sought_at(),
             Some(SoughtWord::Write) => self.sought_write(),
-            None => Err(self.fault(word, UNEXPECTED)),
+            None => Err(self.fault_among(word, UNEXPECTED, &SOUGHT_WORDS)),
         }
     }
 
@@ -374,46 +400,86 @@ impl<'a> CommandWords<'a> {
         })
     }
 
+    fn events(&mut self) -> Result<DebugCommand<'a>, CommandFault<'a>> {
+        let from = if self.is_empty() {
+            None
+        } else {
+            Some(self.number(u64::MAX)?)
+        };
+        let count = self.number_or(10)?;
+        Ok(DebugCommand::Events { from, count })
+    }
+
+    fn go(&mut self) -> Result<DebugCommand<'a>, CommandFault<'a>> {
+        Ok(DebugCommand::Go(self.number(u64::MAX)?))
+    }
+
+    // What stands behind `next`.
+    fn forwards(&mut self) -> Result<DebugCommand<'a>, CommandFault<'a>> {
+        Ok(DebugCommand::Next(self.number_or(1)?))
+    }
+
+    fn until(&mut self) -> Result<DebugCommand<'a>, CommandFault<'a>> {
+        Ok(DebugCommand::Until(self.sought()?))
+    }
+
+    fn code(&mut self) -> Result<DebugCommand<'a>, CommandFault<'a>> {
+        let node = self.small()?;
+        let address = if self.is_empty() {
+            None
+        } else {
+            Some(self.address()?)
+        };
+        Ok(DebugCommand::Code { node, address })
+    }
+
+    fn registers(&mut self) -> Result<DebugCommand<'a>, CommandFault<'a>> {
+        Ok(DebugCommand::Registers(self.small()?))
+    }
+
+    fn queue(&mut self) -> Result<DebugCommand<'a>, CommandFault<'a>> {
+        Ok(DebugCommand::Queue(self.small()?))
+    }
+
+    fn links(&mut self) -> Result<DebugCommand<'a>, CommandFault<'a>> {
+        Ok(DebugCommand::Links(self.small()?))
+    }
+
+    fn why(&mut self) -> Result<DebugCommand<'a>, CommandFault<'a>> {
+        if self.is_empty() {
+            return Ok(DebugCommand::Why(None));
+        }
+        Ok(DebugCommand::Why(Some(self.small()?)))
+    }
+
+    fn program(&mut self) -> Result<DebugCommand<'a>, CommandFault<'a>> {
+        let node = self.small()?;
+        let file = self.word()?;
+        Ok(DebugCommand::Program { node, file })
+    }
+
     // What stands behind the first word.
     fn command(&mut self, verb: FirstWord) -> Result<DebugCommand<'a>, CommandFault<'a>> {
-        Ok(match verb {
-            FirstWord::Events => DebugCommand::Events {
-                from: if self.is_empty() {
-                    None
-                } else {
-                    Some(self.number(u64::MAX)?)
-                },
-                count: self.number_or(10)?,
-            },
-            FirstWord::Go => DebugCommand::Go(self.number(u64::MAX)?),
-            FirstWord::Next => DebugCommand::Next(self.number_or(1)?),
-            FirstWord::Trace => self.trace()?,
-            FirstWord::Back => self.back()?,
-            FirstWord::Until => DebugCommand::Until(self.sought()?),
-            FirstWord::Look => DebugCommand::Look,
-            FirstWord::Registers => DebugCommand::Registers(self.small()?),
-            FirstWord::Memory => self.memory()?,
-            FirstWord::Code => DebugCommand::Code {
-                node: self.small()?,
-                address: if self.is_empty() {
-                    None
-                } else {
-                    Some(self.address()?)
-                },
-            },
-            FirstWord::Queue => DebugCommand::Queue(self.small()?),
-            FirstWord::Links => DebugCommand::Links(self.small()?),
-            FirstWord::Hosts => DebugCommand::Hosts,
-            FirstWord::Switch => DebugCommand::Switch,
-            FirstWord::Why if self.is_empty() => DebugCommand::Why(None),
-            FirstWord::Why => DebugCommand::Why(Some(self.small()?)),
-            FirstWord::Program => DebugCommand::Program {
-                node: self.small()?,
-                file: self.word()?,
-            },
-            FirstWord::Help => DebugCommand::Help,
-            FirstWord::Quit => DebugCommand::Quit,
-        })
+        match verb {
+            FirstWord::Events => self.events(),
+            FirstWord::Go => self.go(),
+            FirstWord::Next => self.forwards(),
+            FirstWord::Trace => self.trace(),
+            FirstWord::Back => self.back(),
+            FirstWord::Until => self.until(),
+            FirstWord::Look => Ok(DebugCommand::Look),
+            FirstWord::Registers => self.registers(),
+            FirstWord::Memory => self.memory(),
+            FirstWord::Code => self.code(),
+            FirstWord::Queue => self.queue(),
+            FirstWord::Links => self.links(),
+            FirstWord::Hosts => Ok(DebugCommand::Hosts),
+            FirstWord::Switch => Ok(DebugCommand::Switch),
+            FirstWord::Why => self.why(),
+            FirstWord::Program => self.program(),
+            FirstWord::Help => Ok(DebugCommand::Help),
+            FirstWord::Quit => Ok(DebugCommand::Quit),
+        }
     }
 }
 
@@ -427,7 +493,7 @@ pub fn read_command(line: &str) -> Result<DebugCommand<'_>, CommandFault<'_>> {
         return Ok(DebugCommand::Nothing);
     };
     let Some(first) = value_named(&FIRST_WORDS, name) else {
-        return Err(words.fault(name, " is no command"));
+        return Err(words.fault_among(name, NO_COMMAND, &FIRST_WORDS));
     };
     words.written = first.usage().written;
     let command = words.command(first)?;

@@ -1,6 +1,7 @@
 //! A record becomes a film.
 ghost use Rattle.std.specs.Prelude.{◌≡◌, length};
 
+use crate::NoMemory;
 use crate::changes::{FrameChanges, changes_of};
 use crate::code::KnownCode;
 use crate::frame::{Frame, frame_of};
@@ -8,7 +9,7 @@ use crate::plan::plan_told;
 use crate::shot::{Shot, shot_of};
 use crate::steps::{check_steps, next_steps, part_of_line};
 use crate::told::{LineFrames, json_text, line_told};
-use farm_causes::{FollowFault, Follower, LineStop, RecordStop, RecordedLine, read_record};
+use farm_causes::{FollowFault, Follower, LineStop, Record, RecordStop, RecordedLine, read_record};
 use plan_checker::AcceptedPlan;
 use script_text::TextWriter;
 use std::alloc::Global;
@@ -259,6 +260,42 @@ fn show_span<M: StepMeter>(
     Ok(())
 }
 
+// Writes what the plan of a record says, and whether the record is cut off.
+fn show_plan(
+    alloc: Global,
+    plan: &AcceptedPlan,
+    is_cut: bool,
+    text: &mut TextWriter,
+) -> Result<(), NoMemory>
+    requires { length plan.now ≡ 1 }
+{
+    let plan = plan_told(alloc, plan)?;
+    text.push("{\"plan\":");
+    text.push(json_text(serde_json::to_string(alloc, &plan))?.as_str());
+    text.push(if is_cut {
+        ",\"is_cut\":true"
+    } else {
+        ",\"is_cut\":false"
+    });
+    Ok(())
+}
+
+// The film of a record.
+fn film_of_record<M: StepMeter>(
+    alloc: Global,
+    record: &Record,
+    span: Span,
+    meter: &mut M,
+) -> Result<String, RecordStop>
+    requires { length record.now.plan ≡ 1 }
+{
+    let mut film = TextWriter::new(alloc);
+    show_plan(alloc, &record.plan, record.is_cut, &mut film)?;
+    let lines = record.lines.as_slice();
+    show_span(alloc, &record.plan, lines, span, &mut film, meter)?;
+    Ok(film.finish()?)
+}
+
 /// A record in JSON, which the page shows: the plan of its domain, the domain where the film begins, and for each line of the span
 /// what it asks, what it is answered, and what it changes. Each Step is a frame of its own, but for those in the middle of a line of
 /// more than 1,000. What changes is told by the frames of the moments before and after it (`shot_of`).
@@ -274,22 +311,5 @@ pub fn film_of<M: StepMeter>(
     meter: &mut M,
 ) -> Result<String, RecordStop> {
     let record = read_record(alloc, text, u64::MAX)?;
-    let mut film = TextWriter::new(alloc);
-    film.push("{\"plan\":");
-    let plan = plan_told(alloc, &record.plan)?;
-    film.push(json_text(serde_json::to_string(alloc, &plan))?.as_str());
-    film.push(if record.is_cut {
-        ",\"is_cut\":true"
-    } else {
-        ",\"is_cut\":false"
-    });
-    show_span(
-        alloc,
-        &record.plan,
-        record.lines.as_slice(),
-        span,
-        &mut film,
-        meter,
-    )?;
-    Ok(film.finish()?)
+    film_of_record(alloc, &record, span, meter)
 }

@@ -3,7 +3,7 @@ ghost use Rattle.std.specs.Prelude.{◌<◌, length};
 
 use crate::NoMemory;
 use domain_core::{Device, device_at};
-use plan_checker::AcceptedPlan;
+use plan_checker::{AcceptedPlan, HostPart, NodePart};
 use script_text::TextWriter;
 use serde::Serialize;
 use std::alloc::Global;
@@ -112,24 +112,34 @@ fn operations(alloc: Global) -> Result<Vec<OperationTold>, NoMemory> {
     Ok(operations)
 }
 
+// The bytes of memory of each node.
+fn memories_of(alloc: Global, nodes: &[NodePart]) -> Result<Vec<u32>, NoMemory> {
+    let mut memories = Vec::new(alloc);
+    for node in nodes {
+        memories.push(node.memory)?;
+    }
+    Ok(memories)
+}
+
+// The owner of each host.
+fn owners_of(alloc: Global, hosts: &[HostPart]) -> Result<Vec<u8>, NoMemory> {
+    let mut owners = Vec::new(alloc);
+    for host in hosts {
+        owners.push(host.user)?;
+    }
+    Ok(owners)
+}
+
 /// What a plan says of its first domain.
 pub fn plan_told(alloc: Global, plan: &AcceptedPlan) -> Result<PlanTold, NoMemory>
     requires { 0 < length plan.now }
 {
     let part = plan.part(0);
-    let mut nodes = Vec::new(alloc);
-    for node in part.nodes() {
-        nodes.push(node.memory)?;
-    }
-    let mut hosts = Vec::new(alloc);
-    for host in part.hosts() {
-        hosts.push(host.user)?;
-    }
     Ok(PlanTold {
         limit: part.limit(),
         users: users_of(alloc, plan)?,
-        nodes,
-        hosts,
+        nodes: memories_of(alloc, part.nodes())?,
+        hosts: owners_of(alloc, part.hosts())?,
         ports: ports_of(alloc, plan)?,
         functions: functions(alloc)?,
         operations: operations(alloc)?,

@@ -3,7 +3,7 @@
 use crate::left_out::left_out;
 use line_words::{Wanted, WordForm, WordHint, WordPlace, WordRole, Words};
 use std::alloc::{AllocError, Global};
-use t414_assembly::{Mnemonic, mnemonic_named, operand_of, spell};
+use t414_assembly::{Mnemonic, mnemonic_named, nearest_instruction, operand_of, spell};
 use t414_decode::Function;
 
 /// An instruction, as the assembler has it.
@@ -35,11 +35,17 @@ pub fn read_instruction(
 
 /// Notes that something else is wanted at a place, where an instruction might stand.
 pub fn reject_instruction<'a>(words: &mut Words<'a>, place: WordPlace<'a>, wanted: Wanted) {
-    let hint = match left_out(place.word()) {
+    words.reject_with(place, wanted, instruction_hint(place.word(), wanted));
+}
+
+// What helps where a word stands in place of an instruction.
+fn instruction_hint(word: &str, wanted: Wanted) -> Option<WordHint> {
+    match left_out(word) {
         Some(group) => Some(WordHint::LeftOut(group)),
-        None => WordHint::of(place.word(), wanted),
-    };
-    words.reject_with(place, wanted, hint);
+        None => WordHint::of(word, wanted).or(nearest_instruction(word).map(
+            |name| WordHint::Nearest(name),
+        )),
+    }
 }
 
 fn read_operand(words: &mut Words) -> u32 {
