@@ -1,6 +1,12 @@
 -- The instruction table: what each function and each operation does to the registers and to memory.
 -- Transputer instruction set handbook. If the handbook leaves a register or a case undefined the row is our
--- choice: norm, cword, testpranal, ldiv if C >= A, rem of MinInt by -1, and all registers that a row doesn't name.
+-- choice: norm, cword, testpranal, ldiv if C >= A, rem of MinInt by -1, and registers that a row doesn't name, which
+-- keep their values. Other than on the chip, a process of high priority halts the node, a process has its slice by
+-- bytes of code, and no clock is kept.
+-- s are the registers before the instruction, with Iptr at the next one; ls are the links. `x ← load ls m a` reads a
+-- word, and after `m ← store ls m a w` m is memory with that word; a fault of either halts the node. `Gave s ls m` is
+-- what the instruction leaves. push x, unary_result x (A = x), binary_result x (A = x, B = C), drop (A = B, B = C) and
+-- drop2 (A = C) change the registers; ⊕, ⊖ and ⊗ are modulo 2 ^ 32.
 use Rattle.std.specs.Prelude.{ℕ, ◌+◌, ◌-◌, ◌*◌, ◌/◌, ◌%◌, ◌^◌, ◌==◌, Bool, true, false, ◌&&◌, ◌||◌, not, List, pos, ◌+ℤ◌, ◌-ℤ◌, int_lt, int_le, int_div, int_rem, neg_ℤ, Option, Some, None, nat_le, nat_lt, if◌then◌else◌, bit_and, bit_or, bit_xor}
 use Rattle.std.specs.Int.{w32, w64, cast_unsigned, leading_zeros}
 use Rattle.node_memory.specs.Marks.{not_process, enabling, waiting, ready, none_selected}
@@ -26,7 +32,7 @@ abbrev pub error_if : Bool → Cpu → FourLinks → List ℕ → CpuEffect
 error_if false s ls m = Gave s ls m
 error_if true s ls m = if s.halt_on_error then Halted ErrorSet ls m else Gave (record s { error = true }) ls m
 
--- save, leave
+-- save, leave: Iptr is kept at W - 4, and the next step takes a process from the queue
 abbrev pub wait : Cpu → FourLinks → List ℕ → CpuEffect
 wait s ls m = do m ← save ls m (process_of s); Gave (leave s) ls m
 
@@ -34,7 +40,7 @@ wait s ls m = do m ← save ls m (process_of s); Gave (leave s) ls m
 abbrev pub put_by : ℕ → Cpu → FourLinks → List ℕ → CpuEffect
 put_by w s ls m = do (q, m) ← put ls s.queue m w; Gave (record s { queue = q }) ls m
 
--- if the byte count is 1,024: save, put W, leave. The chip uses time in its place
+-- if the byte count is 1,024, which it never passes: save, put W, leave. The chip uses time in its place
 abbrev pub slice : Cpu → FourLinks → List ℕ → CpuEffect
 slice s ls m =
     if s.bytes == 1024 then (do m ← save ls m (process_of s); put_by s.workspace (leave s) ls m) else Gave s ls m
@@ -135,7 +141,7 @@ row op.AltEnd s ls m = do offset ← load ls m s.workspace; Gave (goto (s.instru
 row op.And s ls m = Gave (binary_result (bit_and s.b s.a) s) ls m  -- 46 and
 row op.EnableSkip s ls m =  -- 49 enbs
     if s.a == 0 then Gave s ls m else (do m ← store ls m (s.workspace ⊖ 12) ready; Gave s ls m)
-row op.MoveMessage s ls m = do m ← copy ls m s.a s.c s.b; Gave s ls m  -- 4A move
+row op.MoveMessage s ls m = do m ← copy ls m s.a s.c s.b; Gave s ls m  -- 4A move: A bytes from C to B
 row op.Or s ls m = Gave (binary_result (bit_or s.b s.a) s) ls m  -- 4B or
 row op.CheckSingle s ls m = error_if (not (s.b == sign_of s.a)) (record s { b = s.c }) ls m  -- 4C csngl
 row op.CheckCountFromOne s ls m = error_if (s.b == 0 || nat_lt s.a s.b) (drop s) ls m  -- 4D ccnt1
