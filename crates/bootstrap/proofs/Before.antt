@@ -24,14 +24,14 @@ pub record RanBefore (o : Option StepEffect) (answer : StepEffect) : Type 0 wher
   pub is : o ≡ Some (Gave (true, cpu) links memory)
   pub next : step cpu links memory ≡ answer
 
-before : (o : Option StepEffect) (answer : StepEffect) → then_step o ≡ Some answer → RanBefore o answer
-before (Some (Gave (true, s) ls m)) answer e = record { cpu = s; links = ls; memory = m; is = refl; next = cc }
-before (Some (Gave (false, s) ls m)) answer e = cc
-before (Some (Halted fault ls m)) answer e = cc
-before None answer e = cc
+before : (effect : Option StepEffect) (answer : StepEffect) → then_step effect ≡ Some answer → RanBefore effect answer
+before (Some (Gave (true, s) ls m)) answer same = record { cpu = s; links = ls; memory = m; is = refl; next = cc }
+before (Some (Gave (false, s) ls m)) answer same = cc
+before (Some (Halted fault ls m)) answer same = cc
+before None answer same = cc
 
 -- all steps before the last ran
 pub ran-before : (k : ℕ) (s : Cpu) (ls : FourLinks) (m : List ℕ) (answer : StepEffect)
     → nth_step (suc k) s ls m ≡ Some answer
     → RanBefore (nth_step k s ls m) answer
-ran-before k s ls m answer e = before (nth_step k s ls m) answer (sym (one-more-step k s ls m) ∙ e)
+ran-before k s ls m answer same = before (nth_step k s ls m) answer (sym (one-more-step k s ls m) ∙ same)

@@ -36,21 +36,21 @@ no-steps x = record { node = after_steps-zero x; recorded = λ i lt. absurd (ome
 -- a recorded Step more
 pub one-more : (x y z : Node) (k : ℕ) → IsAfter x k y → is_step_recorded y ≡ true → (node_step y).0 ≡ z
     → IsAfter x (k + 1) z
-one-more x y z k after r e = record {
+one-more x y z k after same equal = record {
   node =
       ap (λ (i : ℕ). after_steps i x) (add-one k) ∙ after_steps-suc k x ∙ ap (λ (n : Node). (node_step n).0) after.node
-      ∙ e;
+      ∙ equal;
   recorded =
       below_more (λ (i : ℕ). is_step_recorded (after_steps i x) ≡ true) k after.recorded
-      (ap is_step_recorded after.node ∙ r);
+      (ap is_step_recorded after.node ∙ same);
 }
 
 -- what one more Step answers is the last answer
 pub last-more : (x y : Node) (k : ℕ) (answer : Stepped) → IsAfter x k y → (node_step y).1 ≡ answer
     → last_answer (k + 1) x ≡ Some answer
-last-more x y k answer after e =
+last-more x y k answer after same =
     ap (λ (i : ℕ). last_answer i x) (add-one k) ∙ last_answer-suc k x
-    ∙ ap (λ (n : Node). Some (node_step n).1) after.node ∙ ap (λ (a : Stepped). Some a) e
+    ∙ ap (λ (n : Node). Some (node_step n).1) after.node ∙ ap (λ (a : Stepped). Some a) same
 
 -- Steps and then others are all of them
 pub after_steps-add : (j k : ℕ) (x : Node) → after_steps (j + k) x ≡ after_steps k (after_steps j x)

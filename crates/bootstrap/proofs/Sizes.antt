@@ -55,50 +55,51 @@ pub record Sized {A S : Type 0} (k : ℕ) (r : Effect A S) : Type 0 where
   pub size : length (memory_of r) ≡ k
 
 gave : {A S : Type 0} (x : A) (s : S) (m : List ℕ) (k : ℕ) → length m ≡ k → Sized k (Gave x s m)
-gave x s m k e = record { size = e }
+gave x s m k same = record { size = same }
 
 halted : {A S : Type 0} (fault : Fault) (s : S) (m : List ℕ) (k : ℕ) → length m ≡ k
     → Sized {A = A} k (Halted fault s m)
-halted fault s m k e = record { size = e }
+halted fault s m k same = record { size = same }
 
-keeps-if : {A S : Type 0} (b : Bool) (x y : Effect A S) (k : ℕ) → Sized k x → Sized k y
-    → Sized k (if b then x else y)
-keeps-if true x y k e f = e
-keeps-if false x y k e f = f
+keeps-if : {A S : Type 0} (b : Bool) (effect other_effect : Effect A S) (k : ℕ) → Sized k effect → Sized k other_effect
+    → Sized k (if b then effect else other_effect)
+keeps-if true effect other_effect k holds known = holds
+keeps-if false effect other_effect k holds known = known
 
-keeps-tried : {A B S : Type 0} (r : Result B Fault) (s : S) (m : List ℕ) (next : B → Effect A S) (k : ℕ)
+keeps-tried : {A B S : Type 0} (outcome : Result B Fault) (s : S) (m : List ℕ) (next : B → Effect A S) (k : ℕ)
     → length m ≡ k → ((x : B) → Sized k (next x))
-    → Sized k (tried r s m next)
-keeps-tried (Ok x) s m next k e f = f x
-keeps-tried (Err fault) s m next k e f = record { size = e }
+    → Sized k (tried outcome s m next)
+keeps-tried (Ok x) s m next k same holds = holds x
+keeps-tried (Err fault) s m next k same holds = record { size = same }
 
-keeps-written : {A S : Type 0} (r : Result (List ℕ) Fault) (s : S) (m : List ℕ) (next : List ℕ → Effect A S) (k : ℕ)
-    → ((n : List ℕ) → r ≡ Ok n → length n ≡ length m) → length m ≡ k
+keeps-written : {A S : Type 0} (outcome : Result (List ℕ) Fault) (s : S) (m : List ℕ)
+    (next : List ℕ → Effect A S) (k : ℕ)
+    → ((n : List ℕ) → outcome ≡ Ok n → length n ≡ length m) → length m ≡ k
     → ((n : List ℕ) → length n ≡ k → Sized k (next n))
-    → Sized k (tried r s m next)
-keeps-written (Ok n) s m next k h e f = f n (h n refl ∙ e)
-keeps-written (Err fault) s m next k h e f = record { size = e }
+    → Sized k (tried outcome s m next)
+keeps-written (Ok n) s m next k holds same known = known n (holds n refl ∙ same)
+keeps-written (Err fault) s m next k holds same known = record { size = same }
 
-keeps-perform : {A B S : Type 0} (r : Effect B S) (next : B × S × List ℕ → Effect A S) (k : ℕ)
-    → Sized k r → ((x : B) (s : S) (m : List ℕ) → length m ≡ k → Sized k (next (x, s, m)))
-    → Sized k (perform r next)
-keeps-perform (Gave x s m) next k h f = f x s m h.size
-keeps-perform (Halted fault s m) next k h f = record { size = h.size }
+keeps-perform : {A B S : Type 0} (effect : Effect B S) (next : B × S × List ℕ → Effect A S) (k : ℕ)
+    → Sized k effect → ((x : B) (s : S) (m : List ℕ) → length m ≡ k → Sized k (next (x, s, m)))
+    → Sized k (perform effect next)
+keeps-perform (Gave x s m) next k holds known = known x s m holds.size
+keeps-perform (Halted fault s m) next k holds known = record { size = holds.size }
 
-keeps-beside : {A B S T : Type 0} (s : S) (r : Effect B T) (next : B × T × List ℕ → Effect A S) (k : ℕ)
-    → Sized k r → ((x : B) (t : T) (m : List ℕ) → length m ≡ k → Sized k (next (x, t, m)))
-    → Sized k (beside s r next)
-keeps-beside s (Gave x t m) next k h f = f x t m h.size
-keeps-beside s (Halted fault t m) next k h f = record { size = h.size }
+keeps-beside : {A B S T : Type 0} (s : S) (effect : Effect B T) (next : B × T × List ℕ → Effect A S) (k : ℕ)
+    → Sized k effect → ((x : B) (t : T) (m : List ℕ) → length m ≡ k → Sized k (next (x, t, m)))
+    → Sized k (beside s effect next)
+keeps-beside s (Gave x t m) next k holds known = known x t m holds.size
+keeps-beside s (Halted fault t m) next k holds known = record { size = holds.size }
 
-keeps-within : {A : Type 0} (n : LinkNumber) (ls : FourLinks) (r : Effect A Link) (k : ℕ) → Sized k r
-    → Sized k (within n ls r)
-keeps-within n ls (Gave x l m) k h = record { size = h.size }
-keeps-within n ls (Halted fault l m) k h = record { size = h.size }
+keeps-within : {A : Type 0} (n : LinkNumber) (ls : FourLinks) (effect : Effect A Link) (k : ℕ) → Sized k effect
+    → Sized k (within n ls effect)
+keeps-within n ls (Gave x l m) k holds = record { size = holds.size }
+keeps-within n ls (Halted fault l m) k holds = record { size = holds.size }
 
 keeps-error : (b : Bool) (s : Cpu) (ls : FourLinks) (m : List ℕ) (k : ℕ) → length m ≡ k → Sized k (error_if b s ls m)
-keeps-error false s ls m k e = gave s ls m k e
-keeps-error true s ls m k e = search (keeps-if, gave, halted)
+keeps-error false s ls m k same = gave s ls m k same
+keeps-error true s ls m k same = search (keeps-if, gave, halted)
 
 -- writes and copies change no size: the laws of memory, on which all that follows rests
 module _ (words : WordKeepsTheSize) (bytes : ByteKeepsTheSize) (copies : CopyKeepsTheSize) where

@@ -11,8 +11,8 @@ use Rattle.crossbar.proofs.Words.{input_fits, counts_both}
 pub counts_two_ways : (row : Row) (first second : ℕ)
     → IsRow (row_connected row first second) → first < length row.ports → second < length row.ports
     → AllZip CountsChange row.words (row_connected (row_connected row first second) second first).words
-counts_two_ways row first second h one two =
-    counts_both row.words second first _ _ (input_fits _ false (h.below first 0 one))
-    (input_fits _ false (h.below second 0 two))
+counts_two_ways row first second given one two =
+    counts_both row.words second first _ _ (input_fits _ false (given.below first 0 one))
+    (input_fits _ false (given.below second 0 two))
     (λ (e : second ≡ first).
     ap (λ (v : ℕ). Some (let c : Connection = record { input = slice_index row.ports v; ready = false } in c)) (sym e))

@@ -24,11 +24,11 @@ tail_one_to_one port ports one v w p a b = let e = one (suc v) (suc w) p a b in 
 
 -- ---- the number of a port
 
-counted_on : (o : Option ℕ) (v : ℕ) → option_map suc o ≡ Some v → (w : ℕ) × (o ≡ Some w) × (v ≡ suc w)
+counted_on : (output : Option ℕ) (v : ℕ) → option_map suc output ≡ Some v → (w : ℕ) × (output ≡ Some w) × (v ≡ suc w)
 counted_on None v is = absurd (none-some v is)
 counted_on (Some w) v is = (w, refl, sym (same_Some _ _ is))
 
-some_still : (o : Option ℕ) → is_some (option_map suc o) ≡ is_some o
+some_still : (output : Option ℕ) → is_some (option_map suc output) ≡ is_some output
 some_still None = refl
 some_still (Some w) = refl
 
@@ -139,12 +139,12 @@ one_to_one_front ports more one v w port a b =
 
 -- the first ports of a numbering are a numbering
 pub numbering_front : (ports more : List ℕ) → IsNumbering (ports ++ more) → IsNumbering ports
-numbering_front ports more h = record {
+numbering_front ports more given = record {
   below =
       λ k d l.
       subst (λ (p : ℕ). p < 32) (get_or_append_left ports more d k l)
-      (h.below k d (let e = length-append ports more in omega arith));
-  one_to_one = one_to_one_front ports more h.one_to_one;
+      (given.below k d (let e = length-append ports more in omega arith));
+  one_to_one = one_to_one_front ports more given.one_to_one;
 }
 
 -- ---- distinct ports are at most 32
@@ -178,15 +178,15 @@ found_below (first ∷ ports) q below found =
 
 -- a numbering has 32 ports at most, since they are distinct and below 32
 pub at-most-32-ports : (ports : List ℕ) → IsNumbering ports → length ports ≤ 32
-at-most-32-ports ports h =
-    length-le_from_distinct_below ports 32 (distinct ports h.one_to_one) (λ q. found_below ports q h.below)
+at-most-32-ports ports given =
+    length-le_from_distinct_below ports 32 (distinct ports given.one_to_one) (λ q. found_below ports q given.below)
 
 -- ---- a numbering kept both ways
 
 get_set_same : {X : Type 0} (xs : List X) (i : ℕ) (x : X) → i < length xs → slice_get (slice_set xs i x) i ≡ Some x
-get_set_same [] i x h = absurd (omega arith)
-get_set_same (y ∷ xs) zero x h = refl
-get_set_same (y ∷ xs) (suc i) x h = get_set_same xs i x (omega arith)
+get_set_same [] i x less = absurd (omega arith)
+get_set_same (y ∷ xs) zero x less = refl
+get_set_same (y ∷ xs) (suc i) x less = get_set_same xs i x (omega arith)
 
 get_set_other : {X : Type 0} (xs : List X) (i j : ℕ) (x : X) → j ≢ i → slice_get (slice_set xs i x) j ≡ slice_get xs j
 get_set_other [] i j x ne = refl
@@ -196,9 +196,9 @@ get_set_other (y ∷ xs) (suc i) zero x ne = refl
 get_set_other (y ∷ xs) (suc i) (suc j) x ne = get_set_other xs i j x (λ e. ne (ap suc e))
 
 nothing_yet : (n port : ℕ) → port < n → slice_get (replicate n (let none : Option ℕ = None in none)) port ≡ Some None
-nothing_yet zero port h = absurd (omega arith)
-nothing_yet (suc n) zero h = refl
-nothing_yet (suc n) (suc port) h = nothing_yet n port (omega arith)
+nothing_yet zero port less = absurd (omega arith)
+nothing_yet (suc n) zero less = refl
+nothing_yet (suc n) (suc port) less = nothing_yet n port (omega arith)
 
 -- the empty list of ports is a numbering
 pub no_numbering : IsNumbering []
@@ -215,57 +215,57 @@ empty_table ports room = record {
 }
 
 length-first : (ports : List ℕ) (count : ℕ) → length ports ≡ 32 → count ≤ 32 → length (take count ports) ≡ count
-length-first ports count room h = length-take count ports ∙ omega arith
+length-first ports count room less = length-take count ports ∙ omega arith
 
 -- a table has room for a port with which its ports are still a numbering
 pub room_for : (ports : List ℕ) (numbers : List (Option ℕ)) (count port : ℕ)
     → IsNumberTable ports numbers count → IsNumbering (take count ports ++ port ∷ [])
     → count < 32
-room_for ports numbers count port t h =
+room_for ports numbers count port given holds =
     omega (
       arith,
-      at-most-32-ports _ h,
+      at-most-32-ports _ holds,
       length-append (take count ports) (port ∷ []),
-      length-first ports count t.ports_room t.few,
+      length-first ports count given.ports_room given.few,
     )
 
 -- a port with which the ports are still a numbering is below 32
 pub port_below : (ports : List ℕ) (port : ℕ) → IsNumbering (ports ++ port ∷ []) → port < 32
-port_below ports port h =
+port_below ports port given =
     subst (λ (p : ℕ). p < 32) (get_or-append_seam ports port [] port)
-    (h.below (length ports) port (omega (arith, length-append ports (port ∷ []))))
+    (given.below (length ports) port (omega (arith, length-append ports (port ∷ []))))
 
 -- the first ports of the table once another is stored behind them: those from before and the other
 pub pushed : (ports : List ℕ) (numbers : List (Option ℕ)) (count port : ℕ)
     → IsNumberTable ports numbers count → IsNumbering (take count ports ++ port ∷ [])
     → take (count + 1) (slice_set ports count port) ≡ take count ports ++ port ∷ []
-pushed ports numbers count port t h =
-    take_more_set ports count port (omega (arith, room_for ports numbers count port t h, t.ports_room))
+pushed ports numbers count port given holds =
+    take_more_set ports count port (omega (arith, room_for ports numbers count port given holds, given.ports_room))
 
 -- a table stays one if the next port is stored, and its count as its number
 pub table_pushed : (ports : List ℕ) (numbers : List (Option ℕ)) (count port : ℕ) → IsNumberTable ports numbers count
     → IsNumbering (take count ports ++ port ∷ [])
     → IsNumberTable (slice_set ports count port) (slice_set numbers port (Some count)) (count + 1)
-table_pushed ports numbers count port t h = record {
-  ports_room = length-set ports count port ∙ t.ports_room;
-  numbers_room = length-set numbers port (Some count) ∙ t.numbers_room;
-  few = omega (arith, room_for ports numbers count port t h);
-  numbering = subst IsNumbering (sym (pushed ports numbers count port t h)) h;
+table_pushed ports numbers count port given holds = record {
+  ports_room = length-set ports count port ∙ given.ports_room;
+  numbers_room = length-set numbers port (Some count) ∙ given.numbers_room;
+  few = omega (arith, room_for ports numbers count port given holds);
+  numbering = subst IsNumbering (sym (pushed ports numbers count port given holds)) holds;
   inverse = λ q below.
-      let front = pushed ports numbers count port t h in
+      let front = pushed ports numbers count port given holds in
       elim (cases_eq port q) [
         | inl e ↦
             let there : slice_get (slice_set numbers port (Some count)) q ≡ Some (Some count) =
             ap (slice_get (slice_set numbers port (Some count))) (sym e)
             ∙ get_set_same numbers port (Some count)
-            (omega (arith, t.numbers_room, port_below (take count ports) port h)) in
+            (omega (arith, given.numbers_room, port_below (take count ports) port holds)) in
             let number : number_among (take count ports ++ port ∷ []) q ≡ Some count =
             ap (number_among (take count ports ++ port ∷ [])) (sym e)
-            ∙ number_among-last (take count ports) port (absent (take count ports) port h.one_to_one)
-            ∙ ap (λ (n : ℕ). Some n) (length-first ports count t.ports_room t.few) in
+            ∙ number_among-last (take count ports) port (absent (take count ports) port holds.one_to_one)
+            ∙ ap (λ (n : ℕ). Some n) (length-first ports count given.ports_room given.few) in
             there ∙ ap (λ (o : Option ℕ). Some o) (sym number ∙ sym (ap (λ ps. number_among ps q) front))
         | inr ne ↦
-            get_set_other numbers port q (Some count) (λ (e : q ≡ port). ne (sym e)) ∙ t.inverse q below
+            get_set_other numbers port q (Some count) (λ (e : q ≡ port). ne (sym e)) ∙ given.inverse q below
             ∙ ap (λ (o : Option ℕ). Some o)
             (sym (number_among-other (take count ports) port q ne) ∙ sym (ap (λ ps. number_among ps q) front))
       ];
@@ -273,14 +273,15 @@ table_pushed ports numbers count port t h = record {
 
 -- ports that are equal to others are a numbering with more behind them, if the others are
 pub as_seen : (ports seen more : List ℕ) → ports ≡ seen → IsNumbering (seen ++ more) → IsNumbering (ports ++ more)
-as_seen ports seen more is h = subst (λ (ps : List ℕ). IsNumbering (ps ++ more)) (sym is) h
+as_seen ports seen more is given = subst (λ (ps : List ℕ). IsNumbering (ps ++ more)) (sym is) given
 
 -- a port from 32 on has no number
 pub no_number_past : (ports : List ℕ) (numbers : List (Option ℕ)) (count port : ℕ) (seen : List ℕ)
     → take count ports ≡ seen → IsNumberTable ports numbers count → 32 ≤ port
     → None ≡ number_among seen port
-no_number_past ports numbers count port seen is t past =
-    sym (ap (λ ps. number_among ps port) (sym is) ∙ number_among-past (take count ports) 32 port t.numbering.below past)
+no_number_past ports numbers count port seen is given past =
+    sym (ap (λ ps. number_among ps port) (sym is) ∙ number_among-past (take count ports) 32 port
+    given.numbering.below past)
 
 -- if the code stores the next port, and its count as its number, the table holds one port more
 pub table_pushed_at : (ports : List ℕ) (numbers : List (Option ℕ)) (count port at number : ℕ) (seen : List ℕ)
@@ -288,13 +289,13 @@ pub table_pushed_at : (ports : List ℕ) (numbers : List (Option ℕ)) (count po
     → IsNumbering (seen ++ port ∷ [])
     → IsNumberTable (slice_set ports at port) (slice_set numbers number (Some count)) (count + 1)
     × (take (count + 1) (slice_set ports at port) ≡ seen ++ port ∷ [])
-table_pushed_at ports numbers count port at number seen is at_is number_is t h =
-    let here = as_seen (take count ports) seen (port ∷ []) is h in (
+table_pushed_at ports numbers count port at number seen is at_is number_is given holds =
+    let here = as_seen (take count ports) seen (port ∷ []) is holds in (
       subst (λ (a : ℕ). IsNumberTable (slice_set ports a port) (slice_set numbers number (Some count)) (count + 1))
           (sym at_is)
           (subst (λ (n : ℕ). IsNumberTable (slice_set ports count port) (slice_set numbers n (Some count)) (count + 1))
-          (sym number_is) (table_pushed ports numbers count port t here)),
-      ap (λ (a : ℕ). take (count + 1) (slice_set ports a port)) at_is ∙ pushed ports numbers count port t here
+          (sym number_is) (table_pushed ports numbers count port given here)),
+      ap (λ (a : ℕ). take (count + 1) (slice_set ports a port)) at_is ∙ pushed ports numbers count port given here
           ∙ ap (λ (ps : List ℕ). ps ++ port ∷ []) is,
     )
 
@@ -314,11 +315,11 @@ range_more first i =
 
 range_split : (first i j n : ℕ) → i + j ≡ n
     → range_with_len first n ≡ range_with_len first i ++ range_with_len (first + i) j
-range_split first zero j n h =
+range_split first zero j n same =
     ap (range_with_len first) (let e : n ≡ j = omega arith in e)
     ∙ ap (λ (p : ℕ). range_with_len p j) (let e : first ≡ first + 0 = omega arith in e)
-range_split first (suc i) j zero h = absurd (omega arith)
-range_split first (suc i) j (suc n) h =
+range_split first (suc i) j zero same = absurd (omega arith)
+range_split first (suc i) j (suc n) same =
     ap (λ ps. first ∷ ps) (range_split (first + 1) i j n (omega arith))
     ∙ ap (λ (p : ℕ). first ∷ (range_with_len (first + 1) i ++ range_with_len p j))
     (let e : first + 1 + i ≡ first + suc i = omega arith in e)
@@ -343,7 +344,7 @@ pub one_more : (ports now : List ℕ) (first n port : ℕ)
     → IsNumbering (ports ++ range_with_len first n) → first ≤ port → port < first + n
     → now ≡ ports ++ range_with_len first (port - first)
     → IsNumbering (now ++ port ∷ [])
-one_more ports now first n port h from to is =
+one_more ports now first n port given from to is =
     let i = port - first in
     let at : first + i ≡ port = omega arith in
     let split = range_split first (i + 1) (n - (i + 1)) n (omega arith) in
@@ -352,7 +353,7 @@ one_more ports now first n port h from to is =
     ≡ (ports ++ (range_with_len first i ++ port ∷ [])) ++ range_with_len (first + (i + 1)) (n - (i + 1)) =
     ap (λ ps. ports ++ ps) (split ∙ ap (λ ps. ps ++ range_with_len (first + (i + 1)) (n - (i + 1))) front)
     ∙ sym (append_assoc ports _ _) in
-    let part = numbering_front (ports ++ (range_with_len first i ++ port ∷ [])) _ (subst IsNumbering whole h) in
+    let part = numbering_front (ports ++ (range_with_len first i ++ port ∷ [])) _ (subst IsNumbering whole given) in
     subst IsNumbering (sym (append_assoc ports _ _) ∙ ap (λ ps. ps ++ port ∷ []) (sym is)) part
 
 -- the ports up to the next port of the range, once it is appended
@@ -377,45 +378,45 @@ ranged_ports-append (place ∷ ranges) more =
     ∙ sym (append_assoc (ports_at place) (ranged_ports ranges) (ranged_ports more))
 
 below_of : (place : Option PortRange) → IsPortRange place → All (λ p. p < 32) (ports_at place)
-below_of None h k d l = absurd (omega arith)
-below_of (Some range) h k d l =
+below_of None given k d l = absurd (omega arith)
+below_of (Some range) given k d l =
     let inside : k < range.last + 1 - range.first =
     omega (arith, length-range_with_len range.first (range.last + 1 - range.first)) in
     let at = get_or-range_with_len range.first (range.last + 1 - range.first) k d inside in
-    let (from, to) = h in
+    let (from, to) = given in
     omega (arith, from, to)
 
 ranges_below : (ranges : List (Option PortRange)) → All IsPortRange ranges → All (λ p. p < 32) (ranged_ports ranges)
-ranges_below [] h = λ k d l. absurd (omega arith)
-ranges_below (place ∷ ranges) h =
-    All-append (λ p. p < 32) (ports_at place) (ranged_ports ranges) (below_of place (h 0 None (omega arith)))
-    (ranges_below ranges (λ k d l. h (suc k) d (omega arith)))
+ranges_below [] given = λ k d l. absurd (omega arith)
+ranges_below (place ∷ ranges) given =
+    All-append (λ p. p < 32) (ports_at place) (ranged_ports ranges) (below_of place (given 0 None (omega arith)))
+    (ranges_below ranges (λ k d l. given (suc k) d (omega arith)))
 
 -- the ports of ranges that may be a domain's are a numbering
 pub numbering_in : (ranges : List (Option PortRange)) → AreRanges ranges → IsNumbering (ranged_ports ranges)
-numbering_in ranges h = record { below = ranges_below ranges h.each; one_to_one = h.one_to_one }
+numbering_in ranges given = record { below = ranges_below ranges given.each; one_to_one = given.one_to_one }
 
-ranged_ports-more : (ranges : List (Option PortRange)) (i : ℕ) (d : Option PortRange) → i < length ranges
-    → ranged_ports (take (i + 1) ranges) ≡ ranged_ports (take i ranges) ++ ports_at (get_or ranges i d)
-ranged_ports-more ranges i d l =
-    ap ranged_ports (take_more ranges i d l) ∙ ranged_ports-append (take i ranges) (get_or ranges i d ∷ [])
-    ∙ ap (λ ps. ranged_ports (take i ranges) ++ ps) (append-nil (ports_at (get_or ranges i d)))
+ranged_ports-more : (ranges : List (Option PortRange)) (i : ℕ) (range : Option PortRange) → i < length ranges
+    → ranged_ports (take (i + 1) ranges) ≡ ranged_ports (take i ranges) ++ ports_at (get_or ranges i range)
+ranged_ports-more ranges i range less =
+    ap ranged_ports (take_more ranges i range less) ∙ ranged_ports-append (take i ranges) (get_or ranges i range ∷ [])
+    ∙ ap (λ ps. ranged_ports (take i ranges) ++ ps) (append-nil (ports_at (get_or ranges i range)))
 
 -- the next place shares no port with those before it
-pub next_place : (ranges : List (Option PortRange)) (now : List ℕ) (i : ℕ) (d : Option PortRange)
+pub next_place : (ranges : List (Option PortRange)) (now : List ℕ) (i : ℕ) (range : Option PortRange)
     → AreRanges ranges → i < length ranges → now ≡ ranged_ports (take i ranges)
-    → IsNumbering (now ++ ports_at (get_or ranges i d))
-next_place ranges now i d h l is =
-    let whole : ranged_ports ranges ≡ (now ++ ports_at (get_or ranges i d)) ++ ranged_ports (drop (i + 1) ranges) =
+    → IsNumbering (now ++ ports_at (get_or ranges i range))
+next_place ranges now i range given less is =
+    let whole : ranged_ports ranges ≡ (now ++ ports_at (get_or ranges i range)) ++ ranged_ports (drop (i + 1) ranges) =
     ap ranged_ports (sym (take-append-drop (i + 1) ranges))
     ∙ ranged_ports-append (take (i + 1) ranges) (drop (i + 1) ranges)
     ∙ ap (λ ps. ps ++ ranged_ports (drop (i + 1) ranges))
-    (ranged_ports-more ranges i d l ∙ ap (λ ps. ps ++ ports_at (get_or ranges i d)) (sym is)) in
-    numbering_front _ _ (subst IsNumbering whole (numbering_in ranges h))
+    (ranged_ports-more ranges i range less ∙ ap (λ ps. ps ++ ports_at (get_or ranges i range)) (sym is)) in
+    numbering_front _ _ (subst IsNumbering whole (numbering_in ranges given))
 
 -- the ports of one range more, once its ports are appended
-pub place_appended : (ranges : List (Option PortRange)) (now next : List ℕ) (i : ℕ) (d : Option PortRange)
-    → i < length ranges → now ≡ ranged_ports (take i ranges) → next ≡ now ++ ports_at (get_or ranges i d)
+pub place_appended : (ranges : List (Option PortRange)) (now next : List ℕ) (i : ℕ) (range : Option PortRange)
+    → i < length ranges → now ≡ ranged_ports (take i ranges) → next ≡ now ++ ports_at (get_or ranges i range)
     → next ≡ ranged_ports (take (i + 1) ranges)
-place_appended ranges now next i d l is more =
-    more ∙ ap (λ ps. ps ++ ports_at (get_or ranges i d)) is ∙ sym (ranged_ports-more ranges i d l)
+place_appended ranges now next i range less is more =
+    more ∙ ap (λ ps. ps ++ ports_at (get_or ranges i range)) is ∙ sym (ranged_ports-more ranges i range less)

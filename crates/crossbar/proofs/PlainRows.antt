@@ -71,25 +71,27 @@ pub record Gathers (words : List Word) (ports : List ℕ) (own : List Word) (n :
 
 -- once the next port's word is stored, one word more is gathered
 pub gathers_more : (words : List Word) (ranges : List (Option PortRange)) (ports : List ℕ) (own : List Word)
-    (n at from port : ℕ) (d : Word)
+    (n at from port : ℕ) (word : Word)
     → Gathers words ports own n → length words ≡ 32 → AreRanges ranges
     → ports ≡ ranged_ports ranges
     → at ≡ n → from ≡ port → slice_get ports n ≡ Some port
-    → Gathers words ports (slice_set own at (get_or words from d)) (n + 1)
-gathers_more words ranges ports own n at from port d g room ranges_are ports_is at_is from_is is =
+    → Gathers words ports (slice_set own at (get_or words from word)) (n + 1)
+gathers_more words ranges ports own n at from port other_word given room ranges_are ports_is at_is from_is is =
     let numbering : IsNumbering ports = subst IsNumbering (sym ports_is) (numbering_in ranges ranges_are) in
     let inside : n < 32 = omega (arith, at-most-32-ports ports numbering, slice_get_within ports n port is) in
     let below : port < 32 =
     subst (λ (p : ℕ). p < 32) (get_or_from_slice_get ports n port port is)
     (numbering.below n port (slice_get_within ports n port is)) in
-    let word = get_or words from d in
+    let word = get_or words from other_word in
     record {
-      room = length-set own at word ∙ g.room;
+      room = length-set own at word ∙ given.room;
       front =
           let there : slice_get words port ≡ Some word =
-          slice_get-get_or words port d (omega (arith, room)) ∙ ap (λ (p : ℕ). Some (get_or words p d)) (sym from_is) in
-          ap (λ (a : ℕ). take (n + 1) (slice_set own a word)) at_is ∙ take_more_set own n word (omega (arith, g.room))
-          ∙ ap (λ ws. ws ++ word ∷ []) g.front ∙ sym (words_more words ports n port word is there);
+          slice_get-get_or words port other_word (omega (arith, room))
+          ∙ ap (λ (p : ℕ). Some (get_or words p other_word)) (sym from_is) in
+          ap (λ (a : ℕ). take (n + 1) (slice_set own a word)) at_is
+          ∙ take_more_set own n word (omega (arith, given.room))
+          ∙ ap (λ ws. ws ++ word ∷ []) given.front ∙ sym (words_more words ports n port word is there);
     }
 
 -- ---- words that say nothing
@@ -116,8 +118,8 @@ unused_words n (port ∷ ports) =
 
 -- a row of them can be taken, whatever the ranges
 pub unused_is_plain : (ranges : List (Option PortRange)) → AreRanges ranges → IsPlain (replicate 32 unused) ranges
-unused_is_plain ranges h = record {
-  ranges_are = h;
+unused_is_plain ranges given = record {
+  ranges_are = given;
   each =
       let (k, is) = unused_words 32 (ranged_ports ranges) in
       subst (All (IsWordOf (ranged_ports ranges))) (sym is)

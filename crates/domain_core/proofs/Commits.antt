@@ -121,35 +121,35 @@ below_limit : (recorded k limit : ℕ) → recorded + suc k ≤ limit → record
 below_limit recorded k limit room e = absurd (omega (arith, e, room))
 
 -- a history with k Steps of a node behind it is one, if each would be recorded and there is room, and leads on
-pub history_steps : RecordedStepRan → (part : PartData) (h : List AnsweredCall) (s : State) (i k : ℕ) (start : Node)
-    → is_there part (step_of i) ≡ true → slice_get s.machine.devices.nodes i ≡ Some start → IsHistory part h s
+pub history_steps : RecordedStepRan → (part : PartData) (calls : List AnsweredCall) (s : State) (i k : ℕ) (start : Node)
+    → is_there part (step_of i) ≡ true → slice_get s.machine.devices.nodes i ≡ Some start → IsHistory part calls s
     → s.recorded + k ≤ part.limit
     → AreRecorded k start
-    → IsHistory part (h ++ steps_told i k (last_answer k start)) (stepped_on s i start k)
-history_steps law part h s i zero start there at history room recorded =
+    → IsHistory part (calls ++ steps_told i k (last_answer k start)) (stepped_on s i start k)
+history_steps law part calls s i zero start there at history room recorded =
     let nodes : set s.machine.devices.nodes i (after_steps zero start) ≡ s.machine.devices.nodes =
     ap (set s.machine.devices.nodes i) (no_steps start) ∙ set_same s.machine.devices.nodes i start at in
     let state : s ≡ stepped_on s i start zero =
     ap (λ (xs : List Node). with_nodes s xs s.recorded) (sym nodes)
     ∙ ap (with_nodes s (set s.machine.devices.nodes i (after_steps zero start))) (sym (add-zero s.recorded)) in
-    let told : h ≡ h ++ steps_told i zero (last_answer zero start) =
-    sym (append-nil h) ∙ ap (λ (o : Option Stepped). h ++ steps_told i zero o) (sym (no_answer start)) in
+    let told : calls ≡ calls ++ steps_told i zero (last_answer zero start) =
+    sym (append-nil calls) ∙ ap (λ (o : Option Stepped). calls ++ steps_told i zero o) (sym (no_answer start)) in
     same_history refl told state history
-history_steps law part h s i (suc k) start there at history room recorded =
+history_steps law part calls s i (suc k) start there at history room recorded =
     let n : Node = after_steps k start in
     let one : AnsweredCall = answered_step Farm i (node_step n).1 in
-    let before = history_steps law part h s i k start there at history (omega arith) (fewer k start recorded) in
+    let before = history_steps law part calls s i k start there at history (omega arith) (fewer k start recorded) in
     let step =
     one_step part s i k start there (slice_get_within s.machine.devices.nodes i start at)
     (below_limit s.recorded k part.limit room) (recorded k (omega arith)) in
     let next_history =
-    longer part (h ++ steps_told i k (last_answer k start)) (stepped_on s i start k) (step_of i)
+    longer part (calls ++ steps_told i k (last_answer k start)) (stepped_on s i start k) (step_of i)
     (reply.Stepped (node_step n).1) before (ap (λ (p : State × Answer). p.1) step) in
-    let more : (h ++ steps_told i k (last_answer k start)) ++ one ∷ []
-    ≡ h ++ steps_told i (suc k) (last_answer (suc k) start) =
-    append_assoc h (steps_told i k (last_answer k start)) (one ∷ [])
-    ∙ ap (λ (xs : List AnsweredCall). h ++ (xs ++ one ∷ [])) (all_ran law i k start recorded)
-    ∙ ap (λ (o : Option Stepped). h ++ steps_told i (suc k) o) (sym (one_answer_more k start)) in
+    let more : (calls ++ steps_told i k (last_answer k start)) ++ one ∷ []
+    ≡ calls ++ steps_told i (suc k) (last_answer (suc k) start) =
+    append_assoc calls (steps_told i k (last_answer k start)) (one ∷ [])
+    ∙ ap (λ (xs : List AnsweredCall). calls ++ (xs ++ one ∷ [])) (all_ran law i k start recorded)
+    ∙ ap (λ (o : Option Stepped). calls ++ steps_told i (suc k) o) (sym (one_answer_more k start)) in
     same_history refl more (ap (λ (p : State × Answer). p.0) step) next_history
 
 length_of_steps : (i k : ℕ) (start : Node) → length (steps_told i k (last_answer k start)) ≡ k
@@ -177,15 +177,16 @@ room_for : (before steps limit : ℕ) → before + steps ≤ limit → (now same
 room_for before steps limit room now same long is = omega (arith, room, long, is)
 
 -- a domain to which a ticket was committed is still its journal
-pub meant_committed : RecordedStepRan → (d : DomainValue) (t : TicketValue) (m : MachineValue) (entries : List Entry)
+pub meant_committed : RecordedStepRan → (d : DomainValue) (t : TicketValue) (other_machine : MachineValue)
+    (entries : List Entry)
     → IsMeant d → IsTicket t → is_there d.machine.part (step_of t.number) ≡ true
     → slice_get d.machine.devices.nodes t.number ≡ Some t.start
     → length (expanded d.journal) + t.steps ≤ d.machine.part.limit
-    → m ≡ record d.machine { devices = with_node t.number t.node d.machine.devices }
+    → other_machine ≡ record d.machine { devices = with_node t.number t.node d.machine.devices }
     → expanded entries ≡ expanded d.journal ++ steps_told t.number t.steps t.last
-    → IsMeant (record { machine = m; journal = entries })
-meant_committed law d t m entries meant ticket there at room machine gains =
-    let part : m.part ≡ d.machine.part = ap (λ (v : MachineValue). v.part) machine in
+    → IsMeant (record { machine = other_machine; journal = entries })
+meant_committed law d t other_machine entries meant ticket there at room machine gains =
+    let part : other_machine.part ≡ d.machine.part = ap (λ (v : MachineValue). v.part) machine in
     let long : length (expanded entries) ≡ length (expanded d.journal) + t.steps =
     ap length gains ∙ length-append (expanded d.journal) (steps_told t.number t.steps t.last)
     ∙ ap (λ (n : ℕ). length (expanded d.journal) + n) (length_told t ticket) in
@@ -193,7 +194,7 @@ meant_committed law d t m entries meant ticket there at room machine gains =
     history_steps law d.machine.part (expanded d.journal) (state_of d) t.number t.steps t.start there at meant.history
     room ticket.node.recorded in
     let state : stepped_on (state_of d) t.number t.start t.steps
-    ≡ state_of (record { machine = m; journal = entries }) =
+    ≡ state_of (record { machine = other_machine; journal = entries }) =
     ap (λ (n : Node).
     with_nodes (state_of d) (set d.machine.devices.nodes t.number n) (length (expanded d.journal) + t.steps))
     ticket.node.node
@@ -201,7 +202,7 @@ meant_committed law d t m entries meant ticket there at room machine gains =
     let y : State = record { machine = machine_of v; recorded = length (expanded d.journal) + t.steps } in
     y)
     (sym machine)
-    ∙ ap (λ (n : ℕ). let y : State = record { machine = machine_of m; recorded = n } in y) (sym long) in
+    ∙ ap (λ (n : ℕ). let y : State = record { machine = machine_of other_machine; recorded = n } in y) (sym long) in
     record {
       history =
           same_history (sym part)
@@ -210,7 +211,7 @@ meant_committed law d t m entries meant ticket there at room machine gains =
           state history;
       within_limit =
           room_for (length (expanded d.journal)) t.steps d.machine.part.limit room (length (expanded entries))
-          m.part.limit
+          other_machine.part.limit
           long (ap (λ (x : PartData). x.limit) part);
       limit = subst (λ (x : PartData). x.limit ≤ 2 ^ 40) (sym part) meant.limit;
     }

@@ -23,21 +23,21 @@ answers-append part s (x ∷ xs) ys =
 pub longer : (part : PartData) (history : List AnsweredCall) (s : State) (call : Call) (reply : Reply)
     → IsHistory part history s → (next part s call).1 ≡ Ok reply
     → IsHistory part (history ++ record { call = call; reply = reply } ∷ []) (next part s call).0
-longer part history s call reply h told =
+longer part history s call reply given told =
     let one : AnsweredCall = record { call = call; reply = reply } in
     let calls : calls_of (history ++ one ∷ []) ≡ calls_of history ++ call ∷ [] =
     map-append (λ (a : AnsweredCall). a.call) history (one ∷ []) in
     let replies : replies_of (history ++ one ∷ []) ≡ replies_of history ++ Ok reply ∷ [] =
     map-append (λ (a : AnsweredCall). let r : Answer = Ok a.reply in r) history (one ∷ []) in
     record {
-      state = rw (calls, after-append part (opening part) (calls_of history) (call ∷ []), h.state) refl;
+      state = rw (calls, after-append part (opening part) (calls_of history) (call ∷ []), given.state) refl;
       replies =
           rw (
             calls,
             replies,
             answers-append part (opening part) (calls_of history) (call ∷ []),
-            h.state,
-            h.replies,
+            given.state,
+            given.replies,
             told,
           )
           refl;

@@ -19,7 +19,8 @@ use Rattle.domain_core.specs.Journal.{expanded, steps}
 use Rattle.domain_core.proofs.Runs.{run_has_room, run_goes_on}
 
 -- an entry that is kept stays the same
-still : (seen more : List Seen) (e : SmallEntry) → IsStored seen e → entry_of (seen ++ more) e ≡ entry_of seen e
+still : (seen more : List Seen) (other_entry : SmallEntry) → IsStored seen other_entry
+    → entry_of (seen ++ more) other_entry ≡ entry_of seen other_entry
 still seen more (One by asked answer) kept = refl
 still seen more (Look by asked place) kept =
     ap (λ (s : Seen). let e : Entry = entry.One by asked (reply.Look s) in e)
@@ -37,47 +38,49 @@ all_still seen more (e ∷ small) kept =
     (all_still seen more small (All-tail (IsStored seen) e small kept))
 
 -- a look that is stored behind small entries stands for an entry with what it saw, and they for what they stood for
-pub look_pushed : (seen : List Seen) (small : List SmallEntry) (by : By) (asked : Event) (s : Seen)
+pub look_pushed : (seen : List Seen) (small : List SmallEntry) (by : By) (asked : Event) (other_seen : Seen)
     → All (IsStored seen) small
-    → map (entry_of (seen ++ s ∷ [])) (small ++ Look by asked (length seen) ∷ [])
-    ≡ map (entry_of seen) small ++ entry.One by asked (reply.Look s) ∷ []
-look_pushed seen small by asked s kept =
-    map-append (entry_of (seen ++ s ∷ [])) small (Look by asked (length seen) ∷ [])
-    ∙ ap (λ (front : List Entry). front ++ entry_of (seen ++ s ∷ []) (Look by asked (length seen)) ∷ [])
-    (all_still seen (s ∷ []) small kept)
+    → map (entry_of (seen ++ other_seen ∷ [])) (small ++ Look by asked (length seen) ∷ [])
+    ≡ map (entry_of seen) small ++ entry.One by asked (reply.Look other_seen) ∷ []
+look_pushed seen small by asked other_seen kept =
+    map-append (entry_of (seen ++ other_seen ∷ [])) small (Look by asked (length seen) ∷ [])
+    ∙ ap (λ (front : List Entry). front ++ entry_of (seen ++ other_seen ∷ []) (Look by asked (length seen)) ∷ [])
+    (all_still seen (other_seen ∷ []) small kept)
     ∙ ap (λ (last : Seen). map (entry_of seen) small ++ entry.One by asked (reply.Look last) ∷ [])
-    (get_or_push seen s no_look (length seen) refl)
+    (get_or_push seen other_seen no_look (length seen) refl)
 
 -- a run that stands last
-at_last : (seen : List Seen) (n : ℕ) (small : List SmallEntry) (e : SmallEntry) → n ≡ length small → 0 < n
-    → e ≡ slice_index_or small (n - 1) e
-    → entry_of seen e ≡ slice_index_or (map (entry_of seen) small) (n - 1) (entry_of seen e)
-at_last seen n small e all some is =
+at_last : (seen : List Seen) (n : ℕ) (small : List SmallEntry) (other_entry : SmallEntry) → n ≡ length small → 0 < n
+    → other_entry ≡ slice_index_or small (n - 1) other_entry
+    → entry_of seen other_entry ≡ slice_index_or (map (entry_of seen) small) (n - 1) (entry_of seen other_entry)
+at_last seen n small other_entry all some is =
     ap (entry_of seen) is
-    ∙ sym (get_or-map (entry_of seen) small (n - 1) e (entry_of seen e) (omega (arith, all, some)))
+    ∙ sym (get_or-map (entry_of seen) small (n - 1) other_entry (entry_of seen other_entry) (omega (arith, all, some)))
 
 -- a run that stands last among small entries has room for so many Steps more, if the journal has
-pub last_run_has_room : (seen : List Seen) (n : ℕ) (small : List SmallEntry) (e : SmallEntry) (by : By)
+pub last_run_has_room : (seen : List Seen) (n : ℕ) (small : List SmallEntry) (other_entry : SmallEntry) (by : By)
     (node before count : ℕ)
     → n ≡ length small → 0 < n
-    → e ≡ slice_index_or small (n - 1) e
-    → length (expanded (map (entry_of seen) small)) + count ≤ 2 ^ 40 → e ≡ Run by node Ran before
+    → other_entry ≡ slice_index_or small (n - 1) other_entry
+    → length (expanded (map (entry_of seen) small)) + count ≤ 2 ^ 40 → other_entry ≡ Run by node Ran before
     → before + count ≤ 2 ^ 40
-last_run_has_room seen n small e by node before count all some is few run =
-    run_has_room n (map (entry_of seen) small) (entry_of seen e) by node before count
-    (all ∙ sym (length-map small (entry_of seen))) some (at_last seen n small e all some is) few
+last_run_has_room seen n small other_entry by node before count all some is few run =
+    run_has_room n (map (entry_of seen) small) (entry_of seen other_entry) by node before count
+    (all ∙ sym (length-map small (entry_of seen))) some (at_last seen n small other_entry all some is) few
     (ap (entry_of seen) run)
 
 -- setting a longer run in the place of the last small entry puts so many Steps behind what the entries stand for
-pub last_run_goes_on : (seen : List Seen) (n : ℕ) (small : List SmallEntry) (e f : SmallEntry) (by : By)
+pub last_run_goes_on : (seen : List Seen) (n : ℕ) (small : List SmallEntry)
+    (other_entry third_entry : SmallEntry) (by : By)
     (node before count : ℕ) (last : Stepped)
-    → n ≡ length small → 0 < n → e ≡ slice_index_or small (n - 1) e
+    → n ≡ length small → 0 < n → other_entry ≡ slice_index_or small (n - 1) other_entry
     → 0 < count
-    → e ≡ Run by node Ran before → f ≡ Run by node last (before + count)
-    → expanded (map (entry_of seen) (slice_set small (n - 1) f))
+    → other_entry ≡ Run by node Ran before → third_entry ≡ Run by node last (before + count)
+    → expanded (map (entry_of seen) (slice_set small (n - 1) third_entry))
     ≡ expanded (map (entry_of seen) small) ++ steps by node count last
-last_run_goes_on seen n small e f by node before count last all some is more run grown =
-    ap expanded (map-set (entry_of seen) small (n - 1) f)
-    ∙ run_goes_on n (map (entry_of seen) small) (entry_of seen e) (entry_of seen f) by node before count last
-    (all ∙ sym (length-map small (entry_of seen))) some (at_last seen n small e all some is) more
+last_run_goes_on seen n small other_entry third_entry by node before count last all some is more run grown =
+    ap expanded (map-set (entry_of seen) small (n - 1) third_entry)
+    ∙ run_goes_on n (map (entry_of seen) small) (entry_of seen other_entry) (entry_of seen third_entry) by
+    node before count last
+    (all ∙ sym (length-map small (entry_of seen))) some (at_last seen n small other_entry all some is) more
     (ap (entry_of seen) run) (ap (entry_of seen) grown)

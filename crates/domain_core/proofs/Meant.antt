@@ -77,14 +77,14 @@ record Told (d : DomainValue) (call : Call) (m : MachineValue) (reply : Reply) (
   state : (next d.machine.part (state_of d) call).0 ≡ state_of (record { machine = m; journal = entries })
   long : length (expanded entries) ≡ length (expanded d.journal) + 1
 
-told_recorded : (d : DomainValue) (call : Call) (m : MachineValue) (reply : Reply) (entries : List Entry)
+told_recorded : (d : DomainValue) (call : Call) (other_machine : MachineValue) (reply : Reply) (entries : List Entry)
     → is_there d.machine.part call ≡ true → length (expanded d.journal) ≢ d.machine.part.limit
-    → machine_of m ≡ (acted d.machine.part (machine_of d.machine) call.event).0
+    → machine_of other_machine ≡ (acted d.machine.part (machine_of d.machine) call.event).0
     → reply ≡ (acted d.machine.part (machine_of d.machine) call.event).1
     → is_recorded d.machine.part (machine_of d.machine) call.event ≡ true
     → expanded entries ≡ expanded d.journal ++ record { call = call; reply = reply } ∷ []
-    → Told d call m reply entries
-told_recorded d call m reply entries there below machine replies recorded gains =
+    → Told d call other_machine reply entries
+told_recorded d call other_machine reply entries there below machine replies recorded gains =
     let s : State = state_of d in
     let P : PartData = d.machine.part in
     let one : AnsweredCall = record { call = call; reply = reply } in
@@ -102,31 +102,32 @@ told_recorded d call m reply entries there below machine replies recorded gains 
           let y : State = record { machine = x; recorded = (answered P s call.event).recorded } in
           y)
           (sym machine)
-          ∙ ap (λ (n : ℕ). let y : State = record { machine = machine_of m; recorded = n } in y) number;
+          ∙ ap (λ (n : ℕ). let y : State = record { machine = machine_of other_machine; recorded = n } in y) number;
       long = long;
     }
 
 -- a domain that answered a call and recorded it is what its journal says, if it was before
-pub meant_recorded : (d : DomainValue) (call : Call) (m : MachineValue) (reply : Reply) (entries : List Entry)
+pub meant_recorded : (d : DomainValue) (call : Call) (other_machine : MachineValue) (reply : Reply)
+    (entries : List Entry)
     → IsMeant d → is_there d.machine.part call ≡ true → length (expanded d.journal) ≢ d.machine.part.limit
-    → machine_of m ≡ (acted d.machine.part (machine_of d.machine) call.event).0
+    → machine_of other_machine ≡ (acted d.machine.part (machine_of d.machine) call.event).0
     → reply ≡ (acted d.machine.part (machine_of d.machine) call.event).1
-    → m.part ≡ d.machine.part
+    → other_machine.part ≡ d.machine.part
     → is_recorded d.machine.part (machine_of d.machine) call.event ≡ true
     → expanded entries ≡ expanded d.journal ++ record { call = call; reply = reply } ∷ []
-    → IsMeant (record { machine = m; journal = entries })
-meant_recorded d call m reply entries meant there below machine replies part recorded gains =
+    → IsMeant (record { machine = other_machine; journal = entries })
+meant_recorded d call other_machine reply entries meant there below machine replies part recorded gains =
     let s : State = state_of d in
     let P : PartData = d.machine.part in
     let one : AnsweredCall = record { call = call; reply = reply } in
-    let told : Told d call m reply entries =
-    told_recorded d call m reply entries there below machine replies recorded gains in
+    let told : Told d call other_machine reply entries =
+    told_recorded d call other_machine reply entries there below machine replies recorded gains in
     let history : IsHistory P (expanded d.journal ++ one ∷ []) (next P s call).0 =
     longer P (expanded d.journal) s call reply meant.history told.answer in
     record {
       history = same_history (sym part) (sym gains) told.state history;
       within_limit =
-          within (length (expanded d.journal)) (length (expanded entries)) d.machine.part.limit m.part.limit
+          within (length (expanded d.journal)) (length (expanded entries)) d.machine.part.limit other_machine.part.limit
           meant.within_limit below told.long (ap (λ (x : PartData). x.limit) part);
       limit = subst (λ (x : PartData). x.limit ≤ 2 ^ 40) (sym part) meant.limit;
     }
@@ -136,20 +137,21 @@ meant_recorded d call m reply entries meant there below machine replies part rec
     within before now limit same few other more is = omega (arith, few, other, more, is)
 
 -- such a domain has answered the call as the private farm does, and become what that becomes
-pub called_recorded : (d : DomainValue) (call : Call) (m : MachineValue) (reply : Reply) (entries : List Entry)
+pub called_recorded : (d : DomainValue) (call : Call) (other_machine : MachineValue) (reply : Reply)
+    (entries : List Entry)
     → is_there d.machine.part call ≡ true → length (expanded d.journal) ≢ d.machine.part.limit
-    → machine_of m ≡ (acted d.machine.part (machine_of d.machine) call.event).0
+    → machine_of other_machine ≡ (acted d.machine.part (machine_of d.machine) call.event).0
     → reply ≡ (acted d.machine.part (machine_of d.machine) call.event).1
     → is_recorded d.machine.part (machine_of d.machine) call.event ≡ true
     → expanded entries ≡ expanded d.journal ++ record { call = call; reply = reply } ∷ []
-    → AllZip CountsChange d.machine.switch.words m.switch.words
-    → IsCalled call (Ok reply) d (record { machine = m; journal = entries })
-called_recorded d call m reply entries there below machine replies recorded gains counts =
+    → AllZip CountsChange d.machine.switch.words other_machine.switch.words
+    → IsCalled call (Ok reply) d (record { machine = other_machine; journal = entries })
+called_recorded d call other_machine reply entries there below machine replies recorded gains counts =
     let s : State = state_of d in
     let P : PartData = d.machine.part in
     let one : AnsweredCall = record { call = call; reply = reply } in
-    let told : Told d call m reply entries =
-    told_recorded d call m reply entries there below machine replies recorded gains in
+    let told : Told d call other_machine reply entries =
+    told_recorded d call other_machine reply entries there below machine replies recorded gains in
     let said : Answer = Ok reply in
     let gain : gained P s call said ≡ one ∷ [] = rw recorded refl in
     record {
@@ -162,17 +164,17 @@ called_recorded d call m reply entries there below machine replies recorded gain
 
 -- a domain that answered an event and didn't record it is what its journal says, if it was before
 pub meant_unrecorded : QuietStepChangesNothing
-    → (d : DomainValue) (event : Event) (m : MachineValue) (entries : List Entry)
+    → (d : DomainValue) (event : Event) (other_machine : MachineValue) (entries : List Entry)
     → IsMeant d
-    → machine_of m ≡ (acted d.machine.part (machine_of d.machine) event).0
-    → m.part ≡ d.machine.part
+    → machine_of other_machine ≡ (acted d.machine.part (machine_of d.machine) event).0
+    → other_machine.part ≡ d.machine.part
     → is_recorded d.machine.part (machine_of d.machine) event ≡ false
     → entries ≡ d.journal
-    → IsMeant (record { machine = m; journal = entries })
-meant_unrecorded law d event m entries meant machine part recorded same =
-    let still : machine_of m ≡ machine_of d.machine =
+    → IsMeant (record { machine = other_machine; journal = entries })
+meant_unrecorded law d event other_machine entries meant machine part recorded same =
+    let still : machine_of other_machine ≡ machine_of d.machine =
     machine ∙ unrecorded law d.machine.part (machine_of d.machine) event recorded in
-    let state : state_of (record { machine = m; journal = entries }) ≡ state_of d =
+    let state : state_of (record { machine = other_machine; journal = entries }) ≡ state_of d =
     ap (λ (x : Machine). let y : State = record { machine = x; recorded = length (expanded entries) } in y) still
     ∙ ap (λ (l : List Entry).
     let y : State = record { machine = machine_of d.machine; recorded = length (expanded l) } in
@@ -181,7 +183,8 @@ meant_unrecorded law d event m entries meant machine part recorded same =
     record {
       history = same_history (sym part) (ap expanded (sym same)) (sym state) meant.history;
       within_limit =
-          within_part (length (expanded entries)) (length (expanded d.journal)) d.machine.part.limit m.part.limit
+          within_part (length (expanded entries)) (length (expanded d.journal)) d.machine.part.limit
+          other_machine.part.limit
           (ap (λ (l : List Entry). length (expanded l)) same) meant.within_limit (ap (λ (x : PartData). x.limit) part);
       limit = subst (λ (x : PartData). x.limit ≤ 2 ^ 40) (sym part) meant.limit;
     }

@@ -78,14 +78,17 @@ passes_all : (s : Switch) (xs : List ℕ) (q : ℕ) → are_ready s (xs ++ q ∷
 passes_all s [] q ready = must_pass s q [] ready
 passes_all s (x ∷ xs) q ready = must_pass s x (xs ++ q ∷ []) ready
 
-false-and-false : (a b c : Bool) → c ≡ (a && b) → a ≡ false → c ≡ false
-false-and-false a b c is first = rw (is, first) refl
+false-and-false : (flag other_flag third_flag : Bool) → third_flag ≡ (flag && other_flag) → flag ≡ false
+    → third_flag ≡ false
+false-and-false flag other_flag third_flag is first = rw (is, first) refl
 
-all_two : (a b c : Bool) → c ≡ (a && b) → a ≡ true → b ≡ true → c ≡ true
-all_two a b c is one two = rw (is, one, two) refl
+all_two : (flag other_flag third_flag : Bool) → third_flag ≡ (flag && other_flag) → flag ≡ true → other_flag ≡ true
+    → third_flag ≡ true
+all_two flag other_flag third_flag is one two = rw (is, one, two) refl
 
-last_not : (a b c : Bool) → c ≡ (a && b) → a ≡ true → b ≡ false → c ≡ false
-last_not a b c is one two = rw (is, one, two) refl
+last_not : (flag other_flag third_flag : Bool) → third_flag ≡ (flag && other_flag) → flag ≡ true → other_flag ≡ false
+    → third_flag ≡ false
+last_not flag other_flag third_flag is one two = rw (is, one, two) refl
 
 one_ready : (s : Switch) (q : ℕ) (is : Bool) → set.contains s.ready q ≡ is → are_ready s (q ∷ []) ≡ is
 one_ready s q true is = rw is refl
@@ -185,9 +188,10 @@ copied_more j packet mask i d e f before is =
 
 -- ---- the whole Move
 
-still_by : {S D : Type 0} (m : Moved) (j : Joining S D) (from : D) (packet : Packet) (outputs : List ℕ) (all : S)
-    → has_moved m ≡ false
-    → moved_by m j from packet outputs all ≡ all
+still_by : {S D : Type 0} (other_moved : Moved) (j : Joining S D) (from : D) (packet : Packet)
+    (outputs : List ℕ) (all : S)
+    → has_moved other_moved ≡ false
+    → moved_by other_moved j from packet outputs all ≡ all
 still_by Nothing j from packet outputs all no_move = refl
 still_by Lost j from packet outputs all no_move = absurd cc
 still_by Stayed j from packet outputs all no_move = refl

@@ -29,17 +29,17 @@ asking address h = host_posting 1 (bytes_of_word address) h.received h.end.input
 
 -- a host that asks for the word at an address has the message's first byte posted and the others waiting
 pub asks-is : (address : ℕ) (h : HostState) → Asks address h → h ≡ asking address h
-asks-is address h a =
+asks-is address h given =
     let sending : List ℕ = 1 ∷ bytes_of_word address in
     let latch : Latch = record { byte = Some 1; acknowledge = false } in
-    ap (λ (x : List ℕ). record h { sending = x }) a.sending
-    ∙ ap (λ (x : Latch). record h { sending = sending; end = record h.end { latch = x } }) a.latch
+    ap (λ (x : List ℕ). record h { sending = x }) given.sending
+    ∙ ap (λ (x : Latch). record h { sending = sending; end = record h.end { latch = x } }) given.latch
     ∙ ap (λ (x : Option ℕ).
     record h { sending = sending; end = record h.end { latch = latch; input = record h.end.input { buffer = x } } })
-    a.buffer
+    given.buffer
     ∙ ap (λ (x : Bool).
     host_of sending h.received (end_of (Some 1) false None h.end.input.overruns x h.end.output.acknowledged))
-    a.awaits
+    given.awaits
 
 end-rests : (e : LinkEnd) → e.latch ≡ fresh_end.latch → e.input.buffer ≡ None → e.output.awaits ≡ false
     → e ≡ listening e.input.overruns e.output.acknowledged
@@ -59,63 +59,66 @@ heard_at link n = (at link n.links).end.output.acknowledged
 -- a node that listens on a link is one with an end there at which nothing waits, and wants a control byte
 pub listens-is : (link : LinkNumber) (n : Node) → Listens link n
     → n ≡ with_end link (listening (lost_at link n) (heard_at link n)) WantsControl n
-listens-is link n l =
+listens-is link n given =
     sym (own-end link n)
-    ∙ ap (λ (x : doing.NodeState). with_end link (at link n.links).end x n) l.state
+    ∙ ap (λ (x : doing.NodeState). with_end link (at link n.links).end x n) given.state
     ∙ ap (λ (x : LinkEnd). with_end link x WantsControl n)
-    (end-rests (at link n.links).end l.latch (l.buffers link) l.output)
+    (end-rests (at link n.links).end given.latch (given.buffers link) given.output)
 
 -- the node once its link knows of none
 quieted-is : (link : LinkNumber) (n : Node) → Listens link n
     → quieted link n ≡ with_end link (resting (lost_at link n)) WantsControl n
-quieted-is link n l =
-    ap (quieted link) (listens-is link n l) ∙ quieted-end link (lost_at link n) (heard_at link n) WantsControl n
+quieted-is link n given =
+    ap (quieted link) (listens-is link n given) ∙ quieted-end link (lost_at link n) (heard_at link n) WantsControl n
 
 -- the host and the node of a peek at its start
 abbrev pub first_host : Peeking → HostState
-first_host p = host_at p.start.machine.devices p.route.host
+first_host peek = host_at peek.start.machine.devices peek.route.host
 
 -- the node that a peek reads, at the beginning
 abbrev pub first_node : Peeking → Node
-first_node p = node_at p.start.machine.devices p.route.node
+first_node peek = node_at peek.start.machine.devices peek.route.node
 
 -- how many packets its link has lost by then
 abbrev pub first_lost : Peeking → ℕ
-first_lost p = lost_at p.route.link (first_node p)
+first_lost peek = lost_at peek.route.link (first_node peek)
 
 -- whether its link knows by then of an acknowledge that came
 abbrev pub first_heard : Peeking → Bool
-first_heard p = heard_at p.route.link (first_node p)
+first_heard peek = heard_at peek.route.link (first_node peek)
 
-start-stands : (p : Peeking) → p.start ≡ standing p 0 (first_host p) (first_node p)
-start-stands p =
-    let d : DeviceStates = p.start.machine.devices in
-    let none : p.start.recorded ≡ p.start.recorded + 0 = omega arith in
+start-stands : (peek : Peeking) → peek.start ≡ standing peek 0 (first_host peek) (first_node peek)
+start-stands peek =
+    let d : DeviceStates = peek.start.machine.devices in
+    let none : peek.start.recorded ≡ peek.start.recorded + 0 = omega arith in
     let state : DeviceStates → ℕ → State =
-    λ devices recorded. record { machine = with_devices devices p.start.machine; recorded = recorded } in
+    λ devices recorded. record { machine = with_devices devices peek.start.machine; recorded = recorded } in
     ap (λ (x : ℕ). state d x) none
-    ∙ ap (λ (x : List Node). state (record d { nodes = x }) (p.start.recorded + 0))
-    (sym (set-get_or d.nodes p.route.node (opened_node 0)))
+    ∙ ap (λ (x : List Node). state (record d { nodes = x }) (peek.start.recorded + 0))
+    (sym (set-get_or d.nodes peek.route.node (opened_node 0)))
     ∙ ap (λ (x : List HostState).
-    state (record { nodes = slice_set d.nodes p.route.node (first_node p); hosts = x }) (p.start.recorded + 0))
-    (sym (set-get_or d.hosts p.route.host opened_host))
+    state (record { nodes = slice_set d.nodes peek.route.node (first_node peek); hosts = x }) (peek.start.recorded + 0))
+    (sym (set-get_or d.hosts peek.route.host opened_host))
 
 -- a peek starts where no event has come: the host asks, and the node listens
-pub begins : (p : Peeking)
-    → p.start
-    ≡ reached p 0 (asking p.address (first_host p)) (listening (first_lost p) (first_heard p)) WantsControl
-    (first_node p)
-begins p =
-    start-stands p
-    ∙ ap (λ (x : HostState). standing p 0 x (first_node p)) (asks-is p.address (first_host p) p.can.asks)
-    ∙ ap (λ (x : Node). standing p 0 (asking p.address (first_host p)) x)
-    (listens-is p.route.link (first_node p) p.can.listens)
+pub begins : (peek : Peeking)
+    → peek.start
+    ≡ reached peek 0 (asking peek.address (first_host peek))
+    (listening (first_lost peek) (first_heard peek)) WantsControl
+    (first_node peek)
+begins peek =
+    start-stands peek
+    ∙ ap (λ (x : HostState). standing peek 0 x (first_node peek)) (asks-is peek.address (first_host peek) peek.can.asks)
+    ∙ ap (λ (x : Node). standing peek 0 (asking peek.address (first_host peek)) x)
+    (listens-is peek.route.link (first_node peek) peek.can.listens)
 
 -- the host that was told the word
 abbrev pub told_word : Peeking → HostState
-told_word p = host_after_peek (word_bytes (first_node p) p.address) (first_host p)
+told_word peek = host_after_peek (word_bytes (first_node peek) peek.address) (first_host peek)
 
 -- where it ends: the node is as it was, but that its link knows of no acknowledge
-pub ends : (p : Peeking) → reached p 27 (told_word p) (resting (first_lost p)) WantsControl (first_node p)
-    ≡ record { machine = after_peek p.route p.address p.start.machine; recorded = p.start.recorded + 27 }
-ends p = ap (λ (x : Node). standing p 27 (told_word p) x) (sym (quieted-is p.route.link (first_node p) p.can.listens))
+pub ends : (peek : Peeking) → reached peek 27 (told_word peek) (resting (first_lost peek))
+    WantsControl (first_node peek)
+    ≡ record { machine = after_peek peek.route peek.address peek.start.machine; recorded = peek.start.recorded + 27 }
+ends peek = ap (λ (x : Node). standing peek 27 (told_word peek) x)
+    (sym (quieted-is peek.route.link (first_node peek) peek.can.listens))

@@ -27,10 +27,11 @@ range-below count k d lt =
 pub driven-below : (part : PartData) (s : Switch) (port output : ℕ)
     → driven (joining_of part) s port ≡ output ∷ []
     → output < part.count
-driven-below part s port output e =
+driven-below part s port output same =
     let all : All (λ q. q < part.count) (driven (joining_of part) s port) =
     All-filter (drives s port) (λ q. q < part.count) (range_with_len 0 part.count) (range-below part.count) in
-    let one : All (λ q. q < part.count) (output ∷ []) = subst (λ (xs : List ℕ). All (λ q. q < part.count) xs) e all in
+    let one : All (λ q. q < part.count) (output ∷ []) =
+    subst (λ (xs : List ℕ). All (λ q. q < part.count) xs) same all in
     one 0 0 (omega arith)
 
 -- the node of a link is below a number
@@ -39,19 +40,22 @@ Below bound None = Unit {0}
 Below bound (Some (Host number)) = Unit {0}
 Below bound (Some (Link number link)) = number < bound
 
-below-if : (bound : ℕ) (b : Bool) (x y : Option Device) → Below bound x → Below bound y
-    → Below bound (if b then x else y)
-below-if bound true x y f g = f
-below-if bound false x y f g = g
+below-if : (bound : ℕ) (b : Bool) (device other_device : Option Device) → Below bound device → Below bound other_device
+    → Below bound (if b then device else other_device)
+below-if bound true device other_device given holds = given
+below-if bound false device other_device given holds = holds
 
-below-else : (bound : ℕ) (x y : Option Device) → Below bound x → Below bound y → Below bound (or_else x y)
-below-else bound None y f g = g
-below-else bound (Some device) y f g = f
+below-else : (bound : ℕ) (device other_device : Option Device) → Below bound device → Below bound other_device
+    → Below bound (or_else device other_device)
+below-else bound None other_device given holds = holds
+below-else bound (Some device) other_device given holds = given
 
-below-wired : (bound : ℕ) (wired : Option ℕ) (port : ℕ) (x y : Option Device) → Below bound x → Below bound y
-    → Below bound (is_wired_to wired port x y)
-below-wired bound None port x y f g = g
-below-wired bound (Some w) port x y f g = below-if bound (w == port) x y f g
+below-wired : (bound : ℕ) (wired : Option ℕ) (port : ℕ) (device other_device : Option Device) → Below bound device
+    → Below bound other_device
+    → Below bound (is_wired_to wired port device other_device)
+below-wired bound None port device other_device given holds = holds
+below-wired bound (Some w) port device other_device given holds =
+    below-if bound (w == port) device other_device given holds
 
 hosts-below : (bound number : ℕ) (hosts : List HostPart) (port : ℕ) → Below bound (host_at_port number hosts port)
 hosts-below bound number [] port = tt
@@ -77,8 +81,8 @@ nodes-below bound number (n ∷ nodes) port le =
 -- the node of a link that stands at a port is one of the part's
 pub node-below : (part : PartData) (port node : ℕ) (link : LinkNumber) → device_at part port ≡ Some (Link node link)
     → node < length part.nodes
-node-below part port node link e =
-    subst (Below (length part.nodes)) e
+node-below part port node link same =
+    subst (Below (length part.nodes)) same
     (below-else (length part.nodes) (host_at_port 0 part.hosts port) (link_at_port 0 part.nodes port)
     (hosts-below (length part.nodes) 0 part.hosts port)
     (nodes-below (length part.nodes) 0 part.nodes port (omega arith)))

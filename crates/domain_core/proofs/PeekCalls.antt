@@ -16,14 +16,15 @@ pub leads-none : (part : PartData) (s : State) → Leads part s [] [] s
 leads-none part s = record { state = refl; answers = refl }
 
 -- a call and the calls after it lead where those lead from the state that it leaves
-pub leads-first : (part : PartData) (s t u : State) (call : Call) (answer : Answer) (calls : List Call)
+pub leads-first : (part : PartData) (s t state : State) (call : Call) (answer : Answer) (calls : List Call)
     (given : List Answer)
     → next part s call ≡ (t, answer)
-    → Leads part t calls given u → Leads part s (call ∷ calls) (answer ∷ given) u
-leads-first part s t u call answer calls given e rest = record {
-  state = ap (λ (x : State × Answer). after part x.0 calls) e ∙ rest.state;
+    → Leads part t calls given state → Leads part s (call ∷ calls) (answer ∷ given) state
+leads-first part s t other_state call answer calls given same rest = record {
+  state = ap (λ (x : State × Answer). after part x.0 calls) same ∙ rest.state;
   answers =
-      ap (λ (x : State × Answer). x.1 ∷ answers part x.0 calls) e ∙ ap (λ (xs : List Answer). answer ∷ xs) rest.answers;
+      ap (λ (x : State × Answer). x.1 ∷ answers part x.0 calls) same
+      ∙ ap (λ (xs : List Answer). answer ∷ xs) rest.answers;
 }
 
 after-join : (part : PartData) (calls more : List Call) (s : State)
@@ -38,11 +39,11 @@ answers-join part (call ∷ calls) more s =
     ap (λ (xs : List Answer). (next part s call).1 ∷ xs) (answers-join part calls more (next part s call).0)
 
 -- calls that lead to a state and calls that lead on from there lead there one after the other
-pub leads-on : (part : PartData) (s t u : State) (calls more : List Call) (given others : List Answer)
+pub leads-on : (part : PartData) (s t state : State) (calls more : List Call) (given others : List Answer)
     → Leads part s calls given t
-    → Leads part t more others u
-    → Leads part s (calls ++ more) (given ++ others) u
-leads-on part s t u calls more given others first second = record {
+    → Leads part t more others state
+    → Leads part s (calls ++ more) (given ++ others) state
+leads-on part s t other_state calls more given others first second = record {
   state = after-join part calls more s ∙ ap (λ (x : State). after part x more) first.state ∙ second.state;
   answers = answers-join part calls more s
       ∙ ap (λ (x : State). answers part s calls ++ answers part x more) first.state
@@ -51,10 +52,10 @@ leads-on part s t u calls more given others first second = record {
 }
 
 -- calls lead between states that are equal to those between which they lead
-pub leads-between : (part : PartData) (s t u v : State) (calls : List Call) (given : List Answer)
-    → s ≡ t → u ≡ v → Leads part t calls given u
-    → Leads part s calls given v
-leads-between part s t u v calls given begins ends leads = record {
+pub leads-between : (part : PartData) (s t state other_state : State) (calls : List Call) (given : List Answer)
+    → s ≡ t → state ≡ other_state → Leads part t calls given state
+    → Leads part s calls given other_state
+leads-between part s t other_state third_state calls given begins ends leads = record {
   state = ap (λ (x : State). after part x calls) begins ∙ leads.state ∙ ends;
   answers = ap (λ (x : State). answers part x calls) begins ∙ leads.answers;
 }

@@ -123,10 +123,10 @@ pub last-address-step : (link : LinkNumber) (n : Node) (byte overruns address wo
     → node_step (with_end link (holding byte overruns heard) (Takes link (Peek 1 address)) n)
     ≡ (with_end link (acknowledging (posting (word % 2 ^ 8) overruns)) (Answers link 3 (word / 2 ^ 8)) n, Ran)
 unfolding node_step
-last-address-step Zero n byte overruns address word heard e = rw e refl
-last-address-step One n byte overruns address word heard e = rw e refl
-last-address-step Two n byte overruns address word heard e = rw e refl
-last-address-step Three n byte overruns address word heard e = rw e refl
+last-address-step Zero n byte overruns address word heard same = rw same refl
+last-address-step One n byte overruns address word heard same = rw same refl
+last-address-step Two n byte overruns address word heard same = rw same refl
+last-address-step Three n byte overruns address word heard same = rw same refl
 
 -- the acknowledge of a byte of the word is heard, and the next byte is posted
 pub answer-step : (link : LinkNumber) (n : Node) (overruns left word : ℕ) → (left == 0) ≡ false

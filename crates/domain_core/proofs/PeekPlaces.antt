@@ -47,13 +47,13 @@ host-placed : (r : PeekRoute) (d : DeviceStates) (h : HostState) (n : Node) → 
     → host_at (placed r d h n) r.host ≡ h
 host-placed r d h n lt = get_or-set_same d.hosts r.host h opened_host lt
 
-node-replaced : (r : PeekRoute) (d : DeviceStates) (h : HostState) (n m : Node)
-    → with_node r.node m (placed r d h n) ≡ placed r d h m
-node-replaced r d h n m = rw (set-set d.nodes r.node n m) refl
+node-replaced : (r : PeekRoute) (d : DeviceStates) (h : HostState) (n other_node : Node)
+    → with_node r.node other_node (placed r d h n) ≡ placed r d h other_node
+node-replaced r d h n other_node = rw (set-set d.nodes r.node n other_node) refl
 
-host-replaced : (r : PeekRoute) (d : DeviceStates) (h g : HostState) (n : Node)
-    → with_host r.host g (placed r d h n) ≡ placed r d g n
-host-replaced r d h g n = rw (set-set d.hosts r.host h g) refl
+host-replaced : (r : PeekRoute) (d : DeviceStates) (h other_host : HostState) (n : Node)
+    → with_host r.host other_host (placed r d h n) ≡ placed r d other_host n
+host-replaced r d h other_host n = rw (set-set d.hosts r.host h other_host) refl
 
 host-taken : (r : PeekRoute) (d : DeviceStates) (h : HostState) (n : Node) → r.host < length d.hosts
     → taken_from_device (Host r.host) (placed r d h n) ≡ placed r d (packet_left h) n
@@ -92,13 +92,13 @@ node-arrived r d h n packet lt =
 step-acted : (part : PartData) (m : Machine) (number : ℕ) (n after : Node) → node_at m.devices number ≡ n
     → node_step n ≡ (after, Ran)
     → acted part m (Step number) ≡ (with_devices (with_node number after m.devices) m, reply.Stepped Ran)
-step-acted part m number n after e f = rw (e, f) refl
+step-acted part m number n after same equal = rw (same, equal) refl
 
 step-recorded : (part : PartData) (m : Machine) (number : ℕ) (n after : Node)
     → node_at m.devices number ≡ n → node_step n ≡ (after, Ran)
     → has_halted n.state ≡ false
     → is_recorded part m (Step number) ≡ true
-step-recorded part m number n after e f h = rw (e, f, h) refl
+step-recorded part m number n after same equal agrees = rw (same, equal, agrees) refl
 
 -- a packet goes from one device to the other that its port drives alone
 moved-across : (part : PartData) (s : Switch) (d : DeviceStates) (port output : ℕ) (from to : Device) (packet : Packet)
@@ -107,7 +107,8 @@ moved-across : (part : PartData) (s : Switch) (d : DeviceStates) (port output : 
     → driven (joining_of part) s port ≡ output ∷ [] → set.contains s.ready output ≡ true
     → packet_waiting d from ≡ Some packet
     → moved part s d port ≡ (arrived_at_device packet to (taken_from_device from d), Passed)
-moved-across part s d port output from to packet e f drives ready waits = rw (e, drives, waits, ready, f) refl
+moved-across part s d port output from to packet same equal drives ready waits =
+    rw (same, drives, waits, ready, equal) refl
 
 -- ---- states on the way of a peek
 
@@ -123,9 +124,9 @@ pub record Peeking : Type 0 where
 
 -- the state with this host and this node, so many events after the start
 abbrev pub standing : Peeking → ℕ → HostState → Node → State
-standing p count h n = record {
-  machine = with_devices (placed p.route p.start.machine.devices h n) p.start.machine;
-  recorded = p.start.recorded + count;
+standing peek count h n = record {
+  machine = with_devices (placed peek.route peek.start.machine.devices h n) peek.start.machine;
+  recorded = peek.start.recorded + count;
 }
 
 -- the call by which someone asks for an event
@@ -135,74 +136,85 @@ asked by event = record { by = by; event = event }
 not-full : (recorded count limit : ℕ) → recorded + 27 ≤ limit → count < 27 → (recorded + count == limit) ≡ false
 not-full recorded count limit room lt = ne_eqb (recorded + count) limit (λ e. omega arith)
 
-next-standing : (p : Peeking) (count : ℕ) (h g : HostState) (n m : Node) (event : Event) (reply : Reply) → count < 27
-    → is_there p.part (asked p.by event) ≡ true
-    → acted p.part (standing p count h n).machine event ≡ ((standing p count g m).machine, reply)
-    → is_recorded p.part (standing p count h n).machine event ≡ true
-    → next p.part (standing p count h n) (asked p.by event) ≡ (standing p (count + 1) g m, Ok reply)
-next-standing p count h g n m event reply lt there acts records =
-    let more : p.start.recorded + count + 1 ≡ p.start.recorded + (count + 1) = omega arith in
-    next-recorded p.part (standing p count h n) (asked p.by event) (standing p count g m).machine reply there
-    (not-full p.start.recorded count p.part.limit p.can.limit lt) acts records
-    ∙ ap (λ (k : ℕ). (record { machine = (standing p count g m).machine; recorded = k }, Ok reply)) more
+next-standing : (peek : Peeking) (count : ℕ) (h host : HostState) (n node : Node) (event : Event)
+    (reply : Reply) → count < 27
+    → is_there peek.part (asked peek.by event) ≡ true
+    → acted peek.part (standing peek count h n).machine event ≡ ((standing peek count host node).machine, reply)
+    → is_recorded peek.part (standing peek count h n).machine event ≡ true
+    → next peek.part (standing peek count h n) (asked peek.by event) ≡ (standing peek (count + 1) host node, Ok reply)
+next-standing peek count h host n node event reply lt there acts records =
+    let more : peek.start.recorded + count + 1 ≡ peek.start.recorded + (count + 1) = omega arith in
+    next-recorded peek.part (standing peek count h n) (asked peek.by event)
+    (standing peek count host node).machine reply there
+    (not-full peek.start.recorded count peek.part.limit peek.can.limit lt) acts records
+    ∙ ap (λ (k : ℕ). (record { machine = (standing peek count host node).machine; recorded = k }, Ok reply)) more
 
 -- the call for a Step of the node is answered by what its Step does, and recorded
-pub node-steps : (p : Peeking) (count : ℕ) (h : HostState) (n m : Node) → count < 27 → node_step n ≡ (m, Ran)
+pub node-steps : (peek : Peeking) (count : ℕ) (h : HostState) (n other_node : Node) → count < 27 → node_step n
+    ≡ (other_node, Ran)
     → has_halted n.state ≡ false
-    → next p.part (standing p count h n) (asked p.by (Step p.route.node)) ≡ (standing p (count + 1) h m, node_ran)
-node-steps p count h n m lt e goes =
-    let d : DeviceStates = p.start.machine.devices in
-    let here : node_at (placed p.route d h n) p.route.node ≡ n = node-placed p.route d h n p.can.node in
-    next-standing p count h h n m (Step p.route.node) (reply.Stepped Ran) lt
+    → next peek.part (standing peek count h n) (asked peek.by (Step peek.route.node))
+    ≡ (standing peek (count + 1) h other_node, node_ran)
+node-steps peek count h n other_node lt same goes =
+    let d : DeviceStates = peek.start.machine.devices in
+    let here : node_at (placed peek.route d h n) peek.route.node ≡ n = node-placed peek.route d h n peek.can.node in
+    next-standing peek count h h n other_node (Step peek.route.node) (reply.Stepped Ran) lt
     (rw (
-      p.known,
-      lt-ltb p.route.node (length p.part.nodes)
-          (node-below p.part p.route.link_port p.route.node p.route.link p.can.route.link_device),
+      peek.known,
+      lt-ltb peek.route.node (length peek.part.nodes)
+          (node-below peek.part peek.route.link_port peek.route.node peek.route.link peek.can.route.link_device),
     )
     refl)
-    (step-acted p.part (standing p count h n).machine p.route.node n m here e
-    ∙ ap (λ (x : DeviceStates). (with_devices x p.start.machine, reply.Stepped Ran)) (node-replaced p.route d h n m))
-    (step-recorded p.part (standing p count h n).machine p.route.node n m here e goes)
+    (step-acted peek.part (standing peek count h n).machine peek.route.node n other_node here same
+    ∙ ap (λ (x : DeviceStates). (with_devices x peek.start.machine, reply.Stepped Ran))
+    (node-replaced peek.route d h n other_node))
+    (step-recorded peek.part (standing peek count h n).machine peek.route.node n other_node here same goes)
 
-port-moves : (p : Peeking) (count port : ℕ) (h g : HostState) (n m : Node) → count < 27 → port < p.part.count
-    → moved p.part p.start.machine.switch (placed p.route p.start.machine.devices h n) port
-    ≡ (placed p.route p.start.machine.devices g m, Passed)
-    → next p.part (standing p count h n) (asked p.by (Move port)) ≡ (standing p (count + 1) g m, packet_passed)
-port-moves p count port h g n m lt below e =
-    next-standing p count h g n m (Move port) (reply.Moved Passed) lt
-    (rw (p.known, lt-ltb port p.part.count below) refl) (rw e refl) (rw e refl)
+port-moves : (peek : Peeking) (count port : ℕ) (h host : HostState) (n node : Node) → count < 27
+    → port < peek.part.count
+    → moved peek.part peek.start.machine.switch (placed peek.route peek.start.machine.devices h n) port
+    ≡ (placed peek.route peek.start.machine.devices host node, Passed)
+    → next peek.part (standing peek count h n) (asked peek.by (Move port))
+    ≡ (standing peek (count + 1) host node, packet_passed)
+port-moves peek count port h host n node lt below same =
+    next-standing peek count h host n node (Move port) (reply.Moved Passed) lt
+    (rw (peek.known, lt-ltb port peek.part.count below) refl) (rw same refl) (rw same refl)
 
 -- the packet that waits at the host goes to the link
-pub host-moves : (p : Peeking) (count : ℕ) (h : HostState) (n : Node) (packet : Packet) → count < 27
+pub host-moves : (peek : Peeking) (count : ℕ) (h : HostState) (n : Node) (packet : Packet) → count < 27
     → next_of h.end.latch ≡ Some packet
-    → next p.part (standing p count h n) (asked p.by (Move p.route.host_port))
-    ≡ (standing p (count + 1) (packet_left h) (packet_got p.route.link packet n), packet_passed)
-host-moves p count h n packet lt waits =
-    let d : DeviceStates = p.start.machine.devices in
-    let link : Device = Link p.route.node p.route.link in
-    port-moves p count p.route.host_port h (packet_left h) n (packet_got p.route.link packet n) lt
-    (driven-below p.part p.start.machine.switch p.route.link_port p.route.host_port p.can.switch.back)
-    (moved-across p.part p.start.machine.switch (placed p.route d h n) p.route.host_port p.route.link_port
-    (Host p.route.host) link packet p.can.route.host_device p.can.route.link_device
-    p.can.switch.there p.can.switch.link_ready
-    (ap (λ (g : HostState). next_of g.end.latch) (host-placed p.route d h n p.can.host) ∙ waits)
-    ∙ ap (λ (x : DeviceStates). (arrived_at_device packet link x, Passed)) (host-taken p.route d h n p.can.host)
-    ∙ ap (λ (x : DeviceStates). (x, Passed)) (node-arrived p.route d (packet_left h) n packet p.can.node))
+    → next peek.part (standing peek count h n) (asked peek.by (Move peek.route.host_port))
+    ≡ (standing peek (count + 1) (packet_left h) (packet_got peek.route.link packet n), packet_passed)
+host-moves peek count h n packet lt waits =
+    let d : DeviceStates = peek.start.machine.devices in
+    let link : Device = Link peek.route.node peek.route.link in
+    port-moves peek count peek.route.host_port h (packet_left h) n (packet_got peek.route.link packet n) lt
+    (driven-below peek.part peek.start.machine.switch peek.route.link_port peek.route.host_port peek.can.switch.back)
+    (moved-across peek.part peek.start.machine.switch (placed peek.route d h n) peek.route.host_port
+    peek.route.link_port
+    (Host peek.route.host) link packet peek.can.route.host_device peek.can.route.link_device
+    peek.can.switch.there peek.can.switch.link_ready
+    (ap (λ (g : HostState). next_of g.end.latch) (host-placed peek.route d h n peek.can.host) ∙ waits)
+    ∙ ap (λ (x : DeviceStates). (arrived_at_device packet link x, Passed)) (host-taken peek.route d h n peek.can.host)
+    ∙ ap (λ (x : DeviceStates). (x, Passed)) (node-arrived peek.route d (packet_left h) n packet peek.can.node))
 
 -- the packet that waits at the link goes to the host
-pub link-moves : (p : Peeking) (count : ℕ) (h : HostState) (n : Node) (packet : Packet) → count < 27
-    → next_of (at p.route.link n.links).end.latch ≡ Some packet
-    → next p.part (standing p count h n) (asked p.by (Move p.route.link_port))
-    ≡ (standing p (count + 1) (delivered packet h) (packet_sent p.route.link n), packet_passed)
-link-moves p count h n packet lt waits =
-    let d : DeviceStates = p.start.machine.devices in
-    let link : Device = Link p.route.node p.route.link in
-    port-moves p count p.route.link_port h (delivered packet h) n (packet_sent p.route.link n) lt
-    (driven-below p.part p.start.machine.switch p.route.host_port p.route.link_port p.can.switch.there)
-    (moved-across p.part p.start.machine.switch (placed p.route d h n) p.route.link_port p.route.host_port link
-    (Host p.route.host) packet p.can.route.link_device p.can.route.host_device
-    p.can.switch.back p.can.switch.host_ready
-    (ap (λ (m : Node). next_of (at p.route.link m.links).end.latch) (node-placed p.route d h n p.can.node) ∙ waits)
-    ∙ ap (λ (x : DeviceStates). (arrived_at_device packet (Host p.route.host) x, Passed))
-    (node-taken p.route d h n p.can.node)
-    ∙ ap (λ (x : DeviceStates). (x, Passed)) (host-arrived p.route d h (packet_sent p.route.link n) packet p.can.host))
+pub link-moves : (peek : Peeking) (count : ℕ) (h : HostState) (n : Node) (packet : Packet) → count < 27
+    → next_of (at peek.route.link n.links).end.latch ≡ Some packet
+    → next peek.part (standing peek count h n) (asked peek.by (Move peek.route.link_port))
+    ≡ (standing peek (count + 1) (delivered packet h) (packet_sent peek.route.link n), packet_passed)
+link-moves peek count h n packet lt waits =
+    let d : DeviceStates = peek.start.machine.devices in
+    let link : Device = Link peek.route.node peek.route.link in
+    port-moves peek count peek.route.link_port h (delivered packet h) n (packet_sent peek.route.link n) lt
+    (driven-below peek.part peek.start.machine.switch peek.route.host_port peek.route.link_port peek.can.switch.there)
+    (moved-across peek.part peek.start.machine.switch (placed peek.route d h n) peek.route.link_port
+    peek.route.host_port link
+    (Host peek.route.host) packet peek.can.route.link_device peek.can.route.host_device
+    peek.can.switch.back peek.can.switch.host_ready
+    (ap (λ (m : Node). next_of (at peek.route.link m.links).end.latch)
+    (node-placed peek.route d h n peek.can.node) ∙ waits)
+    ∙ ap (λ (x : DeviceStates). (arrived_at_device packet (Host peek.route.host) x, Passed))
+    (node-taken peek.route d h n peek.can.node)
+    ∙ ap (λ (x : DeviceStates). (x, Passed)) (host-arrived peek.route d h (packet_sent peek.route.link n)
+    packet peek.can.host))

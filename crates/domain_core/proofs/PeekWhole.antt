@@ -27,58 +27,60 @@ use Rattle.domain_core.proofs.PeekRounds.{round-there, round-back}
 
 -- the word at the address, or 0
 abbrev pub word_of : Peeking → ℕ
-word_of p = or_zero (word_at (first_node p).memory p.address)
+word_of peek = or_zero (word_at (first_node peek).memory peek.address)
 
 -- the message has gone, and the first byte of the word is posted
 abbrev pub asked_for : Peeking → State
-asked_for p =
-    reached p 15 (host_resting [] (first_host p).received (first_host p).end.input.overruns)
-    (posting (word_of p % 2 ^ 8) (first_lost p))
-    (Answers p.route.link 3 (word_of p / 2 ^ 8)) (first_node p)
+asked_for peek =
+    reached peek 15 (host_resting [] (first_host peek).received (first_host peek).end.input.overruns)
+    (posting (word_of peek % 2 ^ 8) (first_lost peek))
+    (Answers peek.route.link 3 (word_of peek / 2 ^ 8)) (first_node peek)
 
-message-goes : (p : Peeking)
-    → Leads p.part
-    (reached p 0 (asking p.address (first_host p)) (listening (first_lost p) (first_heard p)) WantsControl
-    (first_node p))
-    (repeated 5 (calls_there p)) (repeated 5 answers_there) (asked_for p)
-message-goes p =
-    let first : ℕ = p.address % 2 ^ 8 in
-    let second : ℕ = p.address / 2 ^ 8 % 2 ^ 8 in
-    let third : ℕ = p.address / 2 ^ 16 % 2 ^ 8 in
-    let fourth : ℕ = p.address / 2 ^ 24 % 2 ^ 8 in
+message-goes : (peek : Peeking)
+    → Leads peek.part
+    (reached peek 0 (asking peek.address (first_host peek))
+    (listening (first_lost peek) (first_heard peek)) WantsControl
+    (first_node peek))
+    (repeated 5 (calls_there peek)) (repeated 5 answers_there) (asked_for peek)
+message-goes peek =
+    let first : ℕ = peek.address % 2 ^ 8 in
+    let second : ℕ = peek.address / 2 ^ 8 % 2 ^ 8 in
+    let third : ℕ = peek.address / 2 ^ 16 % 2 ^ 8 in
+    let fourth : ℕ = peek.address / 2 ^ 24 % 2 ^ 8 in
     let one : ℕ = shifted_down first 0 in
     let two : ℕ = shifted_down second one in
     let three : ℕ = shifted_down third two in
-    let whole : four_in first second third fourth ≡ p.address = bytes-come-to p.address p.can.word in
-    let received : List ℕ = (first_host p).received in
-    let overruns : ℕ = (first_host p).end.input.overruns in
-    let lost : ℕ = first_lost p in
-    let heard : Bool = first_heard p in
-    let takes : ℕ → ℕ → doing.NodeState = λ left address. Takes p.route.link (Peek left address) in
-    let word : ℕ = word_of p in
-    leads-on p.part _ _ _ _ _ _ _
-    (round-there p 0 1 (first ∷ second ∷ third ∷ fourth ∷ []) received overruns lost
-    (first_host p).end.output.acknowledged None false heard heard WantsControl (takes 4 0) (first_node p) (omega arith)
+    let whole : four_in first second third fourth ≡ peek.address = bytes-come-to peek.address peek.can.word in
+    let received : List ℕ = (first_host peek).received in
+    let overruns : ℕ = (first_host peek).end.input.overruns in
+    let lost : ℕ = first_lost peek in
+    let heard : Bool = first_heard peek in
+    let takes : ℕ → ℕ → doing.NodeState = λ left address. Takes peek.route.link (Peek left address) in
+    let word : ℕ = word_of peek in
+    leads-on peek.part _ _ _ _ _ _ _
+    (round-there peek 0 1 (first ∷ second ∷ third ∷ fourth ∷ []) received overruns lost
+    (first_host peek).end.output.acknowledged None false heard heard WantsControl (takes 4 0)
+    (first_node peek) (omega arith)
     refl
-    (control-step p.route.link (first_node p) 1 lost heard p.can.listens.buffers))
-    (leads-on p.part _ _ _ _ _ _ _
-    (round-there p 3 first (second ∷ third ∷ fourth ∷ []) received overruns lost false None false heard heard
-    (takes 4 0) (takes 3 one) (first_node p) (omega arith) refl
-    (address-step p.route.link (first_node p) first lost 4 0 heard refl))
-    (leads-on p.part _ _ _ _ _ _ _
-    (round-there p 6 second (third ∷ fourth ∷ []) received overruns lost false None false heard heard (takes 3 one)
-    (takes 2 two) (first_node p) (omega arith) refl
-    (address-step p.route.link (first_node p) second lost 3 one heard refl))
-    (leads-on p.part _ _ _ _ _ _ _
-    (round-there p 9 third (fourth ∷ []) received overruns lost false None false heard heard (takes 2 two)
-    (takes 1 three) (first_node p) (omega arith) refl
-    (address-step p.route.link (first_node p) third lost 2 two heard refl))
-    (leads-on p.part _ _ _ _ _ _ _
-    (round-there p 12 fourth [] received overruns lost false (Some (word % 2 ^ 8)) true heard false (takes 1 three)
-    (Answers p.route.link 3 (word / 2 ^ 8)) (first_node p) (omega arith) refl
-    (last-address-step p.route.link (first_node p) fourth lost three word heard
-    (ap (λ (a : ℕ). or_zero (word_at (first_node p).memory a)) whole)))
-    (leads-none p.part _)))))
+    (control-step peek.route.link (first_node peek) 1 lost heard peek.can.listens.buffers))
+    (leads-on peek.part _ _ _ _ _ _ _
+    (round-there peek 3 first (second ∷ third ∷ fourth ∷ []) received overruns lost false None false heard heard
+    (takes 4 0) (takes 3 one) (first_node peek) (omega arith) refl
+    (address-step peek.route.link (first_node peek) first lost 4 0 heard refl))
+    (leads-on peek.part _ _ _ _ _ _ _
+    (round-there peek 6 second (third ∷ fourth ∷ []) received overruns lost false None false heard heard (takes 3 one)
+    (takes 2 two) (first_node peek) (omega arith) refl
+    (address-step peek.route.link (first_node peek) second lost 3 one heard refl))
+    (leads-on peek.part _ _ _ _ _ _ _
+    (round-there peek 9 third (fourth ∷ []) received overruns lost false None false heard heard (takes 2 two)
+    (takes 1 three) (first_node peek) (omega arith) refl
+    (address-step peek.route.link (first_node peek) third lost 2 two heard refl))
+    (leads-on peek.part _ _ _ _ _ _ _
+    (round-there peek 12 fourth [] received overruns lost false (Some (word % 2 ^ 8)) true heard false (takes 1 three)
+    (Answers peek.route.link 3 (word / 2 ^ 8)) (first_node peek) (omega arith) refl
+    (last-address-step peek.route.link (first_node peek) fourth lost three word heard
+    (ap (λ (a : ℕ). or_zero (word_at (first_node peek).memory a)) whole)))
+    (leads-none peek.part _)))))
 
 -- ---- the word comes
 
@@ -90,84 +92,92 @@ has-room xs ys few room =
 
 -- the host that received these bytes besides
 abbrev pub with_bytes : Peeking → List ℕ → HostState
-with_bytes p bytes = host_resting [] ((first_host p).received ++ bytes) (first_host p).end.input.overruns
+with_bytes peek bytes = host_resting [] ((first_host peek).received ++ bytes) (first_host peek).end.input.overruns
 
-byte-comes : (p : Peeking) (count byte : ℕ) (bytes : List ℕ) (e : LinkEnd) (before after : doing.NodeState)
+byte-comes : (peek : Peeking) (count byte : ℕ) (bytes : List ℕ) (e : LinkEnd) (before after : doing.NodeState)
     → count + 3 ≤ 27 → has_halted before ≡ false
     → length bytes < 4
-    → node_step (with_end p.route.link (acknowledged (first_lost p)) before (first_node p))
-    ≡ (with_end p.route.link e after (first_node p), Ran)
-    → Leads p.part (reached p count (with_bytes p bytes) (posting byte (first_lost p)) before (first_node p))
-    (calls_back p) answers_back
-    (reached p (count + 1 + 1 + 1) (with_bytes p (bytes ++ byte ∷ [])) e after (first_node p))
-byte-comes p count byte bytes e before after room goes few steps =
-    let h : HostState = first_host p in
+    → node_step (with_end peek.route.link (acknowledged (first_lost peek)) before (first_node peek))
+    ≡ (with_end peek.route.link e after (first_node peek), Ran)
+    → Leads peek.part (reached peek count (with_bytes peek bytes) (posting byte (first_lost peek)) before
+    (first_node peek))
+    (calls_back peek) answers_back
+    (reached peek (count + 1 + 1 + 1) (with_bytes peek (bytes ++ byte ∷ [])) e after (first_node peek))
+byte-comes peek count byte bytes e before after room goes few steps =
+    let h : HostState = first_host peek in
     subst (λ (xs : List ℕ).
-    Leads p.part (reached p count (with_bytes p bytes) (posting byte (first_lost p)) before (first_node p))
-    (calls_back p) answers_back
-    (reached p (count + 1 + 1 + 1) (host_resting [] xs h.end.input.overruns) e after (first_node p)))
+    Leads peek.part (reached peek count (with_bytes peek bytes) (posting byte (first_lost peek)) before
+    (first_node peek))
+    (calls_back peek) answers_back
+    (reached peek (count + 1 + 1 + 1) (host_resting [] xs h.end.input.overruns) e after (first_node peek)))
     (append_assoc h.received bytes (byte ∷ []))
-    (round-back p count byte (h.received ++ bytes) h.end.input.overruns (first_lost p) e before after (first_node p)
-    room goes (has-room h.received bytes few p.can.asks.room) steps)
+    (round-back peek count byte (h.received ++ bytes) h.end.input.overruns (first_lost peek) e before
+    after (first_node peek)
+    room goes (has-room h.received bytes few peek.can.asks.room) steps)
 
 -- the bytes of the word one by one
-bytes-come : (p : Peeking) (word : ℕ)
-    → Leads p.part
-    (reached p 15 (with_bytes p []) (posting (word % 2 ^ 8) (first_lost p)) (Answers p.route.link 3 (word / 2 ^ 8))
-    (first_node p))
-    (repeated 4 (calls_back p)) (repeated 4 answers_back)
-    (reached p 27
-    (with_bytes p
+bytes-come : (peek : Peeking) (word : ℕ)
+    → Leads peek.part
+    (reached peek 15 (with_bytes peek []) (posting (word % 2 ^ 8) (first_lost peek))
+    (Answers peek.route.link 3 (word / 2 ^ 8))
+    (first_node peek))
+    (repeated 4 (calls_back peek)) (repeated 4 answers_back)
+    (reached peek 27
+    (with_bytes peek
     (word % 2 ^ 8 ∷ word / 2 ^ 8 % 2 ^ 8 ∷ word / 2 ^ 8 / 2 ^ 8 % 2 ^ 8 ∷ word / 2 ^ 8 / 2 ^ 8 / 2 ^ 8 % 2 ^ 8 ∷ []))
-    (resting (first_lost p)) WantsControl (first_node p))
-bytes-come p word =
+    (resting (first_lost peek)) WantsControl (first_node peek))
+bytes-come peek word =
     let second : ℕ = word / 2 ^ 8 in
     let third : ℕ = second / 2 ^ 8 in
     let fourth : ℕ = third / 2 ^ 8 in
-    let lost : ℕ = first_lost p in
+    let lost : ℕ = first_lost peek in
     let posts : ℕ → LinkEnd = λ left. posting (left % 2 ^ 8) lost in
     let low : ℕ → ℕ = λ left. left % 2 ^ 8 in
-    leads-on p.part _ _ _ _ _ _ _
-    (byte-comes p 15 (low word) [] (posts second) (Answers p.route.link 3 second) (Answers p.route.link 2 third)
+    leads-on peek.part _ _ _ _ _ _ _
+    (byte-comes peek 15 (low word) [] (posts second) (Answers peek.route.link 3 second)
+    (Answers peek.route.link 2 third)
     (omega arith) refl (omega arith)
-    (answer-step p.route.link (first_node p) lost 3 second refl))
-    (leads-on p.part _ _ _ _ _ _ _
-    (byte-comes p 18 (low second) (low word ∷ []) (posts third) (Answers p.route.link 2 third)
-    (Answers p.route.link 1 fourth) (omega arith) refl (omega arith)
-    (answer-step p.route.link (first_node p) lost 2 third refl))
-    (leads-on p.part _ _ _ _ _ _ _
-    (byte-comes p 21 (low third) (low word ∷ low second ∷ []) (posts fourth) (Answers p.route.link 1 fourth)
-    (Answers p.route.link 0 (fourth / 2 ^ 8)) (omega arith) refl (omega arith)
-    (answer-step p.route.link (first_node p) lost 1 fourth refl))
-    (leads-on p.part _ _ _ _ _ _ _
-    (byte-comes p 24 (low fourth) (low word ∷ low second ∷ low third ∷ []) (resting lost)
-    (Answers p.route.link 0 (fourth / 2 ^ 8)) WantsControl (omega arith) refl (omega arith)
-    (last-answer-step p.route.link (first_node p) lost (fourth / 2 ^ 8)))
-    (leads-none p.part _))))
+    (answer-step peek.route.link (first_node peek) lost 3 second refl))
+    (leads-on peek.part _ _ _ _ _ _ _
+    (byte-comes peek 18 (low second) (low word ∷ []) (posts third) (Answers peek.route.link 2 third)
+    (Answers peek.route.link 1 fourth) (omega arith) refl (omega arith)
+    (answer-step peek.route.link (first_node peek) lost 2 third refl))
+    (leads-on peek.part _ _ _ _ _ _ _
+    (byte-comes peek 21 (low third) (low word ∷ low second ∷ []) (posts fourth) (Answers peek.route.link 1 fourth)
+    (Answers peek.route.link 0 (fourth / 2 ^ 8)) (omega arith) refl (omega arith)
+    (answer-step peek.route.link (first_node peek) lost 1 fourth refl))
+    (leads-on peek.part _ _ _ _ _ _ _
+    (byte-comes peek 24 (low fourth) (low word ∷ low second ∷ low third ∷ []) (resting lost)
+    (Answers peek.route.link 0 (fourth / 2 ^ 8)) WantsControl (omega arith) refl (omega arith)
+    (last-answer-step peek.route.link (first_node peek) lost (fourth / 2 ^ 8)))
+    (leads-none peek.part _))))
 
-word-comes : (p : Peeking)
-    → Leads p.part (asked_for p) (repeated 4 (calls_back p)) (repeated 4 answers_back)
-    (reached p 27 (with_bytes p (word_bytes (first_node p) p.address)) (resting (first_lost p)) WantsControl
-    (first_node p))
-word-comes p =
-    let h : HostState = first_host p in
-    let posts : LinkEnd = posting (word_of p % 2 ^ 8) (first_lost p) in
-    leads-between p.part _ _ _ _ _ _
+word-comes : (peek : Peeking)
+    → Leads peek.part (asked_for peek) (repeated 4 (calls_back peek)) (repeated 4 answers_back)
+    (reached peek 27 (with_bytes peek (word_bytes (first_node peek) peek.address))
+    (resting (first_lost peek)) WantsControl
+    (first_node peek))
+word-comes peek =
+    let h : HostState = first_host peek in
+    let posts : LinkEnd = posting (word_of peek % 2 ^ 8) (first_lost peek) in
+    leads-between peek.part _ _ _ _ _ _
     (ap (λ (xs : List ℕ).
-    reached p 15 (host_resting [] xs h.end.input.overruns) posts (Answers p.route.link 3 (word_of p / 2 ^ 8))
-    (first_node p))
+    reached peek 15 (host_resting [] xs h.end.input.overruns) posts (Answers peek.route.link 3 (word_of peek / 2 ^ 8))
+    (first_node peek))
     (sym (append-nil h.received)))
-    (ap (λ (xs : List ℕ). reached p 27 (with_bytes p xs) (resting (first_lost p)) WantsControl (first_node p))
-    (bytes-in-turn (word_of p)))
-    (bytes-come p (word_of p))
+    (ap (λ (xs : List ℕ). reached peek 27 (with_bytes peek xs) (resting (first_lost peek)) WantsControl
+    (first_node peek))
+    (bytes-in-turn (word_of peek)))
+    (bytes-come peek (word_of peek))
 
 -- ---- the whole
 
-word-answered : (p : Peeking)
-    → Leads p.part p.start (peek_calls p.by p.route) peek_answers
-    (record { machine = after_peek p.route p.address p.start.machine; recorded = p.start.recorded + 27 })
-word-answered p =
-    leads-between p.part _ _ _ _ _ _ (begins p) (ends p) (leads-on p.part _ _ _ _ _ _ _ (message-goes p) (word-comes p))
+word-answered : (peek : Peeking)
+    → Leads peek.part peek.start (peek_calls peek.by peek.route) peek_answers
+    (record { machine = after_peek peek.route peek.address peek.start.machine; recorded = peek.start.recorded + 27 })
+word-answered peek =
+    leads-between peek.part _ _ _ _ _ _ (begins peek) (ends peek)
+    (leads-on peek.part _ _ _ _ _ _ _ (message-goes peek) (word-comes peek))
 
 -- a host that asks a node which listens is told the word
 pub peek-told : PeekAnswersTheWord

@@ -89,44 +89,47 @@ pub expanded_one : (old new : List Entry) (by : By) (event : Event) (reply : Rep
 expanded_one old new by event reply is = rw (is, expanded-append) refl
 
 -- the last entry, and what stands before it
-drop_one : (k : ℕ) (xs : List Entry) (e : Entry) → length xs ≡ suc k → e ≡ slice_index_or xs k e → drop k xs ≡ e ∷ []
-drop_one zero [] e one is = absurd (omega (arith, one))
-drop_one zero (x ∷ []) e one is = ap (λ (y : Entry). y ∷ []) (sym is)
-drop_one zero (x ∷ (y ∷ xs)) e one is = absurd (omega (arith, one))
-drop_one (suc k) [] e more is = absurd (omega (arith, more))
-drop_one (suc k) (x ∷ xs) e more is = drop_one k xs e (omega (arith, more)) is
+drop_one : (k : ℕ) (xs : List Entry) (entry : Entry) → length xs ≡ suc k → entry ≡ slice_index_or xs k entry
+    → drop k xs ≡ entry ∷ []
+drop_one zero [] entry one is = absurd (omega (arith, one))
+drop_one zero (x ∷ []) entry one is = ap (λ (y : Entry). y ∷ []) (sym is)
+drop_one zero (x ∷ (y ∷ xs)) entry one is = absurd (omega (arith, one))
+drop_one (suc k) [] entry more is = absurd (omega (arith, more))
+drop_one (suc k) (x ∷ xs) entry more is = drop_one k xs entry (omega (arith, more)) is
 
-last_of : (n : ℕ) (xs : List Entry) (e : Entry) → n ≡ length xs → 0 < n → e ≡ slice_index_or xs (n - 1) e
-    → xs ≡ take (n - 1) xs ++ e ∷ []
-last_of n xs e all some is =
+last_of : (n : ℕ) (xs : List Entry) (entry : Entry) → n ≡ length xs → 0 < n → entry ≡ slice_index_or xs (n - 1) entry
+    → xs ≡ take (n - 1) xs ++ entry ∷ []
+last_of n xs entry all some is =
     sym (take-append-drop (n - 1) xs)
-    ∙ ap (λ (l : List Entry). take (n - 1) xs ++ l) (drop_one (n - 1) xs e (omega (arith, all, some)) is)
+    ∙ ap (λ (l : List Entry). take (n - 1) xs ++ l) (drop_one (n - 1) xs entry (omega (arith, all, some)) is)
 
-last_set : (n : ℕ) (xs : List Entry) (e f : Entry) → n ≡ length xs → 0 < n → e ≡ slice_index_or xs (n - 1) e
-    → slice_set xs (n - 1) f ≡ take (n - 1) xs ++ f ∷ []
-last_set n xs e f all some is =
+last_set : (n : ℕ) (xs : List Entry) (entry other_entry : Entry) → n ≡ length xs → 0 < n → entry
+    ≡ slice_index_or xs (n - 1) entry
+    → slice_set xs (n - 1) other_entry ≡ take (n - 1) xs ++ other_entry ∷ []
+last_set n xs entry other_entry all some is =
     let front : length (take (n - 1) xs) ≡ n - 1 = length-take-le (n - 1) xs (omega (arith, all)) in
-    ap (λ (l : List Entry). slice_set l (n - 1) f) (last_of n xs e all some is)
-    ∙ ap (λ (i : ℕ). slice_set (take (n - 1) xs ++ e ∷ []) i f) (sym front)
-    ∙ set-append_seam (take (n - 1) xs) e [] f
+    ap (λ (l : List Entry). slice_set l (n - 1) other_entry) (last_of n xs entry all some is)
+    ∙ ap (λ (i : ℕ). slice_set (take (n - 1) xs ++ entry ∷ []) i other_entry) (sym front)
+    ∙ set-append_seam (take (n - 1) xs) entry [] other_entry
 
 -- a run that stands last has room for so many Steps more, if the journal has
-pub run_has_room : (n : ℕ) (xs : List Entry) (e : Entry) (by : By) (node before count : ℕ) → n ≡ length xs → 0 < n
-    → e ≡ slice_index_or xs (n - 1) e
-    → length (expanded xs) + count ≤ 2 ^ 40 → e ≡ Run by node before Ran → before + count ≤ 2 ^ 40
-run_has_room n xs e by node before count all some is few run =
+pub run_has_room : (n : ℕ) (xs : List Entry) (entry : Entry) (by : By) (node before count : ℕ) → n ≡ length xs → 0 < n
+    → entry ≡ slice_index_or xs (n - 1) entry
+    → length (expanded xs) + count ≤ 2 ^ 40 → entry ≡ Run by node before Ran → before + count ≤ 2 ^ 40
+run_has_room n xs entry by node before count all some is few run =
     let below : before ≤ length (expanded xs) =
     count_below (take (n - 1) xs) xs by node before
-    (last_of n xs e all some is ∙ ap (λ (y : Entry). take (n - 1) xs ++ y ∷ []) run) in
+    (last_of n xs entry all some is ∙ ap (λ (y : Entry). take (n - 1) xs ++ y ∷ []) run) in
     omega (arith, below, few)
 
 -- setting a longer run in the place of the last entry puts the new Steps behind what the entries stand for
-pub run_goes_on : (n : ℕ) (xs : List Entry) (e f : Entry) (by : By) (node before count : ℕ) (last : Stepped)
-    → n ≡ length xs → 0 < n → e ≡ slice_index_or xs (n - 1) e
+pub run_goes_on : (n : ℕ) (xs : List Entry) (entry other_entry : Entry) (by : By)
+    (node before count : ℕ) (last : Stepped)
+    → n ≡ length xs → 0 < n → entry ≡ slice_index_or xs (n - 1) entry
     → 0 < count
-    → e ≡ Run by node before Ran → f ≡ Run by node (before + count) last
-    → expanded (slice_set xs (n - 1) f) ≡ expanded xs ++ steps by node count last
-run_goes_on n xs e f by node before count last all some is more run grown =
-    expanded_grown (take (n - 1) xs) xs (slice_set xs (n - 1) f) by node before count last more
-    (last_of n xs e all some is ∙ ap (λ (y : Entry). take (n - 1) xs ++ y ∷ []) run)
-    (last_set n xs e f all some is ∙ ap (λ (y : Entry). take (n - 1) xs ++ y ∷ []) grown)
+    → entry ≡ Run by node before Ran → other_entry ≡ Run by node (before + count) last
+    → expanded (slice_set xs (n - 1) other_entry) ≡ expanded xs ++ steps by node count last
+run_goes_on n xs entry other_entry by node before count last all some is more run grown =
+    expanded_grown (take (n - 1) xs) xs (slice_set xs (n - 1) other_entry) by node before count last more
+    (last_of n xs entry all some is ∙ ap (λ (y : Entry). take (n - 1) xs ++ y ∷ []) run)
+    (last_set n xs entry other_entry all some is ∙ ap (λ (y : Entry). take (n - 1) xs ++ y ∷ []) grown)

@@ -21,11 +21,12 @@ use Rattle.domain_core.specs.Devices.{taken_from_device, device_at}
 use Rattle.domain_core.specs.Moves.{delivered_at, copies_arrived, joining_of}
 use Rattle.domain_core.specs.Machine.{Machine}
 
-same_sizes : (nodes : List Node) (i : ℕ) (n d : Node) → length n.memory ≡ length (get_or nodes i d).memory
+same_sizes : (nodes : List Node) (i : ℕ) (n node : Node) → length n.memory ≡ length (get_or nodes i node).memory
     → map (λ k. length k.memory) (set nodes i n) ≡ map (λ k. length k.memory) nodes
-same_sizes [] i n d same = refl
-same_sizes (k ∷ nodes) zero n d same = ap (λ (size : ℕ). size ∷ map (λ k. length k.memory) nodes) same
-same_sizes (k ∷ nodes) (suc i) n d same = ap (λ (rest : List ℕ). length k.memory ∷ rest) (same_sizes nodes i n d same)
+same_sizes [] i n node same = refl
+same_sizes (k ∷ nodes) zero n node same = ap (λ (size : ℕ). size ∷ map (λ k. length k.memory) nodes) same
+same_sizes (k ∷ nodes) (suc i) n node same = ap (λ (rest : List ℕ). length k.memory ∷ rest)
+    (same_sizes nodes i n node same)
 
 -- the memories and the number of hosts are those of before
 pub record AreAsLarge (d e : DeviceStates) : Type 0 where
@@ -36,8 +37,13 @@ pub record AreAsLarge (d e : DeviceStates) : Type 0 where
 pub as_large : (d : DeviceStates) → AreAsLarge d d
 as_large d = record { memories = refl; hosts = refl }
 
-then_large : (d e f : DeviceStates) → AreAsLarge d e → AreAsLarge e f → AreAsLarge d f
-then_large d e f one two = record { memories = two.memories ∙ one.memories; hosts = two.hosts ∙ one.hosts }
+then_large : (d devices other_devices : DeviceStates) → AreAsLarge d devices → AreAsLarge devices other_devices
+    → AreAsLarge d other_devices
+then_large d devices other_devices one two = record {
+  memories = two.memories ∙ one.memories;
+  hosts =
+      two.hosts ∙ one.hosts;
+}
 
 -- a node in place of one with as much memory leaves all as large
 pub large_with_node : (d : DeviceStates) (number : ℕ) (n : Node) → length n.memory ≡ length (node_at d number).memory
@@ -65,12 +71,13 @@ large_copied part packet (output ∷ outputs) d =
     (large_copied part packet outputs next)
 
 -- taking a packet from a device and copying it to outputs leaves all as large
-pub large_gone : (part : PartData) (device : Device) (packet : Packet) (outputs : List ℕ) (d e f : DeviceStates)
-    → e ≡ taken_from_device device d → f ≡ copies_arrived (joining_of part) packet outputs e
-    → AreAsLarge d f
-large_gone part device packet outputs d e f one two =
-    then_large d e f (subst (AreAsLarge d) (sym one) (large_taken d device))
-    (subst (AreAsLarge e) (sym two) (large_copied part packet outputs e))
+pub large_gone : (part : PartData) (device : Device) (packet : Packet) (outputs : List ℕ)
+    (d devices other_devices : DeviceStates)
+    → devices ≡ taken_from_device device d → other_devices ≡ copies_arrived (joining_of part) packet outputs devices
+    → AreAsLarge d other_devices
+large_gone part device packet outputs d devices other_devices one two =
+    then_large d devices other_devices (subst (AreAsLarge d) (sym one) (large_taken d device))
+    (subst (AreAsLarge devices) (sym two) (large_copied part packet outputs devices))
 
 -- ---- what a machine is stays so
 
@@ -87,8 +94,9 @@ still_of_part v switch d of ports large =
     }
 
 -- devices that are equal to some that are as large are as large
-pub large_by : (d e f : DeviceStates) → f ≡ e → AreAsLarge d e → AreAsLarge d f
-large_by d e f is large = subst (AreAsLarge d) (sym is) large
+pub large_by : (d devices other_devices : DeviceStates) → other_devices ≡ devices → AreAsLarge d devices
+    → AreAsLarge d other_devices
+large_by d devices other_devices is large = subst (AreAsLarge d) (sym is) large
 
 sizes_opened : (nodes : List NodePart)
     → map (λ n. length n.memory) (map (λ n. opened_node n.memory) nodes) ≡ map (λ n. n.memory) nodes
@@ -118,7 +126,7 @@ large_reopened d = record { memories = sizes_reopened d.nodes; hosts = length-ma
 -- nodes and hosts that are each opened anew are the devices opened anew
 pub reopened_by : (d : DeviceStates) (ns : List Node) (hs : List HostState)
     → ns ≡ map (λ n. opened_node (length n.memory)) d.nodes → hs ≡ map (λ h. opened_host) d.hosts
-    → (let e : DeviceStates = record { nodes = ns; hosts = hs } in e) ≡ reopened d
+    → (let devices : DeviceStates = record { nodes = ns; hosts = hs } in devices) ≡ reopened d
 reopened_by d ns hs nodes hosts =
     ap (λ (xs : List Node). let e : DeviceStates = record { nodes = xs; hosts = hs } in e) nodes
     ∙ ap (λ (xs : List HostState).
@@ -155,10 +163,11 @@ reopened_opened v of =
     hosts
 
 -- machines with equal switches, rests and devices are equal
-pub machine_by : (s t : Switch) (r q : List ℕ) (d e : DeviceStates) → s ≡ t → r ≡ q → d ≡ e
-    → (let m : Machine = record { switch = s; rest = r; devices = d } in m)
-    ≡ (let m : Machine = record { switch = t; rest = q; devices = e } in m)
-machine_by s t r q d e switches rests devices =
+pub machine_by : (s t : Switch) (r numbers : List ℕ) (d other_devices : DeviceStates) → s ≡ t → r ≡ numbers
+    → d ≡ other_devices
+    → (let machine : Machine = record { switch = s; rest = r; devices = d } in machine)
+    ≡ (let machine : Machine = record { switch = t; rest = numbers; devices = other_devices } in machine)
+machine_by s t r numbers d other_devices switches rests devices =
     ap (λ (x : Switch). let m : Machine = record { switch = x; rest = r; devices = d } in m) switches
     ∙ ap (λ (x : List ℕ). let m : Machine = record { switch = t; rest = x; devices = d } in m) rests
-    ∙ ap (λ (x : DeviceStates). let m : Machine = record { switch = t; rest = q; devices = x } in m) devices
+    ∙ ap (λ (x : DeviceStates). let m : Machine = record { switch = t; rest = numbers; devices = x } in m) devices

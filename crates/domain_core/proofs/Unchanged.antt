@@ -13,5 +13,5 @@ pub counts_itself : UnchangedCountsNothing → (words : List Word) → AllZip Co
 counts_itself unchanged words = unchanged words
 
 -- a switch that stays keeps its ports, and its words count no change
-pub keeps_itself : UnchangedCountsNothing → (s : SwitchValue) → KeepsPorts s s
-keeps_itself unchanged s = record { ports = refl; counts = unchanged s.words }
+pub keeps_itself : UnchangedCountsNothing → (switch : SwitchValue) → KeepsPorts switch switch
+keeps_itself unchanged switch = record { ports = refl; counts = unchanged switch.words }

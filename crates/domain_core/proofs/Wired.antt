@@ -37,17 +37,17 @@ has_right [] ys x has = has
 has_right (y ∷ xs) ys x has = inr (has_right xs ys x has)
 
 apart_left : (xs ys : List ℕ) → Apart (xs ++ ys) → Apart xs
-apart_left [] ys h = tt
-apart_left (x ∷ xs) ys h = (λ has. h.0 (has_left xs ys x has), apart_left xs ys h.1)
+apart_left [] ys given = tt
+apart_left (x ∷ xs) ys given = (λ has. given.0 (has_left xs ys x has), apart_left xs ys given.1)
 
 apart_right : (xs ys : List ℕ) → Apart (xs ++ ys) → Apart ys
-apart_right [] ys h = h
-apart_right (x ∷ xs) ys h = apart_right xs ys h.1
+apart_right [] ys given = given
+apart_right (x ∷ xs) ys given = apart_right xs ys given.1
 
 apart_across : (xs ys : List ℕ) (x : ℕ) → Apart (xs ++ ys) → Has xs x → Has ys x → ⊥
-apart_across [] ys x h one two = one
-apart_across (y ∷ xs) ys x h (inl same) two = h.0 (has_right xs ys y (subst (Has ys) (sym same) two))
-apart_across (y ∷ xs) ys x h (inr one) two = apart_across xs ys x h.1 one two
+apart_across [] ys x given one two = one
+apart_across (y ∷ xs) ys x given (inl same) two = given.0 (has_right xs ys y (subst (Has ys) (sym same) two))
+apart_across (y ∷ xs) ys x given (inr one) two = apart_across xs ys x given.1 one two
 
 not_among : (x : ℕ) (ys : List ℕ) → All (λ y. x ≢ y) ys → Has ys x → ⊥
 not_among x [] all has = has
@@ -55,10 +55,10 @@ not_among x (y ∷ ys) all (inl same) = All-head (λ z. x ≢ z) y ys all (sym s
 not_among x (y ∷ ys) all (inr has) = not_among x ys (All-tail (λ z. x ≢ z) y ys all) has
 
 each_once : (xs : List ℕ) → AllPairs (λ x y. x ≢ y) xs → Apart xs
-each_once [] h = tt
-each_once (x ∷ xs) h = (
-  not_among x xs (λ k d less. h 0 (suc k) d (omega arith) (omega arith)),
-  each_once xs (λ i j d less within. h (suc i) (suc j) d (omega arith) (omega arith)),
+each_once [] unlike = tt
+each_once (x ∷ xs) unlike = (
+  not_among x xs (λ k d less. unlike 0 (suc k) d (omega arith) (omega arith)),
+  each_once xs (λ i j d less within. unlike (suc i) (suc j) d (omega arith) (omega arith)),
 )
 
 -- ---- hosts
@@ -104,26 +104,26 @@ host_named first (h ∷ hosts) port device is =
           }
     ]
 
-has_host : (hosts : List HostPart) (number : ℕ) (h : HostPart) → slice_get hosts number ≡ Some h
-    → Has (host_ports hosts) h.port
-has_host [] number h at = absurd (none-some h at)
-has_host (x ∷ hosts) zero h at = inl (ap (λ (g : HostPart). g.port) (same_Some _ _ at))
-has_host (x ∷ hosts) (suc number) h at = inr (has_host hosts number h at)
+has_host : (hosts : List HostPart) (number : ℕ) (host : HostPart) → slice_get hosts number ≡ Some host
+    → Has (host_ports hosts) host.port
+has_host [] number host at = absurd (none-some host at)
+has_host (x ∷ hosts) zero host at = inl (ap (λ (g : HostPart). g.port) (same_Some _ _ at))
+has_host (x ∷ hosts) (suc number) host at = inr (has_host hosts number host at)
 
-host_found : (first : ℕ) (hosts : List HostPart) (port number : ℕ) (h : HostPart)
-    → Apart (host_ports hosts) → slice_get hosts number ≡ Some h
-    → h.port ≡ port
+host_found : (first : ℕ) (hosts : List HostPart) (port number : ℕ) (host : HostPart)
+    → Apart (host_ports hosts) → slice_get hosts number ≡ Some host
+    → host.port ≡ port
     → host_at_port first hosts port ≡ Some (Host (first + number))
-host_found first [] port number h apart at is = absurd (none-some h at)
-host_found first (x ∷ hosts) port zero h apart at is =
+host_found first [] port number host apart at is = absurd (none-some host at)
+host_found first (x ∷ hosts) port zero host apart at is =
     let test : (x.port == port) ≡ true = eq-eqb _ _ (ap (λ (g : HostPart). g.port) (same_Some _ _ at) ∙ is) in
     let none : first ≡ first + 0 = omega arith in
     rw test (ap (λ (n : ℕ). Some (Host n)) none)
-host_found first (x ∷ hosts) port (suc number) h apart at is =
+host_found first (x ∷ hosts) port (suc number) host apart at is =
     let test : (x.port == port) ≡ false =
-    ne_eqb _ _ (λ e. apart.0 (subst (Has (host_ports hosts)) (is ∙ sym e) (has_host hosts number h at))) in
+    ne_eqb _ _ (λ e. apart.0 (subst (Has (host_ports hosts)) (is ∙ sym e) (has_host hosts number host at))) in
     let more : first + 1 + number ≡ first + suc number = omega arith in
-    rw test (host_found (first + 1) hosts port number h apart.1 at is ∙ ap (λ (n : ℕ). Some (Host n)) more)
+    rw test (host_found (first + 1) hosts port number host apart.1 at is ∙ ap (λ (n : ℕ). Some (Host n)) more)
 
 no_host : (first : ℕ) (hosts : List HostPart) (port : ℕ) → (Has (host_ports hosts) port → ⊥)
     → host_at_port first hosts port ≡ None
@@ -159,8 +159,8 @@ has_port (Some w ∷ links) (suc place) port at = inr (has_port links place port
 not_wired : (wired : Option ℕ) (links : List (Option ℕ)) (port : ℕ)
     → Apart (ranged_ports (wired ∷ links)) → Has (ranged_ports links) port → wired ≡ Some port
     → ⊥
-not_wired None links port apart has e = none-some port e
-not_wired (Some w) links port apart has e = apart.0 (subst (Has (ranged_ports links)) (sym (same_Some _ _ e)) has)
+not_wired None links port apart has same = none-some port same
+not_wired (Some w) links port apart has same = apart.0 (subst (Has (ranged_ports links)) (sym (same_Some _ _ same)) has)
 
 apart_rest : (wired : Option ℕ) (links : List (Option ℕ)) → Apart (ranged_ports (wired ∷ links))
     → Apart (ranged_ports links)

@@ -10,12 +10,12 @@ use Rattle.farm_causes.specs.Following.{MovesOn}
 use Rattle.farm_causes.proofs.EntryCalls.{moves_twice}
 
 -- a moment that goes on by some Steps of a node, and then by more of them, goes on by as many as both
-pub more_steps : (a b c : MomentValue) (node before some both : ℕ) → before + some ≡ both
-    → MovesOn a (replicate before (record { by = Farm; event = Step node })) b
-    → MovesOn b (replicate some (record { by = Farm; event = Step node })) c
-    → MovesOn a (replicate both (record { by = Farm; event = Step node })) c
-more_steps a b c node before some both sum one two =
+pub more_steps : (moment other_moment third_moment : MomentValue) (node before some both : ℕ) → before + some ≡ both
+    → MovesOn moment (replicate before (record { by = Farm; event = Step node })) other_moment
+    → MovesOn other_moment (replicate some (record { by = Farm; event = Step node })) third_moment
+    → MovesOn moment (replicate both (record { by = Farm; event = Step node })) third_moment
+more_steps moment other_moment third_moment node before some both sum one two =
     let call : Call = record { by = Farm; event = Step node } in
-    subst (λ (calls : List Call). MovesOn a calls c)
+    subst (λ (calls : List Call). MovesOn moment calls third_moment)
     (replicate-append-replicate before some call ∙ ap (λ n. replicate n call) sum)
-    (moves_twice a b c (replicate before call) (replicate some call) one two)
+    (moves_twice moment other_moment third_moment (replicate before call) (replicate some call) one two)

@@ -39,11 +39,12 @@ pub stays_by : (m : MomentValue) (calls : List Call) → calls ≡ [] → MovesO
 stays_by m calls none = subst (λ (cs : List Call). MovesOn m cs m) (sym none) (stays m)
 
 -- a moment that goes on by some calls, and then by others, goes on by all of them
-pub moves_twice : (a b c : MomentValue) (xs ys : List Call) → MovesOn a xs b → MovesOn b ys c → MovesOn a (xs ++ ys) c
-moves_twice a b c xs ys one two =
-    let first : FollowsCalls a.machine.part (state_at a) xs (state_at b) = one.follows in
-    let second : FollowsCalls a.machine.part (state_at b) ys (state_at c) =
-    subst (λ (p : PartData). FollowsCalls p (state_at b) ys (state_at c)) one.part two.follows in
+pub moves_twice : (moment other_moment third_moment : MomentValue) (xs ys : List Call) → MovesOn moment xs other_moment
+    → MovesOn other_moment ys third_moment → MovesOn moment (xs ++ ys) third_moment
+moves_twice moment other_moment third_moment xs ys one two =
+    let first : FollowsCalls moment.machine.part (state_at moment) xs (state_at other_moment) = one.follows in
+    let second : FollowsCalls moment.machine.part (state_at other_moment) ys (state_at third_moment) =
+    subst (λ (p : PartData). FollowsCalls p (state_at other_moment) ys (state_at third_moment)) one.part two.follows in
     record {
       part = two.part ∙ one.part;
       follows = record {
@@ -53,7 +54,7 @@ moves_twice a b c xs ys one two =
             ∙ (ap (λ cs. cs ++ calls_of second.gain) first.calls_are ∙ ap (λ cs. xs ++ cs) second.calls_are);
         leads =
             λ history of.
-            subst (λ (h : List AnsweredCall). IsHistory a.machine.part h (state_at c))
+            subst (λ (h : List AnsweredCall). IsHistory moment.machine.part h (state_at third_moment))
             (append_assoc history first.gain second.gain)
             (second.leads (history ++ first.gain) (first.leads history of));
         recorded_is = omega (arith, first.recorded_is, second.recorded_is, length-append xs ys);
@@ -61,12 +62,14 @@ moves_twice a b c xs ys one two =
     }
 
 -- a moment that goes on by so many calls that are alike, and then by one more, goes on by one more of them
-pub moves_more : (a b c : MomentValue) (before count : ℕ) (call : Call)
-    → before + 1 ≡ count → MovesOn a (replicate before call) b → MovesOn b (call ∷ []) c
-    → MovesOn a (replicate count call) c
-moves_more a b c before count call is one two =
-    subst (λ (calls : List Call). MovesOn a calls c) (replicate_more before call ∙ ap (λ n. replicate n call) is)
-    (moves_twice a b c (replicate before call) (call ∷ []) one two)
+pub moves_more : (moment other_moment third_moment : MomentValue) (before count : ℕ) (call : Call)
+    → before + 1 ≡ count → MovesOn moment (replicate before call) other_moment
+    → MovesOn other_moment (call ∷ []) third_moment
+    → MovesOn moment (replicate count call) third_moment
+moves_more moment other_moment third_moment before count call is one two =
+    subst (λ (calls : List Call). MovesOn moment calls third_moment)
+    (replicate_more before call ∙ ap (λ n. replicate n call) is)
+    (moves_twice moment other_moment third_moment (replicate before call) (call ∷ []) one two)
 
 -- ---- an entry
 
@@ -108,11 +111,11 @@ pub one_whole : (most : ℕ) (call : Call) → 0 < most → call ∷ [] ≡ take
 one_whole most call some = sym (take_all most (call ∷ []) (omega (arith, some)))
 
 -- a moment that goes on by a run goes on by the calls of its entry
-pub moves_run : (a b : MomentValue) (by : By) (node count : ℕ) (last : Stepped)
-    → MovesOn a (replicate count (record { by = by; event = Step node })) b
-    → MovesOn a (entry_calls (Run by node count last ∷ [])) b
-moves_run a b by node count last on =
-    subst (λ (calls : List Call). MovesOn a calls b) (sym (run_entry by node count last)) on
+pub moves_run : (moment other_moment : MomentValue) (by : By) (node count : ℕ) (last : Stepped)
+    → MovesOn moment (replicate count (record { by = by; event = Step node })) other_moment
+    → MovesOn moment (entry_calls (Run by node count last ∷ [])) other_moment
+moves_run moment other_moment by node count last on =
+    subst (λ (calls : List Call). MovesOn moment calls other_moment) (sym (run_entry by node count last)) on
 
 -- ---- calls up to so many events
 
@@ -122,11 +125,11 @@ pub none_before : (m : MomentValue) (most : ℕ) (calls : List Call) → most - 
 none_before m most calls none = stays_by m (calls_before most m calls) (ap (λ k. take k calls) none)
 
 -- a moment that goes on by the first calls, as many as are left to that event, goes on up to it
-pub moves_before : (a b : MomentValue) (most left : ℕ) (some calls : List Call)
-    → left ≡ most - a.recorded → some ≡ take left calls → MovesOn a some b
-    → MovesOn a (calls_before most a calls) b
-moves_before a b most left some calls is first on =
-    subst (λ (cs : List Call). MovesOn a cs b) (first ∙ ap (λ k. take k calls) is) on
+pub moves_before : (moment other_moment : MomentValue) (most left : ℕ) (some calls : List Call)
+    → left ≡ most - moment.recorded → some ≡ take left calls → MovesOn moment some other_moment
+    → MovesOn moment (calls_before most moment calls) other_moment
+moves_before moment other_moment most left some calls is first on =
+    subst (λ (cs : List Call). MovesOn moment cs other_moment) (first ∙ ap (λ k. take k calls) is) on
 
 -- ---- entries
 
@@ -144,22 +147,23 @@ take_twice (suc n) (x ∷ xs) ys =
 
 -- a moment that goes on by entries up to an event, and then by the next entry, goes on by one entry more
 pub one_entry : JournalsAddUp
-    → (entries : List Entry) (i : ℕ) (d : Entry) (most : ℕ) (f g h : MomentValue) → i < length entries
-    → MovesOn f (calls_before most f (entry_calls (take i entries))) g
-    → MovesOn g (calls_before most g (entry_calls (get_or entries i d ∷ []))) h
-    → MovesOn f (calls_before most f (entry_calls (take (i + 1) entries))) h
-one_entry add entries i d most f g h less one two =
-    let entry : Entry = get_or entries i d in
+    → (entries : List Entry) (i : ℕ) (entry : Entry) (most : ℕ) (moment other_moment third_moment : MomentValue)
+    → i < length entries
+    → MovesOn moment (calls_before most moment (entry_calls (take i entries))) other_moment
+    → MovesOn other_moment (calls_before most other_moment (entry_calls (get_or entries i entry ∷ []))) third_moment
+    → MovesOn moment (calls_before most moment (entry_calls (take (i + 1) entries))) third_moment
+one_entry add entries i other_entry most moment other_moment third_moment less one two =
+    let entry : Entry = get_or entries i other_entry in
     let xs : List Call = entry_calls (take i entries) in
     let ys : List Call = entry_calls (entry ∷ []) in
-    let n : ℕ = most - f.recorded in
-    let recorded : g.recorded ≡ f.recorded + length (take n xs) = one.follows.recorded_is in
-    let left : most - g.recorded ≡ n - length xs = omega (arith, recorded, length-take n xs) in
+    let n : ℕ = most - moment.recorded in
+    let recorded : other_moment.recorded ≡ moment.recorded + length (take n xs) = one.follows.recorded_is in
+    let left : most - other_moment.recorded ≡ n - length xs = omega (arith, recorded, length-take n xs) in
     let whole : entry_calls (take (i + 1) entries) ≡ xs ++ ys =
-    ap entry_calls (take_more entries i d less)
+    ap entry_calls (take_more entries i other_entry less)
     ∙ (ap calls_of (add (take i entries) (entry ∷ []))
     ∙ map-append (λ (it : AnsweredCall). it.call) (expanded (take i entries)) (expanded (entry ∷ []))) in
-    let calls : take n xs ++ take (most - g.recorded) ys ≡ take n (entry_calls (take (i + 1) entries)) =
+    let calls : take n xs ++ take (most - other_moment.recorded) ys ≡ take n (entry_calls (take (i + 1) entries)) =
     ap (λ k. take n xs ++ take k ys) left ∙ (sym (take_twice n xs ys) ∙ ap (take n) (sym whole)) in
-    subst (λ (cs : List Call). MovesOn f cs h) calls
-    (moves_twice f g h (take n xs) (take (most - g.recorded) ys) one two)
+    subst (λ (cs : List Call). MovesOn moment cs third_moment) calls
+    (moves_twice moment other_moment third_moment (take n xs) (take (most - other_moment.recorded) ys) one two)

@@ -81,9 +81,10 @@ steps_ran old new node times steps last count ran leads recorded part =
     }
 
 -- as it is opened, no call has come
-opened_at : (d : Option DomainData) (m : MomentValue)
-    → IfSome d (λ d. state_at m ≡ opening (part_of d)) → IfSome d (λ d. m.machine.part ≡ part_of d)
-    → IfSome d (λ d. (m.machine.part ≡ part_of d) × IsStateAfter (part_of d) [] (state_at m))
+opened_at : (domain : Option DomainData) (m : MomentValue)
+    → IfSome domain (λ domain. state_at m ≡ opening (part_of domain))
+    → IfSome domain (λ domain. m.machine.part ≡ part_of domain)
+    → IfSome domain (λ domain. (m.machine.part ≡ part_of domain) × IsStateAfter (part_of domain) [] (state_at m))
 opened_at None m state part = tt
 opened_at (Some d) m state part = (
   part,
@@ -105,24 +106,26 @@ opened plan number m state part = opened_at (slice_get plan number) m state part
 -- a state after calls, and after others behind them
 state_on : (part : PartData) (s t : State) (xs ys : List Call) → IsStateAfter part xs s → FollowsCalls part s ys t
     → IsStateAfter part (xs ++ ys) t
-state_on part s t xs ys a b = record {
-  history = a.history ++ b.gain;
+state_on part s t xs ys given holds = record {
+  history = given.history ++ holds.gain;
   calls_are =
-      map-append (λ (it : AnsweredCall). it.call) a.history b.gain
-      ∙ (ap (λ cs. cs ++ calls_of b.gain) a.calls_are ∙ ap (λ cs. xs ++ cs) b.calls_are);
-  leads = b.leads a.history a.leads;
-  recorded_is = omega (arith, a.recorded_is, b.recorded_is, length-append xs ys);
+      map-append (λ (it : AnsweredCall). it.call) given.history holds.gain
+      ∙ (ap (λ cs. cs ++ calls_of holds.gain) given.calls_are ∙ ap (λ cs. xs ++ cs) holds.calls_are);
+  leads = holds.leads given.history given.leads;
+  recorded_is = omega (arith, given.recorded_is, holds.recorded_is, length-append xs ys);
 }
 
 -- a moment after calls, and after others behind them
-moved_at : (d : Option DomainData) (xs ys : List Call) (f g : MomentValue)
-    → IfSome d (λ d. (f.machine.part ≡ part_of d) × IsStateAfter (part_of d) xs (state_at f)) → MovesOn f ys g
-    → IfSome d (λ d. (g.machine.part ≡ part_of d) × IsStateAfter (part_of d) (xs ++ ys) (state_at g))
-moved_at None xs ys f g is on = tt
-moved_at (Some d) xs ys f g is on = (
+moved_at : (domain : Option DomainData) (xs ys : List Call) (moment other_moment : MomentValue)
+    → IfSome domain (λ domain. (moment.machine.part ≡ part_of domain)
+    × IsStateAfter (part_of domain) xs (state_at moment)) → MovesOn moment ys other_moment
+    → IfSome domain (λ domain. (other_moment.machine.part ≡ part_of domain)
+    × IsStateAfter (part_of domain) (xs ++ ys) (state_at other_moment))
+moved_at None xs ys moment other_moment is on = tt
+moved_at (Some d) xs ys moment other_moment is on = (
   on.part ∙ is.0,
-  state_on (part_of d) (state_at f) (state_at g) xs ys is.1
-      (subst (λ (p : PartData). FollowsCalls p (state_at f) ys (state_at g)) is.0 on.follows),
+  state_on (part_of d) (state_at moment) (state_at other_moment) xs ys is.1
+      (subst (λ (p : PartData). FollowsCalls p (state_at moment) ys (state_at other_moment)) is.0 on.follows),
 )
 
 -- a moment after some calls, which goes on by others, is the moment after all of them
@@ -130,17 +133,18 @@ pub moment_on : MomentsGoOn
 moment_on plan number xs ys f g is on = moved_at (slice_get plan number) xs ys f g is on
 
 -- a moment after the first lines of a record, which goes on by the next line, is the moment after one line more
-pub one_line : (plan : List DomainData) (lines : List RecordedLine) (i : ℕ) (d : RecordedLine) (f g : MomentValue)
-    → i < length lines → IsMomentAfter plan 0 (all_said (map (λ line. line.call) (take i lines))) f
-    → MovesOn f (calls_said (get_or lines i d).call) g
-    → IsMomentAfter plan 0 (all_said (map (λ line. line.call) (take (i + 1) lines))) g
-one_line plan lines i d f g less is on =
+pub one_line : (plan : List DomainData) (lines : List RecordedLine) (i : ℕ) (other_line : RecordedLine)
+    (moment other_moment : MomentValue)
+    → i < length lines → IsMomentAfter plan 0 (all_said (map (λ line. line.call) (take i lines))) moment
+    → MovesOn moment (calls_said (get_or lines i other_line).call) other_moment
+    → IsMomentAfter plan 0 (all_said (map (λ line. line.call) (take (i + 1) lines))) other_moment
+one_line plan lines i other_line moment other_moment less is on =
     let call : RecordedLine → SaidCall = λ line. line.call in
-    let line : RecordedLine = get_or lines i d in
+    let line : RecordedLine = get_or lines i other_line in
     let more : all_said (map call (take (i + 1) lines)) ≡ all_said (map call (take i lines)) ++ calls_said (call line) =
-    ap (λ (some : List RecordedLine). all_said (map call some)) (take_more lines i d less)
+    ap (λ (some : List RecordedLine). all_said (map call some)) (take_more lines i other_line less)
     ∙ (ap all_said (map-append call (take i lines) (line ∷ []))
     ∙ (flat_map-append calls_said (map call (take i lines)) (call line ∷ [])
     ∙ ap (λ (calls : List Call). all_said (map call (take i lines)) ++ calls) (append-nil (calls_said (call line))))) in
-    subst (λ (calls : List Call). IsMomentAfter plan 0 calls g) (sym more)
-    (moment_on plan 0 (all_said (map call (take i lines))) (calls_said (call line)) f g is on)
+    subst (λ (calls : List Call). IsMomentAfter plan 0 calls other_moment) (sym more)
+    (moment_on plan 0 (all_said (map call (take i lines))) (calls_said (call line)) moment other_moment is on)

@@ -42,10 +42,10 @@ told_nothing plan calls domains places made =
 
 -- what holds unless memory was refused holds of an answer that isn't NoMemory
 pub but_for_memory : (told : Answer) {P : Type 0} → (told ≡ Err NoMemory → ⊥) → UnlessNoMemory told P → P
-but_for_memory (Ok reply) not p = p
-but_for_memory (Err NoSuch) not p = p
-but_for_memory (Err JournalFull) not p = p
-but_for_memory (Err NoMemory) not p = absurd (not refl)
+but_for_memory (Ok reply) not given = given
+but_for_memory (Err NoSuch) not given = given
+but_for_memory (Err JournalFull) not given = given
+but_for_memory (Err NoMemory) not given = absurd (not refl)
 
 -- a call's answer is the next of those that the whole farm tells
 pub told_one_more : (plan : List Place) (told : List Answer) (domain : ℕ) (call : Call) (left all : List (ℕ × Call))
@@ -75,16 +75,16 @@ told_one_more plan told domain call left all domains later answer so is places =
 
 -- the answer to the call at an index is the next of those that the whole farm tells
 pub told_next : (plan : List Place) (told : List Answer) (asked : List (ℕ × By × Event)) (index : ℕ)
-    (d : ℕ × By × Event) (domains later : List DomainValue) (answer : Answer)
+    (pair : ℕ × By × Event) (domains later : List DomainValue) (answer : Answer)
     → index < length asked
     → IsToldSoFar plan told (calls_asked (drop index asked)) (calls_asked asked) domains
-    → IsCallOfEachWhole (get_or asked index d).0
-    (record { by = (get_or asked index d).1; event = (get_or asked index d).2 }) answer domains later
+    → IsCallOfEachWhole (get_or asked index pair).0
+    (record { by = (get_or asked index pair).1; event = (get_or asked index pair).2 }) answer domains later
     → all_places later ≡ all_places domains
     → IsToldSoFar plan (told ++ answer ∷ []) (calls_asked (drop (index + 1) asked)) (calls_asked asked) later
-told_next plan told asked index d domains later answer within so is places =
-    let x = get_or asked index d in
-    let left : drop index asked ≡ x ∷ drop (index + 1) asked = rw add-one (drop-cons asked index d within) in
+told_next plan told asked index pair domains later answer within so is places =
+    let x = get_or asked index pair in
+    let left : drop index asked ≡ x ∷ drop (index + 1) asked = rw add-one (drop-cons asked index pair within) in
     told_one_more plan told x.0 (record { by = x.1; event = x.2 }) (calls_asked (drop (index + 1) asked))
     (calls_asked asked) domains later answer
     (subst (λ (rest : List (ℕ × By × Event)). IsToldSoFar plan told (calls_asked rest) (calls_asked asked) domains)

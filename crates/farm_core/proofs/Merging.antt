@@ -22,17 +22,18 @@ use Rattle.crossbar.specs.Laws.{SwitchLaws}
 -- ---- a list is known by the order of its domains and by each domain's own
 
 same-head : {X : Type 0} {a b : X} {xs ys : List X} → a ∷ xs ≡ b ∷ ys → a ≡ b
-same-head e = cc
+same-head same = cc
 
 same-tail : {X : Type 0} {a b : X} {xs ys : List X} → a ∷ xs ≡ b ∷ ys → xs ≡ ys
-same-tail e = cc
+same-tail same = cc
 
-own-tails : {X : Type 0} (d : ℕ) (x y : ℕ × X) (xs ys : List (ℕ × X)) → x.0 ≡ y.0 → own d (x ∷ xs) ≡ own d (y ∷ ys)
+own-tails : {X : Type 0} (d : ℕ) (pair other_pair : ℕ × X) (xs ys : List (ℕ × X)) → pair.0 ≡ other_pair.0
+    → own d (pair ∷ xs) ≡ own d (other_pair ∷ ys)
     → own d xs ≡ own d ys
-own-tails d x y xs ys heads same =
-    elim (cases_eq x.0 d) [
-      | inl here ↦ same-tail (sym (own-here d x xs here) ∙ same ∙ own-here d y ys (sym heads ∙ here))
-      | inr ne ↦ sym (own-there d x xs ne) ∙ same ∙ own-there d y ys (λ e. ne (heads ∙ e))
+own-tails d pair other_pair xs ys heads same =
+    elim (cases_eq pair.0 d) [
+      | inl here ↦ same-tail (sym (own-here d pair xs here) ∙ same ∙ own-here d other_pair ys (sym heads ∙ here))
+      | inr ne ↦ sym (own-there d pair xs ne) ∙ same ∙ own-there d other_pair ys (λ e. ne (heads ∙ e))
     ]
 
 -- two lists with the same numbers in the same order and, number by number, the same values are equal

@@ -32,13 +32,13 @@ use Rattle.farm_core.proofs.OneOutputSet.{contains-readied, get-emptied, contain
 
 -- below the number of ports the raised number stands in their list
 pub port_at : (ports : List ℕ) (v : ℕ) → v < length ports → slice_get ports v ≡ Some (raised ports v)
-port_at ports v h = slice_get-get_or ports v 0 h
+port_at ports v less = slice_get-get_or ports v 0 less
 
 one_below : (n a : ℕ) → are_below n (a ∷ []) ≡ true → a < n
-one_below n a h = ltb-true a n (and_parts _ _ h).0
+one_below n a same = ltb-true a n (and_parts _ _ same).0
 
 two_below : (n a b : ℕ) → are_below n (a ∷ b ∷ []) ≡ true → (a < n) × (b < n)
-two_below n a b h = let parts = and_parts _ _ h in (ltb-true a n parts.0, one_below n b parts.1)
+two_below n a b same = let parts = and_parts _ _ same in (ltb-true a n parts.0, one_below n b parts.1)
 
 -- ---- the domain's own message
 
@@ -48,23 +48,24 @@ pub own_connected : SwitchLaws → (ports : List ℕ) (s : Switch) (input output
     → output < length ports
     → own_switch ports (connected s (raised ports input) (raised ports output))
     ≡ connected (own_switch ports s) input output
-own_connected laws ports s input output one i o =
+own_connected laws ports s input output one less below =
     let seen =
-    own_switch_sets laws ports s _ output (raised ports output) (Some (raised ports input)) one (port_at ports output o)
+    own_switch_sets laws ports s _ output (raised ports output) (Some (raised ports input)) one
+    (port_at ports output below)
     (sets_connected s (raised ports input) (raised ports output)) in
     one_set laws (own_switch ports s) _ _ output (Some input)
     (subst (SetsOutput (own_switch ports s) (own_switch ports (connected s (raised ports input) (raised ports output)))
     output)
-    (laws.number ports input (raised ports input) one (port_at ports input i)) seen)
+    (laws.number ports input (raised ports input) one (port_at ports input less)) seen)
     (sets_connected (own_switch ports s) input output)
 
 -- if a domain's output is disconnected in the whole switch, the domain sees its number disconnected
 pub own_disconnected : SwitchLaws → (ports : List ℕ) (s : Switch) (output : ℕ) → IsOneToOne ports
     → output < length ports
     → own_switch ports (disconnected s (raised ports output)) ≡ disconnected (own_switch ports s) output
-own_disconnected laws ports s output one o =
+own_disconnected laws ports s output one less =
     one_set laws (own_switch ports s) _ _ output None
-    (own_switch_sets laws ports s _ output (raised ports output) None one (port_at ports output o)
+    (own_switch_sets laws ports s _ output (raised ports output) None one (port_at ports output less)
     (sets_disconnected s (raised ports output)))
     (sets_disconnected (own_switch ports s) output)
 
@@ -209,7 +210,7 @@ never_both ports others v w port apart at there =
 not_theirs : (ports others : List ℕ) (v : ℕ)
     → AreApart ports others → v < length ports → (w : ℕ) → slice_get others w ≡ Some (raised ports v)
     → ⊥
-not_theirs ports others v apart h w at = never_both ports others v w (raised ports v) apart (port_at ports v h) at
+not_theirs ports others v apart less w at = never_both ports others v w (raised ports v) apart (port_at ports v less) at
 
 other_readied : SwitchLaws → (ports others : List ℕ) (s : Switch) → AreApart ports others
     → own_switch others (readied ports s) ≡ own_switch others s
@@ -234,15 +235,16 @@ other_emptied laws ports others s apart =
 other_connected : SwitchLaws → (ports others : List ℕ) (s : Switch) (input output : ℕ) → AreApart ports others
     → output < length ports
     → own_switch others (connected s (raised ports input) (raised ports output)) ≡ own_switch others s
-other_connected laws ports others s input output apart o =
-    untouched laws others s _ (raised ports output) (Some (raised ports input)) (not_theirs ports others output apart o)
+other_connected laws ports others s input output apart less =
+    untouched laws others s _ (raised ports output) (Some (raised ports input))
+    (not_theirs ports others output apart less)
     (sets_connected s (raised ports input) (raised ports output))
 
 other_disconnected : SwitchLaws → (ports others : List ℕ) (s : Switch) (output : ℕ) → AreApart ports others
     → output < length ports
     → own_switch others (disconnected s (raised ports output)) ≡ own_switch others s
-other_disconnected laws ports others s output apart o =
-    untouched laws others s _ (raised ports output) None (not_theirs ports others output apart o)
+other_disconnected laws ports others s output apart less =
+    untouched laws others s _ (raised ports output) None (not_theirs ports others output apart less)
     (sets_disconnected s (raised ports output))
 
 other_performed : SwitchLaws → (ports others : List ℕ) (s : Switch) (message : Message) → AreApart ports others
@@ -288,14 +290,14 @@ drives_connected : (ports others : List ℕ) (s : Switch) (input output : ℕ)
     → Beside ports others → DrivesItself others s → input < length ports
     → output < length ports
     → DrivesItself others (connected s (raised ports input) (raised ports output))
-drives_connected ports others s input output beside own i o =
+drives_connected ports others s input output beside own less below =
     still_drives others s _ (raised ports output) (Some (raised ports input)) own
     (sets_connected s (raised ports input) (raised ports output)) (λ from at is.
     elim beside [
-      | inl same ↦ subst (λ ps. Contains ps from) same (contains_at ports input from (port_at ports input i ∙ is))
+      | inl same ↦ subst (λ ps. Contains ps from) same (contains_at ports input from (port_at ports input less ∙ is))
       | inr apart ↦
           absurd (apart (raised ports output)
-          (contains_at ports output (raised ports output) (port_at ports output o)) at)
+          (contains_at ports output (raised ports output) (port_at ports output below)) at)
     ])
 
 drives_disconnected : (others : List ℕ) (s : Switch) (port : ℕ) → DrivesItself others s

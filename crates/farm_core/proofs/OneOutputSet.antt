@@ -21,7 +21,7 @@ use Rattle.farm_core.specs.Domains.{DrivesItself}
 
 -- what the order of numbers says of two that are equal, and of two that aren't
 eq-by-cmp-of-equal : (q k : ℕ) → q ≡ k → eq_by_cmp nat_cmp q k ≡ true
-eq-by-cmp-of-equal q k e = unsigned_tied q k ∙ eq-eqb q k e
+eq-by-cmp-of-equal q k same = unsigned_tied q k ∙ eq-eqb q k same
 
 eq-by-cmp-of-unequal : (q k : ℕ) → (q ≡ k → ⊥) → eq_by_cmp nat_cmp q k ≡ false
 eq-by-cmp-of-unequal q k ne = unsigned_tied q k ∙ ne_eqb q k ne
@@ -48,11 +48,12 @@ sets_disconnected s output =
     }
 
 -- two switches that come of one by the same output set to the same are equal
-pub one_set : SwitchLaws → (old a b : Switch) (output : ℕ) (input : Option ℕ) → SetsOutput old a output input
-    → SetsOutput old b output input
-    → a ≡ b
-one_set laws old a b output input h k =
-    laws.same a b (λ q. h.pairs q ∙ sym (k.pairs q)) (λ q. h.ready q ∙ sym (k.ready q))
+pub one_set : SwitchLaws → (old switch other_switch : Switch) (output : ℕ) (input : Option ℕ)
+    → SetsOutput old switch output input
+    → SetsOutput old other_switch output input
+    → switch ≡ other_switch
+one_set laws old switch other_switch output input given holds =
+    laws.same switch other_switch (λ q. given.pairs q ∙ sym (holds.pairs q)) (λ q. given.ready q ∙ sym (holds.ready q))
 
 -- a port of a list has a number there, and a number of it a port
 pub contains_at : (ports : List ℕ) (v port : ℕ) → slice_get ports v ≡ Some port → Contains ports port
@@ -111,7 +112,7 @@ pub own_switch_sets : SwitchLaws → (ports : List ℕ) (old new : Switch) (outp
     → IsOneToOne ports → slice_get ports output ≡ Some port
     → SetsOutput old new port input
     → SetsOutput (own_switch ports old) (own_switch ports new) output (option_and_then (number_among ports) input)
-own_switch_sets laws ports old new output port input one at h = record {
+own_switch_sets laws ports old new output port input one at given = record {
   pairs =
       λ q. get-own_switch laws ports new q ∙ drivers q (slice_get ports q) refl
       ∙ ap (cond (eq_by_cmp nat_cmp q output) (option_and_then (number_among ports) input))
@@ -131,11 +132,12 @@ own_switch_sets laws ports old new output port input one at h = record {
         elim (cases_eq q output) [
           | inl is ↦
               let same : p ≡ port = same_Some _ _ (sym e ∙ ap (slice_get ports) is ∙ at) in
-              ap (option_and_then (number_among ports)) (h.pairs p ∙ cond-true _ _ _ (eq-by-cmp-of-equal p port same))
+              ap (option_and_then (number_among ports))
+              (given.pairs p ∙ cond-true _ _ _ (eq-by-cmp-of-equal p port same))
               ∙ sym (cond-true _ _ _ (eq-by-cmp-of-equal q output is))
           | inr ne ↦
               ap (option_and_then (number_among ports))
-              (h.pairs p
+              (given.pairs p
               ∙ cond-false _ _ _
               (eq-by-cmp-of-unequal p port (λ same. ne (one q output p e (at ∙ ap (λ (x : ℕ). Some x) (sym same))))))
               ∙ sym (cond-false _ _ _ (eq-by-cmp-of-unequal q output ne))
@@ -150,11 +152,11 @@ own_switch_sets laws ports old new output port input one at h = record {
         elim (cases_eq q output) [
           | inl is ↦
               let same : p ≡ port = same_Some _ _ (sym e ∙ ap (slice_get ports) is ∙ at) in
-              h.ready p
+              given.ready p
               ∙ ap (λ t. not t && set.contains old.ready p)
               (eq-by-cmp-of-equal p port same ∙ sym (eq-by-cmp-of-equal q output is))
           | inr ne ↦
-              h.ready p
+              given.ready p
               ∙ ap (λ t. not t && set.contains old.ready p)
               (eq-by-cmp-of-unequal p port (λ same. ne (one q output p e (at ∙ ap (λ (x : ℕ). Some x) (sym same))))
               ∙ sym (eq-by-cmp-of-unequal q output ne))
@@ -164,10 +166,10 @@ own_switch_sets laws ports old new output port input one at h = record {
 pub untouched : SwitchLaws → (ports : List ℕ) (old new : Switch) (port : ℕ) (input : Option ℕ)
     → ((v : ℕ) → slice_get ports v ≡ Some port → ⊥) → SetsOutput old new port input
     → own_switch ports new ≡ own_switch ports old
-untouched laws ports old new port input out h =
+untouched laws ports old new port input out given =
     same_own_switch laws ports old new
-    (λ v p at. h.pairs p ∙ cond-false _ _ _ (eq-by-cmp-of-unequal p port (other v p at)))
-    (λ v p at. h.ready p ∙ ap (λ t. not t && set.contains old.ready p) (eq-by-cmp-of-unequal p port (other v p at)))
+    (λ v p at. given.pairs p ∙ cond-false _ _ _ (eq-by-cmp-of-unequal p port (other v p at)))
+    (λ v p at. given.ready p ∙ ap (λ t. not t && set.contains old.ready p) (eq-by-cmp-of-unequal p port (other v p at)))
   where
     other : (v p : ℕ) → slice_get ports v ≡ Some p → p ≡ port → ⊥
     other v p at same = out v (at ∙ ap (λ (x : ℕ). Some x) same)
@@ -176,12 +178,12 @@ untouched laws ports old new port input out h =
 pub still_drives : (ports : List ℕ) (old new : Switch) (port : ℕ) (input : Option ℕ) → DrivesItself ports old
     → SetsOutput old new port input
     → ((from : ℕ) → Contains ports port → input ≡ Some from → Contains ports from) → DrivesItself ports new
-still_drives ports old new port input own h own_input p from at is =
+still_drives ports old new port input own given own_input p from at is =
     elim (cases_eq p port) [
       | inl same ↦
           own_input from (subst (Contains ports) same at)
-          (sym (h.pairs p ∙ cond-true _ _ _ (eq-by-cmp-of-equal p port same)) ∙ is)
-      | inr ne ↦ own p from at (sym (h.pairs p ∙ cond-false _ _ _ (eq-by-cmp-of-unequal p port ne)) ∙ is)
+          (sym (given.pairs p ∙ cond-true _ _ _ (eq-by-cmp-of-equal p port same)) ∙ is)
+      | inr ne ↦ own p from at (sym (given.pairs p ∙ cond-false _ _ _ (eq-by-cmp-of-unequal p port ne)) ∙ is)
     ]
 
 -- ---- all outputs of a domain
@@ -194,7 +196,8 @@ number_among-none (first ∷ ports) port out =
     let t : (first == port) ≡ false = ne_eqb _ _ (λ (e : first ≡ port). out 0 (ap (λ (x : ℕ). Some x) e)) in
     rw t (ap (option_map suc) (number_among-none ports port (λ v. out (suc v))))
 
-chosen : (a b k : Bool) → ((a && not b) || (k && b)) ≡ cond b k a
+chosen : (flag other_flag third_flag : Bool) → ((flag && not other_flag) || (third_flag && other_flag))
+    ≡ cond other_flag third_flag flag
 chosen true true true = refl
 chosen true true false = refl
 chosen true false true = refl
@@ -204,18 +207,18 @@ chosen false true false = refl
 chosen false false true = refl
 chosen false false false = refl
 
-and-not-is-cond : (a b : Bool) → (a && not b) ≡ cond b false a
+and-not-is-cond : (flag other_flag : Bool) → (flag && not other_flag) ≡ cond other_flag false flag
 and-not-is-cond true true = refl
 and-not-is-cond true false = refl
 and-not-is-cond false true = refl
 and-not-is-cond false false = refl
 
-cond-of-not : {X : Type 0} (b : Bool) (x : Option X) → cond (not b) x None ≡ cond b None x
-cond-of-not true x = refl
-cond-of-not false x = refl
+cond-of-not : {X : Type 0} (b : Bool) (value : Option X) → cond (not b) value None ≡ cond b None value
+cond-of-not true value = refl
+cond-of-not false value = refl
 
 same-at-equal : (p : ℕ → Bool) (q x : ℕ) → nat_cmp q x ≡ Equal → p x ≡ p q
-same-at-equal p q x e = ap p (sym (map.nat_cmp-IsAntisymmetric q x e))
+same-at-equal p q x same = ap p (sym (map.nat_cmp-IsAntisymmetric q x same))
 
 -- once all connected outputs are ready, an output is ready just if it is connected
 pub keys_of : (s : Switch) (q : ℕ) → set.contains (all_ready s).ready q ≡ is_some (map.get s.pairs q)

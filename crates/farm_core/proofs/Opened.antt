@@ -28,28 +28,30 @@ use Rattle.farm_core.proofs.Merging.{there_is}
 
 -- ---- words of 0
 
-replicated : (n k : ℕ) (x w : Word) → slice_get (replicate n x) k ≡ Some w → w ≡ x
-replicated zero k x w at = absurd (none-some w (sym (slice_get_past {X = Word} [] k (omega arith)) ∙ at))
-replicated (suc n) zero x w at = sym (same_Some _ _ at)
-replicated (suc n) (suc k) x w at = replicated n k x w at
+replicated : (n k : ℕ) (word other_word : Word) → slice_get (replicate n word) k ≡ Some other_word → other_word ≡ word
+replicated zero k word other_word at = absurd (none-some other_word
+    (sym (slice_get_past {X = Word} [] k (omega arith)) ∙ at))
+replicated (suc n) zero word other_word at = sym (same_Some _ _ at)
+replicated (suc n) (suc k) word other_word at = replicated n k word other_word at
 
-one_more_word : (x : Word) (found : Option Word) (rest : List Word)
-    → ((w : Word) → found ≡ Some w → w ≡ x) → All (λ w. w ≡ x) rest
-    → All (λ w. w ≡ x) (cons_option found rest)
-one_more_word x None rest is all = all
-one_more_word x (Some w) rest is all = All-cons (λ v. v ≡ x) w rest (is w refl) all
+one_more_word : (word : Word) (found : Option Word) (rest : List Word)
+    → ((w : Word) → found ≡ Some w → w ≡ word) → All (λ w. w ≡ word) rest
+    → All (λ w. w ≡ word) (cons_option found rest)
+one_more_word word None rest is all = all
+one_more_word word (Some w) rest is all = All-cons (λ v. v ≡ word) w rest (is w refl) all
 
 -- the words of ports in a row of equal words are all that word
-pub words_of_a_row : (n : ℕ) (x : Word) (ports : List ℕ) → All (λ w. w ≡ x) (words_at (replicate n x) ports)
-words_of_a_row n x [] = All-nil (λ w. w ≡ x)
-words_of_a_row n x (port ∷ ports) =
-    one_more_word x (slice_get (replicate n x) port) (words_at (replicate n x) ports) (λ w at. replicated n port x w at)
-    (words_of_a_row n x ports)
+pub words_of_a_row : (n : ℕ) (word : Word) (ports : List ℕ) → All (λ w. w ≡ word) (words_at (replicate n word) ports)
+words_of_a_row n word [] = All-nil (λ w. w ≡ word)
+words_of_a_row n word (port ∷ ports) =
+    one_more_word word (slice_get (replicate n word) port) (words_at (replicate n word) ports)
+    (λ w at. replicated n port word w at)
+    (words_of_a_row n word ports)
 
 -- a domain whose words are those of a row that was never set has unused words
-pub opened_unused : {E : Type 0} (r : Result DomainValue E) (n : ℕ) (row : Row) (ranges : List (Option PortRange))
+pub opened_unused : {E : Type 0} (outcome : Result DomainValue E) (n : ℕ) (row : Row) (ranges : List (Option PortRange))
     → row ≡ outputs_of (replicate n (record { bits = 0 })) ranges
-    → IfOk r (λ d. row_of d.machine.switch ≡ row) → IfOk r IsUnused
+    → IfOk outcome (λ d. row_of d.machine.switch ≡ row) → IfOk outcome IsUnused
 opened_unused (Ok d) n row ranges is same =
     subst (λ (r : Row). All (λ w. w ≡ record { bits = 0 }) r.words) (sym (same ∙ is))
     (words_of_a_row n (record { bits = 0 }) (ranged_ports ranges))

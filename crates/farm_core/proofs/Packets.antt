@@ -115,20 +115,20 @@ filter-only p (head ∷ plan) (suc d) place there none =
     ∙ rest
 
 -- the ports that pass a test are the raised numbers that pass another, where both tests agree
-filter-raised : (raise : ℕ → ℕ) (p q : ℕ → Bool) (ports : List ℕ) (start : ℕ)
-    → ((v port : ℕ) → slice_get ports v ≡ Some port → (raise (start + v) ≡ port) × (p port ≡ q (start + v)))
-    → filter p ports ≡ map raise (filter q (range_with_len start (length ports)))
-filter-raised raise p q [] start agree = refl
-filter-raised raise p q (port ∷ ports) start agree =
+filter-raised : (raise : ℕ → ℕ) (p test : ℕ → Bool) (ports : List ℕ) (start : ℕ)
+    → ((v port : ℕ) → slice_get ports v ≡ Some port → (raise (start + v) ≡ port) × (p port ≡ test (start + v)))
+    → filter p ports ≡ map raise (filter test (range_with_len start (length ports)))
+filter-raised raise p test [] start agree = refl
+filter-raised raise p other_test (port ∷ ports) start agree =
     let from : start + 0 ≡ start = omega arith in
     let head = agree 0 port refl in
     let is : raise start ≡ port = ap raise (sym from) ∙ head.0 in
-    let test : p port ≡ q start = head.1 ∙ ap q from in
-    let rest = filter-raised raise p q ports (start + 1) (λ v next at.
+    let test : p port ≡ other_test start = head.1 ∙ ap other_test from in
+    let rest = filter-raised raise p other_test ports (start + 1) (λ v next at.
     let later = agree (suc v) next at in
     let e : start + suc v ≡ start + 1 + v = omega arith in
-    (ap raise (sym e) ∙ later.0, later.1 ∙ ap q e)) in
-    elim (cases_Bool (q start)) [
+    (ap raise (sym e) ∙ later.0, later.1 ∙ ap other_test e)) in
+    elim (cases_Bool (other_test start)) [
       | inl pass ↦
           let passes : p port ≡ true = test ∙ pass in
           rw passes (rw pass (λ i. sym is i ∷ rest i))
@@ -192,8 +192,8 @@ abbrev pub AreBelow : ℕ → List ℕ → Type 0
 AreBelow count numbers = AllByRecursion (λ v. v < count) numbers
 
 below-filtered : (p : ℕ → Bool) (a n most : ℕ) → a + n ≤ most → AreBelow most (filter p (range_with_len a n))
-below-filtered p a zero most h = tt
-below-filtered p a (suc n) most h =
+below-filtered p a zero most less = tt
+below-filtered p a (suc n) most less =
     let rest = below-filtered p (a + 1) n most (omega arith) in
     let here : a < most = omega arith in
     elim (cases_Bool (p a)) [
@@ -271,14 +271,14 @@ copies_to plan domain place packet (output ∷ outputs) old all devices has belo
       others = λ d ne. one.others d ne ∙ so_far.others d ne;
     }))
 
-moves_by : (m : Moved) (plan : List Place) (domain : ℕ) (place : Place) (device : Device) (packet : Packet)
+moves_by : (other_moved : Moved) (plan : List Place) (domain : ℕ) (place : Place) (device : Device) (packet : Packet)
     (outputs : List ℕ) (all : AllDevices)
     → HasDevices plan domain place
     → AreBelow (length place.ports) outputs
     → Changes domain all
-    (moved_by m (joining_in plan) (record { domain = domain; device = device }) packet
+    (moved_by other_moved (joining_in plan) (record { domain = domain; device = device }) packet
     (map (raised place.ports) outputs) all)
-    (moved_by m (joining_of place.part) device packet outputs (all domain))
+    (moved_by other_moved (joining_of place.part) device packet outputs (all domain))
 moves_by Nothing plan domain place device packet outputs all has below = unchanged domain all
 moves_by Lost plan domain place device packet outputs all has below = changes_at domain _ all
 moves_by Stayed plan domain place device packet outputs all has below = unchanged domain all

@@ -98,10 +98,10 @@ called_at domains later domain old new call told is called =
 -- what holds of each answer but NoMemory, by what the domain alone says
 unless_no_memory : (told : Answer) {P Q R : Type 0} → (P → Q → R) → UnlessNoMemory told P → UnlessNoMemory told Q
     → UnlessNoMemory told R
-unless_no_memory (Ok reply) make p q = make p q
-unless_no_memory (Err NoSuch) make p q = make p q
-unless_no_memory (Err JournalFull) make p q = make p q
-unless_no_memory (Err NoMemory) make p q = tt
+unless_no_memory (Ok reply) make given holds = make given holds
+unless_no_memory (Err NoSuch) make given holds = make given holds
+unless_no_memory (Err JournalFull) make given holds = make given holds
+unless_no_memory (Err NoMemory) make given holds = tt
 
 whole_call : SwitchLaws
     → (domains later : List DomainValue) (domain : ℕ) (old new : DomainValue) (call : Call) (told : Answer)

@@ -24,14 +24,14 @@ use Rattle.farm_core.proofs.Steps.{StepsAlone, steps_alone, other_stays, still_e
 -- ---- one domain's own
 
 -- if the first value is the domain's, its own values begin with it
-pub own-here : {X : Type 0} (domain : ℕ) (x : ℕ × X) (xs : List (ℕ × X)) → x.0 ≡ domain
-    → own domain (x ∷ xs) ≡ x.1 ∷ own domain xs
-own-here domain x xs same = let test : (x.0 == domain) ≡ true = eq-eqb _ _ same in rw test refl
+pub own-here : {X : Type 0} (domain : ℕ) (pair : ℕ × X) (xs : List (ℕ × X)) → pair.0 ≡ domain
+    → own domain (pair ∷ xs) ≡ pair.1 ∷ own domain xs
+own-here domain pair xs same = let test : (pair.0 == domain) ≡ true = eq-eqb _ _ same in rw test refl
 
 -- if the first value is another domain's, the domain's own values are those of the rest
-pub own-there : {X : Type 0} (domain : ℕ) (x : ℕ × X) (xs : List (ℕ × X)) → x.0 ≢ domain
-    → own domain (x ∷ xs) ≡ own domain xs
-own-there domain x xs ne = let test : (x.0 == domain) ≡ false = ne_eqb _ _ ne in rw test refl
+pub own-there : {X : Type 0} (domain : ℕ) (pair : ℕ × X) (xs : List (ℕ × X)) → pair.0 ≢ domain
+    → own domain (pair ∷ xs) ≡ own domain xs
+own-there domain pair xs ne = let test : (pair.0 == domain) ≡ false = ne_eqb _ _ ne in rw test refl
 
 -- ---- run after run
 

@@ -21,13 +21,13 @@ domain_at : (plan : List DomainData) (number : ℕ) (place : Place) → slice_ge
 domain_at plan number place there =
     placed (slice_get plan number) place (sym (slice_get-map place_of plan number) ∙ there)
 
-pairs_at : (plan : List DomainData) (i j : ℕ) (a b : DomainData)
-    → AllPairs AreSeparate plan → i < j → slice_get plan i ≡ Some a → slice_get plan j ≡ Some b
-    → AreSeparate a b
-pairs_at plan i j a b pairs below at there =
-    subst (λ x. AreSeparate x b) (get_or_from_slice_get plan i a a at)
-    (subst (λ y. AreSeparate (get_or plan i a) y) (get_or_from_slice_get plan j b a there)
-    (pairs i j a below (slice_get_within plan j b there)))
+pairs_at : (plan : List DomainData) (i j : ℕ) (domain other_domain : DomainData)
+    → AllPairs AreSeparate plan → i < j → slice_get plan i ≡ Some domain → slice_get plan j ≡ Some other_domain
+    → AreSeparate domain other_domain
+pairs_at plan i j domain other_domain pairs below at there =
+    subst (λ x. AreSeparate x other_domain) (get_or_from_slice_get plan i domain domain at)
+    (subst (λ y. AreSeparate (get_or plan i domain) y) (get_or_from_slice_get plan j other_domain domain there)
+    (pairs i j domain below (slice_get_within plan j other_domain there)))
 
 -- the places of a plan whose domains are numbered and share no port are separate
 pub numbered_domains_are_separate : NumberedDomainsAreSeparate

@@ -22,13 +22,13 @@ use Rattle.farm_program.specs.Output.{AreAnsweredAlone}
 
 -- ---- one domain's own
 
-own-here : {X : Type 0} (domain : ℕ) (x : ℕ × X) (xs : List (ℕ × X)) → x.0 ≡ domain
-    → own domain (x ∷ xs) ≡ x.1 ∷ own domain xs
-own-here domain x xs same = let test : (x.0 == domain) ≡ true = eq-eqb _ _ same in rw test refl
+own-here : {X : Type 0} (domain : ℕ) (pair : ℕ × X) (xs : List (ℕ × X)) → pair.0 ≡ domain
+    → own domain (pair ∷ xs) ≡ pair.1 ∷ own domain xs
+own-here domain pair xs same = let test : (pair.0 == domain) ≡ true = eq-eqb _ _ same in rw test refl
 
-own-there : {X : Type 0} (domain : ℕ) (x : ℕ × X) (xs : List (ℕ × X)) → x.0 ≢ domain
-    → own domain (x ∷ xs) ≡ own domain xs
-own-there domain x xs ne = let test : (x.0 == domain) ≡ false = ne_eqb _ _ ne in rw test refl
+own-there : {X : Type 0} (domain : ℕ) (pair : ℕ × X) (xs : List (ℕ × X)) → pair.0 ≢ domain
+    → own domain (pair ∷ xs) ≡ own domain xs
+own-there domain pair xs ne = let test : (pair.0 == domain) ≡ false = ne_eqb _ _ ne in rw test refl
 
 own-map : {X Y : Type 0} (make : X → Y) (domain : ℕ) (xs : List (ℕ × X))
     → own domain (map (λ x. (x.0, make x.1)) xs) ≡ map make (own domain xs)

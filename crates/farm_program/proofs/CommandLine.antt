@@ -55,20 +55,21 @@ explain_rule = flag_rule (codes "explain")
 -- ---- the arguments of a command that is the program's
 
 -- the first four of some tests that all hold
-first_four : (a b c d rest : Bool) → (a && (b && (c && (d && rest)))) ≡ true
-    → (a ≡ true) × (b ≡ true) × (c ≡ true) × (d ≡ true)
-first_four true true true true rest h = (refl, refl, refl, refl)
-first_four false b c d rest h = cc
-first_four true false c d rest h = cc
-first_four true true false d rest h = cc
-first_four true true true false rest h = cc
+first_four : (flag other_flag third_flag fourth_flag rest : Bool)
+    → (flag && (other_flag && (third_flag && (fourth_flag && rest)))) ≡ true
+    → (flag ≡ true) × (other_flag ≡ true) × (third_flag ≡ true) × (fourth_flag ≡ true)
+first_four true true true true rest same = (refl, refl, refl, refl)
+first_four false other_flag third_flag fourth_flag rest same = cc
+first_four true false third_flag fourth_flag rest same = cc
+first_four true true false fourth_flag rest same = cc
+first_four true true true false rest same = cc
 
 empty_is : {X : Type 0} (xs : List X) → is_empty xs ≡ true → xs ≡ []
-empty_is xs h = nil_from_length xs (eqb-true (length xs) 0 h)
+empty_is xs same = nil_from_length xs (eqb-true (length xs) 0 same)
 
-none_is : {X : Type 0} (o : Option X) → not (is_some o) ≡ true → o ≡ None
-none_is None h = refl
-none_is (Some x) h = cc
+none_is : {X : Type 0} (value : Option X) → not (is_some value) ≡ true → value ≡ None
+none_is None same = refl
+none_is (Some x) same = cc
 
 -- a list of three, of which these are made
 record AreThree {X Y : Type 0} (f : X → Y) (first second third : Y) (xs : List X) : Type 0 where
@@ -82,55 +83,57 @@ record AreThree {X Y : Type 0} (f : X → Y) (first second third : Y) (xs : List
 
 three_of : {X Y : Type 0} (f : X → Y) (first second third : Y) (xs : List X) → map f xs ≡ first ∷ second ∷ third ∷ []
     → AreThree f first second third xs
-three_of f first second third [] h = cc
-three_of f first second third (x ∷ []) h = cc
-three_of f first second third (x ∷ y ∷ []) h = cc
-three_of f first second third (x ∷ y ∷ z ∷ w ∷ xs) h = cc
-three_of f first second third (x ∷ y ∷ z ∷ []) h = record {
+three_of f first second third [] same = cc
+three_of f first second third (x ∷ []) same = cc
+three_of f first second third (x ∷ y ∷ []) same = cc
+three_of f first second third (x ∷ y ∷ z ∷ w ∷ xs) same = cc
+three_of f first second third (x ∷ y ∷ z ∷ []) same = record {
   one = x;
   other = y;
   last = z;
   list = refl;
-  one_is = ap (λ ys. slice_index_or ys 0 first) h;
-  other_is = ap (λ ys. slice_index_or ys 1 first) h;
-  last_is = ap (λ ys. slice_index_or ys 2 first) h;
+  one_is = ap (λ ys. slice_index_or ys 0 first) same;
+  other_is = ap (λ ys. slice_index_or ys 1 first) same;
+  last_is = ap (λ ys. slice_index_or ys 2 first) same;
 }
 
 not_is : (b : Bool) → not b ≡ true → b ≡ false
-not_is false h = refl
-not_is true h = cc
+not_is false same = refl
+not_is true same = cc
 
 -- what an argument that uses no special setting lacks
-simple_parts : (a : Arg) → is_simple_arg a ≡ true
-    → (is_empty a.overrides.items ≡ true) × (is_empty a.default_vals_ifs.items ≡ true)
-    × (is_empty a.groups.items ≡ true) × (not (is_some a.val_delim) ≡ true)
-simple_parts a simple =
-    first_four (is_empty a.overrides.items) (is_empty a.default_vals_ifs.items)
-    (is_empty a.groups.items) (not (is_some a.val_delim))
-    (not (is_some a.terminator)
-    && (not a.allow_hyphen_values
-    && (not a.allow_negative_numbers && (not a.require_equals && (not a.last && not a.global)))))
+simple_parts : (arg : Arg) → is_simple_arg arg ≡ true
+    → (is_empty arg.overrides.items ≡ true) × (is_empty arg.default_vals_ifs.items ≡ true)
+    × (is_empty arg.groups.items ≡ true) × (not (is_some arg.val_delim) ≡ true)
+simple_parts arg simple =
+    first_four (is_empty arg.overrides.items) (is_empty arg.default_vals_ifs.items)
+    (is_empty arg.groups.items) (not (is_some arg.val_delim))
+    (not (is_some arg.terminator)
+    && (not arg.allow_hyphen_values
+    && (not arg.allow_negative_numbers && (not arg.require_equals && (not arg.last && not arg.global)))))
     simple
 
 -- an argument of a simple rule names no group
-without_groups : (a : Arg) (r : Rule) → rule_of a ≡ r → r.is_simple ≡ true → a.groups.items ≡ []
-without_groups a r is simple = empty_is a.groups.items (simple_parts a (ap (λ (r : Rule). r.is_simple) is ∙ simple)).2
+without_groups : (arg : Arg) (other_rule : Rule) → rule_of arg ≡ other_rule → other_rule.is_simple ≡ true
+    → arg.groups.items ≡ []
+without_groups arg other_rule is simple = empty_is arg.groups.items
+    (simple_parts arg (ap (λ (other_rule : Rule). other_rule.is_simple) is ∙ simple)).2
 
 -- an argument of such a rule is an option
-is_option : (a : Arg) (name default : Text) (numbers : ValueParser) → rule_of a ≡ number_option name default numbers
-    → IsOption a numbers
-is_option a name default numbers is =
-    let parts = simple_parts a (ap (λ (r : Rule). r.is_simple) is) in
-    let range : a.num_vals ≡ None = ap (λ (r : Rule). r.range) is in
-    let defaults : length (texts (items_of a.default_vals)) ≡ 1 = ap (λ (r : Rule). length r.defaults) is in
-    let many : length (items_of a.default_vals) ≡ 1 =
-    sym (length-map (items_of a.default_vals) (λ s. s.now)) ∙ defaults in
+is_option : (arg : Arg) (name default : Text) (numbers : ValueParser) → rule_of arg ≡ number_option name default numbers
+    → IsOption arg numbers
+is_option arg name default numbers is =
+    let parts = simple_parts arg (ap (λ (r : Rule). r.is_simple) is) in
+    let range : arg.num_vals ≡ None = ap (λ (r : Rule). r.range) is in
+    let defaults : length (texts (items_of arg.default_vals)) ≡ 1 = ap (λ (r : Rule). length r.defaults) is in
+    let many : length (items_of arg.default_vals) ≡ 1 =
+    sym (length-map (items_of arg.default_vals) (λ s. s.now)) ∙ defaults in
     record {
       set = ap (λ (r : Rule). r.action) is;
       least = rw range (omega arith);
       parser = ap (λ (r : Rule). r.parser) is;
-      delimiter = none_is a.val_delim parts.3;
-      wants = (empty_is a.default_vals_ifs.items parts.1, omega arith);
+      delimiter = none_is arg.val_delim parts.3;
+      wants = (empty_is arg.default_vals_ifs.items parts.1, omega arith);
     }
 
 -- ---- what an option of the program's gives
@@ -154,53 +157,59 @@ quantum_own = (
 )
 
 -- the three ids differ, so that each stands at one place
-one_place : (a b c : Arg) (k : ℕ) (d : Arg)
-    → rule_of a ≡ workers_rule → rule_of b ≡ quantum_rule → rule_of c ≡ explain_rule → k < 2 → (j : ℕ) (e : Arg) → j < 3
-    → bytes_eq (slice_index_or (a ∷ b ∷ c ∷ []) j e).id.now (slice_index_or (a ∷ b ∷ c ∷ []) k d).id.now ≡ true
+one_place : (arg other_arg third_arg : Arg) (k : ℕ) (fourth_arg : Arg)
+    → rule_of arg ≡ workers_rule → rule_of other_arg ≡ quantum_rule → rule_of third_arg ≡ explain_rule → k < 2
+    → (j : ℕ) (fifth_arg : Arg) → j < 3
+    → bytes_eq (slice_index_or (arg ∷ other_arg ∷ third_arg ∷ []) j fifth_arg).id.now
+    (slice_index_or (arg ∷ other_arg ∷ third_arg ∷ []) k fourth_arg).id.now ≡ true
     → j ≡ k
-one_place a b c zero d workers quantum explain lt zero e low same = refl
-one_place a b c (suc zero) d workers quantum explain lt (suc zero) e low same = refl
-one_place a b c zero d workers quantum explain lt (suc zero) e low same =
+one_place arg other_arg third_arg zero fourth_arg workers quantum explain lt zero fifth_arg low same = refl
+one_place arg other_arg third_arg (suc zero) fourth_arg workers quantum explain lt (suc zero) fifth_arg low same = refl
+one_place arg other_arg third_arg zero fourth_arg workers quantum explain lt (suc zero) fifth_arg low same =
     let ids : bytes_eq (codes "quantum") (codes "workers") ≡ true =
     rw (ap (λ (r : Rule). r.id) workers, ap (λ (r : Rule). r.id) quantum) at same in
     cc
-one_place a b c zero d workers quantum explain lt (suc (suc zero)) e low same =
+one_place arg other_arg third_arg zero fourth_arg workers quantum explain lt (suc (suc zero)) fifth_arg low same =
     let ids : bytes_eq (codes "explain") (codes "workers") ≡ true =
     rw (ap (λ (r : Rule). r.id) workers, ap (λ (r : Rule). r.id) explain) at same in
     cc
-one_place a b c (suc zero) d workers quantum explain lt zero e low same =
+one_place arg other_arg third_arg (suc zero) fourth_arg workers quantum explain lt zero fifth_arg low same =
     let ids : bytes_eq (codes "workers") (codes "quantum") ≡ true =
     rw (ap (λ (r : Rule). r.id) workers, ap (λ (r : Rule). r.id) quantum) at same in
     cc
-one_place a b c (suc zero) d workers quantum explain lt (suc (suc zero)) e low same =
+one_place arg other_arg third_arg (suc zero) fourth_arg workers quantum explain lt (suc (suc zero)) fifth_arg low same =
     let ids : bytes_eq (codes "explain") (codes "quantum") ≡ true =
     rw (ap (λ (r : Rule). r.id) explain, ap (λ (r : Rule). r.id) quantum) at same in
     cc
-one_place a b c k d workers quantum explain lt (suc (suc (suc j))) e low same = absurd (omega arith)
-one_place a b c (suc (suc k)) d workers quantum explain lt j e low same = absurd (omega arith)
+one_place arg other_arg third_arg k fourth_arg workers quantum explain lt (suc (suc (suc j))) fifth_arg low same =
+    absurd (omega arith)
+one_place arg other_arg third_arg (suc (suc k)) fourth_arg workers quantum explain lt j fifth_arg low same =
+    absurd (omega arith)
 
 -- what a plain command lacks
-plain_parts : (c : Command-F Command) → has_plain_fields c ≡ true
-    → (is_empty c.groups.items ≡ true) × (not c.has_globals ≡ true)
-plain_parts c plain =
+plain_parts : (step : Command-F Command) → has_plain_fields step ≡ true
+    → (is_empty step.groups.items ≡ true) × (not step.has_globals ≡ true)
+plain_parts step plain =
     let parts =
-    first_four (is_empty c.groups.items) (not c.allow_external_subcommands) (not c.has_globals) (not c.infer_long_args)
-    (not c.allow_missing_positional
-    && (not c.infer_subcommands
-    && (not c.args_conflicts_with_subcommands
-    && (not c.subcommand_precedence_over_arg
-    && (not (is_some c.long_flag)
-    && (not (is_some c.short_flag)
-    && (is_empty c.long_flag_aliases.items && is_empty c.short_flag_aliases.items)))))))
+    first_four (is_empty step.groups.items) (not step.allow_external_subcommands) (not step.has_globals)
+    (not step.infer_long_args)
+    (not step.allow_missing_positional
+    && (not step.infer_subcommands
+    && (not step.args_conflicts_with_subcommands
+    && (not step.subcommand_precedence_over_arg
+    && (not (is_some step.long_flag)
+    && (not (is_some step.short_flag)
+    && (is_empty step.long_flag_aliases.items && is_empty step.short_flag_aliases.items)))))))
     plain in
     (parts.0, parts.2)
 
-all_without_groups : (a b c : Arg) → a.groups.items ≡ [] → b.groups.items ≡ [] → c.groups.items ≡ []
-    → All (λ (x : Arg). x.groups.items ≡ []) (a ∷ b ∷ c ∷ [])
-all_without_groups a b c first second third zero d lt = first
-all_without_groups a b c first second third (suc zero) d lt = second
-all_without_groups a b c first second third (suc (suc zero)) d lt = third
-all_without_groups a b c first second third (suc (suc (suc k))) d lt = absurd (omega arith)
+all_without_groups : (arg other_arg third_arg : Arg) → arg.groups.items ≡ [] → other_arg.groups.items ≡ []
+    → third_arg.groups.items ≡ []
+    → All (λ (x : Arg). x.groups.items ≡ []) (arg ∷ other_arg ∷ third_arg ∷ [])
+all_without_groups arg other_arg third_arg first second third zero d lt = first
+all_without_groups arg other_arg third_arg first second third (suc zero) d lt = second
+all_without_groups arg other_arg third_arg first second third (suc (suc zero)) d lt = third
+all_without_groups arg other_arg third_arg first second third (suc (suc (suc k))) d lt = absurd (omega arith)
 
 -- a text that isn't this one
 not_equal : (text : Text) → (text ≡ codes "true" → ⊥) → not (bytes_eq text (codes "true")) ≡ true
@@ -211,10 +220,10 @@ not_equal text other = go (bytes_eq text (codes "true")) refl
     go true is = absurd (other ((bytes_eq-Decides text (codes "true")).0 is))
 
 -- what a getter reads of a flag's text, if it reads no text as false
-flag_of : (E : Type 0) (o : Option Text) (r : Option Bool) → (o ≡ None → r ≡ None)
-    → ((text : Text) → o ≡ Some text → ReadsOne (ParsesBool {E = E}) text r)
-    → unwrap_or r false ≡ option_map_or (λ text. bytes_eq text (codes "true")) o false
-flag_of E None r none value = ap (λ (x : Option Bool). unwrap_or x false) (none refl)
+flag_of : (E : Type 0) (other_text : Option Text) (flag : Option Bool) → (other_text ≡ None → flag ≡ None)
+    → ((text : Text) → other_text ≡ Some text → ReadsOne (ParsesBool {E = E}) text flag)
+    → unwrap_or flag false ≡ option_map_or (λ text. bytes_eq text (codes "true")) other_text false
+flag_of E None flag none value = ap (λ (x : Option Bool). unwrap_or x false) (none refl)
 flag_of E (Some text) None none value =
     sym (not_is (bytes_eq text (codes "true")) (not_equal text (value text refl).1.0))
 flag_of E (Some text) (Some true) none value = sym ((bytes_eq-Decides text (codes "true")).1 (value text refl))

@@ -33,19 +33,20 @@ pub record IsOption (a : Arg) (numbers : ValueParser) : Type 0 where
   pub wants : WantsDefault a
 
 -- the id of another than the first entry stands in the rest
-in_rest : (x : Entry) (xs : List Entry) (id : List ℕ) → HasIn (x ∷ xs) id → bytes_eq x.0.now id ≡ false → HasIn xs id
-in_rest x xs id (zero, lt, same) other =
-    let bad : true ≡ false = sym (same x) ∙ other in
+in_rest : (entry : Entry) (xs : List Entry) (id : List ℕ) → HasIn (entry ∷ xs) id → bytes_eq entry.0.now id
+    ≡ false → HasIn xs id
+in_rest entry xs id (zero, lt, same) other =
+    let bad : true ≡ false = sym (same entry) ∙ other in
     cc
-in_rest x xs id (suc i, lt, same) other = (i, omega arith, same)
+in_rest entry xs id (suc i, lt, same) other = (i, omega arith, same)
 
 -- an id that stands in a list of entries is found there
 found_in : (xs : List Entry) (id : List ℕ) → HasIn xs id
-    → (a : MatchedArg) × (option_map (λ e. e.1) (find (λ e. bytes_eq e.0.now id) xs) ≡ Some a)
-found_in [] id h =
-    let bad = h.1 in
+    → (matched : MatchedArg) × (option_map (λ e. e.1) (find (λ e. bytes_eq e.0.now id) xs) ≡ Some matched)
+found_in [] id given =
+    let bad = given.1 in
     absurd (omega arith)
-found_in (x ∷ xs) id h = go (λ other. found_in xs id (in_rest x xs id h other)) (bytes_eq x.0.now id) refl
+found_in (x ∷ xs) id given = go (λ other. found_in xs id (in_rest x xs id given other)) (bytes_eq x.0.now id) refl
   where
     go :
         (bytes_eq x.0.now id ≡ false
@@ -59,15 +60,15 @@ found_in (x ∷ xs) id h = go (λ other. found_in xs id (in_rest x xs id h other
 
 -- the first of some values
 first_in : (P : Bor (List ℕ) → Type 0) (vs : List (Bor (List ℕ))) → 0 < length vs → All P vs
-    → (v : Bor (List ℕ)) × (slice_get vs 0 ≡ Some v) × P v
-first_in P [] lt h = absurd (omega arith)
-first_in P (v ∷ vs) lt h = (v, refl, All-get_or P (v ∷ vs) 0 v (omega arith) h)
+    → (text : Bor (List ℕ)) × (slice_get vs 0 ≡ Some text) × P text
+first_in P [] lt given = absurd (omega arith)
+first_in P (v ∷ vs) lt given = (v, refl, All-get_or P (v ∷ vs) 0 v (omega arith) given)
 
 -- the text that a getter reads of an entry
-text_at : (f : Found) (id : List ℕ) (x : MatchedArg) (v : Bor (List ℕ)) (how : Reading)
-    → matched_of f id ≡ Some x → slice_get x.vals.items 0 ≡ Some v → x.reading ≡ how
-    → one_text f id ≡ Some (read_as how v.now)
-text_at f id x v how found first is = rw (found, first, is) refl
+text_at : (found : Found) (id : List ℕ) (matched : MatchedArg) (text : Bor (List ℕ)) (how : Reading)
+    → matched_of found id ≡ Some matched → slice_get matched.vals.items 0 ≡ Some text → matched.reading ≡ how
+    → one_text found id ≡ Some (read_as how text.now)
+text_at other_found id matched text how found first is = rw (found, first, is) refl
 
 -- the entry of an option has a first value, which passed its parser and is read as this says
 module _ (old : Command) (m : ArgMatches) (p : IsParsedFrom old m) (k : ℕ) (d : Arg) (lt : k < length (args_of old))

@@ -71,15 +71,15 @@ unasked_from number (d ∷ plan) =
 -- ---- screens
 
 ok_gives : {T E : Type 0} (r : Result T E) (P : Type 0) → IsOk r → OnOk r P → P
-ok_gives (Ok x) P is p = p
-ok_gives (Err e) P is p = absurd (ok_is_no_error is)
+ok_gives (Ok x) P is given = given
+ok_gives (Err e) P is given = absurd (ok_is_no_error is)
   where
     ok_is_no_error : false ≡ true → ⊥
     ok_is_no_error is = search arith
 
-some_then : {A : Type 0} (o : Option A) (P Q : A → Type 0) → ((x : A) → P x → Q x) → IfSome o P → IfSome o Q
-some_then None P Q then p = tt
-some_then (Some x) P Q then p = then x p
+some_then : {A : Type 0} (value : Option A) (P Q : A → Type 0) → ((x : A) → P x → Q x) → IfSome value P → IfSome value Q
+some_then None P Q then given = tt
+some_then (Some x) P Q then given = then x given
 
 -- a user's screen, who has given his pass back
 one_screen : (plan : List DomainData) (closed : List ClosedDomain) (pass : UserPassValue) (name screen : List ℕ)
@@ -182,13 +182,14 @@ all_screens plan lines steps opened after passes screens closed users count answ
 
 -- the same of users who were lent to threads, and with whose passes the service was then closed
 pub closed_screens : {E : Type 0} (plan opened_plan : List DomainData) (lines : List ScriptLine) (steps : ℕ)
-    (opened lent after back : List User) (left : UsersEnd) (r : Result ScriptEnd E)
+    (opened lent after back : List User) (left : UsersEnd) (outcome : Result ScriptEnd E)
     → opened_plan ≡ plan → lent ≡ opened → AreUsersOf opened_plan lines steps opened → length after ≡ length lent
     → HaveAnswered lent after → back ≡ after → All (λ u. IsOk u.ended) back
     → left.passes.items ≡ map (λ u. u.session.pass) back
     → map string_bytes left.screens.items ≡ map (λ u. string_bytes u.screen) back
-    → IfOk r (λ e. AreListed e.closed.domains.items left.passes.items) → IfOk r (λ e. e.screens ≡ left.screens)
-    → IfOk r (λ e. AreScreens plan lines e.closed.domains.items (map string_bytes e.screens.items))
+    → IfOk outcome (λ e. AreListed e.closed.domains.items left.passes.items)
+    → IfOk outcome (λ e. e.screens ≡ left.screens)
+    → IfOk outcome (λ e. AreScreens plan lines e.closed.domains.items (map string_bytes e.screens.items))
 closed_screens plan opened_plan lines steps opened lent after back left (Err e) same lent_is users count answered
     back_is ended passes screens listed kept =
     tt

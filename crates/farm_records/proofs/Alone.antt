@@ -15,13 +15,14 @@ pub alike_if : (one other : Option DomainData) (part other_part : PartData)
     → IfSome one (λ d. ranges ≡ four_ranges d) → IfSome other (λ e. other_ranges ≡ four_ranges e)
     → ranges ≡ other_ranges → IfSome one (λ d. IfSome other (λ e. AreNamedAlike d.users e.users))
     → IfSome one (λ d. IfSome other (λ e. AreAlike d e))
-alike_if None other part other_part ranges other_ranges p q same r s alike names = tt
-alike_if (Some d) None part other_part ranges other_ranges p q same r s alike names = tt
-alike_if (Some d) (Some e) part other_part ranges other_ranges p q same r s alike names = record {
-  part = sym p ∙ (same ∙ q);
-  ports = ap ranged_ports (sym r ∙ (alike ∙ s));
-  names = names;
-}
+alike_if None other part other_part ranges other_ranges equal agrees same matches other_same alike names = tt
+alike_if (Some d) None part other_part ranges other_ranges equal agrees same matches other_same alike names = tt
+alike_if (Some d) (Some e) part other_part ranges other_ranges equal agrees same matches other_same
+    alike names = record {
+      part = sym equal ∙ (same ∙ agrees);
+      ports = ap ranged_ports (sym matches ∙ (alike ∙ other_same));
+      names = names;
+    }
 
 -- the domain of this number, which is there
 at_number : (plan : List DomainData) (d : DomainData) (number : ℕ)

@@ -18,10 +18,11 @@ consumes_none None = tt
 consumes_none (Some xs) = refl
 
 -- if one piece is consumed, and then another, both are, one behind the other
-pub consumes_more : (a b c : Option (List ℕ)) (xs ys : List ℕ) → Consumes a b xs → Consumes b c ys
-    → Consumes a c (xs ++ ys)
-consumes_more None b c xs ys first next = tt
-consumes_more (Some us) None c xs ys first next = absurd first
+pub consumes_more : (text other_text third_text : Option (List ℕ)) (xs ys : List ℕ) → Consumes text other_text xs
+    → Consumes other_text third_text ys
+    → Consumes text third_text (xs ++ ys)
+consumes_more None other_text third_text xs ys first next = tt
+consumes_more (Some us) None third_text xs ys first next = absurd first
 consumes_more (Some us) (Some vs) None xs ys first next = absurd next
 consumes_more (Some us) (Some vs) (Some ws) xs ys first next =
     first ∙ (ap (λ l. xs ++ l) next ∙ sym (append_assoc xs ys ws))
@@ -31,9 +32,9 @@ gains_nothing : (d : DomainValue) → GainsHistory [] d d
 gains_nothing d = record { history = sym (append-nil (expanded d.journal)); part = refl; ports = refl }
 
 -- it gains some, and then more
-gains_more : (xs ys : List AnsweredCall) (d e f : DomainValue) → GainsHistory xs d e → GainsHistory ys e f
-    → GainsHistory (xs ++ ys) d f
-gains_more xs ys d e f first next = record {
+gains_more : (xs ys : List AnsweredCall) (d e domain : DomainValue) → GainsHistory xs d e → GainsHistory ys e domain
+    → GainsHistory (xs ++ ys) d domain
+gains_more xs ys d e domain first next = record {
   history = next.history ∙ (ap (λ h. h ++ ys) first.history ∙ append_assoc (expanded d.journal) xs ys);
   part = next.part ∙ first.part;
   ports = next.ports ∙ first.ports;
@@ -62,63 +63,66 @@ one_more_history lines l =
     flat_map-append line_history lines (l ∷ []) ∙ ap (λ t. record_history lines ++ t) (append-nil (line_history l))
 
 -- if one line more is taken and done again, all lines so far are
-pub one_more : (a b c : Option (List ℕ)) (bytes : List ℕ) (d e f : DomainValue)
-    → RedoneSoFar a b d e → Consumes b c bytes → RedoesLine bytes e f
-    → RedoneSoFar a c d f
-one_more a b c bytes d e f so_far taken redone = record {
+pub one_more : (text other_text third_text : Option (List ℕ)) (bytes : List ℕ) (d e domain : DomainValue)
+    → RedoneSoFar text other_text d e → Consumes other_text third_text bytes → RedoesLine bytes e domain
+    → RedoneSoFar text third_text d domain
+one_more other_text third_text fourth_text bytes d e domain so_far taken redone = record {
   lines = so_far.lines ++ redone.line ∷ [];
   taken =
-      subst (λ (t : List ℕ). Consumes a c t)
+      subst (λ (t : List ℕ). Consumes other_text fourth_text t)
       (ap (λ t. record_text so_far.lines ++ t) (sym redone.text) ∙ sym (one_more_text so_far.lines redone.line))
-      (consumes_more a b c (record_text so_far.lines) bytes so_far.taken taken);
-  gains = subst (λ (h : List AnsweredCall). GainsHistory h d f) (sym (one_more_history so_far.lines redone.line))
-      (gains_more (record_history so_far.lines) (line_history redone.line) d e f so_far.gains redone.gains);
+      (consumes_more other_text third_text fourth_text (record_text so_far.lines) bytes so_far.taken taken);
+  gains = subst (λ (h : List AnsweredCall). GainsHistory h d domain) (sym (one_more_history so_far.lines redone.line))
+      (gains_more (record_history so_far.lines) (line_history redone.line) d e domain so_far.gains redone.gains);
 }
 
 -- two pieces, behind which the bytes end, are all bytes
-pub consumed_all : (a b c : Option (List ℕ)) (xs ys : List ℕ) → Consumes a b xs → Consumes b c ys → IsAtEnd c
-    → IsAllOf (xs ++ ys) a
-consumed_all None b c xs ys first next end = tt
-consumed_all (Some us) None c xs ys first next end = absurd first
+pub consumed_all : (text other_text third_text : Option (List ℕ)) (xs ys : List ℕ) → Consumes text other_text xs
+    → Consumes other_text third_text ys → IsAtEnd third_text
+    → IsAllOf (xs ++ ys) text
+consumed_all None other_text third_text xs ys first next end = tt
+consumed_all (Some us) None third_text xs ys first next end = absurd first
 consumed_all (Some us) (Some vs) None xs ys first next end = absurd next
 consumed_all (Some us) (Some vs) (Some ws) xs ys first next end =
     first ∙ ap (λ l. xs ++ l) (next ∙ (ap (λ l. ys ++ l) end ∙ append-nil ys))
 
 -- one piece, behind which the bytes end, is all bytes
-pub consumed_one : (a b : Option (List ℕ)) (xs : List ℕ) → Consumes a b xs → IsAtEnd b → IsAllOf xs a
-consumed_one None b xs first end = tt
+pub consumed_one : (text other_text : Option (List ℕ)) (xs : List ℕ) → Consumes text other_text xs
+    → IsAtEnd other_text → IsAllOf xs text
+consumed_one None other_text xs first end = tt
 consumed_one (Some us) None xs first end = absurd first
 consumed_one (Some us) (Some vs) xs first end = first ∙ (ap (λ l. xs ++ l) end ∙ append-nil xs)
 
 -- if the bytes end behind a piece, the lines before it were done again, and the piece is torn
-pub at_the_end : (a b c : Option (List ℕ)) (bytes : List ℕ) (d e : DomainValue)
-    → RedoneSoFar a b d e → Consumes b c bytes → IsAtEnd c
-    → TakesLines a (length bytes) d e
-at_the_end a b c bytes d e so_far taken end = record {
+pub at_the_end : (text other_text third_text : Option (List ℕ)) (bytes : List ℕ) (d e : DomainValue)
+    → RedoneSoFar text other_text d e → Consumes other_text third_text bytes → IsAtEnd third_text
+    → TakesLines text (length bytes) d e
+at_the_end other_text third_text fourth_text bytes d e so_far taken end = record {
   bytes = record_text so_far.lines ++ bytes;
   behind = bytes;
-  all = consumed_all a b c (record_text so_far.lines) bytes so_far.taken taken end;
+  all = consumed_all other_text third_text fourth_text (record_text so_far.lines) bytes so_far.taken taken end;
   redone = record { lines = so_far.lines; text = refl; gains = so_far.gains };
   torn_is = refl;
 }
 
 -- the first bytes of a head, with its next line, are as many more of its first bytes
-pub more_of_the_head : (a b c : Option (List ℕ)) (head line : List ℕ) (taken : ℕ)
-    → Consumes a b (take taken head) → Consumes b c line → take (length line) (drop taken head) ≡ line
-    → Consumes a c (take (taken + length line) head)
-more_of_the_head a b c head line taken first next same =
-    subst (λ (t : List ℕ). Consumes a c t)
+pub more_of_the_head : (text other_text third_text : Option (List ℕ)) (head line : List ℕ) (taken : ℕ)
+    → Consumes text other_text (take taken head) → Consumes other_text third_text line
+    → take (length line) (drop taken head) ≡ line
+    → Consumes text third_text (take (taken + length line) head)
+more_of_the_head text other_text third_text head line taken first next same =
+    subst (λ (t : List ℕ). Consumes text third_text t)
     (ap (λ l. take taken head ++ l) (sym same) ∙ sym (take-add taken (length line) head))
-    (consumes_more a b c (take taken head) line first next)
+    (consumes_more text other_text third_text (take taken head) line first next)
 
 -- if the bytes end within a head, they are its beginning
-pub beginning_of : (a b : Option (List ℕ)) (head : List ℕ) (taken : ℕ)
-    → Consumes a b (take taken head) → IsAtEnd b → taken < length head
-    → HasBeginning a head
-beginning_of a b head taken first end less = record {
+pub beginning_of : (text other_text : Option (List ℕ)) (head : List ℕ) (taken : ℕ)
+    → Consumes text other_text (take taken head) → IsAtEnd other_text → taken < length head
+    → HasBeginning text head
+beginning_of text other_text head taken first end less = record {
   bytes = take taken head;
   rest = drop taken head;
-  all = consumed_one a b (take taken head) first end;
+  all = consumed_one text other_text (take taken head) first end;
   parts = sym (take-append-drop taken head);
   shorter = omega (arith, length-take taken head, less);
 }

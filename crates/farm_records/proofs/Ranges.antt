@@ -11,22 +11,26 @@ use Rattle.crossbar.specs.declared.range.PortRange.{PortRange}
 abbrev range : ℕ → ℕ → PortRange
 range first last = record { first = first; last = last }
 
-ranges_equal : (p q u v : ℕ) → p ≡ q → u ≡ v → range p u ≡ range q v
-ranges_equal p q u v e f = cc
+ranges_equal : (p q user v : ℕ) → p ≡ q → user ≡ v → range p user ≡ range q v
+ranges_equal p q user v same equal = cc
 
 -- how ranges are compared
 abbrev pub range_eq : PortRange → PortRange → Bool
-range_eq a b = eqb a.first b.first && eqb a.last b.last
+range_eq other_range third_range = eqb other_range.first third_range.first && eqb other_range.last third_range.last
 
-same_range : (a b : PortRange) → Decides (range_eq a b) (a ≡ b)
-same_range a b =
-    let fields = Decides-and _ _ (Decides-eqb a.first b.first) (Decides-eqb a.last b.last) in (
-      λ e. ranges_equal a.first b.first a.last b.last (fields.0 e).0 (fields.0 e).1,
+same_range : (other_range third_range : PortRange) → Decides (range_eq other_range third_range)
+    (other_range ≡ third_range)
+same_range other_range third_range =
+    let fields = Decides-and _ _ (Decides-eqb other_range.first third_range.first)
+    (Decides-eqb other_range.last third_range.last) in (
+      λ e. ranges_equal other_range.first third_range.first other_range.last third_range.last
+          (fields.0 e).0 (fields.0 e).1,
       λ e. fields.1 (ap (λ (r : PortRange). r.first) e, ap (λ (r : PortRange). r.last) e),
     )
 
 -- two ranges, each of which may be missing, are equal just if their comparison says so
-pub same_range_or_none : (a b : Option PortRange) → Decides (option_eq range_eq a b) (a ≡ b)
+pub same_range_or_none : (other_range third_range : Option PortRange)
+    → Decides (option_eq range_eq other_range third_range) (other_range ≡ third_range)
 same_range_or_none None None = (λ e. refl, λ e. refl)
 same_range_or_none None (Some y) = (λ e. absurd (false≢true e), λ e. cc)
 same_range_or_none (Some x) None = (λ e. absurd (false≢true e), λ e. cc)

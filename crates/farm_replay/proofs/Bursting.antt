@@ -22,9 +22,10 @@ pub record HasDone (k : ℕ) (t u : TicketValue) : Type 0 where
   pub start : u.start ≡ t.start
 
 -- the latest of three answers, however they are put together
-latest : (a b c : Option Stepped) → later_or a (later_or b c) ≡ later_or (later_or a b) c
-latest None b c = refl
-latest (Some answer) b c = refl
+latest : (stepped other_stepped third_stepped : Option Stepped)
+    → later_or stepped (later_or other_stepped third_stepped) ≡ later_or (later_or stepped other_stepped) third_stepped
+latest None other_stepped third_stepped = refl
+latest (Some answer) other_stepped third_stepped = refl
 
 -- after 0 Steps a node is as it was
 no_steps : (n : Node) → IsAfter n 0 n
@@ -37,10 +38,10 @@ unfolding last_answer
 no_answer n = refl
 
 -- a node is as it was if it comes after 0 Steps
-unstepped : (n m : Node) (k : ℕ) → k ≡ 0 → IsAfter n k m → n ≡ m
+unstepped : (n node : Node) (k : ℕ) → k ≡ 0 → IsAfter n k node → n ≡ node
 unfolding after_steps
-unstepped n m zero none after = after.node
-unstepped n m (suc k) none after = absurd (omega (arith, none))
+unstepped n other_node zero none after = after.node
+unstepped n node (suc k) none after = absurd (omega (arith, none))
 
 -- none of a ticket's Steps was done yet
 pub none_done : (k : ℕ) (t : TicketValue) → k ≡ 0 → HasDone k t t
@@ -55,10 +56,10 @@ none_done k t none = subst (λ (n : ℕ). HasDone n t t) (sym none) (record {
 
 -- some Steps of a ticket were done, and then those of a burst
 pub more_done : StepsAddUp → LastAnswersAddUp
-    → (a b k : ℕ) (t u v : TicketValue) → HasDone a t u → (more : Bursts b u v) → k ≡ a + more.more
-    → HasDone k t v
-more_done add answers a b k t u v some more is = subst (λ (n : ℕ). HasDone n t v) (sym is) (record {
-  node = add t.node u.node v.node a more.more some.node more.node;
+    → (a b k : ℕ) (t u ticket : TicketValue) → HasDone a t u → (more : Bursts b u ticket) → k ≡ a + more.more
+    → HasDone k t ticket
+more_done add answers a b k t u ticket some more is = subst (λ (n : ℕ). HasDone n t ticket) (sym is) (record {
+  node = add t.node u.node ticket.node a more.more some.node more.node;
   steps = omega (arith, some.steps, more.steps);
   last =
       more.last
@@ -86,9 +87,9 @@ as_burst k n t u done within ends = record {
 }
 
 -- if there is no later answer and no earlier one, there is no later one
-no_later : (a b : Option Stepped) → later_or a b ≡ None → a ≡ None
-no_later None b none = refl
-no_later (Some answer) b none = absurd (none-some answer (sym none))
+no_later : (stepped other_stepped : Option Stepped) → later_or stepped other_stepped ≡ None → stepped ≡ None
+no_later None other_stepped none = refl
+no_later (Some answer) other_stepped none = absurd (none-some answer (sym none))
 
 -- Steps without a last answer are none
 unanswered : (k : ℕ) (n : Node) → last_answer k n ≡ None → k ≡ 0

@@ -38,21 +38,23 @@ many_more_alike texts l more so = record {
 }
 
 -- a group of one other text behind the last
-apart_more : (groups : List Group) (g h : Group) → AreGroups (groups ++ g ∷ []) → g.text ≢ h.text → 0 < h.count
-    → AreGroups (groups ++ g ∷ [] ++ h ∷ [])
-apart_more [] g h so ne some = (so, ne, some)
-apart_more (a ∷ []) g h so ne some = (so.0, so.1, (so.2, ne, some))
-apart_more (a ∷ b ∷ groups) g h so ne some = (so.0, so.1, apart_more (b ∷ groups) g h so.2 ne some)
+apart_more : (groups : List Group) (g group : Group) → AreGroups (groups ++ g ∷ [])
+    → g.text ≢ group.text → 0 < group.count
+    → AreGroups (groups ++ g ∷ [] ++ group ∷ [])
+apart_more [] g group so ne some = (so, ne, some)
+apart_more (a ∷ []) g group so ne some = (so.0, so.1, (so.2, ne, some))
+apart_more (a ∷ b ∷ groups) g group so ne some = (so.0, so.1, apart_more (b ∷ groups) g group so.2 ne some)
 
-many_others : (texts : List (List ℕ)) (l m : KeptList)
-    → IsBehind texts l → l.last ≢ m.last → 0 < m.count → m.text ≡ l.text ++ group_text (last_group l) ++ codes ", "
-    → IsBehind (texts ++ replicate m.count m.last) m
-many_others texts l m so ne some text = record {
+many_others : (texts : List (List ℕ)) (l kept : KeptList)
+    → IsBehind texts l → l.last ≢ kept.last → 0 < kept.count → kept.text
+    ≡ l.text ++ group_text (last_group l) ++ codes ", "
+    → IsBehind (texts ++ replicate kept.count kept.last) kept
+many_others texts l kept so ne some text = record {
   groups = so.groups ++ last_group l ∷ [];
-  apart = apart_more so.groups (last_group l) (last_group m) so.apart ne some;
+  apart = apart_more so.groups (last_group l) (last_group kept) so.apart ne some;
   all =
-      texts_of_more (so.groups ++ last_group l ∷ []) (last_group m)
-      ∙ ap (λ (xs : List (List ℕ)). xs ++ replicate m.count m.last) so.all;
+      texts_of_more (so.groups ++ last_group l ∷ []) (last_group kept)
+      ∙ ap (λ (xs : List (List ℕ)). xs ++ replicate kept.count kept.last) so.all;
   written =
       text ∙ append_assoc l.text (group_text (last_group l)) (codes ", ")
       ∙ ap (λ (xs : List ℕ). xs ++ (group_text (last_group l) ++ codes ", ")) so.written
@@ -116,46 +118,47 @@ pub push_none : (texts : List (List ℕ)) (l : KeptList) (answer : List ℕ) →
 push_none texts l answer so = subst (λ (ts : List (List ℕ)). HoldsTexts ts l) (sym (append-nil texts)) so
 
 -- the first group
-pub push_first : (texts : List (List ℕ)) (l m : KeptList) (answer : List ℕ) (more : ℕ)
-    → HoldsTexts texts l → l.count ≡ 0 → m.text ≡ l.text → m.last ≡ answer → m.count ≡ more → more ≢ 0
-    → HoldsTexts (texts ++ replicate more answer) m
-push_first texts l m answer more so none text last count some =
+pub push_first : (texts : List (List ℕ)) (l kept : KeptList) (answer : List ℕ) (more : ℕ)
+    → HoldsTexts texts l → l.count ≡ 0 → kept.text ≡ l.text → kept.last ≡ answer → kept.count ≡ more → more ≢ 0
+    → HoldsTexts (texts ++ replicate more answer) kept
+push_first texts l kept answer more so none text last count some =
     let empty : IsUnwritten texts l = subst (λ n. HoldsTextsAt texts l n) none so in
-    let counted : m.count ≢ 0 = λ e. some (sym count ∙ e) in
-    holds (texts ++ replicate more answer) m m.count counted (record {
+    let counted : kept.count ≢ 0 = λ e. some (sym count ∙ e) in
+    holds (texts ++ replicate more answer) kept kept.count counted (record {
       groups = [];
       apart = omega (arith, counted);
       all =
-          append-nil (replicate m.count m.last) ∙ (λ i. replicate (count i) (last i))
+          append-nil (replicate kept.count kept.last) ∙ (λ i. replicate (count i) (last i))
           ∙ ap (λ (ts : List (List ℕ)). ts ++ replicate more answer) (sym empty.none);
       written = text ∙ empty.text;
     })
 
 -- answers that are the last one again lengthen its group
-pub push_alike : (texts : List (List ℕ)) (l m : KeptList) (answer : List ℕ) (more : ℕ)
-    → HoldsTexts texts l → l.count ≢ 0 → l.last ≡ answer → m.text ≡ l.text → m.last ≡ l.last → m.count ≡ l.count + more
-    → HoldsTexts (texts ++ replicate more answer) m
-push_alike texts l m answer more so some same text last count =
-    let whole : record l { count = l.count + more } ≡ m =
+pub push_alike : (texts : List (List ℕ)) (l kept : KeptList) (answer : List ℕ) (more : ℕ)
+    → HoldsTexts texts l → l.count ≢ 0 → l.last ≡ answer → kept.text ≡ l.text → kept.last ≡ l.last
+    → kept.count ≡ l.count + more
+    → HoldsTexts (texts ++ replicate more answer) kept
+push_alike texts l kept answer more so some same text last count =
+    let whole : record l { count = l.count + more } ≡ kept =
     λ i. record { text = sym text i; last = sym last i; count = sym count i } in
-    let done : IsBehind (texts ++ replicate more answer) m =
+    let done : IsBehind (texts ++ replicate more answer) kept =
     subst (λ (n : KeptList). IsBehind (texts ++ replicate more answer) n) whole
     (subst (λ (a : List ℕ). IsBehind (texts ++ replicate more a) (record l { count = l.count + more })) same
     (many_more_alike texts l more (behind texts l l.count some so))) in
-    holds (texts ++ replicate more answer) m m.count (λ e. some (omega (arith, count, e))) done
+    holds (texts ++ replicate more answer) kept kept.count (λ e. some (omega (arith, count, e))) done
 
 -- another answer writes the group before it, and begins its own
-pub push_other : (texts : List (List ℕ)) (l m : KeptList) (answer : List ℕ) (more : ℕ)
-    → HoldsTexts texts l → l.count ≢ 0 → l.last ≢ answer → m.last ≡ answer → m.count ≡ more → more ≢ 0
-    → m.text ≡ l.text ++ group_text (last_group l) ++ codes ", "
-    → HoldsTexts (texts ++ replicate more answer) m
-push_other texts l m answer more so some other last count few text =
-    let ne : l.last ≢ m.last = λ e. other (e ∙ last) in
-    let counted : m.count ≢ 0 = λ e. few (sym count ∙ e) in
-    let done : IsBehind (texts ++ replicate m.count m.last) m =
-    many_others texts l m (behind texts l l.count some so) ne (omega (arith, counted)) text in
-    holds (texts ++ replicate more answer) m m.count counted
-    (subst (λ (ts : List (List ℕ)). IsBehind (texts ++ ts) m) (λ i. replicate (count i) (last i)) done)
+pub push_other : (texts : List (List ℕ)) (l kept : KeptList) (answer : List ℕ) (more : ℕ)
+    → HoldsTexts texts l → l.count ≢ 0 → l.last ≢ answer → kept.last ≡ answer → kept.count ≡ more → more ≢ 0
+    → kept.text ≡ l.text ++ group_text (last_group l) ++ codes ", "
+    → HoldsTexts (texts ++ replicate more answer) kept
+push_other texts l kept answer more so some other last count few text =
+    let ne : l.last ≢ kept.last = λ e. other (e ∙ last) in
+    let counted : kept.count ≢ 0 = λ e. few (sym count ∙ e) in
+    let done : IsBehind (texts ++ replicate kept.count kept.last) kept =
+    many_others texts l kept (behind texts l l.count some so) ne (omega (arith, counted)) text in
+    holds (texts ++ replicate more answer) kept kept.count counted
+    (subst (λ (ts : List (List ℕ)). IsBehind (texts ++ ts) kept) (λ i. replicate (count i) (last i)) done)
 
 -- the line of a list, which is what is written if there is no text
 pub listing_at : (texts : List (List ℕ)) (l : KeptList) (line : List ℕ)

@@ -42,18 +42,18 @@ one_line plan farm (Calls calls) line old new rest more places made shows well =
     (subst (IsShownIn line) run.told_is shows.shown, well _ (shows.run.places ∙ places) run.made)
 
 -- if a further request shows its line, the lines of all requests up to it are well
-pub one_more_line : (plan : List Place) (requests : List RepeatedRequest) (index : ℕ) (d : RepeatedRequest)
+pub one_more_line : (plan : List Place) (requests : List RepeatedRequest) (index : ℕ) (request : RepeatedRequest)
     (lines : List (List ℕ)) (line : List ℕ) (old new : List DomainValue)
-    → index < length requests → d ≡ get_or requests index d
+    → index < length requests → request ≡ get_or requests index request
     → AreLinesSoFar plan (map asked_by (take index requests)) lines old
-    → ShowsAsked plan (asked_by d) old new line
+    → ShowsAsked plan (asked_by request) old new line
     → AreLinesSoFar plan (map asked_by (take (index + 1) requests)) (lines ++ line ∷ []) new
-one_more_line plan requests index d lines line old new within is so shows rest more well =
-    let now = asked_by d in
+one_more_line plan requests index request lines line old new within is so shows rest more well =
+    let now = asked_by request in
     let before = map asked_by (take index requests) in
     let asked : map asked_by (take (index + 1) requests) ≡ before ++ now ∷ [] =
-    ap (map asked_by) (take_more requests index d within ∙ ap (λ r. take index requests ++ r ∷ []) (sym is))
-    ∙ map-append asked_by (take index requests) (d ∷ []) in
+    ap (map asked_by) (take_more requests index request within ∙ ap (λ r. take index requests ++ r ∷ []) (sym is))
+    ∙ map-append asked_by (take index requests) (request ∷ []) in
     let all : before ++ now ∷ rest ≡ map asked_by (take (index + 1) requests) ++ rest =
     sym (append_assoc before (now ∷ []) rest) ∙ ap (λ (xs : List Asked). xs ++ rest) (sym asked) in
     let shown : lines ++ line ∷ more ≡ lines ++ line ∷ [] ++ more = sym (append_assoc lines (line ∷ []) more) in

@@ -50,23 +50,24 @@ one_call domain call told old new is places = record {
   };
 }
 
-more_calls : RunsAddUp → (a b c : List DomainValue) (calls later : List (ℕ × Call)) (told after : List Answer)
-    → HaveRun a b calls told
-    → HaveRun b c later after
-    → HaveRun a c (calls ++ later) (told ++ after)
-more_calls law a b c calls later told after one two = record {
+more_calls : RunsAddUp → (domains other_domains third_domains : List DomainValue) (calls later : List (ℕ × Call))
+    (told after : List Answer)
+    → HaveRun domains other_domains calls told
+    → HaveRun other_domains third_domains later after
+    → HaveRun domains third_domains (calls ++ later) (told ++ after)
+more_calls law domains other_domains third_domains calls later told after one two = record {
   places = two.places ∙ one.places;
   each = λ farm made.
-      let plan = all_places a in
+      let plan = all_places domains in
       let first = one.each farm made in
       let half : Farm = whole_after plan farm calls in
       let then =
-      subst (λ p. IsRunTo p half later after c) one.places
-      (two.each half (subst (λ p. IsMadeOf p half (all_states b)) (sym one.places) first.made)) in
+      subst (λ p. IsRunTo p half later after third_domains) one.places
+      (two.each half (subst (λ p. IsMadeOf p half (all_states other_domains)) (sym one.places) first.made)) in
       let both = law plan farm calls later in
       record {
         told_is = (λ i. first.told_is i ++ then.told_is i) ∙ sym both.told;
-        made = subst (λ f. IsMadeOf plan f (all_states c)) (sym both.left) then.made;
+        made = subst (λ f. IsMadeOf plan f (all_states third_domains)) (sym both.left) then.made;
       };
 }
 
@@ -87,12 +88,13 @@ gone_nowhere domain domains =
     record { calls = []; told = []; run = no_calls domains; farms = All-from_recursion (IsOfTheFarm domain) [] tt }
 
 -- a domain that has gone on twice has gone on
-pub gone_further : RunsAddUp → (domain : ℕ) (a b c : List DomainValue) → HasGoneOn domain a b → HasGoneOn domain b c
-    → HasGoneOn domain a c
-gone_further law domain a b c one two = record {
+pub gone_further : RunsAddUp → (domain : ℕ) (domains other_domains third_domains : List DomainValue)
+    → HasGoneOn domain domains other_domains → HasGoneOn domain other_domains third_domains
+    → HasGoneOn domain domains third_domains
+gone_further law domain domains other_domains third_domains one two = record {
   calls = one.calls ++ two.calls;
   told = one.told ++ two.told;
-  run = more_calls law a b c one.calls two.calls one.told two.told one.run two.run;
+  run = more_calls law domains other_domains third_domains one.calls two.calls one.told two.told one.run two.run;
   farms = All-append (IsOfTheFarm domain) one.calls two.calls one.farms two.farms;
 }
 
@@ -135,23 +137,26 @@ gone_by_call domain event told old new run = record {
 }
 
 -- a domain that has gone on has done so if nothing changes then
-pub gone_still : (domain : ℕ) (a b c : List DomainValue) → HasGoneOn domain a b → c ≡ b → HasGoneOn domain a c
-gone_still domain a b c gone same = subst (HasGoneOn domain a) (sym same) gone
+pub gone_still : (domain : ℕ) (domains other_domains third_domains : List DomainValue)
+    → HasGoneOn domain domains other_domains → third_domains ≡ other_domains → HasGoneOn domain domains third_domains
+gone_still domain domains other_domains third_domains gone same = subst (HasGoneOn domain domains) (sym same) gone
 
 -- a domain that has gone on, and then from equal domains, has gone on
-pub gone_on_from : RunsAddUp → (domain : ℕ) (a b same c : List DomainValue) → HasGoneOn domain a b → same ≡ b
-    → HasGoneOn domain same c
-    → HasGoneOn domain a c
-gone_on_from law domain a b same c one is two =
-    gone_further law domain a b c one (subst (λ (d : List DomainValue). HasGoneOn domain d c) is two)
+pub gone_on_from : RunsAddUp → (domain : ℕ) (domains other_domains same third_domains : List DomainValue)
+    → HasGoneOn domain domains other_domains → same ≡ other_domains
+    → HasGoneOn domain same third_domains
+    → HasGoneOn domain domains third_domains
+gone_on_from law domain domains other_domains same third_domains one is two =
+    gone_further law domain domains other_domains third_domains one
+    (subst (λ (d : List DomainValue). HasGoneOn domain d third_domains) is two)
 
 -- ---- answers in a list
 
-one_more_answer : (told : List Answer) (answer : Answer) (text : List ℕ) (l m : KeptList) → HasAnswers told l
+one_more_answer : (told : List Answer) (answer : Answer) (text : List ℕ) (l kept : KeptList) → HasAnswers told l
     → answer_words answer ≡ Some text
-    → ((texts : List (List ℕ)) → HoldsTexts texts l → HoldsTexts (texts ++ text ∷ []) m)
-    → HasAnswers (told ++ answer ∷ []) m
-one_more_answer told answer text l m has words more = record {
+    → ((texts : List (List ℕ)) → HoldsTexts texts l → HoldsTexts (texts ++ text ∷ []) kept)
+    → HasAnswers (told ++ answer ∷ []) kept
+one_more_answer told answer text l other_kept has words more = record {
   texts = has.texts ++ text ∷ [];
   words =
       map-append answer_words told (answer ∷ []) ∙ (λ i. has.words i ++ words i ∷ [])
@@ -165,11 +170,12 @@ many_words : (n : ℕ) (answer : Answer) (text : List ℕ) → answer_words answ
 many_words zero answer text words = refl
 many_words (suc n) answer text words = λ i. words i ∷ many_words n answer text words i
 
-many_more_answers : (told : List Answer) (n : ℕ) (answer : Answer) (text : List ℕ) (l m : KeptList) → HasAnswers told l
+many_more_answers : (told : List Answer) (n : ℕ) (answer : Answer) (text : List ℕ) (l kept : KeptList)
+    → HasAnswers told l
     → answer_words answer ≡ Some text
-    → ((texts : List (List ℕ)) → HoldsTexts texts l → HoldsTexts (texts ++ replicate n text) m)
-    → HasAnswers (told ++ replicate n answer) m
-many_more_answers told n answer text l m has words more = record {
+    → ((texts : List (List ℕ)) → HoldsTexts texts l → HoldsTexts (texts ++ replicate n text) kept)
+    → HasAnswers (told ++ replicate n answer) kept
+many_more_answers told n answer text l other_kept has words more = record {
   texts = has.texts ++ replicate n text;
   words =
       map-append answer_words told (replicate n answer) ∙ (λ i. has.words i ++ many_words n answer text words i)
@@ -191,82 +197,86 @@ answers_nothing domains l =
     append_none (x ∷ xs) = ap (λ ys. x ∷ ys) (append_none xs)
 
 -- calls and then others are all of them, and a list gains the answers of both
-pub answers_more : RunsAddUp → (a b c : List DomainValue) (k l m : KeptList) (calls later : List (ℕ × Call))
-    → AnswersCalls calls a b k l
-    → AnswersCalls later b c l m
-    → AnswersCalls (calls ++ later) a c k m
-answers_more law a b c k l m calls later one two = record {
+pub answers_more : RunsAddUp → (domains other_domains third_domains : List DomainValue) (kept l other_kept : KeptList)
+    (calls later : List (ℕ × Call))
+    → AnswersCalls calls domains other_domains kept l
+    → AnswersCalls later other_domains third_domains l other_kept
+    → AnswersCalls (calls ++ later) domains third_domains kept other_kept
+answers_more law domains other_domains third_domains kept l other_kept calls later one two = record {
   told = one.told ++ two.told;
-  run = more_calls law a b c calls later one.told two.told one.run two.run;
+  run = more_calls law domains other_domains third_domains calls later one.told two.told one.run two.run;
   gains =
       λ earlier has.
-      subst (λ ts. HasAnswers ts m) (append_assoc earlier one.told two.told)
+      subst (λ ts. HasAnswers ts other_kept) (append_assoc earlier one.told two.told)
       (two.gains (earlier ++ one.told) (one.gains earlier has));
 }
 
 -- a call that shows a text adds it to a list
-pub answers_call : (call : ℕ × Call) (old new : List DomainValue) (text : List ℕ) (l m : KeptList)
+pub answers_call : (call : ℕ × Call) (old new : List DomainValue) (text : List ℕ) (l kept : KeptList)
     → ShowsCall call old new text
-    → ((texts : List (List ℕ)) → HoldsTexts texts l → HoldsTexts (texts ++ text ∷ []) m)
-    → AnswersCalls (call ∷ []) old new l m
-answers_call call old new text l m shows more = record {
+    → ((texts : List (List ℕ)) → HoldsTexts texts l → HoldsTexts (texts ++ text ∷ []) kept)
+    → AnswersCalls (call ∷ []) old new l kept
+answers_call call old new text l kept shows more = record {
   told = shows.answer ∷ [];
   run = shows.run;
-  gains = λ earlier has. one_more_answer earlier shows.answer text l m has shows.words more;
+  gains = λ earlier has. one_more_answer earlier shows.answer text l kept has shows.words more;
 }
 
 -- Steps that are done at once
 pub answers_steps : (domain node before : ℕ) (last : Stepped) (ran text : List ℕ) (old new : List DomainValue)
-    (k l m : KeptList)
+    (kept l other_kept : KeptList)
     → HaveRun old new (step_calls domain node (before + 1)) (steps_answers before last)
     → ran ≡ stepped_text Ran → text ≡ stepped_text last
-    → ((texts : List (List ℕ)) → HoldsTexts texts k → HoldsTexts (texts ++ replicate before ran) l)
-    → ((texts : List (List ℕ)) → HoldsTexts texts l → HoldsTexts (texts ++ text ∷ []) m)
-    → AnswersCalls (step_calls domain node (before + 1)) old new k m
-answers_steps domain node before last ran text old new k l m run first second many one = record {
+    → ((texts : List (List ℕ)) → HoldsTexts texts kept → HoldsTexts (texts ++ replicate before ran) l)
+    → ((texts : List (List ℕ)) → HoldsTexts texts l → HoldsTexts (texts ++ text ∷ []) other_kept)
+    → AnswersCalls (step_calls domain node (before + 1)) old new kept other_kept
+answers_steps domain node before last ran text old new kept l other_kept run first second many one = record {
   told = steps_answers before last;
   run = run;
   gains = λ earlier has.
       let rans : List Answer = replicate before (Ok (reply.Stepped Ran)) in
-      subst (λ ts. HasAnswers ts m) (append_assoc earlier rans (Ok (reply.Stepped last) ∷ []))
-      (one_more_answer (earlier ++ rans) (Ok (reply.Stepped last)) text l m
-      (many_more_answers earlier before (Ok (reply.Stepped Ran)) ran k l has (ap (λ t. Some t) (sym first)) many)
+      subst (λ ts. HasAnswers ts other_kept) (append_assoc earlier rans (Ok (reply.Stepped last) ∷ []))
+      (one_more_answer (earlier ++ rans) (Ok (reply.Stepped last)) text l other_kept
+      (many_more_answers earlier before (Ok (reply.Stepped Ran)) ran kept l has (ap (λ t. Some t) (sym first)) many)
       (ap (λ t. Some t) (sym second)) one);
 }
 
 -- ---- a call that changes nothing
 
 -- what was run goes on so from there
-again : (b c : List DomainValue) (calls : List (ℕ × Call)) (told : List Answer)
-    → HaveRun b c calls told → all_states c ≡ all_states b
-    → HaveRun c c calls told
-again b c calls told run same = record {
+again : (domains other_domains : List DomainValue) (calls : List (ℕ × Call)) (told : List Answer)
+    → HaveRun domains other_domains calls told → all_states other_domains ≡ all_states domains
+    → HaveRun other_domains other_domains calls told
+again domains other_domains calls told run same = record {
   places = refl;
   each = λ farm made.
-      let was : IsMadeOf (all_places b) farm (all_states b) =
-      subst (IsMadeOf (all_places b) farm) same (subst (λ p. IsMadeOf p farm (all_states c)) run.places made) in
-      subst (λ p. IsRunTo p farm calls told c) (sym run.places) (run.each farm was);
+      let was : IsMadeOf (all_places domains) farm (all_states domains) =
+      subst (IsMadeOf (all_places domains) farm) same (subst (λ p. IsMadeOf p farm (all_states other_domains))
+      run.places made) in
+      subst (λ p. IsRunTo p farm calls told other_domains) (sym run.places) (run.each farm was);
 }
 
-run_alike : RunsAddUp → (b c : List DomainValue) (call : ℕ × Call) (told : Answer) (n : ℕ)
-    → HaveRun b c (call ∷ []) (told ∷ [])
-    → all_states c ≡ all_states b
-    → HaveRun b c (repeat (suc n) (call ∷ [])) (replicate (suc n) told)
-run_alike law b c call told zero run same = run
-run_alike law b c call told (suc n) run same =
-    more_calls law b c c (call ∷ []) (repeat (suc n) (call ∷ [])) (told ∷ []) (replicate (suc n) told) run
-    (again b c (repeat (suc n) (call ∷ [])) (replicate (suc n) told) (run_alike law b c call told n run same) same)
+run_alike : RunsAddUp → (domains other_domains : List DomainValue) (call : ℕ × Call) (told : Answer) (n : ℕ)
+    → HaveRun domains other_domains (call ∷ []) (told ∷ [])
+    → all_states other_domains ≡ all_states domains
+    → HaveRun domains other_domains (repeat (suc n) (call ∷ [])) (replicate (suc n) told)
+run_alike law domains other_domains call told zero run same = run
+run_alike law domains other_domains call told (suc n) run same =
+    more_calls law domains other_domains other_domains (call ∷ []) (repeat (suc n) (call ∷ [])) (told ∷ [])
+    (replicate (suc n) told) run
+    (again domains other_domains (repeat (suc n) (call ∷ [])) (replicate (suc n) told)
+    (run_alike law domains other_domains call told n run same) same)
 
-answers_alike : RunsAddUp → (call : ℕ × Call) (n : ℕ) (old new : List DomainValue) (text : List ℕ) (l m : KeptList)
+answers_alike : RunsAddUp → (call : ℕ × Call) (n : ℕ) (old new : List DomainValue) (text : List ℕ) (l kept : KeptList)
     → 0 < n → ShowsCall call old new text
     → all_states new ≡ all_states old
-    → ((texts : List (List ℕ)) → HoldsTexts texts l → HoldsTexts (texts ++ replicate n text) m)
-    → AnswersCalls (repeat n (call ∷ [])) old new l m
-answers_alike law call zero old new text l m some shows same more = absurd (omega (arith, some))
-answers_alike law call (suc n) old new text l m some shows same more = record {
+    → ((texts : List (List ℕ)) → HoldsTexts texts l → HoldsTexts (texts ++ replicate n text) kept)
+    → AnswersCalls (repeat n (call ∷ [])) old new l kept
+answers_alike law call zero old new text l kept some shows same more = absurd (omega (arith, some))
+answers_alike law call (suc n) old new text l kept some shows same more = record {
   told = replicate (suc n) shows.answer;
   run = run_alike law old new call shows.answer n shows.run same;
-  gains = λ earlier has. many_more_answers earlier (suc n) shows.answer text l m has shows.words more;
+  gains = λ earlier has. many_more_answers earlier (suc n) shows.answer text l kept has shows.words more;
 }
 
 -- a call that is answered by these words, unless memory runs out
@@ -282,11 +292,11 @@ shows_call domain call (Err JournalFull) old new text is places words =
 shows_call domain call (Err NoMemory) old new text is places words = absurd (search rules)
 
 -- the line of a list that was empty
-pub shows_run : (calls : List (ℕ × Call)) (old new : List DomainValue) (l m : KeptList) (line : List ℕ)
-    → AnswersCalls calls old new l m
+pub shows_run : (calls : List (ℕ × Call)) (old new : List DomainValue) (l kept : KeptList) (line : List ℕ)
+    → AnswersCalls calls old new l kept
     → HoldsTexts [] l
-    → ((texts : List (List ℕ)) → HoldsTexts texts m → IsListing texts line) → ShowsRun calls old new line
-shows_run calls old new l m line answers none lists =
+    → ((texts : List (List ℕ)) → HoldsTexts texts kept → IsListing texts line) → ShowsRun calls old new line
+shows_run calls old new l other_kept line answers none lists =
     let has = answers.gains [] (record { texts = []; words = refl; kept = none }) in
     record {
       told = answers.told;
@@ -312,50 +322,62 @@ repeat_both (suc i) j calls =
     ∙ sym (append_assoc calls (repeat i calls) (repeat j calls))
 
 -- so often, and then as often as is left
-pub answers_both : RunsAddUp → (a b c : List DomainValue) (k l m : KeptList) (calls : List (ℕ × Call)) (i j n : ℕ)
-    → i + j ≡ n → AnswersCalls (repeat i calls) a b k l
-    → AnswersCalls (repeat j calls) b c l m
-    → AnswersCalls (repeat n calls) a c k m
-answers_both law a b c k l m calls i j n sum one two =
-    subst (λ (asked : List (ℕ × Call)). AnswersCalls asked a c k m)
+pub answers_both : RunsAddUp → (domains other_domains third_domains : List DomainValue) (kept l other_kept : KeptList)
+    (calls : List (ℕ × Call)) (i j n : ℕ)
+    → i + j ≡ n → AnswersCalls (repeat i calls) domains other_domains kept l
+    → AnswersCalls (repeat j calls) other_domains third_domains l other_kept
+    → AnswersCalls (repeat n calls) domains third_domains kept other_kept
+answers_both law domains other_domains third_domains kept l other_kept calls i j n sum one two =
+    subst (λ (asked : List (ℕ × Call)). AnswersCalls asked domains third_domains kept other_kept)
     (sym (repeat_both i j calls) ∙ ap (λ x. repeat x calls) sum)
-    (answers_more law a b c k l m (repeat i calls) (repeat j calls) one two)
+    (answers_more law domains other_domains third_domains kept l other_kept (repeat i calls) (repeat j calls) one two)
 
 -- a call that changes nothing is answered alike as often as is left
 pub answers_rest : RunsAddUp
-    → (a b c : List DomainValue) (k l m : KeptList) (call : ℕ × Call) (i j n : ℕ) (text : List ℕ) → i + j ≡ n → 0 < j
-    → AnswersCalls (repeat i (call ∷ [])) a b k l
-    → ShowsCall call b c text → all_states c ≡ all_states b
-    → ((texts : List (List ℕ)) → HoldsTexts texts l → HoldsTexts (texts ++ replicate j text) m)
-    → AnswersCalls (repeat n (call ∷ [])) a c k m
-answers_rest law a b c k l m call i j n text sum some one shows same more =
-    answers_both law a b c k l m (call ∷ []) i j n sum one (answers_alike law call j b c text l m some shows same more)
+    → (domains other_domains third_domains : List DomainValue) (kept l other_kept : KeptList) (call : ℕ × Call)
+    (i j n : ℕ) (text : List ℕ) → i + j ≡ n → 0 < j
+    → AnswersCalls (repeat i (call ∷ [])) domains other_domains kept l
+    → ShowsCall call other_domains third_domains text → all_states third_domains ≡ all_states other_domains
+    → ((texts : List (List ℕ)) → HoldsTexts texts l → HoldsTexts (texts ++ replicate j text) other_kept)
+    → AnswersCalls (repeat n (call ∷ [])) domains third_domains kept other_kept
+answers_rest law domains other_domains third_domains kept l other_kept call i j n text sum some one shows same more =
+    answers_both law domains other_domains third_domains kept l other_kept (call ∷ []) i j n sum one
+    (answers_alike law call j other_domains third_domains text l other_kept some shows same more)
 
 -- a call is answered once more
 pub answers_once_more : RunsAddUp
-    → (a b c : List DomainValue) (k l m : KeptList) (call : ℕ × Call) (i : ℕ) (text : List ℕ)
-    → AnswersCalls (repeat i (call ∷ [])) a b k l
-    → ShowsCall call b c text
-    → ((texts : List (List ℕ)) → HoldsTexts texts l → HoldsTexts (texts ++ text ∷ []) m)
-    → AnswersCalls (repeat (i + 1) (call ∷ [])) a c k m
-answers_once_more law a b c k l m call i text one shows more =
-    answers_both law a b c k l m (call ∷ []) i 1 (i + 1) refl one (answers_call call b c text l m shows more)
+    → (domains other_domains third_domains : List DomainValue) (kept l other_kept : KeptList) (call : ℕ × Call)
+    (i : ℕ) (text : List ℕ)
+    → AnswersCalls (repeat i (call ∷ [])) domains other_domains kept l
+    → ShowsCall call other_domains third_domains text
+    → ((texts : List (List ℕ)) → HoldsTexts texts l → HoldsTexts (texts ++ text ∷ []) other_kept)
+    → AnswersCalls (repeat (i + 1) (call ∷ [])) domains third_domains kept other_kept
+answers_once_more law domains other_domains third_domains kept l other_kept call i text one shows more =
+    answers_both law domains other_domains third_domains kept l other_kept (call ∷ []) i 1 (i + 1) refl one
+    (answers_call call other_domains third_domains text l other_kept shows more)
 
 -- one more of the events
 pub events_more : RunsAddUp
-    → (a b c : List DomainValue) (k l m : KeptList) (domain : ℕ) (by : By) (events : List Event) (index : ℕ) (d : Event)
+    → (domains other_domains third_domains : List DomainValue) (kept l other_kept : KeptList) (domain : ℕ) (by : By)
+    (events : List Event) (index : ℕ) (other_event : Event)
     → index < length events
-    → AnswersCalls (event_calls domain by (take index events)) a b k l
-    → AnswersCalls ((domain, record { by = by; event = get_or events index d }) ∷ []) b c l m
-    → AnswersCalls (event_calls domain by (take (index + 1) events)) a c k m
-events_more law a b c k l m domain by events index d within one two =
-    let cut : take (index + 1) events ≡ take index events ++ get_or events index d ∷ [] =
-    take_more events index d within in
+    → AnswersCalls (event_calls domain by (take index events)) domains other_domains kept l
+    → AnswersCalls ((domain, record { by = by; event = get_or events index other_event }) ∷ []) other_domains
+    third_domains l other_kept
+    → AnswersCalls (event_calls domain by (take (index + 1) events)) domains third_domains kept other_kept
+events_more law domains other_domains third_domains kept l other_kept domain by events index
+    other_event within one two =
+    let cut : take (index + 1) events ≡ take index events ++ get_or events index other_event ∷ [] =
+    take_more events index other_event within in
     let calls : event_calls domain by (take (index + 1) events)
-    ≡ event_calls domain by (take index events) ++ (domain, record { by = by; event = get_or events index d }) ∷ [] =
-    ap (event_calls domain by) cut ∙ map-append _ (take index events) (get_or events index d ∷ []) in
-    subst (λ (asked : List (ℕ × Call)). AnswersCalls asked a c k m) (sym calls)
-    (answers_more law a b c k l m _ _ one two)
+    ≡ event_calls domain by (take index events) ++ (
+      domain,
+      record
+          { by = by; event = get_or events index other_event },
+    ) ∷ [] =
+    ap (event_calls domain by) cut ∙ map-append _ (take index events) (get_or events index other_event ∷ []) in
+    subst (λ (asked : List (ℕ × Call)). AnswersCalls asked domains third_domains kept other_kept) (sym calls)
+    (answers_more law domains other_domains third_domains kept l other_kept _ _ one two)
 
 -- ---- a line
 
@@ -368,36 +390,39 @@ no_times plan Opens domains l = refl
 no_times plan Else domains l = tt
 
 -- what is asked n times, and once more, is asked n + 1 times
-pub times_more : RunsAddUp → (plan : List Place) (asked : Asked) (n : ℕ) (a b c : List DomainValue) (k l m : KeptList)
-    → AnswersAsked plan (asked_times n asked) a b k l
-    → AnswersAsked plan asked b c l m → AnswersAsked plan (asked_times (n + 1) asked) a c k m
-times_more law plan (Calls calls) n a b c k l m one two =
+pub times_more : RunsAddUp → (plan : List Place) (asked : Asked) (n : ℕ)
+    (domains other_domains third_domains : List DomainValue) (kept l other_kept : KeptList)
+    → AnswersAsked plan (asked_times n asked) domains other_domains kept l
+    → AnswersAsked plan asked other_domains third_domains l other_kept
+    → AnswersAsked plan (asked_times (n + 1) asked) domains third_domains kept other_kept
+times_more law plan (Calls calls) n domains other_domains third_domains kept l other_kept one two =
     let all : repeat (n + 1) calls ≡ repeat n calls ++ calls = rw add-one (repeat_more n calls) in
-    subst (λ (asked : List (ℕ × Call)). AnswersCalls asked a c k m) (sym all)
-    (answers_more law a b c k l m (repeat n calls) calls one two)
-times_more law plan Looks n a b c k l m one two = two ∙ one
-times_more law plan Opens n a b c k l m one two = rw add-one two
-times_more law plan Else n a b c k l m one two = tt
+    subst (λ (asked : List (ℕ × Call)). AnswersCalls asked domains third_domains kept other_kept) (sym all)
+    (answers_more law domains other_domains third_domains kept l other_kept (repeat n calls) calls one two)
+times_more law plan Looks n domains other_domains third_domains kept l other_kept one two = two ∙ one
+times_more law plan Opens n domains other_domains third_domains kept l other_kept one two = rw add-one two
+times_more law plan Else n domains other_domains third_domains kept l other_kept one two = tt
 
 -- what is asked n times shows the line of the list that gained its answers
-pub all_times : (plan : List Place) (asked : Asked) (n : ℕ) (a b : List DomainValue) (l m : KeptList) (line : List ℕ)
-    → AnswersAsked plan (asked_times n asked) a b l m
-    → HoldsTexts [] l → ((texts : List (List ℕ)) → HoldsTexts texts m → IsListing texts line)
-    → ShowsAsked plan (asked_times n asked) a b line
-all_times plan (Calls calls) n a b l m line answers none lists =
-    shows_run (repeat n calls) a b l m line answers none lists
-all_times plan Looks n a b l m line answers none lists = answers
-all_times plan Opens zero a b l m line answers none lists = answers
-all_times plan Opens (suc n) a b l m line answers none lists = answers
-all_times plan Else n a b l m line answers none lists = tt
+pub all_times : (plan : List Place) (asked : Asked) (n : ℕ) (domains other_domains : List DomainValue)
+    (l kept : KeptList) (line : List ℕ)
+    → AnswersAsked plan (asked_times n asked) domains other_domains l kept
+    → HoldsTexts [] l → ((texts : List (List ℕ)) → HoldsTexts texts kept → IsListing texts line)
+    → ShowsAsked plan (asked_times n asked) domains other_domains line
+all_times plan (Calls calls) n domains other_domains l kept line answers none lists =
+    shows_run (repeat n calls) domains other_domains l kept line answers none lists
+all_times plan Looks n domains other_domains l kept line answers none lists = answers
+all_times plan Opens zero domains other_domains l kept line answers none lists = answers
+all_times plan Opens (suc n) domains other_domains l kept line answers none lists = answers
+all_times plan Else n domains other_domains l kept line answers none lists = tt
 
 -- what follows of a success
 pub on_ok : {T E : Type 0} (r : Result T E) {P Q : Type 0} → (P → Q) → OnOk r P → OnOk r Q
-on_ok (Ok x) follows p = follows p
-on_ok (Err e) follows p = p
+on_ok (Ok x) follows given = follows given
+on_ok (Err e) follows given = given
 
 -- counts that compare as equal
-pub same_count : (a b : Option ℕ) → option_eq eqb a b ≡ true → a ≡ b
+pub same_count : (number other_number : Option ℕ) → option_eq eqb number other_number ≡ true → number ≡ other_number
 same_count None None same = refl
 same_count None (Some n) same = absurd cc
 same_count (Some m) None same = absurd cc

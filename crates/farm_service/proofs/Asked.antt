@@ -10,11 +10,11 @@ use Rattle.domain_core.specs.Answers.{IsAnswer}
 use Rattle.domain_core.specs.Laws.{NextIsAnAnswer}
 use Rattle.farm_service.specs.Answers.{IsAnswerIn}
 
-unless : (r : Answer) {P Q : Type 0} → (P → Q) → UnlessNoMemory r P → UnlessNoMemory r Q
-unless (Ok reply) f p = f p
-unless (Err NoSuch) f p = f p
-unless (Err JournalFull) f p = f p
-unless (Err NoMemory) f p = tt
+unless : (answer : Answer) {P Q : Type 0} → (P → Q) → UnlessNoMemory answer P → UnlessNoMemory answer Q
+unless (Ok reply) f given = f given
+unless (Err NoSuch) f given = f given
+unless (Err JournalFull) f given = f given
+unless (Err NoMemory) f given = tt
 
 -- the domain's journal has the calls before
 after_journal : NextIsAnAnswer

@@ -48,8 +48,8 @@ range_suc a (suc n) = ap (λ l. a ∷ l) (range_suc (a + 1) n ∙ (λ i. range_w
 range_more : (n : ℕ) → range_with_len 0 (n + 1) ≡ range_with_len 0 n ++ n ∷ []
 range_more n = ap (range_with_len 0) (plus_one n) ∙ range_suc 0 n ∙ (λ i. range_with_len 0 n ++ zero_plus n i ∷ [])
 
-length_more : (xs : List DomainData) (x : DomainData) → length (xs ++ x ∷ []) ≡ length xs + 1
-length_more xs x = omega (arith, length-append xs (x ∷ []))
+length_more : (xs : List DomainData) (domain : DomainData) → length (xs ++ domain ∷ []) ≡ length xs + 1
+length_more xs domain = omega (arith, length-append xs (domain ∷ []))
 
 -- a domain more
 one_more : (plan : List DomainData) (of : DomainData) (domains : List DomainValue) (d : DomainValue)
@@ -162,9 +162,9 @@ whole plan i closed count ends =
 -- ---- the words of a domain
 
 -- the first words of a list, and the next one, are its first words and one more
-pub word_more : (words all : List Word) (i : ℕ) (w : Word) → words ≡ take i all → slice_get all i ≡ Some w
-    → words ++ w ∷ [] ≡ take (i + 1) all
-word_more words all i w before at =
-    ap (λ (l : List Word). l ++ w ∷ []) before
-    ∙ sym (take_more all i w (slice_get_within all i w at)
-    ∙ ap (λ (x : Word). take i all ++ x ∷ []) (get_or_from_slice_get all i w w at))
+pub word_more : (words all : List Word) (i : ℕ) (word : Word) → words ≡ take i all → slice_get all i ≡ Some word
+    → words ++ word ∷ [] ≡ take (i + 1) all
+word_more words all i word before at =
+    ap (λ (l : List Word). l ++ word ∷ []) before
+    ∙ sym (take_more all i word (slice_get_within all i word at)
+    ∙ ap (λ (x : Word). take i all ++ x ∷ []) (get_or_from_slice_get all i word word at))

@@ -34,23 +34,24 @@ any-append [] ys = refl
 any-append (x ∷ xs) ys = refl
 
 -- a domain that did some calls, and then others, did all of them
-pub more_done : (xs ys : List Call) (d e f : DomainValue) (some more : Bool) → AreDone xs d some e → AreDone ys e more f
-    → AreDone (xs ++ ys) d (some || more) f
-more_done xs ys d e f some more first second =
+pub more_done : (xs ys : List Call) (d e domain : DomainValue) (some more : Bool) → AreDone xs d some e
+    → AreDone ys e more domain
+    → AreDone (xs ++ ys) d (some || more) domain
+more_done xs ys d e domain some more first second =
     let P : PartData = d.machine.part in
     let s : State = state_of d in
     let t : State = after P s xs in
     let here : (X : State → PartData → Type 0) → X (state_of e) e.machine.part → X t P =
     λ X x. subst (λ (p : PartData). X t p) first.part (subst (λ (u : State). X u e.machine.part) first.state x) in
-    let gains : expanded f.journal ≡ expanded e.journal ++ all_gained P t ys =
-    here (λ u p. expanded f.journal ≡ expanded e.journal ++ all_gained p u ys) second.journal in
+    let gains : expanded domain.journal ≡ expanded e.journal ++ all_gained P t ys =
+    here (λ u p. expanded domain.journal ≡ expanded e.journal ++ all_gained p u ys) second.journal in
     let any : more ≡ is_any (all_gained P t ys) = here (λ u p. more ≡ is_any (all_gained p u ys)) second.any in
     record {
       answered =
           subst (All IsOk) (sym (answers-append P s xs ys))
           (All-append IsOk (answers P s xs) (answers P t ys) first.answered
           (here (λ u p. All IsOk (answers p u ys)) second.answered));
-      state = here (λ u p. state_of f ≡ after p u ys) second.state ∙ sym (after-append P s xs ys);
+      state = here (λ u p. state_of domain ≡ after p u ys) second.state ∙ sym (after-append P s xs ys);
       journal =
           gains ∙ ap (λ (before : List AnsweredCall). before ++ all_gained P t ys) first.journal
           ∙ append_assoc (expanded d.journal) (all_gained P s xs) (all_gained P t ys)
@@ -62,10 +63,10 @@ more_done xs ys d e f some more first second =
     }
 
 -- a domain that did the Moves of the first ports, and then that of the next, did those of one port more
-pub port_done : (port : ℕ) (d e f : DomainValue) (went more : Bool)
-    → AreDone (moves_of port) d went e → AreDone (move_of port ∷ []) e more f
-    → AreDone (moves_of (port + 1)) d (went || more) f
-port_done port d e f went more first second =
+pub port_done : (port : ℕ) (d e domain : DomainValue) (went more : Bool)
+    → AreDone (moves_of port) d went e → AreDone (move_of port ∷ []) e more domain
+    → AreDone (moves_of (port + 1)) d (went || more) domain
+port_done port d e domain went more first second =
     let next : suc port ≡ port + 1 = omega arith in
-    subst (λ (n : ℕ). AreDone (moves_of n) d (went || more) f) next
-    (more_done (moves_of port) (move_of port ∷ []) d e f went more first second)
+    subst (λ (n : ℕ). AreDone (moves_of n) d (went || more) domain) next
+    (more_done (moves_of port) (move_of port ∷ []) d e domain went more first second)

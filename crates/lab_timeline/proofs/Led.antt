@@ -75,19 +75,19 @@ some_followed go_on plan lines old new times was less rest next on =
     }
 
 -- a progress that has nothing left of its line, and begins the next, is a progress in the same lines
-pub line_begun : (plan : List DomainData) (lines : List RecordedLine) (old new : Progress) (d : RecordedLine)
+pub line_begun : (plan : List DomainData) (lines : List RecordedLine) (old new : Progress) (line : RecordedLine)
     → IsProgress plan (said_by lines) old → old.rest.times ≡ 0 → old.next < length lines
-    → new.rest ≡ (get_or lines old.next d).call → new.next ≡ old.next + 1 → new.follower ≡ old.follower
+    → new.rest ≡ (get_or lines old.next line).call → new.next ≡ old.next + 1 → new.follower ≡ old.follower
     → IsProgress plan (said_by lines) new
-line_begun plan lines old new d was none less rest next follower =
+line_begun plan lines old new other_line was none less rest next follower =
     let call : RecordedLine → SaidCall = λ line. line.call in
     let same : length (said_by lines) ≡ length lines = length-map lines call in
     let within : old.next < length (said_by lines) = omega arith in
-    let here : get_or (said_by lines) old.next (call d) ≡ new.rest =
-    get_or-map call lines old.next d (call d) less ∙ sym rest in
+    let here : get_or (said_by lines) old.next (call other_line) ≡ new.rest =
+    get_or-map call lines old.next other_line (call other_line) less ∙ sym rest in
     let there : all_said (drop old.next (said_by lines))
     ≡ calls_said new.rest ++ all_said (drop new.next (said_by lines)) =
-    ap all_said (drop_more (said_by lines) old.next (call d) within)
+    ap all_said (drop_more (said_by lines) old.next (call other_line) within)
     ∙ (ap (λ (c : SaidCall). calls_said c ++ all_said (drop (old.next + 1) (said_by lines))) here
     ∙ ap (λ (n : ℕ). calls_said new.rest ++ all_said (drop n (said_by lines))) (sym next)) in
     let before : calls_said old.rest ++ all_said (drop old.next (said_by lines))

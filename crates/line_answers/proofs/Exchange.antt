@@ -25,14 +25,18 @@ use Rattle.line_answers.specs.Sessions.{with_all, AsksJust}
 abbrev pub told_of : Event → Reply → Told
 told_of event reply = record { event = event; reply = reply }
 
-asked_more : (next : List Told → Option Event) (before told : List Told) (t : Told)
-    → AreAsked next before told → next (before ++ told) ≡ Some t.event
-    → AreAsked next before (told ++ t ∷ [])
-asked_more next before [] t a n = (subst (λ (b : List Told). next b ≡ Some t.event) (append-nil before) n, tt)
-asked_more next before (u ∷ told) t a n = (
-  a.0,
-  asked_more next (before ++ u ∷ []) told t a.1
-      (subst (λ (b : List Told). next b ≡ Some t.event) (sym (append_assoc before (u ∷ []) told)) n),
+asked_more : (next : List Told → Option Event) (before told : List Told) (other_told : Told)
+    → AreAsked next before told → next (before ++ told) ≡ Some other_told.event
+    → AreAsked next before (told ++ other_told ∷ [])
+asked_more next before [] other_told given same = (
+  subst (λ (b : List Told). next b ≡ Some other_told.event)
+      (append-nil before) same,
+  tt,
+)
+asked_more next before (u ∷ told) other_told given same = (
+  given.0,
+  asked_more next (before ++ u ∷ []) told other_told given.1
+      (subst (λ (b : List Told). next b ≡ Some other_told.event) (sym (append_assoc before (u ∷ []) told)) same),
 )
 
 -- a session has asked this so far
@@ -41,33 +45,33 @@ pub record IsAsking (next : List Told → Option Event) (s t : SessionValue) (to
   pub asked : AreAsked next [] told
 
 -- one event more
-pub grown : (next : List Told → Option Event) (s t u : SessionValue) (told : List Told) (e : Event) (r : Reply)
+pub grown : (next : List Told → Option Event) (s t session : SessionValue) (told : List Told) (e : Event) (r : Reply)
     → IsAsking next s t told
-    → next told ≡ Some e → Gains t e (Ok r) u → IsAsking next s u (told ++ told_of e r ∷ [])
-grown next s t u told e r so_far n gains = record {
+    → next told ≡ Some e → Gains t e (Ok r) session → IsAsking next s session (told ++ told_of e r ∷ [])
+grown next s t session told e r so_far same gains = record {
   list = gains ∙ ap (λ (t : SessionValue). record t { pass = with_told t.pass e r }) so_far.list
       ∙ ap (λ (told : List Told). record s { pass = record s.pass { told = told } })
       (append_assoc s.pass.told told (told_of e r ∷ []));
-  asked = asked_more next [] told (told_of e r) so_far.asked n;
+  asked = asked_more next [] told (told_of e r) so_far.asked same;
 }
 
 -- the end, and a refusal
 pub ended : {A : Type 0} (next : List Told → Option Event) (s t : SessionValue) (told : List Told) (a : A)
     → IsAsking next s t told → next told ≡ None
     → AsksJust next s (Ok a) t
-ended next s t told a so_far n = record { told = told; list = so_far.list; asked = so_far.asked; ended = n }
+ended next s t told a so_far same = record { told = told; list = so_far.list; asked = so_far.asked; ended = same }
 
 -- an exchange ends with an error if the service refuses what is asked next
-pub refused : {A : Type 0} (next : List Told → Option Event) (s t u : SessionValue) (told : List Told) (e : Event)
+pub refused : {A : Type 0} (next : List Told → Option Event) (s t session : SessionValue) (told : List Told) (e : Event)
     (refusal : Refusal)
     → IsAsking next s t told
-    → next told ≡ Some e → Gains t e (Err refusal) u → IsTold t e (Err refusal)
-    → AsksJust {A = A} next s (Err refusal) u
-refused next s t u told e refusal so_far n same is = record {
+    → next told ≡ Some e → Gains t e (Err refusal) session → IsTold t e (Err refusal)
+    → AsksJust {A = A} next s (Err refusal) session
+refused next s t session told e refusal so_far equal same is = record {
   told = told;
   list = same ∙ so_far.list;
   asked = so_far.asked;
-  ended = (e, n, subst (λ (v : SessionValue). IsTold v e (Err refusal)) (sym same) is);
+  ended = (e, equal, subst (λ (v : SessionValue). IsTold v e (Err refusal)) (sym same) is);
 }
 
 -- before anything is asked
@@ -99,13 +103,14 @@ pub config_begun : (bytes : List ℕ) (s : SessionValue) → IsConfiguring bytes
 config_begun bytes s = record { told = []; so_far = begun (next_config bytes) s; count = refl }
 
 -- the next byte is asked, and answered
-pub config_more : (bytes : List ℕ) (s t u : SessionValue) (i : ℕ) (r : Reply) → IsConfiguring bytes s t i
+pub config_more : (bytes : List ℕ) (s t session : SessionValue) (i : ℕ) (r : Reply) → IsConfiguring bytes s t i
     → i < length bytes
-    → Gains t (event.Config (get_or bytes i 0)) (Ok r) u → IsConfiguring bytes s u (i + 1)
-config_more bytes s t u i r was within gains = record {
+    → Gains t (event.Config (get_or bytes i 0)) (Ok r) session → IsConfiguring bytes s session (i + 1)
+config_more bytes s t session i r was within gains = record {
   told = was.told ++ told_of (event.Config (get_or bytes i 0)) r ∷ [];
   so_far =
-      grown (next_config bytes) s t u was.told _ r was.so_far (config_next bytes was.told i was.count within) gains;
+      grown (next_config bytes) s t session was.told _ r was.so_far
+      (config_next bytes was.told i was.count within) gains;
   count = one_longer was.told _ i was.count;
 }
 
@@ -118,13 +123,15 @@ config_ended bytes s t a was =
     ∙ ap (option_map event.Config) (slice_get_past bytes (length bytes) (omega arith)))
 
 -- the next byte is refused, which ends the line
-pub config_refused : {A : Type 0} (bytes : List ℕ) (s t u : SessionValue) (i : ℕ) (refusal : Refusal)
+pub config_refused : {A : Type 0} (bytes : List ℕ) (s t session : SessionValue) (i : ℕ) (refusal : Refusal)
     → IsConfiguring bytes s t i
     → i < length bytes
-    → Gains t (event.Config (get_or bytes i 0)) (Err refusal) u
-    → IsTold t (event.Config (get_or bytes i 0)) (Err refusal) → AsksJust {A = A} (next_config bytes) s (Err refusal) u
-config_refused bytes s t u i refusal was within same is =
-    refused (next_config bytes) s t u was.told _ refusal was.so_far (config_next bytes was.told i was.count within)
+    → Gains t (event.Config (get_or bytes i 0)) (Err refusal) session
+    → IsTold t (event.Config (get_or bytes i 0)) (Err refusal)
+    → AsksJust {A = A} (next_config bytes) s (Err refusal) session
+config_refused bytes s t session i refusal was within same is =
+    refused (next_config bytes) s t session was.told _ refusal was.so_far
+    (config_next bytes was.told i was.count within)
     same is
 
 -- ---- bytes for a host
@@ -161,14 +168,16 @@ pub write_begun : (host : ℕ) (bytes : List ℕ) (s : SessionValue) → IsWriti
 write_begun host bytes s = record { told = []; so_far = begun (next_write host bytes) s; room = refl; count = refl }
 
 -- the next byte is written, and the host has room for it
-pub write_more : (host : ℕ) (bytes : List ℕ) (s t u : SessionValue) (i : ℕ) (r : Reply) → IsWriting host bytes s t i
+pub write_more : (host : ℕ) (bytes : List ℕ) (s t session : SessionValue) (i : ℕ) (r : Reply)
+    → IsWriting host bytes s t i
     → i < length bytes
-    → Gains t (event.Write host (get_or bytes i 0)) (Ok r) u → had_no_room r ≡ false → IsWriting host bytes s u (i + 1)
-write_more host bytes s t u i r was within gains roomy =
+    → Gains t (event.Write host (get_or bytes i 0)) (Ok r) session → had_no_room r ≡ false
+    → IsWriting host bytes s session (i + 1)
+write_more host bytes s t session i r was within gains roomy =
     let more = writes_more host (get_or bytes i 0) was.told r in record {
       told = was.told ++ told_of (event.Write host (get_or bytes i 0)) r ∷ [];
       so_far =
-          grown (next_write host bytes) s t u was.told _ r was.so_far
+          grown (next_write host bytes) s t session was.told _ r was.so_far
           (write_next host bytes was.told i was.room was.count within) gains;
       room =
           ap (list_any had_no_room) more ∙ list_any-append had_no_room (write_replies was.told) (r ∷ [])
@@ -177,19 +186,19 @@ write_more host bytes s t u i r was within gains roomy =
     }
 
 -- the host was full
-pub write_full : {A : Type 0} (host : ℕ) (bytes : List ℕ) (s t u : SessionValue) (i : ℕ) (r : Reply) (a : A)
+pub write_full : {A : Type 0} (host : ℕ) (bytes : List ℕ) (s t session : SessionValue) (i : ℕ) (r : Reply) (a : A)
     → IsWriting host bytes s t i
     → i < length bytes
-    → Gains t (event.Write host (get_or bytes i 0)) (Ok r) u → had_no_room r ≡ true
-    → AsksJust (next_write host bytes) s (Ok a) u
-write_full host bytes s t u i r a was within gains full =
+    → Gains t (event.Write host (get_or bytes i 0)) (Ok r) session → had_no_room r ≡ true
+    → AsksJust (next_write host bytes) s (Ok a) session
+write_full host bytes s t session i r a was within gains full =
     let more = writes_more host (get_or bytes i 0) was.told r in
     let over : list_any had_no_room (write_replies (was.told ++ told_of (event.Write host (get_or bytes i 0)) r ∷ []))
     ≡ true =
     ap (list_any had_no_room) more ∙ list_any-append had_no_room (write_replies was.told) (r ∷ [])
     ∙ rw was.room (rw full refl) in
-    ended (next_write host bytes) s u _ a
-    (grown (next_write host bytes) s t u was.told _ r was.so_far
+    ended (next_write host bytes) s session _ a
+    (grown (next_write host bytes) s t session was.told _ r was.so_far
     (write_next host bytes was.told i was.room was.count within) gains)
     (rw over refl)
 
@@ -203,14 +212,14 @@ write_ended host bytes s t a was =
     ∙ ap (option_map (event.Write host)) (slice_get_past bytes (length bytes) (omega arith))))
 
 -- the next byte is refused, which ends the line
-pub write_refused : {A : Type 0} (host : ℕ) (bytes : List ℕ) (s t u : SessionValue) (i : ℕ) (refusal : Refusal)
+pub write_refused : {A : Type 0} (host : ℕ) (bytes : List ℕ) (s t session : SessionValue) (i : ℕ) (refusal : Refusal)
     → IsWriting host bytes s t i
     → i < length bytes
-    → Gains t (event.Write host (get_or bytes i 0)) (Err refusal) u
+    → Gains t (event.Write host (get_or bytes i 0)) (Err refusal) session
     → IsTold t (event.Write host (get_or bytes i 0)) (Err refusal)
-    → AsksJust {A = A} (next_write host bytes) s (Err refusal) u
-write_refused host bytes s t u i refusal was within same is =
-    refused (next_write host bytes) s t u was.told _ refusal was.so_far
+    → AsksJust {A = A} (next_write host bytes) s (Err refusal) session
+write_refused host bytes s t session i refusal was within same is =
+    refused (next_write host bytes) s t session was.told _ refusal was.so_far
     (write_next host bytes was.told i was.room was.count within) same is
 
 -- ---- bytes of a host
@@ -233,13 +242,14 @@ pub read_begun : (host count : ℕ) (s : SessionValue) → IsReading host count 
 read_begun host count s = record { told = []; so_far = begun (next_read host count) s; bytes = refl; so_many = refl }
 
 -- the next read brings a byte
-pub read_more : (host count : ℕ) (s t u : SessionValue) (i : ℕ) (r : Reply) → IsReading host count s t i → i < count
-    → Gains t (event.Read host) (Ok r) u → is_byte r ≡ true → IsReading host count s u (i + 1)
-read_more host count s t u i r was within gains byte =
+pub read_more : (host count : ℕ) (s t session : SessionValue) (i : ℕ) (r : Reply)
+    → IsReading host count s t i → i < count
+    → Gains t (event.Read host) (Ok r) session → is_byte r ≡ true → IsReading host count s session (i + 1)
+read_more host count s t session i r was within gains byte =
     let more = reads_more host was.told r in record {
       told = was.told ++ told_of (event.Read host) r ∷ [];
       so_far =
-          grown (next_read host count) s t u was.told _ r was.so_far
+          grown (next_read host count) s t session was.told _ r was.so_far
           (read_next host count was.told i was.bytes was.so_many within) gains;
       bytes =
           ap (list_all is_byte) more ∙ list_all-append is_byte (read_replies was.told) (r ∷ [])
@@ -248,17 +258,17 @@ read_more host count s t u i r was within gains byte =
     }
 
 -- none had come
-pub read_none : {A : Type 0} (host count : ℕ) (s t u : SessionValue) (i : ℕ) (r : Reply) (a : A)
+pub read_none : {A : Type 0} (host count : ℕ) (s t session : SessionValue) (i : ℕ) (r : Reply) (a : A)
     → IsReading host count s t i
     → i < count
-    → Gains t (event.Read host) (Ok r) u → is_byte r ≡ false → AsksJust (next_read host count) s (Ok a) u
-read_none host count s t u i r a was within gains none =
+    → Gains t (event.Read host) (Ok r) session → is_byte r ≡ false → AsksJust (next_read host count) s (Ok a) session
+read_none host count s t session i r a was within gains none =
     let more = reads_more host was.told r in
     let over : list_all is_byte (read_replies (was.told ++ told_of (event.Read host) r ∷ [])) ≡ false =
     ap (list_all is_byte) more ∙ list_all-append is_byte (read_replies was.told) (r ∷ [])
     ∙ rw was.bytes (rw none refl) in
-    ended (next_read host count) s u _ a
-    (grown (next_read host count) s t u was.told _ r was.so_far
+    ended (next_read host count) s session _ a
+    (grown (next_read host count) s t session was.told _ r was.so_far
     (read_next host count was.told i was.bytes was.so_many within) gains)
     (rw over refl)
 
@@ -270,13 +280,13 @@ read_ended host count s t a was =
     (rw was.bytes (rw was.so_many (rw (le-ltb count count (omega arith)) refl)))
 
 -- the next read is refused, which ends the line
-pub read_refused : {A : Type 0} (host count : ℕ) (s t u : SessionValue) (i : ℕ) (refusal : Refusal)
+pub read_refused : {A : Type 0} (host count : ℕ) (s t session : SessionValue) (i : ℕ) (refusal : Refusal)
     → IsReading host count s t i
     → i < count
-    → Gains t (event.Read host) (Err refusal) u → IsTold t (event.Read host) (Err refusal)
-    → AsksJust {A = A} (next_read host count) s (Err refusal) u
-read_refused host count s t u i refusal was within same is =
-    refused (next_read host count) s t u was.told _ refusal was.so_far
+    → Gains t (event.Read host) (Err refusal) session → IsTold t (event.Read host) (Err refusal)
+    → AsksJust {A = A} (next_read host count) s (Err refusal) session
+read_refused host count s t session i refusal was within same is =
+    refused (next_read host count) s t session was.told _ refusal was.so_far
     (read_next host count was.told i was.bytes was.so_many within) same is
 
 -- the same of all bytes
@@ -294,35 +304,36 @@ collect_next : (host : ℕ) (told : List Told) → list_all is_byte (read_replie
 collect_next host told bytes = rw bytes refl
 
 -- the next read brings a byte
-pub collect_more : (host : ℕ) (s t u : SessionValue) (r : Reply)
-    → IsCollecting host s t → Gains t (event.Read host) (Ok r) u → is_byte r ≡ true
-    → IsCollecting host s u
-collect_more host s t u r was gains byte =
+pub collect_more : (host : ℕ) (s t session : SessionValue) (r : Reply)
+    → IsCollecting host s t → Gains t (event.Read host) (Ok r) session → is_byte r ≡ true
+    → IsCollecting host s session
+collect_more host s t session r was gains byte =
     let more = reads_more host was.told r in record {
       told = was.told ++ told_of (event.Read host) r ∷ [];
-      so_far = grown (next_collect host) s t u was.told _ r was.so_far (collect_next host was.told was.bytes) gains;
+      so_far = grown (next_collect host) s t session was.told _ r was.so_far
+          (collect_next host was.told was.bytes) gains;
       bytes =
           ap (list_all is_byte) more ∙ list_all-append is_byte (read_replies was.told) (r ∷ [])
           ∙ rw was.bytes (rw byte refl);
     }
 
 -- the next read brings no byte, which ends the line
-pub collect_none : {A : Type 0} (host : ℕ) (s t u : SessionValue) (r : Reply) (a : A)
-    → IsCollecting host s t → Gains t (event.Read host) (Ok r) u
+pub collect_none : {A : Type 0} (host : ℕ) (s t session : SessionValue) (r : Reply) (a : A)
+    → IsCollecting host s t → Gains t (event.Read host) (Ok r) session
     → is_byte r ≡ false
-    → AsksJust (next_collect host) s (Ok a) u
-collect_none host s t u r a was gains none =
+    → AsksJust (next_collect host) s (Ok a) session
+collect_none host s t session r a was gains none =
     let more = reads_more host was.told r in
     let over : list_all is_byte (read_replies (was.told ++ told_of (event.Read host) r ∷ [])) ≡ false =
     ap (list_all is_byte) more ∙ list_all-append is_byte (read_replies was.told) (r ∷ [])
     ∙ rw was.bytes (rw none refl) in
-    ended (next_collect host) s u _ a
-    (grown (next_collect host) s t u was.told _ r was.so_far (collect_next host was.told was.bytes) gains)
+    ended (next_collect host) s session _ a
+    (grown (next_collect host) s t session was.told _ r was.so_far (collect_next host was.told was.bytes) gains)
     (rw over refl)
 
 -- the next read is refused, which ends the line
-pub collect_refused : {A : Type 0} (host : ℕ) (s t u : SessionValue) (refusal : Refusal) → IsCollecting host s t
-    → Gains t (event.Read host) (Err refusal) u → IsTold t (event.Read host) (Err refusal)
-    → AsksJust {A = A} (next_collect host) s (Err refusal) u
-collect_refused host s t u refusal was same is =
-    refused (next_collect host) s t u was.told _ refusal was.so_far (collect_next host was.told was.bytes) same is
+pub collect_refused : {A : Type 0} (host : ℕ) (s t session : SessionValue) (refusal : Refusal) → IsCollecting host s t
+    → Gains t (event.Read host) (Err refusal) session → IsTold t (event.Read host) (Err refusal)
+    → AsksJust {A = A} (next_collect host) s (Err refusal) session
+collect_refused host s t session refusal was same is =
+    refused (next_collect host) s t session was.told _ refusal was.so_far (collect_next host was.told was.bytes) same is

@@ -31,23 +31,23 @@ use Rattle.line_answers.specs.Sessions.{with_all, HasEnded, AsksJust, AsksLine, 
 
 -- ---- what is asked by one rule is asked by another
 
-asked_as : (f g : List Told → Option Event)
-    → ((told : List Told) (e : Event) → f told ≡ Some e → g told ≡ Some e) → (before told : List Told)
-    → AreAsked f before told
-    → AreAsked g before told
-asked_as f g same before [] asked = tt
-asked_as f g same before (t ∷ told) asked =
-    (same before t.event asked.0, asked_as f g same (before ++ t ∷ []) told asked.1)
+asked_as : (make other_make : List Told → Option Event)
+    → ((told : List Told) (e : Event) → make told ≡ Some e → other_make told ≡ Some e) → (before told : List Told)
+    → AreAsked make before told
+    → AreAsked other_make before told
+asked_as make other_make same before [] asked = tt
+asked_as make other_make same before (t ∷ told) asked =
+    (same before t.event asked.0, asked_as make other_make same (before ++ t ∷ []) told asked.1)
 
 -- what is asked after other events
-asked_behind : (f g : List Told → Option Event) (first : List Told)
-    → ((told : List Told) (e : Event) → f told ≡ Some e → g (first ++ told) ≡ Some e)
-    → (before told : List Told) → AreAsked f before told → AreAsked g (first ++ before) told
-asked_behind f g first same before [] asked = tt
-asked_behind f g first same before (t ∷ told) asked = (
+asked_behind : (make other_make : List Told → Option Event) (first : List Told)
+    → ((told : List Told) (e : Event) → make told ≡ Some e → other_make (first ++ told) ≡ Some e)
+    → (before told : List Told) → AreAsked make before told → AreAsked other_make (first ++ before) told
+asked_behind make other_make first same before [] asked = tt
+asked_behind make other_make first same before (t ∷ told) asked = (
   same before t.event asked.0,
-  subst (λ (b : List Told). AreAsked g b told) (sym (append_assoc first before (t ∷ [])))
-      (asked_behind f g first same (before ++ t ∷ []) told asked.1),
+  subst (λ (b : List Told). AreAsked other_make b told) (sym (append_assoc first before (t ∷ [])))
+      (asked_behind make other_make first same (before ++ t ∷ []) told asked.1),
 )
 
 asked_append : (next : List Told → Option Event) (before xs ys : List Told)
@@ -63,9 +63,9 @@ asked_append next before (x ∷ xs) ys some more = (
 -- ---- a line of one part
 
 -- a command that asks just its events asks its line
-pub whole : {A : Type 0} (command : Command) (s t : SessionValue) (r : Result A Refusal)
-    → AsksJust (next_event command) s r t
-    → AsksLine command s r t
+pub whole : {A : Type 0} (command : Command) (s t : SessionValue) (outcome : Result A Refusal)
+    → AsksJust (next_event command) s outcome t
+    → AsksLine command s outcome t
 whole command s t (Ok a) asks = record { told = asks.told; list = asks.list; asked = asks.asked; ended = asks.ended }
 whole command s t (Err refusal) asks =
     record {
@@ -77,19 +77,19 @@ whole command s t (Err refusal) asks =
 
 -- ---- code
 
-same_asks : {A : Type 0} (f g : List Told → Option Event) (s t : SessionValue) (r : Result A Refusal)
-    → ((told : List Told) → g told ≡ f told) → AsksJust f s r t
-    → AsksJust g s r t
-same_asks f g s t (Ok a) same asks = record {
+same_asks : {A : Type 0} (make other_make : List Told → Option Event) (s t : SessionValue) (outcome : Result A Refusal)
+    → ((told : List Told) → other_make told ≡ make told) → AsksJust make s outcome t
+    → AsksJust other_make s outcome t
+same_asks make other_make s t (Ok a) same asks = record {
   told = asks.told;
   list = asks.list;
-  asked = asked_as f g (λ told e is. same told ∙ is) [] asks.told asks.asked;
+  asked = asked_as make other_make (λ told e is. same told ∙ is) [] asks.told asks.asked;
   ended = same asks.told ∙ asks.ended;
 }
-same_asks f g s t (Err refusal) same asks = record {
+same_asks make other_make s t (Err refusal) same asks = record {
   told = asks.told;
   list = asks.list;
-  asked = asked_as f g (λ told e is. same told ∙ is) [] asks.told asks.asked;
+  asked = asked_as make other_make (λ told e is. same told ∙ is) [] asks.told asks.asked;
   ended = (asks.ended.0, same asks.told ∙ asks.ended.1, asks.ended.2);
 }
 
@@ -98,11 +98,13 @@ boot_is_written : (host : ℕ) (code : List ℕ) → 2 ≤ length code → lengt
 boot_is_written host code long short told = rw (le-leb 2 (length code) long) (rw (le-leb (length code) 255 short) refl)
 
 -- a boot writes the length of its code and the code
-pub code_written : {A : Type 0} (host : ℕ) (code : List ℕ) (s t : SessionValue) (r : Result A Refusal) → 2 ≤ length code
+pub code_written : {A : Type 0} (host : ℕ) (code : List ℕ) (s t : SessionValue)
+    (outcome : Result A Refusal) → 2 ≤ length code
     → length code ≤ 255
-    → AsksJust (next_write host (length code ∷ code)) s r t → AsksJust (next_boot host code) s r t
-code_written host code s t r long short asks =
-    same_asks (next_write host (length code ∷ code)) (next_boot host code) s t r (boot_is_written host code long short)
+    → AsksJust (next_write host (length code ∷ code)) s outcome t → AsksJust (next_boot host code) s outcome t
+code_written host code s t outcome long short asks =
+    same_asks (next_write host (length code ∷ code)) (next_boot host code) s t outcome
+    (boot_is_written host code long short)
     asks
 
 -- a boot that finds no memory for its message asks nothing
@@ -204,27 +206,29 @@ writes_of_peek : (host address : ℕ) (told : List Told) (e : Event)
     → next_event (command.Peek host address) told ≡ Some e
 writes_of_peek host address told e is = ap (λ (first : Option Event). option_or first (next_read host 4 told)) is
 
-joined : (s t u : SessionValue) (xs ys : List Told) → t ≡ with_all s xs → u ≡ with_all t ys → u ≡ with_all s (xs ++ ys)
-joined s t u xs ys first second =
+joined : (s t session : SessionValue) (xs ys : List Told) → t ≡ with_all s xs → session ≡ with_all t ys → session
+    ≡ with_all s (xs ++ ys)
+joined s t session xs ys first second =
     second ∙ ap (λ (t : SessionValue). with_all t ys) first
     ∙ ap (λ (told : List Told). record s { pass = record s.pass { told = told } }) (append_assoc s.pass.told xs ys)
 
-peek_end : {A : Type 0} (host address : ℕ) (xs ys : List Told) (u : SessionValue) (r : Result A Refusal)
+peek_end : {A : Type 0} (host address : ℕ) (xs ys : List Told) (session : SessionValue) (outcome : Result A Refusal)
     → ((told : List Told) → next_event (command.Peek host address) (xs ++ told) ≡ next_read host 4 told)
-    → HasEnded (next_read host 4) ys u r → LineHasEnded (command.Peek host address) (xs ++ ys) u r
-peek_end host address xs ys u (Ok a) same over = same ys ∙ over
-peek_end host address xs ys u (Err refusal) same over = (over.0, same ys ∙ over.1, inl over.2)
+    → HasEnded (next_read host 4) ys session outcome → LineHasEnded (command.Peek host address)
+    (xs ++ ys) session outcome
+peek_end host address xs ys session (Ok a) same over = same ys ∙ over
+peek_end host address xs ys session (Err refusal) same over = (over.0, same ys ∙ over.1, inl over.2)
 
 -- a peek writes its message, and then reads four bytes
-pub peeked : {A B : Type 0} (host address : ℕ) (s t u : SessionValue) (a : A) (r : Result B Refusal)
+pub peeked : {A B : Type 0} (host address : ℕ) (s t session : SessionValue) (a : A) (outcome : Result B Refusal)
     → AsksJust (next_write host (1 ∷ bytes_of_word address)) s (Ok a) t
-    → AsksJust (next_read host 4) t r u → AsksLine (command.Peek host address) s r u
-peeked host address s t u a r writes reads =
+    → AsksJust (next_read host 4) t outcome session → AsksLine (command.Peek host address) s outcome session
+peeked host address s t session a outcome writes reads =
     let same : (told : List Told)
     → next_event (command.Peek host address) (writes.told ++ told) ≡ next_read host 4 told =
     λ told. reads_behind host address writes.told told writes.asked writes.ended in record {
       told = writes.told ++ reads.told;
-      list = joined s t u writes.told reads.told writes.list reads.list;
+      list = joined s t session writes.told reads.told writes.list reads.list;
       asked =
           asked_append (next_event (command.Peek host address)) [] writes.told reads.told
           (asked_as (next_write host (1 ∷ bytes_of_word address)) (next_event (command.Peek host address))
@@ -233,7 +237,7 @@ peeked host address s t u a r writes reads =
           (append-nil writes.told)
           (asked_behind (next_read host 4) (next_event (command.Peek host address)) writes.told
           (λ told e is. same told ∙ is) [] reads.told reads.asked));
-      ended = peek_end host address writes.told reads.told u r same reads.ended;
+      ended = peek_end host address writes.told reads.told session outcome same reads.ended;
     }
 
 -- a peek ends if its message is refused
@@ -270,52 +274,58 @@ peek_unsettled host address s t a refusal writes is = record {
 -- ---- the same of results that are known by equations
 
 -- the same as `peek_unwritten`, of results that are known by equations
-pub unwritten : {A B : Type 0} (host address : ℕ) (bytes : List ℕ) (s t : SessionValue) (r : Result A Refusal)
-    (q : Result B Refusal) (refusal : Refusal)
-    → bytes ≡ 1 ∷ bytes_of_word address → r ≡ Err refusal → q ≡ Err refusal → AsksJust (next_write host bytes) s r t
-    → AsksLine (command.Peek host address) s q t
-unwritten {A} {B} host address bytes s t r q refusal bytes_are is same asks =
-    subst (λ (q : Result B Refusal). AsksLine (command.Peek host address) s q t) (sym same)
+pub unwritten : {A B : Type 0} (host address : ℕ) (bytes : List ℕ) (s t : SessionValue) (outcome : Result A Refusal)
+    (other_outcome : Result B Refusal) (refusal : Refusal)
+    → bytes ≡ 1 ∷ bytes_of_word address → outcome ≡ Err refusal → other_outcome ≡ Err refusal
+    → AsksJust (next_write host bytes) s outcome t
+    → AsksLine (command.Peek host address) s other_outcome t
+unwritten {A} {B} host address bytes s t outcome other_outcome refusal bytes_are is same asks =
+    subst (λ (other_outcome : Result B Refusal). AsksLine (command.Peek host address) s other_outcome t) (sym same)
     (peek_unwritten host address s t refusal
-    (subst (λ (r : Result A Refusal). AsksJust (next_write host (1 ∷ bytes_of_word address)) s r t) is
-    (subst (λ (bytes : List ℕ). AsksJust (next_write host bytes) s r t) bytes_are asks)))
+    (subst (λ (outcome : Result A Refusal). AsksJust (next_write host (1 ∷ bytes_of_word address)) s outcome t) is
+    (subst (λ (bytes : List ℕ). AsksJust (next_write host bytes) s outcome t) bytes_are asks)))
 
 -- the same as `peek_unsettled`, of results that are known by equations
-pub unsettled : {A B : Type 0} (host address : ℕ) (bytes : List ℕ) (s t : SessionValue) (a : A) (r : Result A Refusal)
-    (q : Result B Refusal) (refusal : Refusal)
-    → bytes ≡ 1 ∷ bytes_of_word address → r ≡ Ok a → q ≡ Err refusal → AsksJust (next_write host bytes) s r t
-    → IsOfSettling t refusal → AsksLine (command.Peek host address) s q t
-unsettled {A} {B} host address bytes s t a r q refusal bytes_are is same asks settling =
-    subst (λ (q : Result B Refusal). AsksLine (command.Peek host address) s q t) (sym same)
+pub unsettled : {A B : Type 0} (host address : ℕ) (bytes : List ℕ) (s t : SessionValue) (a : A)
+    (outcome : Result A Refusal)
+    (other_outcome : Result B Refusal) (refusal : Refusal)
+    → bytes ≡ 1 ∷ bytes_of_word address → outcome ≡ Ok a → other_outcome ≡ Err refusal
+    → AsksJust (next_write host bytes) s outcome t
+    → IsOfSettling t refusal → AsksLine (command.Peek host address) s other_outcome t
+unsettled {A} {B} host address bytes s t a outcome other_outcome refusal bytes_are is same asks settling =
+    subst (λ (other_outcome : Result B Refusal). AsksLine (command.Peek host address) s other_outcome t) (sym same)
     (peek_unsettled host address s t a refusal
-    (subst (λ (r : Result A Refusal). AsksJust (next_write host (1 ∷ bytes_of_word address)) s r t) is
-    (subst (λ (bytes : List ℕ). AsksJust (next_write host bytes) s r t) bytes_are asks))
+    (subst (λ (outcome : Result A Refusal). AsksJust (next_write host (1 ∷ bytes_of_word address)) s outcome t) is
+    (subst (λ (bytes : List ℕ). AsksJust (next_write host bytes) s outcome t) bytes_are asks))
     settling)
 
 -- the same as `peeked`, of results that are known by equations
-pub settled : {A B : Type 0} (host address : ℕ) (bytes : List ℕ) (s t u : SessionValue) (a : A) (r : Result A Refusal)
-    (q : Result B Refusal)
-    → bytes ≡ 1 ∷ bytes_of_word address → r ≡ Ok a → AsksJust (next_write host bytes) s r t
-    → AsksJust (next_read host 4) t q u → AsksLine (command.Peek host address) s q u
-settled {A} {B} host address bytes s t u a r q bytes_are is writes reads =
-    peeked host address s t u a q
-    (subst (λ (r : Result A Refusal). AsksJust (next_write host (1 ∷ bytes_of_word address)) s r t) is
-    (subst (λ (bytes : List ℕ). AsksJust (next_write host bytes) s r t) bytes_are writes))
+pub settled : {A B : Type 0} (host address : ℕ) (bytes : List ℕ) (s t session : SessionValue) (a : A)
+    (outcome : Result A Refusal)
+    (other_outcome : Result B Refusal)
+    → bytes ≡ 1 ∷ bytes_of_word address → outcome ≡ Ok a → AsksJust (next_write host bytes) s outcome t
+    → AsksJust (next_read host 4) t other_outcome session → AsksLine (command.Peek host address) s other_outcome session
+settled {A} {B} host address bytes s t session a outcome other_outcome bytes_are is writes reads =
+    peeked host address s t session a other_outcome
+    (subst (λ (outcome : Result A Refusal). AsksJust (next_write host (1 ∷ bytes_of_word address)) s outcome t) is
+    (subst (λ (bytes : List ℕ). AsksJust (next_write host bytes) s outcome t) bytes_are writes))
     reads
 
 -- a command asks its line by what it asks next, if that is what the line asks next
-pub of_command : {A : Type 0} (next : List Told → Option Event) (c d : Command) (s t : SessionValue)
-    (r : Result A Refusal)
-    → c ≡ d
-    → ((told : List Told) → next_event d told ≡ next told) → AsksJust next s r t → AsksLine c s r t
-of_command next c d s t r is same asks =
-    subst (λ (c : Command). AsksLine c s r t) (sym is) (whole d s t r (same_asks next (next_event d) s t r same asks))
+pub of_command : {A : Type 0} (next : List Told → Option Event) (c other_command : Command) (s t : SessionValue)
+    (outcome : Result A Refusal)
+    → c ≡ other_command
+    → ((told : List Told) → next_event other_command told ≡ next told) → AsksJust next s outcome t
+    → AsksLine c s outcome t
+of_command next c other_command s t outcome is same asks =
+    subst (λ (c : Command). AsksLine c s outcome t) (sym is)
+    (whole other_command s t outcome (same_asks next (next_event other_command) s t outcome same asks))
 
 -- ---- a line's end is the same for each session of its user
 
 of_user : {A : Type 0} (command : Command) (told : List Told) (s : SessionValue) (before : List Told)
-    (r : Result A Refusal)
-    → LineHasEnded command told (with_all s before) r → LineHasEnded command told s r
+    (outcome : Result A Refusal)
+    → LineHasEnded command told (with_all s before) outcome → LineHasEnded command told s outcome
 of_user command told s before (Ok a) over = over
 of_user (command.Config bytes) told s before (Err refusal) over = over
 of_user (command.Write host bytes) told s before (Err refusal) over = over
@@ -327,20 +337,21 @@ of_user (command.Reset node) told s before (Err refusal) over = over
 of_user (command.Look node) told s before (Err refusal) over = over
 
 -- a line that is asked and shown is answered
-pub answered : (name : List ℕ) (c : Command) (s t : SessionValue) (r : Result ⊤ Refusal) (asks : AsksLine c s r t)
+pub answered : (name : List ℕ) (c : Command) (s t : SessionValue) (outcome : Result ⊤ Refusal)
+    (asks : AsksLine c s outcome t)
     (screen more : List ℕ)
-    → more ≡ screen ++ line_text name c (replies_told asks.told) r → IsAnswered name c s t screen more
-answered name c s t r asks screen more is = record {
+    → more ≡ screen ++ line_text name c (replies_told asks.told) outcome → IsAnswered name c s t screen more
+answered name c s t outcome asks screen more is = record {
   told = asks.told;
-  line = line_text name c (replies_told asks.told) r;
+  line = line_text name c (replies_told asks.told) outcome;
   list = asks.list;
   is_line =
       record {
-        result = r;
+        result = outcome;
         asked = asks.asked;
         ended =
-            of_user c asks.told s asks.told r
-            (subst (λ (v : SessionValue). LineHasEnded c asks.told v r) asks.list asks.ended);
+            of_user c asks.told s asks.told outcome
+            (subst (λ (v : SessionValue). LineHasEnded c asks.told v outcome) asks.list asks.ended);
         is_text = refl;
       };
   text = is;
@@ -388,54 +399,59 @@ pub none_shown : (name : List ℕ) (s : SessionValue) → AreAnswered name [] s 
 none_shown name s = record { told = []; list = (begun (λ told. None) s).list; lines = (refl, refl) }
 
 -- commands and a further one show what the further one shows behind the screen of the others
-pub one_shown : (name : List ℕ) (commands : List Command) (c : Command) (s t u : SessionValue) (screen more : List ℕ)
+pub one_shown : (name : List ℕ) (commands : List Command) (c : Command) (s t session : SessionValue)
+    (screen more : List ℕ)
     → AreAnswered name commands s t screen
-    → IsAnswered name c t u screen more → AreAnswered name (commands ++ c ∷ []) s u more
-one_shown name commands c s t u screen more so_far line =
+    → IsAnswered name c t session screen more → AreAnswered name (commands ++ c ∷ []) s session more
+one_shown name commands c s t session screen more so_far line =
     let is : IsAnsweredLine s name c line.told line.line =
     line_of_user s so_far.told name c line.told line.line
     (subst (λ (v : SessionValue). IsAnsweredLine v name c line.told line.line) so_far.list line.is_line) in
     record {
       told = so_far.told ++ line.told;
-      list = joined s t u so_far.told line.told so_far.list line.list;
+      list = joined s t session so_far.told line.told so_far.list line.list;
       lines =
           subst (λ (text : List ℕ). AreAnsweredLines s name (commands ++ c ∷ []) (so_far.told ++ line.told) text)
           (sym line.text) (lines_more s name commands c so_far.told line.told screen line.line so_far.lines is);
     }
 
 -- one command more of those that are lent
-pub lent_more : (name : List ℕ) (commands : List (Bor Command)) (i : ℕ) (d : Bor Command) (command : Bor Command)
-    (s t u : SessionValue) (screen more : List ℕ)
+pub lent_more : (name : List ℕ) (commands : List (Bor Command)) (i : ℕ) (other_command : Bor Command)
+    (command : Bor Command)
+    (s t session : SessionValue) (screen more : List ℕ)
     → i < length commands
-    → command ≡ get_or commands i d
-    → AreAnswered name (map (λ c. c.now) (take i commands)) s t screen → IsAnswered name command.now t u screen more
-    → AreAnswered name (map (λ c. c.now) (take (i + 1) commands)) s u more
-lent_more name commands i d command s t u screen more within is so_far line =
-    subst (λ (cs : List Command). AreAnswered name cs s u more)
-    (sym (ap (map (λ (c : Bor Command). c.now)) (take_more commands i d within)
-    ∙ map-append (λ (c : Bor Command). c.now) (take i commands) (get_or commands i d ∷ [])))
-    (one_shown name (map (λ c. c.now) (take i commands)) (get_or commands i d).now s t u screen more so_far
-    (subst (λ (c : Bor Command). IsAnswered name c.now t u screen more) is line))
+    → command ≡ get_or commands i other_command
+    → AreAnswered name (map (λ c. c.now) (take i commands)) s t screen
+    → IsAnswered name command.now t session screen more
+    → AreAnswered name (map (λ c. c.now) (take (i + 1) commands)) s session more
+lent_more name commands i other_command command s t session screen more within is so_far line =
+    subst (λ (cs : List Command). AreAnswered name cs s session more)
+    (sym (ap (map (λ (c : Bor Command). c.now)) (take_more commands i other_command within)
+    ∙ map-append (λ (c : Bor Command). c.now) (take i commands) (get_or commands i other_command ∷ [])))
+    (one_shown name (map (λ c. c.now) (take i commands)) (get_or commands i other_command).now s t session
+    screen more so_far
+    (subst (λ (c : Bor Command). IsAnswered name c.now t session screen more) is line))
 
 -- a session that gained some events, and then others, gained some
-pub gains_more : (s t u : SessionValue) → GainsSome s t → GainsSome t u → GainsSome s u
-gains_more s t u first second = (first.0 ++ second.0, joined s t u first.0 second.0 first.1 second.1)
+pub gains_more : (s t session : SessionValue) → GainsSome s t → GainsSome t session → GainsSome s session
+gains_more s t session first second = (first.0 ++ second.0, joined s t session first.0 second.0 first.1 second.1)
 
 -- a session that stays gained some, namely none
 pub gains_none : (s : SessionValue) → GainsSome s s
 gains_none s = ([], (begun (λ told. None) s).list)
 
 -- a line whose events are the last of the list
-pub last_answered : {A E : Type 0} (w : Result A E) (name : List ℕ) (c : Command) (s t : SessionValue)
-    (r : Result ⊤ Refusal) (asks : AsksLine c s r t) (before all : List Told)
+pub last_answered : {A E : Type 0} (outcome : Result A E) (name : List ℕ) (c : Command) (s t : SessionValue)
+    (other_outcome : Result ⊤ Refusal) (asks : AsksLine c s other_outcome t) (before all : List Told)
     (screen more : List ℕ) → before ≡ s.pass.told → all ≡ t.pass.told
-    → OnOk w (more
-    ≡ screen ++ line_text name c (replies_told (take (length all - length before) (drop (length before) all))) r)
-    → OnOk w (IsAnswered name c s t screen more)
-last_answered (Err e) name c s t r asks before all screen more was is shown = tt
-last_answered (Ok a) name c s t r asks before all screen more was is shown =
-    answered name c s t r asks screen more
-    (shown ∙ ap (λ (told : List Told). screen ++ line_text name c (replies_told told) r) last)
+    → OnOk outcome (more
+    ≡ screen ++ line_text name c
+    (replies_told (take (length all - length before) (drop (length before) all))) other_outcome)
+    → OnOk outcome (IsAnswered name c s t screen more)
+last_answered (Err e) name c s t other_outcome asks before all screen more was is shown = tt
+last_answered (Ok a) name c s t other_outcome asks before all screen more was is shown =
+    answered name c s t other_outcome asks screen more
+    (shown ∙ ap (λ (told : List Told). screen ++ line_text name c (replies_told told) other_outcome) last)
   where
     whole_list : all ≡ s.pass.told ++ asks.told
     whole_list = is ∙ ap (λ (v : SessionValue). v.pass.told) asks.list

@@ -11,18 +11,21 @@ use Rattle.line_answers.specs.Asks.{replies_told}
 use Rattle.line_answers.specs.Results.{byte_in, bytes_read}
 
 -- one reply more
-replies_more : (told : List Told) (i : ℕ) (d : Told) → i < length told
-    → replies_told (take (i + 1) told) ≡ replies_told (take i told) ++ (get_or told i d).reply ∷ []
-replies_more told i d within =
-    ap replies_told (take_more told i d within) ∙ map-append (λ t. t.reply) (take i told) (get_or told i d ∷ [])
+replies_more : (told : List Told) (i : ℕ) (other_told : Told) → i < length told
+    → replies_told (take (i + 1) told) ≡ replies_told (take i told) ++ (get_or told i other_told).reply ∷ []
+replies_more told i other_told within =
+    ap replies_told (take_more told i other_told within)
+    ∙ map-append (λ t. t.reply) (take i told) (get_or told i other_told ∷ [])
 
 -- a text of the replies grows by the text of one more
-grows : {T : Type 0} (f : List Reply → List T)
-    → ((xs ys : List Reply) → f (xs ++ ys) ≡ f xs ++ f ys) → (told : List Told) (i : ℕ) (d : Told)
+grows : {T : Type 0} (make : List Reply → List T)
+    → ((xs ys : List Reply) → make (xs ++ ys) ≡ make xs ++ make ys) → (told : List Told) (i : ℕ) (other_told : Told)
     → i < length told
-    → f (replies_told (take (i + 1) told)) ≡ f (replies_told (take i told)) ++ f ((get_or told i d).reply ∷ [])
-grows f split told i d within =
-    ap f (replies_more told i d within) ∙ split (replies_told (take i told)) ((get_or told i d).reply ∷ [])
+    → make (replies_told (take (i + 1) told)) ≡ make (replies_told (take i told)) ++ make
+    ((get_or told i other_told).reply ∷ [])
+grows make split told i other_told within =
+    ap make (replies_more told i other_told within) ∙ split (replies_told (take i told))
+    ((get_or told i other_told).reply ∷ [])
 
 bytes_split : (xs ys : List Reply)
     → flat_map byte_text (bytes_read (xs ++ ys))
@@ -32,13 +35,13 @@ bytes_split xs ys =
     ∙ flat_map-append byte_text (bytes_read xs) (bytes_read ys)
 
 -- a text that had what the first replies brought, and gained what one more did
-pub bytes_more : (told : List Told) (i : ℕ) (d : Told) (start before after : List ℕ) → i < length told
+pub bytes_more : (told : List Told) (i : ℕ) (other_told : Told) (start before after : List ℕ) → i < length told
     → before ≡ start ++ flat_map byte_text (bytes_read (replies_told (take i told)))
-    → after ≡ before ++ flat_map byte_text (bytes_read ((get_or told i d).reply ∷ []))
+    → after ≡ before ++ flat_map byte_text (bytes_read ((get_or told i other_told).reply ∷ []))
     → after ≡ start ++ flat_map byte_text (bytes_read (replies_told (take (i + 1) told)))
-bytes_more told i d start before after within had gains =
-    gains ∙ ap (λ (text : List ℕ). text ++ flat_map byte_text (bytes_read ((get_or told i d).reply ∷ []))) had
+bytes_more told i other_told start before after within had gains =
+    gains ∙ ap (λ (text : List ℕ). text ++ flat_map byte_text (bytes_read ((get_or told i other_told).reply ∷ []))) had
     ∙ append_assoc start (flat_map byte_text (bytes_read (replies_told (take i told))))
-    (flat_map byte_text (bytes_read ((get_or told i d).reply ∷ [])))
+    (flat_map byte_text (bytes_read ((get_or told i other_told).reply ∷ [])))
     ∙ ap (λ (more : List ℕ). start ++ more)
-    (sym (grows (λ (rs : List Reply). flat_map byte_text (bytes_read rs)) bytes_split told i d within))
+    (sym (grows (λ (rs : List Reply). flat_map byte_text (bytes_read rs)) bytes_split told i other_told within))

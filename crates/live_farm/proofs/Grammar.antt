@@ -34,9 +34,9 @@ live_refused rest fault.Hex none wrong = wrong
 
 -- if a line isn't the operator's, what is wrong with it as a user's line is wrong with it
 pub user_line_refused : (names : List (List ℕ)) (line : List ℕ) (words : List (List ℕ))
-    (r : Result LiveLine LiveFault)
-    → is_operators line ≡ false → words ≡ words_between line → IfErr r (IsUserFault names words)
-    → IfErr r (IsLiveFault names line)
+    (outcome : Result LiveLine LiveFault)
+    → is_operators line ≡ false → words ≡ words_between line → IfErr outcome (IsUserFault names words)
+    → IfErr outcome (IsLiveFault names line)
 user_line_refused names line words (Ok l) theirs is wrong = tt
 user_line_refused names line words (Err live_fault.UnknownUser) theirs is wrong =
     (theirs, subst (λ ws. IsUserFault names ws live_fault.UnknownUser) is wrong)

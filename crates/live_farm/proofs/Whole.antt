@@ -53,28 +53,30 @@ line_is_whole before after user command text is =
 
 -- ---- a writer
 
-behind : (xs : List ℕ) (y : ℕ) (ys : List ℕ) → are_lines (xs ++ y ∷ ys) ≡ are_lines (y ∷ ys)
-behind [] y ys = refl
-behind (x ∷ []) y ys = refl
-behind (x ∷ w ∷ xs) y ys = behind (w ∷ xs) y ys
+behind : (xs : List ℕ) (number : ℕ) (ys : List ℕ) → are_lines (xs ++ number ∷ ys) ≡ are_lines (number ∷ ys)
+behind [] number ys = refl
+behind (x ∷ []) number ys = refl
+behind (x ∷ w ∷ xs) number ys = behind (w ∷ xs) number ys
 
 -- lines behind lines are lines
 pub lines_behind : (xs ys : List ℕ) → are_lines xs ≡ true → are_lines ys ≡ true → are_lines (xs ++ ys) ≡ true
 lines_behind xs [] before after = ap are_lines (append-nil xs) ∙ before
 lines_behind xs (y ∷ ys) before after = behind xs y ys ∙ after
 
-whole_after : (a b c : Option (List ℕ)) (lines : List ℕ)
-    → is_whole a ≡ true → are_lines lines ≡ true → Appends a b lines → Keeps b c
-    → is_whole c ≡ true
-whole_after None b c lines whole ended one two = absurd (search rules)
-whole_after (Some xs) None c lines whole ended one two = elim one [ ]
+whole_after : (text other_text third_text : Option (List ℕ)) (lines : List ℕ)
+    → is_whole text ≡ true → are_lines lines ≡ true → Appends text other_text lines → Keeps other_text third_text
+    → is_whole third_text ≡ true
+whole_after None other_text third_text lines whole ended one two = absurd (search rules)
+whole_after (Some xs) None third_text lines whole ended one two = elim one [ ]
 whole_after (Some xs) (Some ys) None lines whole ended one two = elim two [ ]
 whole_after (Some xs) (Some ys) (Some zs) lines whole ended one two =
     subst (λ (t : List ℕ). are_lines t ≡ true) (sym (two ∙ one)) (lines_behind xs lines whole ended)
 
 -- a writer that has whole lines, and takes whole lines, has whole lines
-pub put_whole : (f : Bool) (a b c : Option (List ℕ)) (lines : List ℕ)
-    → (f || is_whole a) ≡ true → f ≡ false → are_lines lines ≡ true → Appends a b lines → Keeps b c
-    → (false || is_whole c) ≡ true
-put_whole false a b c lines h off ended one two = whole_after a b c lines h ended one two
-put_whole true a b c lines h off ended one two = absurd (search rules)
+pub put_whole : (flag : Bool) (text other_text third_text : Option (List ℕ)) (lines : List ℕ)
+    → (flag || is_whole text) ≡ true → flag ≡ false → are_lines lines ≡ true → Appends text other_text lines
+    → Keeps other_text third_text
+    → (false || is_whole third_text) ≡ true
+put_whole false text other_text third_text lines same off ended one two =
+    whole_after text other_text third_text lines same ended one two
+put_whole true text other_text third_text lines same off ended one two = absurd (search rules)

@@ -9,33 +9,33 @@ use Rattle.node_memory.proofs.Writes.{length-with_byte}
 
 -- the one fault of a read and of a write
 fault-is : {A : Type 0} (b : Bool) (x : A) (f : Fault) → cond b (Ok x) (Err OutsideMemory) ≡ Err f → f ≡ OutsideMemory
-fault-is true x f h = cc
-fault-is false x f h = cc
+fault-is true x f same = cc
+fault-is false x f same = cc
 
 read_fault : (m : List ℕ) (a : ℕ) (f : Fault) → byte_at m a ≡ Err f → f ≡ OutsideMemory
 unfolding byte_at
-read_fault m a f h = fault-is (is_inside m a) _ f h
+read_fault m a f same = fault-is (is_inside m a) _ f same
 
 write_fault : (m : List ℕ) (a x : ℕ) (f : Fault) → with_byte m a x ≡ Err f → f ≡ OutsideMemory
 unfolding with_byte
-write_fault m a x f h = fault-is (is_inside m a) _ f h
+write_fault m a x f same = fault-is (is_inside m a) _ f same
 
 read_inside : (m : List ℕ) (a x : ℕ) → byte_at m a ≡ Ok x → (first_address ≤ a) × (a < first_address + length m)
 unfolding byte_at
-read_inside m a x h = (grind (arith, nat_tests), grind (arith, nat_tests))
+read_inside m a x same = (grind (arith, nat_tests), grind (arith, nat_tests))
 
 -- the first byte of a copy: not read, not written, or copied
 copied-unread : (c : ℕ) (m : List ℕ) (from to : ℕ) (f : Fault) → byte_at m from ≡ Err f
     → copied (suc c) m from to ≡ (Err f, m)
-copied-unread c m from to f h = rw h refl
+copied-unread c m from to f same = rw same refl
 
 copied-unwritten : (c : ℕ) (m : List ℕ) (from to x : ℕ) (f : Fault) → byte_at m from ≡ Ok x → with_byte m to x ≡ Err f
     → copied (suc c) m from to ≡ (Err f, m)
-copied-unwritten c m from to x f h k = rw (h, k) refl
+copied-unwritten c m from to x f same equal = rw (same, equal) refl
 
 copied-first : (c : ℕ) (m n : List ℕ) (from to x : ℕ) → byte_at m from ≡ Ok x → with_byte m to x ≡ Ok n
     → copied (suc c) m from to ≡ copied c n (from + 1) (to + 1)
-copied-first c m n from to x h k = rw (h, k) refl
+copied-first c m n from to x same equal = rw (same, equal) refl
 
 -- what holds of a copy that stops at its first byte, and of one that goes on, holds of each
 by_first : (P : Result (Unit {0}) Fault × List ℕ → Type 0) (c : ℕ) (m : List ℕ) (from to : ℕ)

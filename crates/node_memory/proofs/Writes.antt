@@ -26,28 +26,28 @@ pub length-with : (m : List ℕ) (i w : ℕ) → length (with_word_from m i w) �
 length-with m i w = simp length-set
 
 -- where a write is done, the word lies inside, and this is what it leaves
-written-is : (b : Bool) (x n : List ℕ) → cond b (Ok x) (Err OutsideMemory) ≡ Ok n → (b ≡ true) × (n ≡ x)
-written-is true x n h = (refl, cc)
-written-is false x n h = cc
+written-is : (b : Bool) (memory n : List ℕ) → cond b (Ok memory) (Err OutsideMemory) ≡ Ok n → (b ≡ true) × (n ≡ memory)
+written-is true memory n same = (refl, cc)
+written-is false memory n same = cc
 
 inside : (m : List ℕ) (a : ℕ) → holds_word m a ≡ true → (first_address ≤ a) × (word_offset a + 3 < length m)
-inside m a h = (grind (arith, nat_tests), grind (arith, nat_tests))
+inside m a same = (grind (arith, nat_tests), grind (arith, nat_tests))
 
 -- a word that was written is read
 pub word_at-with_word_same : (m n : List ℕ) (a w : ℕ) → w < 2 ^ 32 → with_word m a w ≡ Ok n → word_at n a ≡ Ok w
 unfolding word_at with_word
-word_at-with_word_same m n a w fits h =
-    let p = written-is (holds_word m a) (with_word_from m (word_offset a) w) n h in
+word_at-with_word_same m n a w fits same =
+    let p = written-is (holds_word m a) (with_word_from m (word_offset a) w) n same in
     let within = (inside m a p.0).1 in
     let stays : holds_word (with_word_from m (word_offset a) w) a ≡ true =
     ap (λ k. nat_le first_address a && nat_lt (word_offset a + 3) k) (length-with m (word_offset a) w) ∙ p.0 in
     rw (p.1, stays, word_from-with_same m (word_offset a) w fits within) refl
 
 -- a word elsewhere, if it lies inside
-elsewhere : (t : Bool) (x y : ℕ) → (t ≡ true → x ≡ y)
-    → cond t (Ok x) (Err OutsideMemory) ≡ cond t (Ok y) (Err OutsideMemory)
-elsewhere true x y h = ap (λ z. Ok z) (h refl)
-elsewhere false x y h = refl
+elsewhere : (flag : Bool) (x number : ℕ) → (flag ≡ true → x ≡ number)
+    → cond flag (Ok x) (Err OutsideMemory) ≡ cond flag (Ok number) (Err OutsideMemory)
+elsewhere true x number given = ap (λ z. Ok z) (given refl)
+elsewhere false x number given = refl
 
 word_from-with_apart : (m : List ℕ) (i j w : ℕ) → (i + 4 ≤ j) ⊎ (j + 4 ≤ i)
     → word_from (with_word_from m i w) j ≡ word_from m j
@@ -56,14 +56,14 @@ word_from-with_apart m i j w (inr h) = word_from-with_before m i j w h
 
 apart_offsets : (a b : ℕ) → a / 4 ≢ b / 4 → first_address ≤ a → first_address ≤ b
     → (word_offset a + 4 ≤ word_offset b) ⊎ (word_offset b + 4 ≤ word_offset a)
-apart_offsets a b apart p q = grind arith
+apart_offsets a b apart less below = grind arith
 
 -- a word that was written leaves every other word
 pub word_at-with_word_other : (m n : List ℕ) (a b w : ℕ) → a / 4 ≢ b / 4 → with_word m a w ≡ Ok n
     → word_at n b ≡ word_at m b
 unfolding word_at with_word
-word_at-with_word_other m n a b w apart h =
-    let p = written-is (holds_word m a) (with_word_from m (word_offset a) w) n h in
+word_at-with_word_other m n a b w apart same =
+    let p = written-is (holds_word m a) (with_word_from m (word_offset a) w) n same in
     let stays : holds_word (with_word_from m (word_offset a) w) b ≡ holds_word m b =
     ap (λ k. nat_le first_address b && nat_lt (word_offset b + 3) k) (length-with m (word_offset a) w) in
     rw (p.1, stays)
@@ -74,7 +74,7 @@ word_at-with_word_other m n a b w apart h =
 -- the four addresses of a word
 pub word_at-same_word : (m : List ℕ) (a b : ℕ) → a / 4 ≡ b / 4 → word_at m a ≡ word_at m b
 unfolding word_at
-word_at-same_word m a b e =
+word_at-same_word m a b same =
     let o : word_offset a ≡ word_offset b = omega arith in
     let t : nat_le first_address a ≡ nat_le first_address b = grind (arith, nat_tests) in
     rw (o, t) refl
@@ -93,7 +93,7 @@ byte_at-inside : (m : List ℕ) (a i x : ℕ)
     → first_address ≤ a → a - first_address ≡ i → i < length m → slice_index m i ≡ x
     → byte_at m a ≡ Ok x
 unfolding byte_at
-byte_at-inside m a i x least e within is = grind (arith, nat_tests)
+byte_at-inside m a i x least same within is = grind (arith, nat_tests)
 
 -- a word that was written has its four bytes, the lowest first
 pub byte_at-with_word : (m n : List ℕ) (a w : ℕ) → with_word m a w ≡ Ok n →
@@ -102,8 +102,8 @@ pub byte_at-with_word : (m n : List ℕ) (a w : ℕ) → with_word m a w ≡ Ok 
     × (byte_at n (aligned a + 2) ≡ Ok (w / 2 ^ 16 % 2 ^ 8))
     × (byte_at n (aligned a + 3) ≡ Ok (w / 2 ^ 24 % 2 ^ 8))
 unfolding with_word
-byte_at-with_word m n a w h =
-    let p = written-is (holds_word m a) (with_word_from m (word_offset a) w) n h in
+byte_at-with_word m n a w same =
+    let p = written-is (holds_word m a) (with_word_from m (word_offset a) w) n same in
     let q = inside m a p.0 in
     let least : first_address ≤ a = q.0 in
     let within : word_offset a + 3 < length n = rw (p.1, length-with m (word_offset a) w) q.1 in
@@ -116,27 +116,27 @@ byte_at-with_word m n a w h =
 
 -- a byte that was written is read, and every other byte stays
 inside_byte : (m : List ℕ) (a : ℕ) → is_inside m a ≡ true → (first_address ≤ a) × (a - first_address < length m)
-inside_byte m a h = (grind (arith, nat_tests), grind (arith, nat_tests))
+inside_byte m a same = (grind (arith, nat_tests), grind (arith, nat_tests))
 
 -- a byte that is written keeps the length of memory
 pub length-with_byte : (m n : List ℕ) (a x : ℕ) → with_byte m a x ≡ Ok n → length n ≡ length m
 unfolding with_byte
-length-with_byte m n a x h =
-    let p = written-is (is_inside m a) (slice_set m (a - first_address) x) n h in
+length-with_byte m n a x same =
+    let p = written-is (is_inside m a) (slice_set m (a - first_address) x) n same in
     ap length p.1 ∙ simp length-set
 
 -- a word that is written keeps the length of memory
 pub length-with_word : (m n : List ℕ) (a w : ℕ) → with_word m a w ≡ Ok n → length n ≡ length m
 unfolding with_word
-length-with_word m n a w h =
-    let p = written-is (holds_word m a) (with_word_from m (word_offset a) w) n h in
+length-with_word m n a w same =
+    let p = written-is (holds_word m a) (with_word_from m (word_offset a) w) n same in
     ap length p.1 ∙ length-with m (word_offset a) w
 
 -- a byte that was written is read
 pub byte_at-with_byte_same : (m n : List ℕ) (a x : ℕ) → with_byte m a x ≡ Ok n → byte_at n a ≡ Ok x
 unfolding with_byte
-byte_at-with_byte_same m n a x h =
-    let p = written-is (is_inside m a) (slice_set m (a - first_address) x) n h in
+byte_at-with_byte_same m n a x same =
+    let p = written-is (is_inside m a) (slice_set m (a - first_address) x) n same in
     let q = inside_byte m a p.0 in
     let within : a - first_address < length n = rw (p.1, length-set m (a - first_address) x) q.1 in
     byte_at-inside n a (a - first_address) x q.0 refl within
@@ -145,8 +145,8 @@ byte_at-with_byte_same m n a x h =
 -- a byte that was written leaves every other byte
 pub byte_at-with_byte_other : (m n : List ℕ) (a b x : ℕ) → a ≢ b → with_byte m a x ≡ Ok n → byte_at n b ≡ byte_at m b
 unfolding byte_at with_byte
-byte_at-with_byte_other m n a b x apart h =
-    let p = written-is (is_inside m a) (slice_set m (a - first_address) x) n h in
+byte_at-with_byte_other m n a b x apart same =
+    let p = written-is (is_inside m a) (slice_set m (a - first_address) x) n same in
     let q = inside_byte m a p.0 in
     let stays : is_inside (slice_set m (a - first_address) x) b ≡ is_inside m b =
     ap (λ k. nat_le first_address b && nat_lt (b - first_address) k) (simp length-set) in
@@ -158,24 +158,24 @@ byte_at-with_byte_other m n a b x apart h =
 -- a word is not written where it can't be read
 not_ok : {A : Type 0} (b : Bool) (x : A) (f : Fault) → cond b (Ok x) (Err OutsideMemory) ≡ Err f
     → (b ≡ false) × (f ≡ OutsideMemory)
-not_ok true x f h = cc
-not_ok false x f h = (refl, cc)
+not_ok true x f same = cc
+not_ok false x f same = (refl, cc)
 
 -- a word that can't be written can't be read, for the same fault
 pub word_at-unwritten : (m : List ℕ) (a w : ℕ) (f : Fault) → with_word m a w ≡ Err f → word_at m a ≡ Err f
 unfolding word_at with_word
-word_at-unwritten m a w f h =
-    let p = not_ok (holds_word m a) (with_word_from m (word_offset a) w) f h in
+word_at-unwritten m a w f same =
+    let p = not_ok (holds_word m a) (with_word_from m (word_offset a) w) f same in
     rw (p.0, p.1) refl
 
 -- a word that can't be read can't be written, for the same fault
 pub with_word-unread : (m : List ℕ) (a w : ℕ) (f : Fault) → word_at m a ≡ Err f → with_word m a w ≡ Err f
 unfolding word_at with_word
-with_word-unread m a w f h =
-    let p = not_ok (holds_word m a) (word_from m (word_offset a)) f h in
+with_word-unread m a w f same =
+    let p = not_ok (holds_word m a) (word_from m (word_offset a)) f same in
     rw (p.0, p.1) refl
 
 -- and its fault is always the same one
 pub word_at-fault : (m : List ℕ) (a : ℕ) (f : Fault) → word_at m a ≡ Err f → f ≡ OutsideMemory
 unfolding word_at
-word_at-fault m a f h = (not_ok (holds_word m a) (word_from m (word_offset a)) f h).1
+word_at-fault m a f same = (not_ok (holds_word m a) (word_from m (word_offset a)) f same).1

@@ -54,11 +54,11 @@ posted byte e =
     record e { latch = record e.latch { byte = Some byte }; output = record { awaits = true; acknowledged = false } }
 
 -- by what the buffer holds: nothing is acknowledged if it is empty
-abbrev pub emptied_of : Option ℕ → LinkEnd → LinkEnd
-emptied_of None e = e
-emptied_of (Some _) e =
+abbrev pub without_buffered : Option ℕ → LinkEnd → LinkEnd
+without_buffered None e = e
+without_buffered (Some _) e =
     record e { latch = record e.latch { acknowledge = true }; input = record e.input { buffer = None } }
 
 -- the byte is taken from the buffer, which posts an acknowledge
 abbrev pub emptied : LinkEnd → LinkEnd
-emptied e = emptied_of e.input.buffer e
+emptied e = without_buffered e.input.buffer e

@@ -18,91 +18,94 @@ use Rattle.plan_rules.specs.declared.fault.PlanFault.TheVariants.{Limit, NoMemor
 use Rattle.std.proofs.lemmas.List.{take_more}
 
 -- the data of a list with x behind it is the data of the list with that of x behind it
-pub items_of-push : {X : Type 0} (f : X → Data) (xs : List X) (x : X)
-    → items_of (map f (xs ++ x ∷ [])) ≡ push_item (items_of (map f xs)) (f x)
-items_of-push f [] x = refl
-items_of-push f (y ∷ xs) x = ap (item (f y)) (items_of-push f xs x)
+pub items_of-push : {X : Type 0} (make : X → Data) (xs : List X) (x : X)
+    → items_of (map make (xs ++ x ∷ [])) ≡ push_item (items_of (map make xs)) (make x)
+items_of-push make [] x = refl
+items_of-push make (y ∷ xs) x = ap (item (make y)) (items_of-push make xs x)
 
 -- if values spell the first items, and the next one spells x, they spell one item more
-pub spells_more : {X : Type 0} (f : X → Data) (vs : List Value) (i : ℕ) (d : Value) (xs : List X) (x : X)
-    → i < length vs → d ≡ get_or vs i d → view d ≡ f x → items_view (take i vs) ≡ items_of (map f xs)
-    → items_view (take (i + 1) vs) ≡ items_of (map f (xs ++ x ∷ []))
-spells_more f vs i d xs x within at_i here so_far =
-    let here' : view (get_or vs i d) ≡ f x = ap view (sym at_i) ∙ here in
-    rw (take_more vs i d within, items_view-push, items_of-push, so_far, here')
+pub spells_more : {X : Type 0} (make : X → Data) (vs : List Value) (i : ℕ) (value : Value) (xs : List X) (x : X)
+    → i < length vs → value ≡ get_or vs i value → view value ≡ make x → items_view (take i vs) ≡ items_of (map make xs)
+    → items_view (take (i + 1) vs) ≡ items_of (map make (xs ++ x ∷ []))
+spells_more make vs i value xs x within at_i here so_far =
+    let here' : view (get_or vs i value) ≡ make x = ap view (sym at_i) ∙ here in
+    rw (take_more vs i value within, items_view-push, items_of-push, so_far, here')
 
 -- a place of a list that holds x
-get_item-map : {X : Type 0} (f : X → Data) (xs : List X) (i : ℕ) (e : Data) → Some e ≡ get_item i (items_of (map f xs))
-    → (x : X) × (i < length xs) × (get_or xs i x ≡ x) × (e ≡ f x)
-get_item-map f [] i e h = cc
-get_item-map f (x ∷ xs) zero e h = (x, omega arith, refl, cc)
-get_item-map f (x ∷ xs) (suc i) e h =
-    let found = get_item-map f xs i e h in
+get_item-map : {X : Type 0} (make : X → Data) (xs : List X) (i : ℕ) (other_data : Data) → Some other_data
+    ≡ get_item i (items_of (map make xs))
+    → (x : X) × (i < length xs) × (get_or xs i x ≡ x) × (other_data ≡ make x)
+get_item-map make [] i other_data same = cc
+get_item-map make (x ∷ xs) zero other_data same = (x, omega arith, refl, cc)
+get_item-map make (x ∷ xs) (suc i) other_data same =
+    let found = get_item-map make xs i other_data same in
     (found.0, omega (arith, found.1), found.2, found.3)
 
 -- an array with an item that spells nothing whole is no list
-pub refused : {X : Type 0} (Whole : X → Type 0) (f : X → Data) (vs : List Value) (i : ℕ) (d : Value)
-    → i < length vs → d ≡ get_or vs i d → ((x : X) → Whole x → ¬ (view d ≡ f x)) → (xs : List X) → All Whole xs
-    → ¬ (array (items_view vs) ≡ list f xs)
-refused Whole f vs i d within at_i none xs whole e =
-    let same : items_view vs ≡ items_of (map f xs) = cc in
+pub refused : {X : Type 0} (Whole : X → Type 0) (make : X → Data) (vs : List Value) (i : ℕ) (value : Value)
+    → i < length vs → value ≡ get_or vs i value → ((x : X) → Whole x → ¬ (view value ≡ make x))
+    → (xs : List X) → All Whole xs
+    → ¬ (array (items_view vs) ≡ list make xs)
+refused Whole make vs i value within at_i none xs whole e =
+    let same : items_view vs ≡ items_of (map make xs) = cc in
     let found =
-    get_item-map f xs i (view d)
-    (ap (λ v. Some (view v)) at_i ∙ get_item_within vs i d within ∙ ap (get_item i) same) in
+    get_item-map make xs i (view value)
+    (ap (λ v. Some (view v)) at_i ∙ get_item_within vs i value within ∙ ap (get_item i) same) in
     none found.0 (subst Whole found.2 (whole i found.0 found.1)) found.3
 
 -- data whose items were read as those of an array is that array
-pub array_is : (d : Data) (items : Items) → Some items ≡ as_array d → d ≡ array items
-array_is (string s) items h = cc
-array_is (integer z) items h = cc
-array_is (float x) items h = cc
-array_is (boolean b) items h = cc
-array_is (datetime t) items h = cc
-array_is (array ds) items h = cc
-array_is (table ms) items h = cc
+pub array_is : (other_data : Data) (items : Items) → Some items ≡ as_array other_data → other_data ≡ array items
+array_is (string s) items same = cc
+array_is (integer z) items same = cc
+array_is (float x) items same = cc
+array_is (boolean b) items same = cc
+array_is (datetime t) items same = cc
+array_is (array ds) items same = cc
+array_is (table ms) items same = cc
 
 -- the fault of an item is that of the list
-pub list_fault : {X : Type 0} (Whole : X → Type 0) (f : X → Data) (value : Data) (vs : List Value)
-    (i : ℕ) (d : Value) (e : PlanFault)
-    → value ≡ array (items_view vs) → i < length vs → d ≡ get_or vs i d
-    → ReadsValue {X = X} Whole f (λ x. x) (view d) (Err e)
-    → ReadsValue {X = Vec X Global} (All Whole) (list f) (λ v. v.items) value (Err e)
-list_fault Whole f value vs i d Shape is within at_i h =
-    λ xs whole. rw is (refused Whole f vs i d within at_i h xs whole)
-list_fault Whole f value vs i d NoMemory is within at_i h = tt
-list_fault Whole f value vs i d Text is within at_i h = h
-list_fault Whole f value vs i d DomainCount is within at_i h = h
-list_fault Whole f value vs i d Name is within at_i h = h
-list_fault Whole f value vs i d NameTwice is within at_i h = h
-list_fault Whole f value vs i d Range is within at_i h = h
-list_fault Whole f value vs i d SharedPort is within at_i h = h
-list_fault Whole f value vs i d NodeCount is within at_i h = h
-list_fault Whole f value vs i d Memory is within at_i h = h
-list_fault Whole f value vs i d Port is within at_i h = h
-list_fault Whole f value vs i d PortTwice is within at_i h = h
-list_fault Whole f value vs i d HostCount is within at_i h = h
-list_fault Whole f value vs i d UnwiredNode is within at_i h = h
-list_fault Whole f value vs i d Limit is within at_i h = h
-list_fault Whole f value vs i d RangeCount is within at_i h = h
-list_fault Whole f value vs i d UserCount is within at_i h = h
+pub list_fault : {X : Type 0} (Whole : X → Type 0) (make : X → Data) (value : Data) (vs : List Value)
+    (i : ℕ) (other : Value) (fault : PlanFault)
+    → value ≡ array (items_view vs) → i < length vs → other ≡ get_or vs i other
+    → ReadsValue {X = X} Whole make (λ x. x) (view other) (Err fault)
+    → ReadsValue {X = Vec X Global} (All Whole) (list make) (λ v. v.items) value (Err fault)
+list_fault Whole make value vs i other Shape is within at_i given =
+    λ xs whole. rw is (refused Whole make vs i other within at_i given xs whole)
+list_fault Whole make value vs i other NoMemory is within at_i given = tt
+list_fault Whole make value vs i other Text is within at_i given = given
+list_fault Whole make value vs i other DomainCount is within at_i given = given
+list_fault Whole make value vs i other Name is within at_i given = given
+list_fault Whole make value vs i other NameTwice is within at_i given = given
+list_fault Whole make value vs i other Range is within at_i given = given
+list_fault Whole make value vs i other SharedPort is within at_i given = given
+list_fault Whole make value vs i other NodeCount is within at_i given = given
+list_fault Whole make value vs i other Memory is within at_i given = given
+list_fault Whole make value vs i other Port is within at_i given = given
+list_fault Whole make value vs i other PortTwice is within at_i given = given
+list_fault Whole make value vs i other HostCount is within at_i given = given
+list_fault Whole make value vs i other UnwiredNode is within at_i given = given
+list_fault Whole make value vs i other Limit is within at_i given = given
+list_fault Whole make value vs i other RangeCount is within at_i given = given
+list_fault Whole make value vs i other UserCount is within at_i given = given
 
 abbrev count_items : Items → ℕ
 count_items no_items = 0
 count_items (item d ds) = suc (count_items ds)
 
-count_items-map : {X : Type 0} (f : X → Data) (xs : List X) → count_items (items_of (map f xs)) ≡ length xs
-count_items-map f [] = refl
-count_items-map f (x ∷ xs) = ap suc (count_items-map f xs)
+count_items-map : {X : Type 0} (make : X → Data) (xs : List X) → count_items (items_of (map make xs)) ≡ length xs
+count_items-map make [] = refl
+count_items-map make (x ∷ xs) = ap suc (count_items-map make xs)
 
 abbrev items_in : Data → Items
 items_in (array ds) = ds
 items_in _ = no_items
 
 -- one list of data has one length
-pub same_length : {X : Type 0} (f : X → Data) (value : Data) (xs ys : List X) → value ≡ list f xs → value ≡ list f ys
+pub same_length : {X : Type 0} (make : X → Data) (value : Data) (xs ys : List X) → value ≡ list make xs
+    → value ≡ list make ys
     → length xs ≡ length ys
-same_length f value xs ys a b =
-    sym (count_items-map f xs) ∙ ap (λ d. count_items (items_in d)) (sym a ∙ b) ∙ count_items-map f ys
+same_length make value xs ys same equal =
+    sym (count_items-map make xs) ∙ ap (λ d. count_items (items_in d)) (sym same ∙ equal) ∙ count_items-map make ys
 
 -- a table with just the keys of a node has just these two values
 pub node_fields : (ms : Members) (links memory : Data)
@@ -220,44 +223,44 @@ document_fields (member a s (member b t no_members)) domain version keys h1 h2 =
 document_fields _ domain version keys h1 h2 = cc
 
 -- what the reader of a document says of the bytes that write it
-pub reads_document : (bytes : List ℕ) (ms : Members) (r : Result (List DomainData) PlanFault)
-    → IsDocument bytes ms → ReadsDocument ms r
-    → ReadsPlan bytes r
-reads_document bytes ms (Ok plan) is h = (h.0, (is.0, is.1 ∙ ap Some h.1.0), h.1.1)
-reads_document bytes ms (Err Shape) is h = (
+pub reads_document : (bytes : List ℕ) (ms : Members) (outcome : Result (List DomainData) PlanFault)
+    → IsDocument bytes ms → ReadsDocument ms outcome
+    → ReadsPlan bytes outcome
+reads_document bytes ms (Ok plan) is given = (given.0, (is.0, is.1 ∙ ap Some given.1.0), given.1.1)
+reads_document bytes ms (Err Shape) is holds = (
   (ms, is),
   λ plan given. let same : Some ms ≡ Some (document given.0 plan) = sym is.1 ∙ given.1.1 in
-      h given.0 plan (cc, given.2),
+      holds given.0 plan (cc, given.2),
 )
-reads_document bytes ms (Err NoMemory) is h = tt
-reads_document bytes ms (Err Text) is h = absurd h
-reads_document bytes ms (Err DomainCount) is h = absurd h
-reads_document bytes ms (Err Name) is h = absurd h
-reads_document bytes ms (Err NameTwice) is h = absurd h
-reads_document bytes ms (Err Range) is h = absurd h
-reads_document bytes ms (Err SharedPort) is h = absurd h
-reads_document bytes ms (Err NodeCount) is h = absurd h
-reads_document bytes ms (Err Memory) is h = absurd h
-reads_document bytes ms (Err Port) is h = absurd h
-reads_document bytes ms (Err PortTwice) is h = absurd h
-reads_document bytes ms (Err HostCount) is h = absurd h
-reads_document bytes ms (Err UnwiredNode) is h = absurd h
-reads_document bytes ms (Err Limit) is h = absurd h
-reads_document bytes ms (Err RangeCount) is h = absurd h
-reads_document bytes ms (Err UserCount) is h = absurd h
+reads_document bytes ms (Err NoMemory) is given = tt
+reads_document bytes ms (Err Text) is given = absurd given
+reads_document bytes ms (Err DomainCount) is given = absurd given
+reads_document bytes ms (Err Name) is given = absurd given
+reads_document bytes ms (Err NameTwice) is given = absurd given
+reads_document bytes ms (Err Range) is given = absurd given
+reads_document bytes ms (Err SharedPort) is given = absurd given
+reads_document bytes ms (Err NodeCount) is given = absurd given
+reads_document bytes ms (Err Memory) is given = absurd given
+reads_document bytes ms (Err Port) is given = absurd given
+reads_document bytes ms (Err PortTwice) is given = absurd given
+reads_document bytes ms (Err HostCount) is given = absurd given
+reads_document bytes ms (Err UnwiredNode) is given = absurd given
+reads_document bytes ms (Err Limit) is given = absurd given
+reads_document bytes ms (Err RangeCount) is given = absurd given
+reads_document bytes ms (Err UserCount) is given = absurd given
 
 -- a part of a value that has a fault gives the value that fault
 pub part_fault : {X Y Z W D E : Type 0} (Part : Y → Type 0) (f : Y → D) (shown : X → Y) (Whole : Z → Type 0)
-    (g : Z → E) (seen : W → Z) (v : D) (w : E) (e : PlanFault) (of : Z → Y)
+    (g : Z → E) (seen : W → Z) (v : D) (w : E) (fault : PlanFault) (of : Z → Y)
     → ((z : Z) → Whole z → w ≡ g z → (v ≡ f (of z)) × Part (of z))
-    → ReadsValue {X = X} Part f shown v (Err e) → ReadsValue {X = W} Whole g seen w (Err e)
-part_fault Part f shown Whole g seen v w Shape of taken h =
-    λ z whole is. h (of z) (taken z whole is).1 (taken z whole is).0
-part_fault Part f shown Whole g seen v w NoMemory of taken h = tt
-part_fault Part f shown Whole g seen v w _ of taken h = absurd h
+    → ReadsValue {X = X} Part f shown v (Err fault) → ReadsValue {X = W} Whole g seen w (Err fault)
+part_fault Part f shown Whole g seen v w Shape of taken given =
+    λ z whole is. given (of z) (taken z whole is).1 (taken z whole is).0
+part_fault Part f shown Whole g seen v w NoMemory of taken given = tt
+part_fault Part f shown Whole g seen v w _ of taken given = absurd given
 
 -- the value of a field, in a table that is written in two ways
-pub at_field : (value : Data) (ms ns : Members) (key : List ℕ) (v w : Data)
-    → value ≡ table ms → value ≡ table ns → get_member key ms ≡ Some v → get_member key ns ≡ Some w
-    → v ≡ w
-at_field value ms ns key v w first second at_ms at_ns = cc
+pub at_field : (value : Data) (ms ns : Members) (key : List ℕ) (other_data third_data : Data)
+    → value ≡ table ms → value ≡ table ns → get_member key ms ≡ Some other_data → get_member key ns ≡ Some third_data
+    → other_data ≡ third_data
+at_field value ms ns key other_data third_data first second at_ms at_ns = cc

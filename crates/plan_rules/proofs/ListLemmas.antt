@@ -16,39 +16,40 @@ all_more P xs i y within at_i before here = rw (take_more xs i y within, ← at_
 
 -- what holds of each element of two lists in a row holds of each of the first
 pub all_left : {X : Type 0} (P : X → Type 0) (xs ys : List X) → All P (xs ++ ys) → All P xs
-all_left P [] ys h = All-nil P
-all_left P (x ∷ xs) ys h = All-cons P x xs (All-head P x (xs ++ ys) h) (all_left P xs ys (All-tail P x (xs ++ ys) h))
+all_left P [] ys given = All-nil P
+all_left P (x ∷ xs) ys given = All-cons P x xs (All-head P x (xs ++ ys) given)
+    (all_left P xs ys (All-tail P x (xs ++ ys) given))
 
 -- what holds of each element of two lists in a row holds of each of the second
 pub all_right : {X : Type 0} (P : X → Type 0) (xs ys : List X) → All P (xs ++ ys) → All P ys
-all_right P [] ys h = h
-all_right P (x ∷ xs) ys h = all_right P xs ys (All-tail P x (xs ++ ys) h)
+all_right P [] ys given = given
+all_right P (x ∷ xs) ys given = all_right P xs ys (All-tail P x (xs ++ ys) given)
 
 -- a fact of all elements of all lists
-pub all_lists : {D X : Type 0} (P : X → Type 0) (f : D → List X) (ds : List D) → All P (flat_map f ds)
-    → All (λ d. All P (f d)) ds
-all_lists P f [] h = All-nil (λ d. All P (f d))
-all_lists P f (d ∷ ds) h =
-    let h' = rw (flat_map-cons f d ds) at h in
-    All-cons (λ e. All P (f e)) d ds (all_left P (f d) (flat_map f ds) h')
-    (all_lists P f ds (all_right P (f d) (flat_map f ds) h'))
+pub all_lists : {D X : Type 0} (P : X → Type 0) (make : D → List X) (ds : List D) → All P (flat_map make ds)
+    → All (λ d. All P (make d)) ds
+all_lists P make [] given = All-nil (λ d. All P (make d))
+all_lists P make (d ∷ ds) given =
+    let h' = rw (flat_map-cons make d ds) at given in
+    All-cons (λ e. All P (make e)) d ds (all_left P (make d) (flat_map make ds) h')
+    (all_lists P make ds (all_right P (make d) (flat_map make ds) h'))
 
 -- what holds of each element of each list holds of each element of all of them in a row
-pub all_joined : {D X : Type 0} (P : X → Type 0) (f : D → List X) (ds : List D) → All (λ d. All P (f d)) ds
-    → All P (flat_map f ds)
-all_joined P f [] h = All-nil P
-all_joined P f (d ∷ ds) h =
-    rw (flat_map-cons f d ds)
-    (All-append P (f d) (flat_map f ds) (All-head (λ e. All P (f e)) d ds h)
-    (all_joined P f ds (All-tail (λ e. All P (f e)) d ds h)))
+pub all_joined : {D X : Type 0} (P : X → Type 0) (make : D → List X) (ds : List D) → All (λ d. All P (make d)) ds
+    → All P (flat_map make ds)
+all_joined P make [] given = All-nil P
+all_joined P make (d ∷ ds) given =
+    rw (flat_map-cons make d ds)
+    (All-append P (make d) (flat_map make ds) (All-head (λ e. All P (make e)) d ds given)
+    (all_joined P make ds (All-tail (λ e. All P (make e)) d ds given)))
 
 -- if each element is related to the later ones, the first is to the rest
 pub pairs_head : {X : Type 0} (R : X → X → Type 0) (x : X) (xs : List X) → AllPairs R (x ∷ xs) → All (R x) xs
-pairs_head R x xs h k d less = h 0 (suc k) d (omega arith) (omega arith)
+pairs_head R x xs given k d less = given 0 (suc k) d (omega arith) (omega arith)
 
 -- if each element is related to the later ones, so is each of the rest
 pub pairs_tail : {X : Type 0} (R : X → X → Type 0) (x : X) (xs : List X) → AllPairs R (x ∷ xs) → AllPairs R xs
-pairs_tail R x xs h i j d less within = h (suc i) (suc j) d (omega arith) (omega arith)
+pairs_tail R x xs given i j d less within = given (suc i) (suc j) d (omega arith) (omega arith)
 
 -- the empty list has no two elements to relate
 pub pairs_nil : {X : Type 0} (R : X → X → Type 0) → AllPairs R []
@@ -56,23 +57,23 @@ pairs_nil R i j d less within = absurd (omega arith)
 
 -- if each element of two lists in a row is related to the later ones, so is each of the first list
 pub pairs_left : {X : Type 0} (R : X → X → Type 0) (xs ys : List X) → AllPairs R (xs ++ ys) → AllPairs R xs
-pairs_left R [] ys h = pairs_nil R
-pairs_left R (x ∷ xs) ys h =
-    AllPairs-cons R x xs (all_left (R x) xs ys (pairs_head R x (xs ++ ys) h))
-    (pairs_left R xs ys (pairs_tail R x (xs ++ ys) h))
+pairs_left R [] ys given = pairs_nil R
+pairs_left R (x ∷ xs) ys given =
+    AllPairs-cons R x xs (all_left (R x) xs ys (pairs_head R x (xs ++ ys) given))
+    (pairs_left R xs ys (pairs_tail R x (xs ++ ys) given))
 
 -- if each element of two lists in a row is related to the later ones, so is each of the second list
 pub pairs_right : {X : Type 0} (R : X → X → Type 0) (xs ys : List X) → AllPairs R (xs ++ ys) → AllPairs R ys
-pairs_right R [] ys h = h
-pairs_right R (x ∷ xs) ys h = pairs_right R xs ys (pairs_tail R x (xs ++ ys) h)
+pairs_right R [] ys given = given
+pairs_right R (x ∷ xs) ys given = pairs_right R xs ys (pairs_tail R x (xs ++ ys) given)
 
 -- each of the later elements is related to each of the earlier ones
 pub pairs_across : {X : Type 0} (R : X → X → Type 0) (xs ys : List X) → AllPairs R (xs ++ ys)
     → All (λ y. All (λ x. R x y) xs) ys
-pairs_across R [] ys h k d less = All-nil (λ x. R x (get_or ys k d))
-pairs_across R (x ∷ xs) ys h k d less =
-    All-cons (λ z. R z (get_or ys k d)) x xs (all_right (R x) xs ys (pairs_head R x (xs ++ ys) h) k d less)
-    (pairs_across R xs ys (pairs_tail R x (xs ++ ys) h) k d less)
+pairs_across R [] ys given k d less = All-nil (λ x. R x (get_or ys k d))
+pairs_across R (x ∷ xs) ys given k d less =
+    All-cons (λ z. R z (get_or ys k d)) x xs (all_right (R x) xs ys (pairs_head R x (xs ++ ys) given) k d less)
+    (pairs_across R xs ys (pairs_tail R x (xs ++ ys) given) k d less)
 
 -- two related lists in a row are related, if each element of the first is related to each of the second
 pub pairs_append : {X : Type 0} (R : X → X → Type 0) (xs ys : List X)
@@ -88,38 +89,44 @@ pairs_append R (x ∷ xs) ys first second across =
 
 -- the elements of one list are new after those of the lists before it
 abbrev pub AreNew : {D X : Type 0} → (X → X → Type 0) → (D → List X) → List D → List X → Type 0
-AreNew R f ds ys = All (λ d. All (λ y. All (λ x. R x y) (f d)) ys) ds
+AreNew R make ds ys = All (λ d. All (λ y. All (λ x. R x y) (make d)) ys) ds
 
 -- the lists up to one more
-flat_map_at : {D X : Type 0} (f : D → List X) (ds : List D) (i : ℕ) (d : D) → i < length ds → d ≡ get_or ds i d
-    → flat_map f (take (i + 1) ds) ≡ flat_map f (take i ds) ++ f d
-flat_map_at f ds i d within at_i =
-    rw (take_more ds i d within, ← at_i, flat_map-append f (take i ds) (d ∷ []), flat_map-cons f d [], append-nil (f d))
+flat_map_at : {D X : Type 0} (make : D → List X) (ds : List D) (i : ℕ) (d : D) → i < length ds → d ≡ get_or ds i d
+    → flat_map make (take (i + 1) ds) ≡ flat_map make (take i ds) ++ make d
+flat_map_at make ds i d within at_i =
+    rw (
+      take_more ds i d within,
+      ← at_i,
+      flat_map-append make (take i ds) (d ∷ []),
+      flat_map-cons make d [],
+      append-nil (make d),
+    )
     refl
 
 -- if the lists of the first i items are related in a row, and the next list is and is new, so are those of i + 1
-pub lists_more : {D X : Type 0} (R : X → X → Type 0) (f : D → List X) (ds : List D) (i : ℕ) (d : D) → i < length ds
+pub lists_more : {D X : Type 0} (R : X → X → Type 0) (make : D → List X) (ds : List D) (i : ℕ) (d : D) → i < length ds
     → d ≡ get_or ds i d
-    → AllPairs R (flat_map f (take i ds)) → AllPairs R (f d) → AreNew R f (take i ds) (f d)
-    → AllPairs R (flat_map f (take (i + 1) ds))
-lists_more R f ds i d within at_i before here new =
-    rw (flat_map_at f ds i d within at_i)
-    (pairs_append R (flat_map f (take i ds)) (f d) before here
-    (λ k e less. all_joined (λ x. R x (get_or (f d) k e)) f (take i ds) (λ j a below. new j a below k e less)))
+    → AllPairs R (flat_map make (take i ds)) → AllPairs R (make d) → AreNew R make (take i ds) (make d)
+    → AllPairs R (flat_map make (take (i + 1) ds))
+lists_more R make ds i d within at_i before here new =
+    rw (flat_map_at make ds i d within at_i)
+    (pairs_append R (flat_map make (take i ds)) (make d) before here
+    (λ k e less. all_joined (λ x. R x (get_or (make d) k e)) make (take i ds) (λ j a below. new j a below k e less)))
 
 -- if the lists of all items are related in a row, each of them is, and is new after those before it
-pub lists_at : {D X : Type 0} (R : X → X → Type 0) (f : D → List X) (ds : List D) (i : ℕ) (d : D) → i < length ds
+pub lists_at : {D X : Type 0} (R : X → X → Type 0) (make : D → List X) (ds : List D) (i : ℕ) (d : D) → i < length ds
     → d ≡ get_or ds i d
-    → AllPairs R (flat_map f ds) → AllPairs R (f d) × AreNew R f (take i ds) (f d)
-lists_at R f ds i d within at_i all =
-    let parts : flat_map f ds ≡ flat_map f (take (i + 1) ds) ++ flat_map f (drop (i + 1) ds) =
-    ap (flat_map f) (sym (take-append-drop (i + 1) ds)) ∙ flat_map-append f (take (i + 1) ds) (drop (i + 1) ds) in
+    → AllPairs R (flat_map make ds) → AllPairs R (make d) × AreNew R make (take i ds) (make d)
+lists_at R make ds i d within at_i all =
+    let parts : flat_map make ds ≡ flat_map make (take (i + 1) ds) ++ flat_map make (drop (i + 1) ds) =
+    ap (flat_map make) (sym (take-append-drop (i + 1) ds)) ∙ flat_map-append make (take (i + 1) ds) (drop (i + 1) ds) in
     let until =
-    pairs_left R (flat_map f (take (i + 1) ds)) (flat_map f (drop (i + 1) ds)) (subst (AllPairs R) parts all) in
-    let until' = subst (AllPairs R) (flat_map_at f ds i d within at_i) until in
-    let across = pairs_across R (flat_map f (take i ds)) (f d) until' in (
-      pairs_right R (flat_map f (take i ds)) (f d) until',
-      λ j a below k e less. all_lists (λ x. R x (get_or (f d) k e)) f (take i ds) (across k e less) j a below,
+    pairs_left R (flat_map make (take (i + 1) ds)) (flat_map make (drop (i + 1) ds)) (subst (AllPairs R) parts all) in
+    let until' = subst (AllPairs R) (flat_map_at make ds i d within at_i) until in
+    let across = pairs_across R (flat_map make (take i ds)) (make d) until' in (
+      pairs_right R (flat_map make (take i ds)) (make d) until',
+      λ j a below k e less. all_lists (λ x. R x (get_or (make d) k e)) make (take i ds) (across k e less) j a below,
     )
 
 -- one more element, to which the earlier ones are related
@@ -141,41 +148,41 @@ pairs_at R xs i y within at_i all =
     All-head (λ z. All (λ x. R x z) (take i xs)) y [] (pairs_across R (take i xs) (y ∷ []) until')
 
 -- the lists up to one more are no longer than all
-pub length_until : {D X : Type 0} (f : D → List X) (ds : List D) (i : ℕ) (d : D) → i < length ds → d ≡ get_or ds i d
-    → length (flat_map f (take i ds)) + length (f d) ≤ length (flat_map f ds)
-length_until f ds i d within at_i =
-    let parts : flat_map f ds ≡ flat_map f (take (i + 1) ds) ++ flat_map f (drop (i + 1) ds) =
-    ap (flat_map f) (sym (take-append-drop (i + 1) ds)) ∙ flat_map-append f (take (i + 1) ds) (drop (i + 1) ds) in
-    let until = flat_map_at f ds i d within at_i in
-    let e1 = ap length parts ∙ length-append (flat_map f (take (i + 1) ds)) (flat_map f (drop (i + 1) ds)) in
-    let e2 = ap length until ∙ length-append (flat_map f (take i ds)) (f d) in
+pub length_until : {D X : Type 0} (make : D → List X) (ds : List D) (i : ℕ) (d : D) → i < length ds → d ≡ get_or ds i d
+    → length (flat_map make (take i ds)) + length (make d) ≤ length (flat_map make ds)
+length_until make ds i d within at_i =
+    let parts : flat_map make ds ≡ flat_map make (take (i + 1) ds) ++ flat_map make (drop (i + 1) ds) =
+    ap (flat_map make) (sym (take-append-drop (i + 1) ds)) ∙ flat_map-append make (take (i + 1) ds) (drop (i + 1) ds) in
+    let until = flat_map_at make ds i d within at_i in
+    let e1 = ap length parts ∙ length-append (flat_map make (take (i + 1) ds)) (flat_map make (drop (i + 1) ds)) in
+    let e2 = ap length until ∙ length-append (flat_map make (take i ds)) (make d) in
     omega (arith, e1, e2)
 
 -- the elements of each list are related
-pub lists_each : {D X : Type 0} (R : X → X → Type 0) (f : D → List X) (ds : List D) → AllPairs R (flat_map f ds)
-    → All (λ d. AllPairs R (f d)) ds
-lists_each R f [] all = All-nil (λ d. AllPairs R (f d))
-lists_each R f (d ∷ ds) all =
-    let all' = rw (flat_map-cons f d ds) at all in
-    All-cons (λ d. AllPairs R (f d)) d ds (pairs_left R (f d) (flat_map f ds) all')
-    (lists_each R f ds (pairs_right R (f d) (flat_map f ds) all'))
+pub lists_each : {D X : Type 0} (R : X → X → Type 0) (make : D → List X) (ds : List D) → AllPairs R (flat_map make ds)
+    → All (λ d. AllPairs R (make d)) ds
+lists_each R make [] all = All-nil (λ d. AllPairs R (make d))
+lists_each R make (d ∷ ds) all =
+    let all' = rw (flat_map-cons make d ds) at all in
+    All-cons (λ d. AllPairs R (make d)) d ds (pairs_left R (make d) (flat_map make ds) all')
+    (lists_each R make ds (pairs_right R (make d) (flat_map make ds) all'))
 
 -- the elements of each list are related to those of each later one
-pub lists_across : {D X : Type 0} (R : X → X → Type 0) (f : D → List X) (ds : List D) → AllPairs R (flat_map f ds)
-    → AllPairs (λ d e. All (λ y. All (λ x. R x y) (f d)) (f e)) ds
-lists_across R f [] all = pairs_nil (λ d e. All (λ y. All (λ x. R x y) (f d)) (f e))
-lists_across R f (d ∷ ds) all =
-    let all' = rw (flat_map-cons f d ds) at all in
-    AllPairs-cons (λ d e. All (λ y. All (λ x. R x y) (f d)) (f e)) d ds
-    (all_lists (λ y. All (λ x. R x y) (f d)) f ds (pairs_across R (f d) (flat_map f ds) all'))
-    (lists_across R f ds (pairs_right R (f d) (flat_map f ds) all'))
+pub lists_across : {D X : Type 0} (R : X → X → Type 0) (make : D → List X) (ds : List D) → AllPairs R (flat_map make ds)
+    → AllPairs (λ d e. All (λ y. All (λ x. R x y) (make d)) (make e)) ds
+lists_across R make [] all = pairs_nil (λ d e. All (λ y. All (λ x. R x y) (make d)) (make e))
+lists_across R make (d ∷ ds) all =
+    let all' = rw (flat_map-cons make d ds) at all in
+    AllPairs-cons (λ d e. All (λ y. All (λ x. R x y) (make d)) (make e)) d ds
+    (all_lists (λ y. All (λ x. R x y) (make d)) make ds (pairs_across R (make d) (flat_map make ds) all'))
+    (lists_across R make ds (pairs_right R (make d) (flat_map make ds) all'))
 
 -- if the list of a single item is related, so are the lists of all items in a row
-pub pairs_alone : {D X : Type 0} (R : X → X → Type 0) (f : D → List X) (d : D) → AllPairs R (f d)
-    → AllPairs R (flat_map f (d ∷ []))
-pairs_alone R f d h = rw (flat_map-cons f d [], append-nil (f d)) h
+pub pairs_alone : {D X : Type 0} (R : X → X → Type 0) (make : D → List X) (d : D) → AllPairs R (make d)
+    → AllPairs R (flat_map make (d ∷ []))
+pairs_alone R make d given = rw (flat_map-cons make d [], append-nil (make d)) given
 
 -- if the lists in a row of a single item are related, so is its list
-pub pairs_of_one : {D X : Type 0} (R : X → X → Type 0) (f : D → List X) (d : D) → AllPairs R (flat_map f (d ∷ []))
-    → AllPairs R (f d)
-pairs_of_one R f d h = All-head (λ d. AllPairs R (f d)) d [] (lists_each R f (d ∷ []) h)
+pub pairs_of_one : {D X : Type 0} (R : X → X → Type 0) (make : D → List X) (d : D) → AllPairs R (flat_map make (d ∷ []))
+    → AllPairs R (make d)
+pairs_of_one R make d given = All-head (λ d. AllPairs R (make d)) d [] (lists_each R make (d ∷ []) given)

@@ -32,7 +32,7 @@ fault_of (suc (suc (suc (suc (suc (suc (suc (suc (suc (suc (suc (suc (suc (suc (
     UserCount
 fault_of _ = NoMemory
 
-fault_of-number : (f : PlanFault) → fault_of (plan_fault_number f) ≡ f
+fault_of-number : (fault : PlanFault) → fault_of (plan_fault_number fault) ≡ fault
 fault_of-number Text = refl
 fault_of-number Shape = refl
 fault_of-number DomainCount = refl
@@ -52,10 +52,12 @@ fault_of-number RangeCount = refl
 fault_of-number UserCount = refl
 
 -- two faults of one number have one rule
-pub same_rule : (plan : List DomainData) (a b : PlanFault) → plan_fault_number a ≡ plan_fault_number b → Rule a plan
-    → Rule b plan
-same_rule plan a b same kept =
-    subst (λ (f : PlanFault). Rule f plan) (sym (fault_of-number a) ∙ ap fault_of same ∙ fault_of-number b) kept
+pub same_rule : (plan : List DomainData) (fault other_fault : PlanFault) → plan_fault_number fault
+    ≡ plan_fault_number other_fault → Rule fault plan
+    → Rule other_fault plan
+same_rule plan fault other_fault same kept =
+    subst (λ (f : PlanFault). Rule f plan) (sym (fault_of-number fault) ∙ ap fault_of same
+    ∙ fault_of-number other_fault) kept
 
 -- the first two faults are no rules of a plan
 pub no_rule : (plan : List DomainData) → KeepsBelow plan 3
@@ -79,23 +81,23 @@ no_rule plan UserCount h = absurd (omega arith)
 
 -- a plan that keeps the rules of all numbers below 18 is separate
 pub every_rule : (plan : List DomainData) → KeepsBelow plan 18 → IsSeparate plan
-every_rule plan h Text = tt
-every_rule plan h Shape = tt
-every_rule plan h DomainCount = h DomainCount (omega arith)
-every_rule plan h Name = h Name (omega arith)
-every_rule plan h NameTwice = h NameTwice (omega arith)
-every_rule plan h Range = h Range (omega arith)
-every_rule plan h SharedPort = h SharedPort (omega arith)
-every_rule plan h NodeCount = h NodeCount (omega arith)
-every_rule plan h Memory = h Memory (omega arith)
-every_rule plan h Port = h Port (omega arith)
-every_rule plan h PortTwice = h PortTwice (omega arith)
-every_rule plan h HostCount = h HostCount (omega arith)
-every_rule plan h UnwiredNode = h UnwiredNode (omega arith)
-every_rule plan h Limit = h Limit (omega arith)
-every_rule plan h NoMemory = tt
-every_rule plan h RangeCount = h RangeCount (omega arith)
-every_rule plan h UserCount = h UserCount (omega arith)
+every_rule plan given Text = tt
+every_rule plan given Shape = tt
+every_rule plan given DomainCount = given DomainCount (omega arith)
+every_rule plan given Name = given Name (omega arith)
+every_rule plan given NameTwice = given NameTwice (omega arith)
+every_rule plan given Range = given Range (omega arith)
+every_rule plan given SharedPort = given SharedPort (omega arith)
+every_rule plan given NodeCount = given NodeCount (omega arith)
+every_rule plan given Memory = given Memory (omega arith)
+every_rule plan given Port = given Port (omega arith)
+every_rule plan given PortTwice = given PortTwice (omega arith)
+every_rule plan given HostCount = given HostCount (omega arith)
+every_rule plan given UnwiredNode = given UnwiredNode (omega arith)
+every_rule plan given Limit = given Limit (omega arith)
+every_rule plan given NoMemory = tt
+every_rule plan given RangeCount = given RangeCount (omega arith)
+every_rule plan given UserCount = given UserCount (omega arith)
 
 -- the rules in the order of their numbers
 abbrev pub rules_in_order : List PlanFault
@@ -105,20 +107,20 @@ rules_in_order =
 
 -- the fault of the rule at place i has the number i + 3
 pub numbered : (i : ℕ) → i < 15 → plan_fault_number (get_or rules_in_order i Text) ≡ i + 3
-numbered zero h = refl
-numbered (suc zero) h = refl
-numbered (suc (suc zero)) h = refl
-numbered (suc (suc (suc zero))) h = refl
-numbered (suc (suc (suc (suc zero)))) h = refl
-numbered (suc (suc (suc (suc (suc zero))))) h = refl
-numbered (suc (suc (suc (suc (suc (suc zero)))))) h = refl
-numbered (suc (suc (suc (suc (suc (suc (suc zero))))))) h = refl
-numbered (suc (suc (suc (suc (suc (suc (suc (suc zero)))))))) h = refl
-numbered (suc (suc (suc (suc (suc (suc (suc (suc (suc zero))))))))) h = refl
-numbered (suc (suc (suc (suc (suc (suc (suc (suc (suc (suc zero)))))))))) h = refl
-numbered (suc (suc (suc (suc (suc (suc (suc (suc (suc (suc (suc zero))))))))))) h = refl
-numbered (suc (suc (suc (suc (suc (suc (suc (suc (suc (suc (suc (suc zero)))))))))))) h = refl
-numbered (suc (suc (suc (suc (suc (suc (suc (suc (suc (suc (suc (suc (suc zero))))))))))))) h = refl
-numbered (suc (suc (suc (suc (suc (suc (suc (suc (suc (suc (suc (suc (suc (suc zero)))))))))))))) h = refl
-numbered (suc (suc (suc (suc (suc (suc (suc (suc (suc (suc (suc (suc (suc (suc (suc k))))))))))))))) h =
+numbered zero less = refl
+numbered (suc zero) less = refl
+numbered (suc (suc zero)) less = refl
+numbered (suc (suc (suc zero))) less = refl
+numbered (suc (suc (suc (suc zero)))) less = refl
+numbered (suc (suc (suc (suc (suc zero))))) less = refl
+numbered (suc (suc (suc (suc (suc (suc zero)))))) less = refl
+numbered (suc (suc (suc (suc (suc (suc (suc zero))))))) less = refl
+numbered (suc (suc (suc (suc (suc (suc (suc (suc zero)))))))) less = refl
+numbered (suc (suc (suc (suc (suc (suc (suc (suc (suc zero))))))))) less = refl
+numbered (suc (suc (suc (suc (suc (suc (suc (suc (suc (suc zero)))))))))) less = refl
+numbered (suc (suc (suc (suc (suc (suc (suc (suc (suc (suc (suc zero))))))))))) less = refl
+numbered (suc (suc (suc (suc (suc (suc (suc (suc (suc (suc (suc (suc zero)))))))))))) less = refl
+numbered (suc (suc (suc (suc (suc (suc (suc (suc (suc (suc (suc (suc (suc zero))))))))))))) less = refl
+numbered (suc (suc (suc (suc (suc (suc (suc (suc (suc (suc (suc (suc (suc (suc zero)))))))))))))) less = refl
+numbered (suc (suc (suc (suc (suc (suc (suc (suc (suc (suc (suc (suc (suc (suc (suc k))))))))))))))) less =
     absurd (omega arith)

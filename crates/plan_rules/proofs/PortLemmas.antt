@@ -42,14 +42,14 @@ get_or_itself : {X : Type 0} (xs : List X) (k : ℕ) (d : X) → k < length xs �
 get_or_itself xs k d less = get_or_default xs k (get_or xs k d) d less
 
 -- an integer from 0 on is the number that it comes to without its sign
-pub abs_is : (z : ℤ) → pos 0 ≤ℤ z → pos (unsigned_abs z) ≡ z
-abs_is z h = omega (arith, ints)
+pub abs_is : (integer : ℤ) → pos 0 ≤ℤ integer → pos (unsigned_abs integer) ≡ integer
+abs_is integer less = omega (arith, ints)
 
 -- a port that a range lists is one of its own
 pub own_port : (r : RangePlan) → IsRange r → All (λ p. HasPort r (pos p)) (own_ports r)
-own_port r h k d less =
-    let first = abs_is r.first h.0 in
-    let last : pos (unsigned_abs r.last) ≡ r.last = abs_is r.last (omega (arith, ints, h.0, h.1)) in
+own_port r given k d less =
+    let first = abs_is r.first given.0 in
+    let last : pos (unsigned_abs r.last) ≡ r.last = abs_is r.last (omega (arith, ints, given.0, given.1)) in
     let len = length-range_with_len (unsigned_abs r.first) (unsigned_abs r.last + 1 - unsigned_abs r.first) in
     let at_k =
     get_or-range_with_len (unsigned_abs r.first) (unsigned_abs r.last + 1 - unsigned_abs r.first) k d
@@ -58,18 +58,18 @@ own_port r h k d less =
 
 -- a range has as many ports as its ends say
 pub length_own : (r : RangePlan) → IsRange r → pos (length (own_ports r)) ≡ length_of r
-length_own r h =
-    let first = abs_is r.first h.0 in
-    let last : pos (unsigned_abs r.last) ≡ r.last = abs_is r.last (omega (arith, ints, h.0, h.1)) in
+length_own r given =
+    let first = abs_is r.first given.0 in
+    let last : pos (unsigned_abs r.last) ≡ r.last = abs_is r.last (omega (arith, ints, given.0, given.1)) in
     let len = length-range_with_len (unsigned_abs r.first) (unsigned_abs r.last + 1 - unsigned_abs r.first) in
-    omega (arith, ints, first, last, len, h.1)
+    omega (arith, ints, first, last, len, given.1)
 
 -- ranges have as many ports as their ends say
 pub length_all : (rs : List RangePlan) → All IsRange rs → pos (length (all_ports rs)) ≡ count_of rs
-length_all [] h = refl
-length_all (r ∷ rs) h =
-    let here = length_own r (All-head IsRange r rs h) in
-    let later = length_all rs (All-tail IsRange r rs h) in
+length_all [] given = refl
+length_all (r ∷ rs) given =
+    let here = length_own r (All-head IsRange r rs given) in
+    let later = length_all rs (All-tail IsRange r rs given) in
     let whole = ap length (flat_map-cons own_ports r rs) ∙ length-append (own_ports r) (all_ports rs) in
     omega (arith, ints, here, later, whole)
 
@@ -91,10 +91,10 @@ across r s hr hs apart k d less j e below same =
 -- the ports of ranges that share none are distinct
 pub ports_distinct : (rs : List RangePlan) → All IsRange rs → AllPairs ShareNoPort rs
     → AllPairs (λ x y. x ≢ y) (all_ports rs)
-ports_distinct [] h apart = pairs_nil (λ x y. x ≢ y)
-ports_distinct (r ∷ rs) h apart =
-    let here = All-head IsRange r rs h in
-    let later = All-tail IsRange r rs h in
+ports_distinct [] given apart = pairs_nil (λ x y. x ≢ y)
+ports_distinct (r ∷ rs) given apart =
+    let here = All-head IsRange r rs given in
+    let later = All-tail IsRange r rs given in
     let new = pairs_head ShareNoPort r rs apart in
     rw (flat_map-cons own_ports r rs) (
     pairs_append (λ x y. x ≢ y) (own_ports r) (all_ports rs)
@@ -106,28 +106,28 @@ ports_distinct (r ∷ rs) h apart =
 
 -- the ports of ranges are below 32
 pub ports_below : (rs : List RangePlan) → All IsRange rs → All (λ p. p < 32) (all_ports rs)
-ports_below rs h =
+ports_below rs given =
     all_joined (λ p. p < 32) own_ports rs
-    (λ k d less j e below. let own = own_port (get_or rs k d) (h k d less) j e below in
-    let top = h k d less in
+    (λ k d less j e below. let own = own_port (get_or rs k d) (given k d less) j e below in
+    let top = given k d less in
     omega (arith, ints, own.1, top.2))
 
 -- a port of the ranges lies in one of them
 pub port_in : (rs : List RangePlan) → All IsRange rs
     → All (λ p. (r : RangePlan) × Contains rs r × HasPort r (pos p)) (all_ports rs)
-port_in rs h =
+port_in rs given =
     all_joined (λ p. (r : RangePlan) × Contains rs r × HasPort r (pos p)) own_ports rs
     (λ k d less j e below.
-    (get_or rs k d, (k, less, get_or_itself rs k d less), own_port (get_or rs k d) (h k d less) j e below))
+    (get_or rs k d, (k, less, get_or_itself rs k d less), own_port (get_or rs k d) (given k d less) j e below))
 
 any_below : (xs : List ℕ) (n q : ℕ) → All (λ x. x < n) xs → list_any (eqb q) xs ≡ true → q < n
-any_below [] n q below h = absurd (false≢true h)
-any_below (x ∷ xs) n q below h = elim (cases_Bool (eqb q x)) [
+any_below [] n q below same = absurd (false≢true same)
+any_below (x ∷ xs) n q below equal = elim (cases_Bool (eqb q x)) [
   | inl t ↦
       let same : q ≡ x = (Decides-eqb q x).0 t in
       let here = All-head (λ x. x < n) x xs below in
       omega (arith, here, same)
-  | inr f ↦ any_below xs n q (All-tail (λ x. x < n) x xs below) (rw f at h)
+  | inr f ↦ any_below xs n q (All-tail (λ x. x < n) x xs below) (rw f at equal)
 ]
 
 -- distinct numbers below n are n at most
@@ -152,27 +152,27 @@ one_to_one xs distinct v w port a b =
 -- each place of a row holds a range of the crossbar
 places : (rs : List RangePlan) (n : ℕ) → All IsRange rs
     → All IsPlace (map (λ r. Some (port_range r)) rs ++ replicate n None)
-places [] zero h = All-nil IsPlace
-places [] (suc n) h = All-cons IsPlace None (replicate n None) tt (places [] n h)
-places (r ∷ rs) n h =
-    let here = All-head IsRange r rs h in
+places [] zero given = All-nil IsPlace
+places [] (suc n) given = All-cons IsPlace None (replicate n None) tt (places [] n given)
+places (r ∷ rs) n given =
+    let here = All-head IsRange r rs given in
     let first = abs_is r.first here.0 in
     let last : pos (unsigned_abs r.last) ≡ r.last = abs_is r.last (omega (arith, ints, here.0, here.1)) in
     All-cons IsPlace (Some (port_range r)) (map (λ r. Some (port_range r)) rs ++ replicate n None)
     (omega (arith, ints, first, last, here.1), omega (arith, ints, last, here.2))
-    (places rs n (All-tail IsRange r rs h))
+    (places rs n (All-tail IsRange r rs given))
 
 -- the ports of ranges that share none, each with one number
 pub numbering : (rs : List RangePlan) → All IsRange rs → AllPairs ShareNoPort rs → IsNumbering (all_ports rs)
-numbering rs h apart =
-    record { below = ports_below rs h; one_to_one = one_to_one (all_ports rs) (ports_distinct rs h apart) }
+numbering rs given apart =
+    record { below = ports_below rs given; one_to_one = one_to_one (all_ports rs) (ports_distinct rs given apart) }
 
 -- the ranges of a plan that share no port, with none behind them, are ranges that a numbering may have
 pub are_ranges : (rs : List RangePlan) (n : ℕ) → All IsRange rs → AllPairs ShareNoPort rs
     → AreRanges (map (λ r. Some (port_range r)) rs ++ replicate n None)
-are_ranges rs n h apart = record {
-  each = places rs n h;
-  one_to_one = subst IsOneToOne (sym (ports_in_row rs n)) (one_to_one (all_ports rs) (ports_distinct rs h apart));
+are_ranges rs n given apart = record {
+  each = places rs n given;
+  one_to_one = subst IsOneToOne (sym (ports_in_row rs n)) (one_to_one (all_ports rs) (ports_distinct rs given apart));
 }
 
 -- Two domains whose ranges share no port have none in common.
@@ -189,11 +189,11 @@ no_common rs ss hr hs apart port in_r in_s =
 -- a separate domain has 1 to 32 ports
 pub count_from : (rs : List RangePlan) → 1 ≤ length rs → All IsRange rs → AllPairs ShareNoPort rs
     → (1 ≤ length (all_ports rs)) × (length (all_ports rs) ≤ 32)
-count_from [] some h apart = absurd (omega (arith, some))
-count_from (r ∷ rs) some h apart =
-    let here = All-head IsRange r rs h in
+count_from [] some given apart = absurd (omega (arith, some))
+count_from (r ∷ rs) some given apart =
+    let here = All-head IsRange r rs given in
     let own = length_own r here in
     let whole = ap length (flat_map-cons own_ports r rs) ∙ length-append (own_ports r) (all_ports rs) in (
       omega (arith, ints, own, whole, here.1),
-      distinct_few (all_ports (r ∷ rs)) 32 (ports_distinct (r ∷ rs) h apart) (ports_below (r ∷ rs) h),
+      distinct_few (all_ports (r ∷ rs)) 32 (ports_distinct (r ∷ rs) given apart) (ports_below (r ∷ rs) given),
     )

@@ -13,13 +13,15 @@ use Rattle.plan_rules.specs.declared.plan.RangePlan.{RangePlan}
 use Rattle.plan_rules.specs.Separate.{IsRange, length_of, count_of}
 
 -- Two ranges share no port exactly where the least of the lasts lies below the greatest of the firsts.
-pub differs_from : (a b c d low high : ℤ) → low ≡ int_max a c → high ≡ int_min b d
-    → IsTrue (lt_z high low) ↔ ((port : ℤ) → (a ≤ℤ port) × (port ≤ℤ b) → (c ≤ℤ port) × (port ≤ℤ d) → ⊥)
-differs_from a b c d low high is_low is_high =
-    let a_low : a ≤ℤ low = omega (arith, ints, clamps) in
-    let c_low : c ≤ℤ low = omega (arith, ints, clamps) in
-    let b_high : high ≤ℤ b = omega (arith, ints, clamps) in
-    let d_high : high ≤ℤ d = omega (arith, ints, clamps) in (
+pub differs_from : (integer other_integer third_integer fourth_integer low high : ℤ) → low
+    ≡ int_max integer third_integer → high ≡ int_min other_integer fourth_integer
+    → IsTrue (lt_z high low) ↔ ((port : ℤ) → (integer ≤ℤ port) × (port ≤ℤ other_integer) → (third_integer ≤ℤ port)
+    × (port ≤ℤ fourth_integer) → ⊥)
+differs_from integer other_integer third_integer fourth_integer low high is_low is_high =
+    let a_low : integer ≤ℤ low = omega (arith, ints, clamps) in
+    let c_low : third_integer ≤ℤ low = omega (arith, ints, clamps) in
+    let b_high : high ≤ℤ other_integer = omega (arith, ints, clamps) in
+    let d_high : high ≤ℤ fourth_integer = omega (arith, ints, clamps) in (
       λ less port p q. grind (arith, ints, clamps),
       λ none. elim (cases_Bool (lt_z high low)) [
         | inl t ↦ t
@@ -32,8 +34,8 @@ differs_from a b c d low high is_low is_high =
 some_at : {X : Type 0} (here : Bool) (p : X → Bool) (x : X) (xs : List X)
     → IsTrue (list_any p xs) ↔ (1 ≤ length (filter p xs))
     → IsTrue (here || list_any p xs) ↔ (1 ≤ length (cond here (x ∷ filter p xs) (filter p xs)))
-some_at true p x xs h = (λ _. omega arith, λ _. refl)
-some_at false p x xs h = h
+some_at true p x xs less = (λ _. omega arith, λ _. refl)
+some_at false p x xs less = less
 
 -- an element that passes the test
 pub some_pass : {X : Type 0} (p : X → Bool) (xs : List X) → IsTrue (list_any p xs) ↔ (1 ≤ length (filter p xs))
@@ -45,44 +47,45 @@ count_of-append [] ss = omega (arith, ints)
 count_of-append (r ∷ rs) ss = let h = count_of-append rs ss in omega (arith, ints, h)
 
 -- the ports of the ranges up to one more
-pub count_more : (rs : List RangePlan) (i : ℕ) (d : RangePlan) → i < length rs
-    → count_of (take (i + 1) rs) ≡ count_of (take i rs) +ℤ length_of (get_or rs i d)
-count_more rs i d within =
-    let h = count_of-append (take i rs) (get_or rs i d ∷ []) in
-    rw (take_more rs i d within) (omega (arith, ints, h))
+pub count_more : (rs : List RangePlan) (i : ℕ) (range : RangePlan) → i < length rs
+    → count_of (take (i + 1) rs) ≡ count_of (take i rs) +ℤ length_of (get_or rs i range)
+count_more rs i range within =
+    let h = count_of-append (take i rs) (get_or rs i range ∷ []) in
+    rw (take_more rs i range within) (omega (arith, ints, h))
 
 -- the number of ports of ranges isn't negative
 pub count_least : (rs : List RangePlan) → All IsRange rs → pos 0 ≤ℤ count_of rs
-count_least [] h = omega (arith, ints)
-count_least (r ∷ rs) h =
-    let here = All-head IsRange r rs h in
-    let later = count_least rs (All-tail IsRange r rs h) in
+count_least [] given = omega (arith, ints)
+count_least (r ∷ rs) given =
+    let here = All-head IsRange r rs given in
+    let later = count_least rs (All-tail IsRange r rs given) in
     omega (arith, ints, here.0, here.1, here.2, later)
 
 -- a port that a range holds, past those before it
-pub port_within : (rs : List RangePlan) (i : ℕ) (d : RangePlan) (port left : ℤ) → All IsRange rs → i < length rs
-    → port ≡ count_of (take i rs) +ℤ left → left <ℤ length_of (get_or rs i d) → port <ℤ count_of rs
-port_within rs i d port left ranges within is less =
+pub port_within : (rs : List RangePlan) (i : ℕ) (range : RangePlan) (port left : ℤ) → All IsRange rs → i < length rs
+    → port ≡ count_of (take i rs) +ℤ left → left <ℤ length_of (get_or rs i range) → port <ℤ count_of rs
+port_within rs i range port left ranges within is less =
     let whole : count_of rs ≡ count_of (take (i + 1) rs) +ℤ count_of (drop (i + 1) rs) =
     ap count_of (sym (take-append-drop (i + 1) rs)) ∙ count_of-append (take (i + 1) rs) (drop (i + 1) rs) in
-    let more = count_more rs i d within in
+    let more = count_more rs i range within in
     let rest = count_least (drop (i + 1) rs) (All-drop IsRange (i + 1) rs ranges) in
     omega (arith, ints, whole, more, rest, is, less)
 
 -- the next range's ports lie past those before it
-pub port_past : (rs : List RangePlan) (i : ℕ) (d : RangePlan) (port left : ℤ) → i < length rs
-    → port ≡ count_of (take i rs) +ℤ left → port ≡ count_of (take (i + 1) rs) +ℤ (left -ℤ length_of (get_or rs i d))
-port_past rs i d port left within is =
-    let more = count_more rs i d within in
+pub port_past : (rs : List RangePlan) (i : ℕ) (range : RangePlan) (port left : ℤ) → i < length rs
+    → port ≡ count_of (take i rs) +ℤ left → port ≡ count_of (take (i + 1) rs) +ℤ (left -ℤ length_of (get_or rs i range))
+port_past rs i range port left within is =
+    let more = count_more rs i range within in
     omega (arith, ints, more, is)
 
 -- a range has one port at least
-pub length_least : (rs : List RangePlan) (i : ℕ) (d : RangePlan) → All IsRange rs → i < length rs
-    → pos 1 ≤ℤ length_of (get_or rs i d)
-length_least rs i d ranges within =
-    let h = ranges i d within in
+pub length_least : (rs : List RangePlan) (i : ℕ) (range : RangePlan) → All IsRange rs → i < length rs
+    → pos 1 ≤ℤ length_of (get_or rs i range)
+length_least rs i range ranges within =
+    let h = ranges i range within in
     omega (arith, ints, h.0, h.1, h.2)
 
 -- what is left of a number if a smaller one is taken away fits in 64 bits
-pub fits_less : (a b : ℤ) → SFits w64 a → pos 0 ≤ℤ b → b ≤ℤ a → SFits w64 (a -ℤ b)
-fits_less a b fits low high = grind (arith, ints)
+pub fits_less : (integer other_integer : ℤ) → SFits w64 integer → pos 0 ≤ℤ other_integer → other_integer ≤ℤ integer
+    → SFits w64 (integer -ℤ other_integer)
+fits_less integer other_integer fits low high = grind (arith, ints)

@@ -35,11 +35,11 @@ use Rattle.plan_rules.proofs.PortLemmas.{are_ranges, numbering, no_common}
 
 -- ---- the parts in numbers
 
-abs_wired_at : (l : ℤ) (ls : List ℤ) (wired : Bool) → is_wired l ≡ wired
+abs_wired_at : (integer : ℤ) (ls : List ℤ) (wired : Bool) → is_wired integer ≡ wired
     → filter_map (λ link. link) (map port_at ls) ≡ map unsigned_abs (filter is_wired ls)
-    → filter_map (λ link. link) (map port_at (l ∷ ls)) ≡ map unsigned_abs (filter is_wired (l ∷ ls))
-abs_wired_at l ls true is h = rw is (ap (λ ps. unsigned_abs l ∷ ps) h)
-abs_wired_at l ls false is h = rw is h
+    → filter_map (λ link. link) (map port_at (integer ∷ ls)) ≡ map unsigned_abs (filter is_wired (integer ∷ ls))
+abs_wired_at integer ls true is same = rw is (ap (λ ps. unsigned_abs integer ∷ ps) same)
+abs_wired_at integer ls false is same = rw is same
 
 abs_wired : (ls : List ℤ) → filter_map (λ link. link) (map port_at ls) ≡ map unsigned_abs (filter is_wired ls)
 abs_wired [] = refl
@@ -112,21 +112,22 @@ abs_distinct (x ∷ xs) low distinct =
 
 some_host : (us : List UserData) → 1 ≤ length us → All (λ u. 1 ≤ length u.hosts) us
     → 1 ≤ length (flat_map (λ u. u.hosts) us)
-some_host [] some h = absurd (omega (arith, some))
-some_host (u ∷ us) some h =
-    let here = All-head (λ (u : UserData). 1 ≤ length u.hosts) u us h in
+some_host [] some less = absurd (omega (arith, some))
+some_host (u ∷ us) some less =
+    let here = All-head (λ (u : UserData). 1 ≤ length u.hosts) u us less in
     let whole =
     ap length (flat_map-cons (λ (u : UserData). u.hosts) u us) ∙ length-append u.hosts (flat_map (λ u. u.hosts) us) in
     omega (arith, here, whole)
 
 -- a size of memory that is a multiple of 4
-size_is : (z : ℤ) → IsPlannedMemory z → (2048 ≤ unsigned_abs z) × (unsigned_abs z ≤ 65536) × (unsigned_abs z % 4 ≡ 0)
-size_is (pos n) h =
-    let least = h.0.0 in
-    let most = h.0.1 in
-    let rest = h.1 in
+size_is : (integer : ℤ) → IsPlannedMemory integer → (2048 ≤ unsigned_abs integer) × (unsigned_abs integer ≤ 65536)
+    × (unsigned_abs integer % 4 ≡ 0)
+size_is (pos n) given =
+    let least = given.0.0 in
+    let most = given.0.1 in
+    let rest = given.1 in
     (omega (arith, ints, least), omega (arith, ints, most), cc)
-size_is (negsuc n) h = let least = h.0.0 in absurd (omega (arith, ints, least))
+size_is (negsuc n) given = let least = given.0.0 in absurd (omega (arith, ints, least))
 
 node_is : (n : NodePlan) → IsPlannedMemory n.memory → HasWiredLink n → IsNodePart (node_part n)
 node_is n size wired =
@@ -134,8 +135,10 @@ node_is n size wired =
     let links = ap length (abs_wired n.links) ∙ length-map (wired_links n) unsigned_abs in
     ((s.0, s.1), s.2, omega (arith, links, wired))
 
-limit_is : (z : ℤ) → Lies (pos 1) (pos (2 ^ 40)) z → (1 ≤ unsigned_abs z) × (unsigned_abs z ≤ 2 ^ 40)
-limit_is z h = let least = h.0 in let most = h.1 in (omega (arith, ints, least), omega (arith, ints, least, most))
+limit_is : (integer : ℤ) → Lies (pos 1) (pos (2 ^ 40)) integer → (1 ≤ unsigned_abs integer)
+    × (unsigned_abs integer ≤ 2 ^ 40)
+limit_is integer given = let least = given.0 in let most = given.1 in
+    (omega (arith, ints, least), omega (arith, ints, least, most))
 
 abs_below : (x count : ℤ) → pos 0 ≤ℤ x → x <ℤ count → unsigned_abs x < unsigned_abs count
 abs_below x count low less = grind (arith, ints)
@@ -180,7 +183,7 @@ is_part d sep =
     }
 
 only : {X : Type 0} (P : X → Type 0) (x : X) → P x → All P (x ∷ [])
-only P x h = All-cons P x [] h (All-nil P)
+only P x value = All-cons P x [] value (All-nil P)
 
 -- a domain of a separate plan is separate by itself
 pub alone : (plan : List DomainData) → IsSeparate plan → All (λ d. IsSeparate (d ∷ [])) plan
@@ -287,37 +290,42 @@ hosts_more number (v ∷ us) u =
     refl
 
 -- the number of ports of one range more is the sum, and is at most 32 a range
-pub counted : (rs : List RangePlan) (i : ℕ) (d : RangePlan) (count size : ℕ)
+pub counted : (rs : List RangePlan) (i : ℕ) (range : RangePlan) (count size : ℕ)
     → i < 4 → All IsRange rs → i < length rs → pos count ≡ count_of (take i rs) → count ≤ 32 * i
-    → pos size ≡ length_of (get_or rs i d)
+    → pos size ≡ length_of (get_or rs i range)
     → (pos (count + size) ≡ count_of (take (i + 1) rs)) × (count + size ≤ 32 * (i + 1))
-counted rs i d count size few ranges within is below len =
-    let more = count_more rs i d within in
-    let here = ranges i d within in
+counted rs i range count size few ranges within is below len =
+    let more = count_more rs i range within in
+    let here = ranges i range within in
     (omega (arith, ints, more, is, len), omega (arith, ints, here, len, below))
 
-filter_on : (l : ℤ) (ls : List ℤ) (P : ℤ → Type 0) (wired : Bool)
-    → is_wired l ≡ wired → All P (filter is_wired (l ∷ ls))
-    → (is_wired l ≡ true → P l) × All P (filter is_wired ls)
-filter_on l ls P true is h =
-    let h' = rw is at h in (λ t. All-head P l (filter is_wired ls) h', All-tail P l (filter is_wired ls) h')
-filter_on l ls P false is h = let h' = rw is at h in (λ t. absurd (false≢true (sym is ∙ t)), h')
+filter_on : (integer : ℤ) (ls : List ℤ) (P : ℤ → Type 0) (wired : Bool)
+    → is_wired integer ≡ wired → All P (filter is_wired (integer ∷ ls))
+    → (is_wired integer ≡ true → P integer) × All P (filter is_wired ls)
+filter_on integer ls P true is given =
+    let h' = rw is at given in (
+      λ t. All-head P integer (filter is_wired ls) h',
+      All-tail P integer
+          (filter is_wired ls) h',
+    )
+filter_on integer ls P false is given = let h' = rw is at given in (λ t. absurd (false≢true (sym is ∙ t)), h')
 
 -- what holds of the wired links holds of a link that is wired
-pub wired_at : (P : ℤ → Type 0) (ls : List ℤ) (k : ℕ) (d : ℤ)
-    → All P (filter is_wired ls) → k < length ls → is_wired (get_or ls k d) ≡ true
-    → P (get_or ls k d)
-wired_at P [] k d h less t = absurd (omega (arith, less))
-wired_at P (l ∷ ls) zero d h less t = (filter_on l ls P (is_wired l) refl h).0 t
-wired_at P (l ∷ ls) (suc k) d h less t =
-    wired_at P ls k d (filter_on l ls P (is_wired l) refl h).1 (omega (arith, less)) t
+pub wired_at : (P : ℤ → Type 0) (ls : List ℤ) (k : ℕ) (integer : ℤ)
+    → All P (filter is_wired ls) → k < length ls → is_wired (get_or ls k integer) ≡ true
+    → P (get_or ls k integer)
+wired_at P [] k integer given less same = absurd (omega (arith, less))
+wired_at P (l ∷ ls) zero integer given less same = (filter_on l ls P (is_wired l) refl given).0 same
+wired_at P (l ∷ ls) (suc k) integer given less same =
+    wired_at P ls k integer (filter_on l ls P (is_wired l) refl given).1 (omega (arith, less)) same
 
 -- the ports of four links are those of the first, the second, the third and the fourth
-pub four_links : (ls : List ℤ) (d : ℤ) → length ls ≡ 4
+pub four_links : (ls : List ℤ) (integer : ℤ) → length ls ≡ 4
     → map port_at ls
-    ≡ port_at (get_or ls 0 d) ∷ port_at (get_or ls 1 d) ∷ port_at (get_or ls 2 d) ∷ port_at (get_or ls 3 d) ∷ []
-four_links (a ∷ b ∷ c ∷ e ∷ []) d four = refl
-four_links _ d four = absurd (omega (arith, four))
+    ≡ port_at (get_or ls 0 integer) ∷ port_at (get_or ls 1 integer) ∷ port_at (get_or ls 2 integer)
+    ∷ port_at (get_or ls 3 integer) ∷ []
+four_links (a ∷ b ∷ c ∷ e ∷ []) integer four = refl
+four_links _ integer four = absurd (omega (arith, four))
 
 -- ---- the rules of one domain
 
@@ -350,8 +358,8 @@ pub part_is : (d : DomainData) (count limit users : ℕ) (nodes : List NodePart)
     → pos count ≡ count_of d.ranges → limit ≡ unsigned_abs d.limit → users ≡ length d.users
     → nodes ≡ map node_part d.nodes → hosts ≡ host_parts 0 d.users
     → part_with count limit users nodes hosts ≡ part_of d
-part_is d count limit users nodes hosts a b e f g =
-    let same : count ≡ unsigned_abs (count_of d.ranges) = ap unsigned_abs a in cc
+part_is d count limit users nodes hosts equal agrees alike matches other_same =
+    let same : count ≡ unsigned_abs (count_of d.ranges) = ap unsigned_abs equal in cc
 
 -- the four places of a row have the ranges in their order, and then none
 pub row_places : (rs : List RangePlan) → length rs ≤ 4

@@ -48,32 +48,32 @@ no_poke_of place at stored none (command.Look node) asked = asked
 
 -- why a word isn't read as an address or word
 abbrev pub IsNoWord : List ℕ → Unread → Type 0
-IsNoWord word u = (f : LineFault) → u ≡ Faulty f → (f ≡ Hex) × ((value : ℕ) → ¬ IsWord word value)
+IsNoWord word unread = (f : LineFault) → unread ≡ Faulty f → (f ≡ Hex) × ((value : ℕ) → ¬ IsWord word value)
 
 -- if the address of a peek isn't read, its arguments are wrong by the fault that is told
-pub peek_refused : (verb : Verb) (place at : List ℕ) (host : ℕ) (u : Unread)
-    → verb ≡ Peek → IsDecimal place host → IsNoWord at u → (f : LineFault) → u ≡ Faulty f
+pub peek_refused : (verb : Verb) (place at : List ℕ) (host : ℕ) (unread : Unread)
+    → verb ≡ Peek → IsDecimal place host → IsNoWord at unread → (f : LineFault) → unread ≡ Faulty f
     → IsArgumentFault verb (place ∷ at ∷ []) f
-peek_refused verb place at host u is number none f told =
+peek_refused verb place at host unread is number none f told =
     let why = none f told in
     subst (λ v. IsArgumentFault v (place ∷ at ∷ []) f) (sym is)
     (subst (IsArgumentFault Peek (place ∷ at ∷ [])) (sym why.0) ((host, number), no_peek place at why.1))
 
 -- so are those of a poke, if its address isn't read
-pub poke_refused_at : (verb : Verb) (place at stored : List ℕ) (host : ℕ) (u : Unread)
-    → verb ≡ Poke → IsDecimal place host → IsNoWord at u → (f : LineFault) → u ≡ Faulty f
+pub poke_refused_at : (verb : Verb) (place at stored : List ℕ) (host : ℕ) (unread : Unread)
+    → verb ≡ Poke → IsDecimal place host → IsNoWord at unread → (f : LineFault) → unread ≡ Faulty f
     → IsArgumentFault verb (place ∷ at ∷ stored ∷ []) f
-poke_refused_at verb place at stored host u is number none f told =
+poke_refused_at verb place at stored host unread is number none f told =
     let why = none f told in
     subst (λ v. IsArgumentFault v (place ∷ at ∷ stored ∷ []) f) (sym is)
     (subst (IsArgumentFault Poke (place ∷ at ∷ stored ∷ [])) (sym why.0)
     ((host, number), no_poke_at place at stored why.1))
 
 -- so are those of a poke, if its word isn't read
-pub poke_refused_of : (verb : Verb) (place at stored : List ℕ) (host : ℕ) (u : Unread)
-    → verb ≡ Poke → IsDecimal place host → IsNoWord stored u → (f : LineFault) → u ≡ Faulty f
+pub poke_refused_of : (verb : Verb) (place at stored : List ℕ) (host : ℕ) (unread : Unread)
+    → verb ≡ Poke → IsDecimal place host → IsNoWord stored unread → (f : LineFault) → unread ≡ Faulty f
     → IsArgumentFault verb (place ∷ at ∷ stored ∷ []) f
-poke_refused_of verb place at stored host u is number none f told =
+poke_refused_of verb place at stored host unread is number none f told =
     let why = none f told in
     subst (λ v. IsArgumentFault v (place ∷ at ∷ stored ∷ []) f) (sym is)
     (subst (IsArgumentFault Poke (place ∷ at ∷ stored ∷ [])) (sym why.0)
@@ -89,9 +89,9 @@ rest_refused rest verb arguments fault.Args of wrong = (verb, arguments, of, wro
 rest_refused rest verb arguments fault.Hex of wrong = (verb, arguments, of, wrong)
 
 -- if a request is refused for the arguments of its verb, what follows the name is wrong by that fault
-pub request_refused : (rest : List (List ℕ)) (verb : Verb) (arguments : List (List ℕ)) (r : Result Command Unread)
-    → IsOf rest verb arguments → IfErr r (λ u. (f : LineFault) → u ≡ Faulty f → IsArgumentFault verb arguments f)
-    → IfErr r (λ u. (f : LineFault) → u ≡ Faulty f → IsRestFault rest f)
+pub request_refused : (rest : List (List ℕ)) (verb : Verb) (arguments : List (List ℕ)) (outcome : Result Command Unread)
+    → IsOf rest verb arguments → IfErr outcome (λ u. (f : LineFault) → u ≡ Faulty f → IsArgumentFault verb arguments f)
+    → IfErr outcome (λ u. (f : LineFault) → u ≡ Faulty f → IsRestFault rest f)
 request_refused rest verb arguments (Ok c) of wrong = tt
 request_refused rest verb arguments (Err u) of wrong = λ f told. rest_refused rest verb arguments f of (wrong f told)
 

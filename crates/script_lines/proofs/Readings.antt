@@ -23,8 +23,8 @@ use Rattle.script_lines.specs.Script.{IsScript, IsAsked, IsFirstFault, asking}
 use Rattle.script_lines.proofs.Splitting.{first_line}
 
 -- what two equal options hold
-some_is : (x y : List ℕ) → Some x ≡ Some y → x ≡ y
-some_is x y e = ap (held x) e
+some_is : (text other_text : List ℕ) → Some text ≡ Some other_text → text ≡ other_text
+some_is text other_text same = ap (held text) same
   where
     held : List ℕ → Option (List ℕ) → List ℕ
     held d None = d
@@ -46,7 +46,7 @@ pub record IsReadTo (names : List (List ℕ)) (text rest : List ℕ) (asked : Li
   pub counted : count ≡ length before
 
 asking_one : (line : List ℕ) (b : Bool) → asks_nothing line ≡ b → asking (line ∷ []) ≡ cond (not b) (line ∷ []) []
-asking_one line b e = ap (λ x. cond (not x) (line ∷ []) []) e
+asking_one line b same = ap (λ x. cond (not x) (line ∷ []) []) same
 
 zip_more : (names lines : List (List ℕ)) (asked : List ScriptLine) (line : List ℕ) (l : ScriptLine)
     → AllZip (IsAsked names) lines asked → IsAsked names line l

@@ -14,10 +14,10 @@ use Rattle.script_text.specs.Lines.{is_line_feed, line_of, after_line}
 pub only_part : (p : ℕ → Bool) (xs : List ℕ) → length xs ≤ position_or_len p xs → slice_split p xs ≡ xs ∷ []
 only_part p xs none = slice_split_none p xs (λ k e m. fails_before_first p xs k e (omega (arith, none, m)))
 
-lines_of_more : (x : List ℕ) (parts : List (List ℕ)) → 0 < length parts
-    → lines_of_parts (x ∷ parts) ≡ strip_carriage_return x ∷ lines_of_parts parts
-lines_of_more x [] some = absurd (omega (arith, some))
-lines_of_more x (y ∷ more) some = refl
+lines_of_more : (text : List ℕ) (parts : List (List ℕ)) → 0 < length parts
+    → lines_of_parts (text ∷ parts) ≡ strip_carriage_return text ∷ lines_of_parts parts
+lines_of_more text [] some = absurd (omega (arith, some))
+lines_of_more text (y ∷ more) some = refl
 
 -- the first of the lines of a text, and the lines after it
 pub first_line : (text : List ℕ) → 0 < length text → lines text ≡ line_of text ∷ lines (after_line text)

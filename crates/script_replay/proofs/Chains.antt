@@ -18,21 +18,21 @@ pub no_line_yet : (plan : List Place) (opened : List DomainValue) → AreLinesUp
 no_line_yet plan opened rest more well = well
 
 -- if a further line shows its text, the lines up to it make all lines well
-pub line_more : (plan : List Place) (opened : List DomainValue) (lines : List AskedLine) (index : ℕ) (d : AskedLine)
+pub line_more : (plan : List Place) (opened : List DomainValue) (lines : List AskedLine) (index : ℕ) (line : AskedLine)
     (texts : List (List ℕ)) (text : List ℕ) (old new : List DomainValue)
-    → index < length lines → d ≡ get_or lines index d → AreLinesUpTo plan opened (take index lines) texts old
-    → ShowsLine plan d old new text
+    → index < length lines → line ≡ get_or lines index line → AreLinesUpTo plan opened (take index lines) texts old
+    → ShowsLine plan line old new text
     → AreLinesUpTo plan opened (take (index + 1) lines) (texts ++ text ∷ []) new
-line_more plan opened lines index d texts text old new within is so shows rest more well =
+line_more plan opened lines index line texts text old new within is so shows rest more well =
     let before = take index lines in
-    let cut : take (index + 1) lines ≡ before ++ d ∷ [] =
-    take_more lines index d within ∙ ap (λ (x : AskedLine). before ++ x ∷ []) (sym is) in
-    let all : before ++ d ∷ rest ≡ take (index + 1) lines ++ rest =
-    sym (append_assoc before (d ∷ []) rest) ∙ ap (λ (xs : List AskedLine). xs ++ rest) (sym cut) in
+    let cut : take (index + 1) lines ≡ before ++ line ∷ [] =
+    take_more lines index line within ∙ ap (λ (x : AskedLine). before ++ x ∷ []) (sym is) in
+    let all : before ++ line ∷ rest ≡ take (index + 1) lines ++ rest =
+    sym (append_assoc before (line ∷ []) rest) ∙ ap (λ (xs : List AskedLine). xs ++ rest) (sym cut) in
     let shown : texts ++ text ∷ more ≡ texts ++ text ∷ [] ++ more = sym (append_assoc texts (text ∷ []) more) in
     subst (λ (xs : List AskedLine). AreLinesFrom plan opened xs (texts ++ text ∷ [] ++ more)) all
-    (subst (λ (ls : List (List ℕ)). AreLinesFrom plan opened (before ++ d ∷ rest) ls) shown
-    (so (d ∷ rest) (text ∷ more) (new, shows, well)))
+    (subst (λ (ls : List (List ℕ)). AreLinesFrom plan opened (before ++ line ∷ rest) ls) shown
+    (so (line ∷ rest) (text ∷ more) (new, shows, well)))
 
 -- all lines are well if nothing follows them
 pub all_well : (plan : List Place) (opened : List DomainValue) (lines : List AskedLine)

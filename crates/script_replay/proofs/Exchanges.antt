@@ -21,14 +21,18 @@ use Rattle.script_replay.specs.Lines.{IsStoppedBy, IsAtEnd, HasStopped, is_peek,
 abbrev pub told_of : Event → Reply → Told
 told_of event reply = record { event = event; reply = reply }
 
-asked_more : (next : List Told → Option Event) (before told : List Told) (t : Told)
-    → AreAsked next before told → next (before ++ told) ≡ Some t.event
-    → AreAsked next before (told ++ t ∷ [])
-asked_more next before [] t a n = (subst (λ (b : List Told). next b ≡ Some t.event) (append-nil before) n, tt)
-asked_more next before (u ∷ told) t a n = (
-  a.0,
-  asked_more next (before ++ u ∷ []) told t a.1
-      (subst (λ (b : List Told). next b ≡ Some t.event) (sym (append_assoc before (u ∷ []) told)) n),
+asked_more : (next : List Told → Option Event) (before told : List Told) (other_told : Told)
+    → AreAsked next before told → next (before ++ told) ≡ Some other_told.event
+    → AreAsked next before (told ++ other_told ∷ [])
+asked_more next before [] other_told given same = (
+  subst (λ (b : List Told). next b ≡ Some other_told.event)
+      (append-nil before) same,
+  tt,
+)
+asked_more next before (u ∷ told) other_told given same = (
+  given.0,
+  asked_more next (before ++ u ∷ []) told other_told given.1
+      (subst (λ (b : List Told). next b ≡ Some other_told.event) (sym (append_assoc before (u ∷ []) told)) same),
 )
 
 asked_append : (next : List Told → Option Event) (before xs ys : List Told)
@@ -47,27 +51,30 @@ asks_nothing l told domains = record { more = []; list = sym (append-nil told); 
 
 -- one event more
 pub asks_more : RunsAddUp
-    → (l : UserLine) (before told after : List Told) (a b c : List DomainValue) (e : Event) (r : Reply)
-    → AsksOn l before told a b → next_event l.command told ≡ Some e → after ≡ told ++ told_of e r ∷ []
-    → HaveRun b c (call_of_line l e ∷ []) (Ok r ∷ [])
-    → AsksOn l before after a c
-asks_more law l before told after a b c e r was n is one =
+    → (l : UserLine) (before told after : List Told) (domains other_domains third_domains : List DomainValue)
+    (e : Event) (r : Reply)
+    → AsksOn l before told domains other_domains → next_event l.command told ≡ Some e → after ≡ told ++ told_of e r ∷ []
+    → HaveRun other_domains third_domains (call_of_line l e ∷ []) (Ok r ∷ [])
+    → AsksOn l before after domains third_domains
+asks_more law l before told after domains other_domains third_domains e r was same is one =
     let t = told_of e r in
     let calls : calls_of_line l (was.more ++ t ∷ []) ≡ calls_of_line l was.more ++ call_of_line l e ∷ [] =
     map-append (λ (t : Told). call_of_line l t.event) was.more (t ∷ []) in
     let answers : answers_told (was.more ++ t ∷ []) ≡ answers_told was.more ++ Ok r ∷ [] =
     map-append (λ (t : Told). let answer : Answer = Ok t.reply in answer) was.more (t ∷ []) in
     let both =
-    more_calls law a b c (calls_of_line l was.more) (call_of_line l e ∷ [])
+    more_calls law domains other_domains third_domains (calls_of_line l was.more) (call_of_line l e ∷ [])
     (answers_told was.more) (Ok r ∷ []) was.run one in
     record {
       more = was.more ++ t ∷ [];
       list = is ∙ ap (λ (xs : List Told). xs ++ t ∷ []) was.list ∙ append_assoc before was.more (t ∷ []);
       asked =
           asked_more (next_event l.command) before was.more t was.asked
-          (subst (λ (xs : List Told). next_event l.command xs ≡ Some e) was.list n);
-      run = subst (λ (asked : List (ℕ × Call)). HaveRun a c asked (answers_told (was.more ++ t ∷ []))) (sym calls)
-          (subst (λ (told : List Answer). HaveRun a c (calls_of_line l was.more ++ call_of_line l e ∷ []) told)
+          (subst (λ (xs : List Told). next_event l.command xs ≡ Some e) was.list same);
+      run = subst (λ (asked : List (ℕ × Call)). HaveRun domains third_domains asked
+          (answers_told (was.more ++ t ∷ []))) (sym calls)
+          (subst (λ (told : List Answer). HaveRun domains third_domains
+          (calls_of_line l was.more ++ call_of_line l e ∷ []) told)
           (sym answers) both);
     }
 
@@ -87,28 +94,29 @@ pub refused_next : (l : UserLine) (told : List Told) (old new : List DomainValue
     → next_event l.command told ≡ Some e → new ≡ old
     → UnlessNoMemory (Err refusal) (HaveRun old new (call_of_line l e ∷ []) (Err refusal ∷ []))
     → IsStoppedBy l told new refusal
-refused_next l told old new e NoSuch n same run =
+refused_next l told old new e NoSuch equal same run =
     record {
       event = e;
-      next = n;
+      next = equal;
       run =
           subst (λ (d : List DomainValue). HaveRun d new (call_of_line l e ∷ []) (Err NoSuch ∷ [])) (sym same) run;
     }
-refused_next l told old new e JournalFull n same run =
+refused_next l told old new e JournalFull equal same run =
     record {
       event = e;
-      next = n;
+      next = equal;
       run =
           subst (λ (d : List DomainValue). HaveRun d new (call_of_line l e ∷ []) (Err JournalFull ∷ []))
           (sym same) run;
     }
-refused_next l told old new e NoMemory n same run = tt
+refused_next l told old new e NoMemory equal same run = tt
 
 -- what was asked stands if the domains stay then
-pub asks_still : (l : UserLine) (before after : List Told) (a b c : List DomainValue)
-    → AsksOn l before after a b → c ≡ b
-    → AsksOn l before after a c
-asks_still l before after a b c asks same = subst (AsksOn l before after a) (sym same) asks
+pub asks_still : (l : UserLine) (before after : List Told) (domains other_domains third_domains : List DomainValue)
+    → AsksOn l before after domains other_domains → third_domains ≡ other_domains
+    → AsksOn l before after domains third_domains
+asks_still l before after domains other_domains third_domains asks same =
+    subst (AsksOn l before after domains) (sym same) asks
 
 -- ---- a whole line
 
@@ -116,18 +124,18 @@ stays_if : (goes : Bool) (domain : ℕ) (domains : List DomainValue) → GoesOnI
 stays_if true domain domains = gone_nowhere domain domains
 stays_if false domain domains = refl
 
-ended : {A : Type 0} (l : UserLine) (told : List Told) (domains : List DomainValue) (r : Result A Refusal)
-    → HasStopped false l told domains r
-    → HasEndedOn l told domains r
+ended : {A : Type 0} (l : UserLine) (told : List Told) (domains : List DomainValue) (outcome : Result A Refusal)
+    → HasStopped false l told domains outcome
+    → HasEndedOn l told domains outcome
 ended l told domains (Ok a) stopped = stopped
 ended l told domains (Err refusal) stopped = inl stopped
 
 -- a line of one part
 pub one_part : {A : Type 0} (l : UserLine) (none told : List Told)
-    (old new : List DomainValue) (r : Result A Refusal)
-    → none ≡ [] → AsksOn l none told old new → HasEndedOn l told new r
-    → AsksWhole l told old new r
-one_part l none told old new r is asks over =
+    (old new : List DomainValue) (outcome : Result A Refusal)
+    → none ≡ [] → AsksOn l none told old new → HasEndedOn l told new outcome
+    → AsksWhole l told old new outcome
+one_part l none told old new outcome is asks over =
     let own : AsksOn l [] told old new = subst (λ (before : List Told). AsksOn l before told old new) is asks in
     record {
       first = own.more;
@@ -144,11 +152,11 @@ one_part l none told old new r is asks over =
 
 -- the same of a line that stopped as `ask_on` does
 pub one_part_ended : {A : Type 0} (l : UserLine) (none told : List Told)
-    (old new : List DomainValue) (r : Result A Refusal)
-    → none ≡ [] → AsksOn l none told old new → HasStopped false l told new r
-    → AsksWhole l told old new r
-one_part_ended l none told old new r is asks stopped =
-    one_part l none told old new r is asks (ended l told new r stopped)
+    (old new : List DomainValue) (outcome : Result A Refusal)
+    → none ≡ [] → AsksOn l none told old new → HasStopped false l told new outcome
+    → AsksWhole l told old new outcome
+one_part_ended l none told old new outcome is asks stopped =
+    one_part l none told old new outcome is asks (ended l told new outcome stopped)
 
 -- the same of a line that was refused
 pub one_part_refused : {A : Type 0} (l : UserLine) (none told : List Told)
@@ -186,11 +194,11 @@ unsettled l none told old mid new refusal is peeks asks gone =
 
 -- a peek of two parts
 pub two_parts : {A : Type 0} (l : UserLine) (none half told : List Told)
-    (old mid on new : List DomainValue) (r : Result A Refusal)
+    (old mid on new : List DomainValue) (outcome : Result A Refusal)
     → none ≡ [] → is_peek l.command ≡ true → AsksOn l none half old mid → HasGoneOn l.domain mid on
-    → AsksOn l half told on new → HasStopped false l told new r
-    → AsksWhole l told old new r
-two_parts l none half told old mid on new r is peeks asks gone rest stopped =
+    → AsksOn l half told on new → HasStopped false l told new outcome
+    → AsksWhole l told old new outcome
+two_parts l none half told old mid on new outcome is peeks asks gone rest stopped =
     let own : AsksOn l [] half old mid = subst (λ (before : List Told). AsksOn l before half old mid) is asks in
     let list : told ≡ own.more ++ rest.more = rest.list ∙ ap (λ (xs : List Told). xs ++ rest.more) own.list in
     record {
@@ -205,25 +213,25 @@ two_parts l none half told old mid on new r is peeks asks gone rest stopped =
       begun = own.run;
       between = goes_if (is_peek l.command) l.domain mid on peeks gone;
       finished = rest.run;
-      ended = ended l told new r stopped;
+      ended = ended l told new outcome stopped;
     }
 
 -- ---- the same of results that are known by equations
 
 -- a line stops at its end if the code finds no next event
-pub stops_at_end : (stops : Bool) (l : UserLine) (told : List Told) (o : Option Event)
-    → o ≡ next_event l.command told → o ≡ None
+pub stops_at_end : (stops : Bool) (l : UserLine) (told : List Told) (event : Option Event)
+    → event ≡ next_event l.command told → event ≡ None
     → IsAtEnd stops l told
-stops_at_end stops l told o next none = at_end stops l told (sym next ∙ none)
+stops_at_end stops l told event next none = at_end stops l told (sym next ∙ none)
 
 -- a line stops if the farm refuses the event that the code finds
-pub stops_refused : (l : UserLine) (told : List Told) (old new : List DomainValue) (o : Option Event) (e : Event)
-    (r : Answer) (refusal : Refusal)
-    → o ≡ next_event l.command told → o ≡ Some e → r ≡ Err refusal → OnErr r (new ≡ old)
-    → UnlessNoMemory r (HaveRun old new (call_of_line l e ∷ []) (r ∷ []))
+pub stops_refused : (l : UserLine) (told : List Told) (old new : List DomainValue) (event : Option Event) (e : Event)
+    (answer : Answer) (refusal : Refusal)
+    → event ≡ next_event l.command told → event ≡ Some e → answer ≡ Err refusal → OnErr answer (new ≡ old)
+    → UnlessNoMemory answer (HaveRun old new (call_of_line l e ∷ []) (answer ∷ []))
     → IsStoppedBy l told new refusal
-stops_refused l told old new o e (Ok x) refusal next is refused same run = absurd cc
-stops_refused l told old new o e (Err x) refusal next is refused same run =
+stops_refused l told old new event e (Ok x) refusal next is refused same run = absurd cc
+stops_refused l told old new event e (Err x) refusal next is refused same run =
     let equal : x ≡ refusal = same_error x refusal refused in
     subst (IsStoppedBy l told new) equal (refused_next l told old new e x (sym next ∙ is) same run)
   where
@@ -236,10 +244,10 @@ stops_refused l told old new o e (Err x) refusal next is refused same run =
 
 -- a peek that is refused before it reads asks all that it asks
 pub peeks_refused : {A B : Type 0} (l : UserLine) (none told : List Told) (old new : List DomainValue)
-    (r : Result B Refusal) (stops : Bool) (refusal : Refusal)
-    → none ≡ [] → r ≡ Err refusal
+    (outcome : Result B Refusal) (stops : Bool) (refusal : Refusal)
+    → none ≡ [] → outcome ≡ Err refusal
     → AsksOn l none told old new
-    → HasStopped stops l told new r → AsksWhole {A = A} l told old new (Err refusal)
+    → HasStopped stops l told new outcome → AsksWhole {A = A} l told old new (Err refusal)
 peeks_refused l none told old new (Ok x) stops refusal is refused asks stopped = absurd cc
 peeks_refused {A} {B} l none told old new (Err x) stops refusal is refused asks stopped =
     one_part_refused l none told old new refusal is asks (subst (IsStoppedBy l told new) (ap error_in refused) stopped)
@@ -259,9 +267,9 @@ peeks_unsettled l none told old mid new refusal peeks is peek it asks gone =
 
 -- a peek that is asked in two parts asks all that it asks
 pub peeks_whole : {A : Type 0} (l : UserLine) (none half told : List Told) (old mid on new : List DomainValue)
-    (r : Result A Refusal) (peeks : Bool)
+    (outcome : Result A Refusal) (peeks : Bool)
     → none ≡ [] → peeks ≡ is_peek l.command → peeks ≡ true → AsksOn l none half old mid → HasGoneOn l.domain mid on
-    → AsksOn l half told on new → HasStopped false l told new r
-    → AsksWhole l told old new r
-peeks_whole l none half told old mid on new r peeks is peek it asks gone rest stopped =
-    two_parts l none half told old mid on new r is (sym peek ∙ it) asks gone rest stopped
+    → AsksOn l half told on new → HasStopped false l told new outcome
+    → AsksWhole l told old new outcome
+peeks_whole l none half told old mid on new outcome peeks is peek it asks gone rest stopped =
+    two_parts l none half told old mid on new outcome is (sym peek ∙ it) asks gone rest stopped

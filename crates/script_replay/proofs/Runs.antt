@@ -15,22 +15,23 @@ no_calls domains = record { places = refl; each = λ farm made. record { told_is
 
 -- a run of calls and then of others is the run of all
 pub more_calls : RunsAddUp
-    → (a b c : List DomainValue) (calls later : List (ℕ × Call)) (told after : List Answer) → HaveRun a b calls told
-    → HaveRun b c later after
-    → HaveRun a c (calls ++ later) (told ++ after)
-more_calls law a b c calls later told after one two = record {
+    → (domains other_domains third_domains : List DomainValue) (calls later : List (ℕ × Call))
+    (told after : List Answer) → HaveRun domains other_domains calls told
+    → HaveRun other_domains third_domains later after
+    → HaveRun domains third_domains (calls ++ later) (told ++ after)
+more_calls law domains other_domains third_domains calls later told after one two = record {
   places = two.places ∙ one.places;
   each = λ farm made.
-      let plan = all_places a in
+      let plan = all_places domains in
       let first = one.each farm made in
       let half : Farm = whole_after plan farm calls in
       let then =
-      subst (λ p. IsRunTo p half later after c) one.places
-      (two.each half (subst (λ p. IsMadeOf p half (all_states b)) (sym one.places) first.made)) in
+      subst (λ p. IsRunTo p half later after third_domains) one.places
+      (two.each half (subst (λ p. IsMadeOf p half (all_states other_domains)) (sym one.places) first.made)) in
       let both = law plan farm calls later in
       record {
         told_is = (λ i. first.told_is i ++ then.told_is i) ∙ sym both.told;
-        made = subst (λ f. IsMadeOf plan f (all_states c)) (sym both.left) then.made;
+        made = subst (λ f. IsMadeOf plan f (all_states third_domains)) (sym both.left) then.made;
       };
 }
 

@@ -66,12 +66,12 @@ none_at_all text mark number empty none other is =
 
 -- a text whose length isn't 0 isn't empty
 pub is_not_empty : (xs : List ℕ) → false ≡ (length xs == 0) → xs ≢ []
-is_not_empty xs h e = false≢true (h ∙ ap (λ ys. length ys == 0) e)
+is_not_empty xs same e = false≢true (same ∙ ap (λ ys. length ys == 0) e)
 
 -- a text whose length is 0 is empty
 pub is_empty : (xs : List ℕ) → true ≡ (length xs == 0) → xs ≡ []
-is_empty [] h = refl
-is_empty (x ∷ xs) h = absurd (omega (arith, eqb-true (length (x ∷ xs)) 0 (sym h)))
+is_empty [] same = refl
+is_empty (x ∷ xs) same = absurd (omega (arith, eqb-true (length (x ∷ xs)) 0 (sym same)))
 
 -- what stands behind the first line of an end of a text is an end of that text
 pub text_before : (text before rest : List ℕ) → text ≡ before ++ rest

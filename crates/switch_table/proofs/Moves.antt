@@ -21,18 +21,21 @@ use Rattle.switch_table.specs.Rule.{with_view_word, Read, Written, Surveyed}
 newer_same : (x : ℕ) → IsNewer x x
 newer_same x = inr (inl refl)
 
-newer_words : (x y z : Word) → IsAtLeastAsNew x y → IsAtLeastAsNew y z → IsAtLeastAsNew x z
-newer_words x y z (inl a) (inl b) = inl (omega arith)
-newer_words x y z (inl a) (inr (inl e)) = subst (IsAtLeastAsNew x) e (inl a)
-newer_words x y z (inl a) (inr (inr b)) = let e = b.0 in let f = b.1 in inl (omega arith)
-newer_words x y z (inr (inl e)) h = subst (λ (w : Word). IsAtLeastAsNew w z) (sym e) h
-newer_words x y z (inr (inr a)) (inl b) = let e = a.0 in let f = a.1 in inl (omega arith)
-newer_words x y z (inr (inr a)) (inr (inl e)) = inr (inr (a.0, ap changes_of (sym e) ∙ a.1))
-newer_words x y z (inr (inr a)) (inr (inr b)) = inr (inr (a.0, b.1))
+newer_words : (word other_word third_word : Word) → IsAtLeastAsNew word other_word
+    → IsAtLeastAsNew other_word third_word → IsAtLeastAsNew word third_word
+newer_words word other_word third_word (inl a) (inl b) = inl (omega arith)
+newer_words word other_word third_word (inl a) (inr (inl e)) = subst (IsAtLeastAsNew word) e (inl a)
+newer_words word other_word third_word (inl a) (inr (inr b)) = let e = b.0 in let f = b.1 in inl (omega arith)
+newer_words word other_word third_word (inr (inl e)) given =
+    subst (λ (w : Word). IsAtLeastAsNew w third_word) (sym e) given
+newer_words word other_word third_word (inr (inr a)) (inl b) = let e = a.0 in let f = a.1 in inl (omega arith)
+newer_words word other_word third_word (inr (inr a)) (inr (inl e)) = inr (inr (a.0, ap changes_of (sym e) ∙ a.1))
+newer_words word other_word third_word (inr (inr a)) (inr (inr b)) = inr (inr (a.0, b.1))
 
 -- a word that is newer than one which is newer than a third is newer than the third
-pub newer_trans : (x y z : ℕ) → IsNewer x y → IsNewer y z → IsNewer x z
-newer_trans x y z a b = newer_words (word_of x) (word_of y) (word_of z) a b
+pub newer_trans : (x number other_number : ℕ) → IsNewer x number → IsNewer number other_number → IsNewer x other_number
+newer_trans x number other_number given holds = newer_words (word_of x) (word_of number)
+    (word_of other_number) given holds
 
 -- a word that is replaced by a newer one
 set_newer : (words : List ℕ) (i n k : ℕ) → IsNewer n (slice_index words i) → i < length words
@@ -58,37 +61,44 @@ set_both P xs ys i n k hx hy here else = dite (ℕ_discrete k i)
     (λ j. (sym (get_or-set_other xs i k n 0 other) j, sym (get_or-set_other ys i k n 0 other) j)) (else other))
 
 -- what a view of the later table holds, the view of the same seat held before
-held_before : (views : List View) (id seat : ℕ) (v w u : View)
-    → get_elem? views id ≡ some v → w.held ≡ v.held → get_elem? (set views id w) seat ≡ some u
-    → (was : View) × (get_elem? views seat ≡ some was) × (u.held ≡ was.held)
-held_before views id seat v w u at same e = ⊎_elim
-    (λ (t : (seat ≡ id) × (w ≡ u)). (v, ap (get_elem? views) t.0 ∙ at, ap (λ (x : View). x.held) (sym t.1) ∙ same))
-    (λ (t : (seat ≢ id) × (get_elem? views seat ≡ some u)). (u, t.1, refl))
-    (at_set views id seat w u e)
+held_before : (views : List View) (id seat : ℕ) (v w view : View)
+    → get_elem? views id ≡ some v → w.held ≡ v.held → get_elem? (set views id w) seat ≡ some view
+    → (was : View) × (get_elem? views seat ≡ some was) × (view.held ≡ was.held)
+held_before views id seat v w view at same equal = ⊎_elim
+    (λ (t : (seat ≡ id) × (w ≡ view)). (v, ap (get_elem? views) t.0 ∙ at, ap (λ (x : View). x.held) (sym t.1) ∙ same))
+    (λ (t : (seat ≢ id) × (get_elem? views seat ≡ some view)). (view, t.1, refl))
+    (at_set views id seat w view equal)
 
-held_by : (u was : View) (i : ℕ) → u.held ≡ was.held → StoresAlone u i → StoresAlone was i
-held_by u was i e h = (h.0, h.1, subst (λ (held : List (List ℕ)). slice_get held h.0 ≡ Some h.1) e h.2, h.3)
+held_by : (view was : View) (i : ℕ) → view.held ≡ was.held → StoresAlone view i → StoresAlone was i
+held_by view was i same given = (
+  given.0,
+  given.1,
+  subst
+      (λ (held : List (List ℕ)). slice_get held given.0 ≡ Some given.1) same given.2,
+  given.3,
+)
 
 -- a member of the list, or the new one at its end
-at_push : (views : List View) (new u : View) (seat : ℕ) → get_elem? (views ++ new ∷ []) seat ≡ some u
-    → (get_elem? views seat ≡ some u) ⊎ ((seat ≡ length views) × (new ≡ u))
-at_push [] new u zero e = inr (refl, some-injective new u e)
-at_push [] new u (suc seat) e = absurd (some-ne-none u (sym e))
-at_push (x ∷ xs) new u zero e = inl e
-at_push (x ∷ xs) new u (suc seat) e =
-    ⊎_elim (λ t. inl t) (λ (t : (seat ≡ length xs) × (new ≡ u)). inr (ap suc t.0, t.1)) (at_push xs new u seat e)
+at_push : (views : List View) (new view : View) (seat : ℕ) → get_elem? (views ++ new ∷ []) seat ≡ some view
+    → (get_elem? views seat ≡ some view) ⊎ ((seat ≡ length views) × (new ≡ view))
+at_push [] new view zero same = inr (refl, some-injective new view same)
+at_push [] new view (suc seat) same = absurd (some-ne-none view (sym same))
+at_push (x ∷ xs) new view zero same = inl same
+at_push (x ∷ xs) new view (suc seat) same =
+    ⊎_elim (λ t. inl t) (λ (t : (seat ≡ length xs) × (new ≡ view)). inr (ap suc t.0, t.1))
+    (at_push xs new view seat same)
 
 -- the first domain, and the others
 taken : (held : List (List ℕ)) (k : ℕ) (d : List ℕ) → slice_get (take 1 held) k ≡ Some d
     → (k ≡ 0) × (slice_get held 0 ≡ Some d)
-taken [] k d e = absurd (cc)
-taken (x ∷ xs) zero d e = (refl, e)
-taken (x ∷ xs) (suc k) d e = absurd (cc)
+taken [] k d same = absurd (cc)
+taken (x ∷ xs) zero d same = (refl, same)
+taken (x ∷ xs) (suc k) d same = absurd (cc)
 
 left_over : (held : List (List ℕ)) (k : ℕ) (d : List ℕ) → slice_get (drop 1 held) k ≡ Some d
     → slice_get held (suc k) ≡ Some d
-left_over [] k d e = absurd (cc)
-left_over (x ∷ xs) k d e = e
+left_over [] k d same = absurd (cc)
+left_over (x ∷ xs) k d same = same
 
 module _ (domains : List (List ℕ)) where
   -- the seat that sees or stores the word itself

@@ -20,10 +20,10 @@ apart : (plan : List DomainData) (m n port : ℕ) (d e : List ℕ)
     → AllPairs AreSeparate plan → m < n → slice_get (domains_of plan) m ≡ Some d
     → slice_get (domains_of plan) n ≡ Some e → Contains d port → Contains e port
     → ⊥
-apart plan m n port d e h less is_d is_e in_d in_e =
+apart plan m n port d e given less is_d is_e in_d in_e =
     let one = mapped plan m d is_d in
     let other = mapped plan n e is_e in
-    let separate = h m n one.0 less (slice_get_within plan n other.0 other.1) in
+    let separate = given m n one.0 less (slice_get_within plan n other.0 other.1) in
     let first = get_or_from_slice_get plan m one.0 one.0 one.1 in
     let second = get_or_from_slice_get plan n other.0 one.0 other.1 in
     separate port
@@ -32,11 +32,11 @@ apart plan m n port d e h less is_d is_e in_d in_e =
 
 -- the domains of a separate plan have no port in common, as the table takes them
 pub separate_domains : (plan : List DomainData) → AllPairs AreSeparate plan → AreDisjoint (domains_of plan)
-separate_domains plan h m n port d e is_d is_e in_d in_e =
+separate_domains plan given m n port d e is_d is_e in_d in_e =
     elim (cases_order m n) [
       | inl same ↦ same
-      | inr (inl less) ↦ absurd (apart plan m n port d e h less is_d is_e in_d in_e)
-      | inr (inr more) ↦ absurd (apart plan n m port e d h more is_e is_d in_e in_d)
+      | inr (inl less) ↦ absurd (apart plan m n port d e given less is_d is_e in_d in_e)
+      | inr (inr more) ↦ absurd (apart plan n m port e d given more is_e is_d in_e in_d)
     ]
 
 -- the numbering of a domain's ranges is its list of ports

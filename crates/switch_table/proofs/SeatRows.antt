@@ -37,11 +37,11 @@ length-clear zero = refl
 length-clear (suc n) = ap suc (length-clear n)
 
 unused_row : NumberingsAreFew → (ports : List ℕ) → IsNumbering ports → IsRow (clear_row ports)
-unused_row few ports h = record {
+unused_row few ports given = record {
   length_is = length-clear (length ports);
-  few = few ports h;
-  below = h.below;
-  one_to_one = h.one_to_one;
+  few = few ports given;
+  below = given.below;
+  one_to_one = given.one_to_one;
   each = All-replicate (IsWordOf ports) (length ports) (word_of 0) (record { proper = refl; within = tt });
 }
 
@@ -105,16 +105,17 @@ pub written_seat : RowTakesAWord
     → slice_get ports number ≡ Some port
     → next ≡ seat
     → now ≡ (with_view_word me.0 port bits, me.1) → IsSeated shared_words next now ports
-written_seat set_row shared_words seat next me now ports number port bits s proper low is same then = record {
-  here = same ∙ s.here;
-  wide = ap (λ (t : TableId). t.words) same ∙ s.wide;
-  view_wide = ap (λ (m : Me (Unit {0}) View). length m.0.words) then ∙ length-set me.0.words port bits ∙ s.view_wide;
-  holds_its_domain = ap (λ (m : Me (Unit {0}) View). m.0.held) then ∙ s.holds_its_domain;
-  takes_no_slot = ap (λ (m : Me (Unit {0}) View). m.1) then ∙ s.takes_no_slot;
+written_seat set_row shared_words seat next me now ports number port bits given proper low is same then = record {
+  here = same ∙ given.here;
+  wide = ap (λ (t : TableId). t.words) same ∙ given.wide;
+  view_wide = ap (λ (m : Me (Unit {0}) View). length m.0.words) then ∙ length-set me.0.words port bits
+      ∙ given.view_wide;
+  holds_its_domain = ap (λ (m : Me (Unit {0}) View). m.0.held) then ∙ given.holds_its_domain;
+  takes_no_slot = ap (λ (m : Me (Unit {0}) View). m.1) then ∙ given.takes_no_slot;
   row =
       subst (λ (m : Me (Unit {0}) View). IsRow (view_row m.0 ports)) (sym then)
-      (subst IsRow (sym (row_set me.0 ports number port bits s.row s.view_wide low is))
-      (set_row (view_row me.0 ports) number (word_of bits) s.row proper));
+      (subst IsRow (sym (row_set me.0 ports number port bits given.row given.view_wide low is))
+      (set_row (view_row me.0 ports) number (word_of bits) given.row proper));
 }
 
 -- the port of a number lies below 32

@@ -19,8 +19,8 @@ use Rattle.t414_assembly.specs.Layout.{size_of, IsTight, AreRooms, AreStarts, Pu
 
 some_bytes : (others : List ℕ) {m : _} → read_from 0 others ≡ Some m → 1 ≤ length others
 unfolding read_from
-some_bytes [] h = cc
-some_bytes (b ∷ bs) h = omega arith
+some_bytes [] same = cc
+some_bytes (b ∷ bs) same = omega arith
 
 -- a room of one byte isn't larger than any statement needs
 pub tight_one : (s : Statement) → IsTight 1 s
@@ -60,11 +60,11 @@ rooms_of_ones statements =
           (sym (one_at (length statements) k (slice_get_within statements k s at))) (tight_one s);
     }
 
-same_statement : (statements : List Statement) (k : ℕ) (s t : Statement)
-    → slice_get statements k ≡ Some s → slice_get statements k ≡ Some t
-    → s ≡ t
-same_statement statements k s t here there =
-    sym (get_or_from_slice_get statements k s s here) ∙ get_or_from_slice_get statements k t s there
+same_statement : (statements : List Statement) (k : ℕ) (s statement : Statement)
+    → slice_get statements k ≡ Some s → slice_get statements k ≡ Some statement
+    → s ≡ statement
+same_statement statements k s statement here there =
+    sym (get_or_from_slice_get statements k s s here) ∙ get_or_from_slice_get statements k statement s there
 
 -- starts of the first places, with that behind the next statement, are starts of one place more
 pub more_starts : (origin : ℕ) (statements : List Statement) (rooms : List ℕ) (i : ℕ) (starts : List ℕ)
@@ -72,20 +72,20 @@ pub more_starts : (origin : ℕ) (statements : List Statement) (rooms : List ℕ
     → AreStarts origin statements rooms i starts → slice_index starts i ≡ start → slice_get statements i ≡ Some s
     → size ≡ size_of (origin + start) (slice_index rooms i) s → start + size ≤ 65464
     → AreStarts origin statements rooms (i + 1) (starts ++ (start + size) ∷ [])
-more_starts origin statements rooms i starts start size s h last at is most =
+more_starts origin statements rooms i starts start size s given last at is most =
     let old : (k : ℕ) → k < i + 1 → slice_index (starts ++ (start + size) ∷ []) k ≡ slice_index starts k =
-    λ k lt. get_or_append_left starts ((start + size) ∷ []) 0 k (omega (arith, lt, h.count)) in
+    λ k lt. get_or_append_left starts ((start + size) ∷ []) 0 k (omega (arith, lt, given.count)) in
     let new : slice_index (starts ++ (start + size) ∷ []) (i + 1) ≡ start + size =
-    get_or_at starts (start + size) [] 0 (i + 1) h.count in
+    get_or_at starts (start + size) [] 0 (i + 1) given.count in
     let total : length (starts ++ (start + size) ∷ []) ≡ i + 1 + 1 =
-    length-append starts ((start + size) ∷ []) ∙ omega (arith, h.count) in
+    length-append starts ((start + size) ∷ []) ∙ omega (arith, given.count) in
     let step : (k : ℕ) (t : Statement) → slice_get statements k ≡ Some t → (k < i) ⊎ (k ≡ i)
     → slice_index (starts ++ (start + size) ∷ []) (k + 1)
     ≡ slice_index (starts ++ (start + size) ∷ []) k
     + size_of (address_of origin (starts ++ (start + size) ∷ []) k) (slice_index rooms k) t =
     λ k t here c. elim c [
       | inl lt ↦
-          old (k + 1) (omega (arith, lt)) ∙ h.next k t lt here
+          old (k + 1) (omega (arith, lt)) ∙ given.next k t lt here
           ∙ ap (λ x. x + size_of (origin + x) (slice_index rooms k) t) (sym (old k (omega (arith, lt))))
       | inr e ↦
           ap (λ j. slice_index (starts ++ (start + size) ∷ []) (j + 1)) e ∙ new
@@ -100,7 +100,7 @@ more_starts origin statements rooms i starts start size s h last at is most =
     ] in
     record {
       count = total;
-      first = old 0 (omega arith) ∙ h.first;
+      first = old 0 (omega arith) ∙ given.first;
       next =
           λ k t lt here. step k t here
           (elim (cases_lt k i) [ inl less ↦ inl less | inr ge ↦ inr (omega (arith, lt, ge)) ]);
@@ -110,7 +110,7 @@ more_starts origin statements rooms i starts start size s h last at is most =
             ap (slice_index (starts ++ (start + size) ∷ [])) e ∙ new in
             omega (arith, v, most))
         | inr c ↦ elim c [
-          | inl lt ↦ omega (arith, old k lt, h.most k)
+          | inl lt ↦ omega (arith, old k lt, given.most k)
           | inr past ↦
               (let v : slice_index (starts ++ (start + size) ∷ []) k ≡ 0 =
               get_or_past (starts ++ (start + size) ∷ []) k 0 (omega (arith, past, total)) in
@@ -126,41 +126,43 @@ pub more_bytes : (origin : ℕ) (statements : List Statement) (starts : List ℕ
     → slice_index starts (i + 1) ≡ slice_index starts i + size_of (address_of origin starts i) room s
     → PutsPiece origin starts i room s old new
     → IsImage origin statements starts (i + 1) new
-more_bytes origin statements starts i room s old new h at next put =
+more_bytes origin statements starts i room s old new given at next put =
     let piece : List ℕ = put.0 in
-    let before : (k : ℕ) → k ≤ i → take k (h.pieces ++ put.0 ∷ []) ≡ take k h.pieces =
-    λ k le. take-append-le k h.pieces (put.0 ∷ []) (omega (arith, le, h.count)) in
-    let total : length (h.pieces ++ put.0 ∷ []) ≡ i + 1 =
-    length-append h.pieces (put.0 ∷ []) ∙ omega (arith, h.count) in
-    let all : flat_map (λ p. p) (h.pieces ++ put.0 ∷ []) ≡ flat_map (λ p. p) h.pieces ++ put.0 =
-    flat_map-append (λ p. p) h.pieces (put.0 ∷ []) ∙ ap (λ xs. flat_map (λ p. p) h.pieces ++ xs) (append-nil put.0) in
-    let so_far : length (flat_map (λ p. p) h.pieces) ≡ slice_index starts i =
-    ap (λ ps. length (flat_map (λ p. p) ps)) (sym (take_all i h.pieces (omega (arith, h.count))))
-    ∙ sym (h.places i (omega arith)) in
-    let count : length (flat_map (λ p. p) h.pieces ++ put.0) ≡ slice_index starts (i + 1) =
-    length-append (flat_map (λ p. p) h.pieces) put.0 ∙ omega (arith, so_far, put.2, next) in
+    let before : (k : ℕ) → k ≤ i → take k (given.pieces ++ put.0 ∷ []) ≡ take k given.pieces =
+    λ k le. take-append-le k given.pieces (put.0 ∷ []) (omega (arith, le, given.count)) in
+    let total : length (given.pieces ++ put.0 ∷ []) ≡ i + 1 =
+    length-append given.pieces (put.0 ∷ []) ∙ omega (arith, given.count) in
+    let all : flat_map (λ p. p) (given.pieces ++ put.0 ∷ []) ≡ flat_map (λ p. p) given.pieces ++ put.0 =
+    flat_map-append (λ p. p) given.pieces (put.0 ∷ [])
+    ∙ ap (λ xs. flat_map (λ p. p) given.pieces ++ xs) (append-nil put.0) in
+    let so_far : length (flat_map (λ p. p) given.pieces) ≡ slice_index starts i =
+    ap (λ ps. length (flat_map (λ p. p) ps)) (sym (take_all i given.pieces (omega (arith, given.count))))
+    ∙ sym (given.places i (omega arith)) in
+    let count : length (flat_map (λ p. p) given.pieces ++ put.0) ≡ slice_index starts (i + 1) =
+    length-append (flat_map (λ p. p) given.pieces) put.0 ∙ omega (arith, so_far, put.2, next) in
     record {
-      pieces = h.pieces ++ put.0 ∷ [];
+      pieces = given.pieces ++ put.0 ∷ [];
       count = total;
-      whole = put.1 ∙ ap (λ xs. xs ++ put.0) h.whole ∙ sym all;
+      whole = put.1 ∙ ap (λ xs. xs ++ put.0) given.whole ∙ sym all;
       places = λ k le. elim (cases_lt k (i + 1)) [
         | inl lt ↦
-            h.places k (omega (arith, lt))
+            given.places k (omega (arith, lt))
             ∙ ap (λ ps. length (flat_map (λ p. p) ps)) (sym (before k (omega (arith, lt))))
         | inr ge ↦
             (let e : k ≡ i + 1 = omega (arith, le, ge) in
             ap (slice_index starts) e ∙ sym count ∙ ap length (sym all)
             ∙ ap (λ ps. length (flat_map (λ p. p) ps))
-            (sym (take_all k (h.pieces ++ put.0 ∷ []) (omega (arith, total, e)))))
+            (sym (take_all k (given.pieces ++ put.0 ∷ []) (omega (arith, total, e)))))
       ];
       each = λ k t lt here. elim (cases_lt k i) [
         | inl less ↦
             subst (IsPiece (address_of origin starts) (k + 1) t)
-            (sym (get_or_append_left h.pieces (put.0 ∷ []) [] k (omega (arith, less, h.count)))) (h.each k t less here)
+            (sym (get_or_append_left given.pieces (put.0 ∷ []) [] k (omega (arith, less, given.count))))
+            (given.each k t less here)
         | inr ge ↦
             (let e : k ≡ i = omega (arith, lt, ge) in
-            let value : get_or (h.pieces ++ put.0 ∷ []) k [] ≡ put.0 =
-            ap (λ j. get_or (h.pieces ++ put.0 ∷ []) j []) e ∙ get_or_at h.pieces put.0 [] [] i h.count in
+            let value : get_or (given.pieces ++ put.0 ∷ []) k [] ≡ put.0 =
+            ap (λ j. get_or (given.pieces ++ put.0 ∷ []) j []) e ∙ get_or_at given.pieces put.0 [] [] i given.count in
             let stmt : s ≡ t = same_statement statements i s t at (ap (slice_get statements) (sym e) ∙ here) in
             subst (IsPiece (address_of origin starts) (k + 1) t) (sym value)
             (subst (λ j. IsPiece (address_of origin starts) (j + 1) t put.0) (sym e)
@@ -180,8 +182,8 @@ sum-most xs most = sum_by-le (λ x. x) 8 xs (λ k d lt. subst (λ x. x ≤ 8) (g
 pub more_room : (statements : List Statement) (rooms : List ℕ) (i n : ℕ) (s : Statement)
     → AreRooms statements rooms → slice_get statements i ≡ Some s → 1 ≤ n → n ≤ 8 → IsTight n s
     → AreRooms statements (set rooms i n)
-more_room statements rooms i n s h at least most tight =
-    let within : i < length rooms = omega (arith, slice_get_within statements i s at, h.count) in
+more_room statements rooms i n s given at least most tight =
+    let within : i < length rooms = omega (arith, slice_get_within statements i s at, given.count) in
     let here : slice_index (set rooms i n) i ≡ n = get_or-set_same rooms i n 0 within in
     let there : (k : ℕ) → k ≢ i → slice_index (set rooms i n) k ≡ slice_index rooms k =
     λ k ne. get_or-set_other rooms i k n 0 ne in
@@ -195,15 +197,15 @@ more_room statements rooms i n s h at least most tight =
           subst (P k) (sym (there k ne)) (others k ne))
     ] in
     record {
-      count = count ∙ h.count;
+      count = count ∙ given.count;
       least =
           λ k lt. at_all (λ j v. j < length rooms → 1 ≤ v) (λ _. least)
-          (λ j _ l. h.least j l) k (omega (arith, lt, count));
-      most = at_all (λ j v. v ≤ 8) most (λ j _. h.most j);
+          (λ j _ l. given.least j l) k (omega (arith, lt, count));
+      most = at_all (λ j v. v ≤ 8) most (λ j _. given.most j);
       tight =
           λ k t there_is. at_all (λ j v. slice_get statements j ≡ Some t → IsTight v t)
           (λ is. subst (IsTight n) (same_statement statements i s t at is) tight)
-          (λ j _ is. h.tight j t is) k there_is;
+          (λ j _ is. given.tight j t is) k there_is;
     }
 
 -- a number that is less than another if a flag is set, and else equal to it, is at most the other
@@ -215,5 +217,5 @@ le_of_flag false a b more same = omega (arith, same refl)
 pub next_at : (origin : ℕ) (statements : List Statement) (rooms starts : List ℕ) (n i room : ℕ) {s : Statement}
     → AreStarts origin statements rooms n starts → i < n → slice_get statements i ≡ Some s → slice_index rooms i ≡ room
     → slice_index starts (i + 1) ≡ slice_index starts i + size_of (address_of origin starts i) room s
-next_at origin statements rooms starts n i room {s} h lt at e =
-    h.next i s lt at ∙ ap (λ r. slice_index starts i + size_of (address_of origin starts i) r s) e
+next_at origin statements rooms starts n i room {s} given lt at same =
+    given.next i s lt at ∙ ap (λ r. slice_index starts i + size_of (address_of origin starts i) r s) same

@@ -28,14 +28,16 @@ pad_reads (suc pads) bytes =
     ∙ pad_reads pads bytes
 
 -- bytes that mean an instruction mean it behind any number of pfix 0
-pub pad_means : (pads : ℕ) (bytes : List ℕ) (f : Function) (operand : ℕ) → Means bytes f operand
-    → Means (replicate pads 0x20 ++ bytes) f operand
-pad_means pads bytes f operand means = λ rest.
+pub pad_means : (pads : ℕ) (bytes : List ℕ) (function : Function) (operand : ℕ) → Means bytes function operand
+    → Means (replicate pads 0x20 ++ bytes) function operand
+pad_means pads bytes function operand means = λ rest.
     ap (read_from 0) (append_assoc (replicate pads 0x20) bytes rest) ∙ pad_reads pads (bytes ++ rest) ∙ means rest
 
 -- a room that no bytes of an instruction are shorter than isn't longer than these bytes of it
-pub no_pads : (short : List ℕ) (room : ℕ) (f : Function) (operand : ℕ) → Means short f operand
-    → ((others : List ℕ) → read_from 0 others ≡ Some (record { function = f; operand = operand; rest = [] })
+pub no_pads : (short : List ℕ) (room : ℕ) (other_function : Function) (operand : ℕ) → Means short other_function operand
+    → ((others : List ℕ) → read_from 0 others ≡ Some (record
+    { function = other_function; operand = operand; rest = [] })
     → room ≤ length others)
     → room ≤ length short
-no_pads short room f operand means least = least short (ap (read_from 0) (sym (append-nil short)) ∙ means [])
+no_pads short room other_function operand means least =
+    least short (ap (read_from 0) (sym (append-nil short)) ∙ means [])

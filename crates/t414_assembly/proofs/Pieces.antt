@@ -14,85 +14,89 @@ use Rattle.t414_assembly.specs.Usual.{usual}
 use Rattle.t414_assembly.proofs.Padding.{pad_means, no_pads}
 use Rattle.t414_assembly.proofs.Gaps.{gap_lt, gap_reaches}
 
-tight_prefix : (room : ℕ) (f : Function) (o : Operand) → IsTight room (Instruction f o) → continues f ≡ true → room ≡ 1
-tight_prefix room f (Number n) tight on = tight.0 on
-tight_prefix room f (Label p m) tight on = tight on
-tight_prefix room f (Difference p q m) tight on = tight on
+tight_prefix : (room : ℕ) (function : Function) (operand : Operand) → IsTight room (Instruction function operand)
+    → continues function ≡ true → room ≡ 1
+tight_prefix room function (Number n) tight on = tight.0 on
+tight_prefix room function (Label p m) tight on = tight on
+tight_prefix room function (Difference p q m) tight on = tight on
 
 abbrev number_among : Operand → ℕ
 number_among (Number n) = n
 number_among _ = 0
 
 not_padded : (room : ℕ) (short : List ℕ) → room ≤ length short → replicate (room - length short) 0x20 ++ short ≡ short
-not_padded room short h =
-    let none : room - length short ≡ 0 = omega (arith, h) in ap (λ n. replicate n 0x20 ++ short) none
+not_padded room short less =
+    let none : room - length short ≡ 0 = omega (arith, less) in ap (λ n. replicate n 0x20 ++ short) none
 
-number_short : (address : ℕ → ℕ) (next room : ℕ) (f : Function) (o : Operand) (short : List ℕ)
-    → (continues f ≡ false → Means short f (operand_of address next f o))
-    → (continues f ≡ false → IsShortest short f (operand_of address next f o)) → IsTight room (Instruction f o)
-    → (n : ℕ) → o ≡ Number n → continues f ≡ false
-    → IsShortest (replicate (room - length short) 0x20 ++ short) f n
-number_short address next room f (Number m) short means shortest tight n is off =
+number_short : (address : ℕ → ℕ) (next room : ℕ) (function : Function) (operand : Operand) (short : List ℕ)
+    → (continues function ≡ false → Means short function (operand_of address next function operand))
+    → (continues function ≡ false → IsShortest short function (operand_of address next function operand))
+    → IsTight room (Instruction function operand)
+    → (n : ℕ) → operand ≡ Number n → continues function ≡ false
+    → IsShortest (replicate (room - length short) 0x20 ++ short) function n
+number_short address next room function (Number m) short means shortest tight n is off =
     let same : m ≡ n = ap number_among is in
-    let less : room ≤ length short = no_pads short room f m (means off) (λ others h. tight.1 others off h) in
-    subst (λ k. IsShortest (replicate (room - length short) 0x20 ++ short) f k) same
-    (subst (λ bytes. IsShortest bytes f m) (sym (not_padded room short less)) (shortest off))
-number_short address next room f (Label p m) short means shortest tight n is off = cc
-number_short address next room f (Difference p q m) short means shortest tight n is off = cc
+    let less : room ≤ length short = no_pads short room function m (means off) (λ others h. tight.1 others off h) in
+    subst (λ k. IsShortest (replicate (room - length short) 0x20 ++ short) function k) same
+    (subst (λ bytes. IsShortest bytes function m) (sym (not_padded room short less)) (shortest off))
+number_short address next room function (Label p m) short means shortest tight n is off = cc
+number_short address next room function (Difference p q m) short means shortest tight n is off = cc
 
-prefix_byte : (room nibble : ℕ) (f : Function) (short : List ℕ) → room ≡ 1 → IsByteOf f nibble short
-    → IsByteOf f nibble (replicate (room - length short) 0x20 ++ short)
-prefix_byte room nibble f short one is =
+prefix_byte : (room nibble : ℕ) (function : Function) (short : List ℕ) → room ≡ 1 → IsByteOf function nibble short
+    → IsByteOf function nibble (replicate (room - length short) 0x20 ++ short)
+prefix_byte room nibble function short one is =
     let count : length short ≡ 1 = ap length is.1 in
     let less : room ≤ length short = omega (arith, one, count) in
     (is.0, not_padded room short less ∙ is.1, is.2, is.3)
 
-number_usual : (address : ℕ → ℕ) (next room : ℕ) (f : Function) (o : Operand) (short : List ℕ)
-    → (continues f ≡ false → Means short f (operand_of address next f o))
-    → (continues f ≡ true → IsByteOf f (operand_of address next f o % 16) short)
-    → short ≡ usual f (operand_of address next f o) → IsTight room (Instruction f o) → (n : ℕ) → o ≡ Number n
-    → replicate (room - length short) 0x20 ++ short ≡ usual f n
-number_usual address next room f (Number m) short means prefix usual_is tight n is =
+number_usual : (address : ℕ → ℕ) (next room : ℕ) (function : Function) (operand : Operand) (short : List ℕ)
+    → (continues function ≡ false → Means short function (operand_of address next function operand))
+    → (continues function ≡ true → IsByteOf function (operand_of address next function operand % 16) short)
+    → short ≡ usual function (operand_of address next function operand) → IsTight room (Instruction function operand)
+    → (n : ℕ) → operand ≡ Number n
+    → replicate (room - length short) 0x20 ++ short ≡ usual function n
+number_usual address next room function (Number m) short means prefix usual_is tight n is =
     let same : m ≡ n = ap number_among is in
-    let less : room ≤ length short = (elim (continues f) as (λ g. continues f ≡ g → room ≤ length short) [
+    let less : room ≤ length short = (elim (continues function) as (λ g. continues function ≡ g → room ≤ length short) [
       | true ↦ λ on. (let count : length short ≡ 1 = ap length (prefix on).1 in omega (arith, tight.0 on, count))
-      | false ↦ λ off. no_pads short room f m (means off) (λ others h. tight.1 others off h)
+      | false ↦ λ off. no_pads short room function m (means off) (λ others h. tight.1 others off h)
     ]) refl in
-    not_padded room short less ∙ usual_is ∙ ap (usual f) same
-number_usual address next room f (Label p m) short means prefix usual_is tight n is = cc
-number_usual address next room f (Difference p q m) short means prefix usual_is tight n is = cc
+    not_padded room short less ∙ usual_is ∙ ap (usual function) same
+number_usual address next room function (Label p m) short means prefix usual_is tight n is = cc
+number_usual address next room function (Difference p q m) short means prefix usual_is tight n is = cc
 
 -- the shortest bytes of an instruction, behind as many pfix 0 as its room has left, are bytes of it
-pub instruction_piece : (address : ℕ → ℕ) (next room : ℕ) (f : Function) (o : Operand) (short : List ℕ)
-    → (continues f ≡ false → Means short f (operand_of address next f o))
-    → (continues f ≡ false → IsShortest short f (operand_of address next f o))
-    → (continues f ≡ true → IsByteOf f (operand_of address next f o % 16) short)
-    → short ≡ usual f (operand_of address next f o) → IsTight room (Instruction f o)
-    → IsInstruction address next f o (replicate (room - length short) 0x20 ++ short)
-instruction_piece address next room f o short means shortest prefix usual_is tight = record {
+pub instruction_piece : (address : ℕ → ℕ) (next room : ℕ) (function : Function) (operand : Operand) (short : List ℕ)
+    → (continues function ≡ false → Means short function (operand_of address next function operand))
+    → (continues function ≡ false → IsShortest short function (operand_of address next function operand))
+    → (continues function ≡ true → IsByteOf function (operand_of address next function operand % 16) short)
+    → short ≡ usual function (operand_of address next function operand) → IsTight room (Instruction function operand)
+    → IsInstruction address next function operand (replicate (room - length short) 0x20 ++ short)
+instruction_piece address next room function operand short means shortest prefix usual_is tight = record {
   prefix =
-      λ on. prefix_byte room (operand_of address next f o % 16) f short (tight_prefix room f o tight on) (prefix on);
+      λ on. prefix_byte room (operand_of address next function operand % 16) function short
+      (tight_prefix room function operand tight on) (prefix on);
   other =
       λ off. (
         room - length short,
         record {
-          means = pad_means (room - length short) short f (operand_of address next f o) (means off);
+          means = pad_means (room - length short) short function (operand_of address next function operand) (means off);
           short = short;
           whole = refl;
           shortest = shortest off;
         },
       );
-  number = number_usual address next room f o short means prefix usual_is tight;
-  shortest = number_short address next room f o short means shortest tight;
+  number = number_usual address next room function operand short means prefix usual_is tight;
+  shortest = number_short address next room function operand short means shortest tight;
 }
 
 -- bytes behind as many pfix 0 as a room has left fill the room
 pub piece_length : (room : ℕ) (short : List ℕ) → length short ≤ room
     → length (replicate {A = ℕ} (room - length short) 0x20 ++ short) ≡ room
-piece_length room short h =
+piece_length room short less =
     let pads : length (replicate {A = ℕ} (room - length short) 0x20) ≡ room - length short =
     length-replicate (room - length short) 0x20 in
-    let sum : length (replicate {A = ℕ} (room - length short) 0x20) + length short ≡ room = omega (arith, pads, h) in
+    let sum : length (replicate {A = ℕ} (room - length short) 0x20) + length short ≡ room = omega (arith, pads, less) in
     length-append (replicate (room - length short) 0x20) short ∙ sum
 
 -- zeros up to the next multiple of a size are the bytes of a statement that aligns to that size

@@ -41,18 +41,19 @@ power : (k : ℕ) → 16 * 16 ^ (k + 1) ≡ 16 ^ (k + 1 + 1)
 power k = sym (power_more (k + 1))
 
 -- a nibble put in stays within the bound
-near_joined : (o n k : ℕ) → o % 16 ≡ 0 → n < 16 → Near (16 ^ (k + 1)) o → Near (16 ^ (k + 1)) (o + n)
-near_joined o n k low lt (inl h) =
+near_joined : (operand n k : ℕ) → operand % 16 ≡ 0 → n < 16 → Near (16 ^ (k + 1)) operand
+    → Near (16 ^ (k + 1)) (operand + n)
+near_joined operand n k low lt (inl h) =
     let e : 16 ^ (k + 1) ≡ 16 * 16 ^ k = power_more k in
     inl (omega (arith, e))
-near_joined o n k low lt (inr h) = inr (omega arith)
+near_joined operand n k low lt (inr h) = inr (omega arith)
 
-joined_word : (o n : ℕ) → o % 16 ≡ 0 → n < 16 → o < 2 ^ 32 → o + n < 2 ^ 32
-joined_word o n low lt word = omega arith
+joined_word : (operand n : ℕ) → operand % 16 ≡ 0 → n < 16 → operand < 2 ^ 32 → operand + n < 2 ^ 32
+joined_word operand n low lt word = omega arith
 
 -- an operand with a nibble put in, moved by a prefix
-shifted_more : (k j : ℕ) (f : Function) → j < 2 ^ 32 → Near (16 ^ (k + 1)) j → continues f ≡ true
-    → Prefixed (k + 1) (shifted f j)
+shifted_more : (k j : ℕ) (function : Function) → j < 2 ^ 32 → Near (16 ^ (k + 1)) j → continues function ≡ true
+    → Prefixed (k + 1) (shifted function j)
 shifted_more k j Prefix word near on = record {
   low = omega arith;
   word = omega arith;
@@ -70,22 +71,22 @@ shifted_more k j NegativePrefix word near on = record {
 shifted_more k j _ word near on = cc
 
 -- an operand behind k prefixes, with the nibble of one more and moved by it, is one behind k + 1
-pub prefixed_more : (k o byte : ℕ) → Prefixed k o → continues (function_of (byte / 16)) ≡ true
-    → Prefixed (k + 1) (accumulated o byte)
-prefixed_more k o byte p on =
+pub prefixed_more : (k operand byte : ℕ) → Prefixed k operand → continues (function_of (byte / 16)) ≡ true
+    → Prefixed (k + 1) (accumulated operand byte)
+prefixed_more k operand byte given on =
     let n : ℕ = byte % 16 in
     let lt : byte % 16 < 16 = omega arith in
-    let j : Near (16 ^ (k + 1)) (o + byte % 16) = near_joined o (byte % 16) k p.low lt p.near in
-    let w : o + byte % 16 < 2 ^ 32 = joined_word o (byte % 16) p.low lt p.word in
-    subst (Prefixed (k + 1)) (sym (taken_in o byte (byte % 16) (function_of (byte / 16)) p.low refl refl))
-    (shifted_more k (o + byte % 16) (function_of (byte / 16)) w j on)
+    let j : Near (16 ^ (k + 1)) (operand + byte % 16) = near_joined operand (byte % 16) k given.low lt given.near in
+    let w : operand + byte % 16 < 2 ^ 32 = joined_word operand (byte % 16) given.low lt given.word in
+    subst (Prefixed (k + 1)) (sym (taken_in operand byte (byte % 16) (function_of (byte / 16)) given.low refl refl))
+    (shifted_more k (operand + byte % 16) (function_of (byte / 16)) w j on)
 
 reaches_of : (k n operand : ℕ) → n ≡ k → (k ≡ 0 → operand < 16) → Near (16 ^ (k + 1)) operand → Reaches n operand
-reaches_of zero zero operand e first near = first refl
-reaches_of zero (suc n) operand e first near = absurd (omega (arith, e))
-reaches_of (suc k) zero operand e first near = absurd (omega (arith, e))
-reaches_of (suc k) (suc n) operand e first near =
-    let s : suc k + 1 ≡ n + 2 = omega (arith, e) in subst (λ m. Near (16 ^ m) operand) s near
+reaches_of zero zero operand same first near = first refl
+reaches_of zero (suc n) operand same first near = absurd (omega (arith, same))
+reaches_of (suc k) zero operand same first near = absurd (omega (arith, same))
+reaches_of (suc k) (suc n) operand same first near =
+    let s : suc k + 1 ≡ n + 2 = omega (arith, same) in subst (λ m. Near (16 ^ m) operand) s near
 
 abbrev operand_in : Option Meant → ℕ
 operand_in None = 0
@@ -96,41 +97,44 @@ rest_in None = []
 rest_in (Some r) = r.rest
 
 -- if bytes are read as one instruction behind k prefixes, its operand is within reach of all its prefixes
-pub reaches : (others : List ℕ) (k o n operand : ℕ) (f : Function)
-    → Prefixed k o → read_from o others ≡ Some (record { function = f; operand = operand; rest = [] })
+pub reaches : (others : List ℕ) (k other_operand n operand : ℕ) (other_function : Function)
+    → Prefixed k other_operand → read_from other_operand others
+    ≡ Some (record { function = other_function; operand = operand; rest = [] })
     → n + 1 ≡ k + length others
     → Reaches n operand
 unfolding read_from
-reaches [] k o n operand f p h e = cc
-reaches (b ∷ bs) k o n operand f p h e =
+reaches [] k other_operand n operand other_function given same equal = cc
+reaches (b ∷ bs) k other_operand n operand other_function given same equal =
     (elim (continues (function_of (b / 16))) as (λ g. continues (function_of (b / 16)) ≡ g → Reaches n operand) [
       | true ↦
-          λ on. reaches bs (k + 1) (accumulated o b) n operand f (prefixed_more k o b p on)
-          (sym (passes o b bs on) ∙ h) (omega (arith, e))
+          λ on. reaches bs (k + 1) (accumulated other_operand b) n operand other_function
+          (prefixed_more k other_operand b given on)
+          (sym (passes other_operand b bs on) ∙ same) (omega (arith, equal))
       | false ↦ λ off.
-          let is : Some (record { function = function_of (b / 16); operand = accumulated o b; rest = bs })
-          ≡ Some (record { function = f; operand = operand; rest = [] }) =
-          sym (ends o b bs off) ∙ h in
-          let value : accumulated o b ≡ operand = ap operand_in is in
+          let is : Some (record { function = function_of (b / 16); operand = accumulated other_operand b; rest = bs })
+          ≡ Some (record { function = other_function; operand = operand; rest = [] }) =
+          sym (ends other_operand b bs off) ∙ same in
+          let value : accumulated other_operand b ≡ operand = ap operand_in is in
           let left : bs ≡ [] = ap rest_in is in
           let count : length bs ≡ 0 = ap length left in
-          let sum : accumulated o b ≡ o + b % 16 =
-          taken_in o b (b % 16) (function_of (b / 16)) p.low refl refl
-          ∙ shifted_plain (function_of (b / 16)) (o + b % 16) off in
-          reaches_of k n operand (omega (arith, e, count))
-          (λ z. let o-zero : o ≡ 0 = p.none z in omega (arith, value, sum, o-zero))
-          (subst (Near (16 ^ (k + 1))) (sym sum ∙ value) (near_joined o (b % 16) k p.low (omega arith) p.near))
+          let sum : accumulated other_operand b ≡ other_operand + b % 16 =
+          taken_in other_operand b (b % 16) (function_of (b / 16)) given.low refl refl
+          ∙ shifted_plain (function_of (b / 16)) (other_operand + b % 16) off in
+          reaches_of k n operand (omega (arith, equal, count))
+          (λ z. let o-zero : other_operand ≡ 0 = given.none z in omega (arith, value, sum, o-zero))
+          (subst (Near (16 ^ (k + 1))) (sym sum ∙ value)
+          (near_joined other_operand (b % 16) k given.low (omega arith) given.near))
     ]) refl
 
 -- bytes that are read as one instruction have a byte at least, and with the others they reach its operand
-pub reaches_whole : (others : List ℕ) (operand : ℕ) (f : Function)
-    → read_from 0 others ≡ Some (record { function = f; operand = operand; rest = [] })
+pub reaches_whole : (others : List ℕ) (operand : ℕ) (other_function : Function)
+    → read_from 0 others ≡ Some (record { function = other_function; operand = operand; rest = [] })
     → (n : ℕ) × (length others ≡ n + 1) × Reaches n operand
 unfolding read_from
-reaches_whole [] operand f h = cc
-reaches_whole (b ∷ bs) operand f h =
+reaches_whole [] operand other_function same = cc
+reaches_whole (b ∷ bs) operand other_function same =
     let first : Prefixed 0 0 = record { low = refl; word = lit< tt; none = λ _. refl; near = inl (lit< tt) } in
-    (length bs, omega arith, reaches (b ∷ bs) 0 0 (length bs) operand f first h (omega arith))
+    (length bs, omega arith, reaches (b ∷ bs) 0 0 (length bs) operand other_function first same (omega arith))
 
 -- how a value of prefixes comes from an operand
 pub data Uppers : ℕ → ℕ → Type 0 where
@@ -141,10 +145,10 @@ pub data Uppers : ℕ → ℕ → Type 0 where
 beyond : (operand value power : ℕ)
     → Uppers operand value → power ≤ 16 * value → (operand < power) ⊎ (2 ^ 32 ≤ operand + power)
     → ⊥
-beyond o v power (positive operand value small is) most (inl h) = omega (arith, is)
-beyond o v power (positive operand value small is) most (inr h) = omega (arith, is)
-beyond o v power (negative operand value word big is) most (inl h) = omega (arith, is)
-beyond o v power (negative operand value word big is) most (inr h) = omega (arith, is)
+beyond other_operand v power (positive operand value small is) most (inl h) = omega (arith, is)
+beyond other_operand v power (positive operand value small is) most (inr h) = omega (arith, is)
+beyond other_operand v power (negative operand value word big is) most (inl h) = omega (arith, is)
+beyond other_operand v power (negative operand value word big is) most (inr h) = omega (arith, is)
 
 -- no fewer prefixes reach the operand than the value has digits
 pub fewest : (operand value count n : ℕ)

@@ -10,14 +10,14 @@ use Rattle.t414_assembly.specs.Usual.{usual}
 use Rattle.t414_assembly.specs.Reassembled.{bytes_of_all, stated}
 
 abbrev stated_in : Instruction → Option Instruction → Option Statement
-stated_in d None = None
-stated_in d (Some i) = Some (stated i)
+stated_in instruction None = None
+stated_in instruction (Some i) = Some (stated i)
 
 at_map : (found : List Instruction) (k : ℕ) (i : Instruction) → slice_get found k ≡ Some i
     → slice_get (map stated found) k ≡ Some (stated i)
-at_map [] k i h = cc
-at_map (x ∷ xs) zero i h = ap (λ o. stated_in i o) h
-at_map (x ∷ xs) (suc k) i h = at_map xs k i h
+at_map [] k i same = cc
+at_map (x ∷ xs) zero i same = ap (λ o. stated_in i o) same
+at_map (x ∷ xs) (suc k) i same = at_map xs k i same
 
 joined_pieces : (pieces : List (List ℕ)) (found : List Instruction)
     → length pieces ≡ length found
@@ -35,7 +35,7 @@ joined_pieces (p ∷ ps) (i ∷ is) count each =
 pub same_code : (origin : ℕ) (found : List Instruction) (starts bytes : List ℕ)
     → IsImage origin (map stated found) starts (length found) bytes
     → bytes ≡ bytes_of_all found
-same_code origin found starts bytes h =
-    h.whole
-    ∙ joined_pieces h.pieces found h.count
-    (λ k i at. (h.each k (stated i) (slice_get_within found k i at) (at_map found k i at)).number i.operand refl)
+same_code origin found starts bytes given =
+    given.whole
+    ∙ joined_pieces given.pieces found given.count
+    (λ k i at. (given.each k (stated i) (slice_get_within found k i at) (at_map found k i at)).number i.operand refl)

@@ -8,11 +8,11 @@ use Rattle.t414_assembly.specs.Usual.{byte_with, prefix_bytes, prefixes_of}
 
 -- if a is below b, the test says so
 pub less_true : (a b : ℕ) → a < b → nat_lt a b ≡ true
-less_true a b h = grind (arith, nat_tests)
+less_true a b less = grind (arith, nat_tests)
 
 -- if a isn't below b, the test says so
 pub less_false : (a b : ℕ) → b ≤ a → nat_lt a b ≡ false
-less_false a b h = grind (arith, nat_tests)
+less_false a b less = grind (arith, nat_tests)
 
 some_most : (most value : ℕ) → 16 ≤ value → value / 16 < 16 ^ most → 0 < most
 some_most zero value ge less = absurd (omega (arith, ge, less))
