@@ -8,7 +8,7 @@ use Rattle.domain_core.specs.declared.event.Reply.{Reply}
 use Rattle.farm_service.specs.declared.told.Told.{Told}
 use Rattle.answer_text.specs.Digits.{byte_text}
 use Rattle.line_answers.specs.Asks.{replies_told}
-use Rattle.line_answers.specs.Results.{byte_in, bytes_read}
+use Rattle.line_answers.specs.Results.{byte_read, bytes_read}
 
 -- one reply more
 replies_more : (told : List Told) (i : ℕ) (other_told : Told) → i < length told
@@ -31,7 +31,7 @@ bytes_split : (xs ys : List Reply)
     → flat_map byte_text (bytes_read (xs ++ ys))
     ≡ flat_map byte_text (bytes_read xs) ++ flat_map byte_text (bytes_read ys)
 bytes_split xs ys =
-    ap (flat_map byte_text) (filter_map-append byte_in xs ys)
+    ap (flat_map byte_text) (filter_map-append byte_read xs ys)
     ∙ flat_map-append byte_text (bytes_read xs) (bytes_read ys)
 
 -- a text that had what the first replies brought, and gained what one more did

@@ -53,13 +53,14 @@ booted_text code replies =
 
 -- ---- bytes of a host
 
-abbrev pub byte_in : Reply → Option ℕ
-byte_in (reply.Read answer) = answer
-byte_in r = None
+-- the byte of an answer to Read, if one came
+abbrev pub byte_read : Reply → Option ℕ
+byte_read (reply.Read answer) = answer
+byte_read r = None
 
 -- the bytes that came
 abbrev pub bytes_read : List Reply → List ℕ
-bytes_read replies = filter_map byte_in replies
+bytes_read replies = filter_map byte_read replies
 
 abbrev pub bytes_told : List Told → List ℕ
 bytes_told told = bytes_read (replies_told told)

@@ -4,7 +4,7 @@ ghost use Rattle.std.specs.List.{filter, flat_map, list_any};
 ghost use Rattle.answer_text.specs.Digits.{byte_text};
 ghost use Rattle.answer_text.specs.Replies.{reply_text};
 ghost use Rattle.line_answers.specs.Asks.{replies_told};
-ghost use Rattle.line_answers.specs.Results.{is_shown, is_written, byte_in, bytes_read, bytes_told, shown_text, configured_text, taken_text, booted_text, word_text, bytes_text, behind_blank, reset_text, look_text, result_text, outcome_text, line_text};
+ghost use Rattle.line_answers.specs.Results.{is_shown, is_written, byte_read, bytes_read, bytes_told, shown_text, configured_text, taken_text, booted_text, word_text, bytes_text, behind_blank, reset_text, look_text, result_text, outcome_text, line_text};
 ghost use Rattle.std.specs.Fmt.{decimal};
 ghost use Rattle.bootstrap.specs.Messages.{boot_fault_number};
 
@@ -103,8 +103,8 @@ fn write_booted(text: &mut String, code: &[u8], told: &[Told]) -> Result<(), NoM
 }
 
 // The byte that a read brought.
-fn byte_in(reply: Reply) -> Option<u8>
-    ensures { result ≡ byte_in reply }
+fn byte_read(reply: Reply) -> Option<u8>
+    ensures { result ≡ byte_read reply }
 {
     match reply {
         Reply::Read(byte) => byte,
@@ -119,7 +119,7 @@ fn first_byte(told: &[Told]) -> Option<(u8, &[Told])>
     let mut rest = told;
     while let Some((first, after)) = rest.split_first() {
         rest = after;
-        if let Some(byte) = byte_in(first.reply) {
+        if let Some(byte) = byte_read(first.reply) {
             return Some((byte, rest));
         }
     }
@@ -158,7 +158,7 @@ fn write_word(text: &mut String, told: &[Told]) -> Result<(), NoMemory>
 fn write_read(text: &mut String, reply: Reply) -> Result<(), NoMemory>
     ensures { OnOk result (string_bytes text.new ≡ string_bytes text.old ++ flat_map byte_text (bytes_read (reply ∷ []))) }
 {
-    match byte_in(reply) {
+    match byte_read(reply) {
         Some(byte) => write_byte(text, byte),
         None => Ok(()),
     }
