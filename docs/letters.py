@@ -6,15 +6,21 @@ import re
 # What std's definitions have, as far as a lemma here needs it.
 STD_LETTERS = {("e", "ℕ"), ("p", "ℕ"), ("r", "List ℕ"), ("r", "Result A E"), ("r", "Result T E")}
 BRACKETS = {"(": ")", "[": "]", "{": "}"}
-OTHER_LINES = re.compile(r"--|use |pub use |(pub )?(mod|module|record|data|rule|ruleset) ")
+OTHER_LINES = re.compile(r"--|use |pub use |(pub )?(mod|record|data|rule|ruleset) ")
 BINDER = re.compile(r"[({]\s*([A-Za-z_][\w'\- ]*?)\s+:\s+([^(){}]*)")
 
 
 def declarations(text):
-    """The declarations of a file, each a list of lines: those that begin in the first column begin one."""
+    """The declarations of a file: those that begin in the first column begin one. A module gives one of its parameters, and
+    those that stand in it."""
     text = re.sub(r"(?m)--.*$", "", text)
-    parts = re.split(r"\n(?=[^\s\])}|])", text)
-    return [it for it in parts if it.strip() and not OTHER_LINES.match(it)]
+    for it in re.split(r"\n(?=[^\s\])}|])", text):
+        module = re.match(r"module (\S+) (.*?)\swhere\n", it, re.S)
+        if module:
+            yield f"{module[1]} : {module[2]} → {module[1]}"
+            yield from declarations(re.sub(r"(?m)^  ", "", it[module.end() :]))
+        elif it.strip() and not OTHER_LINES.match(it):
+            yield it
 
 
 def outside(text):

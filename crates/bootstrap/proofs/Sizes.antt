@@ -106,20 +106,21 @@ module _ (words : WordKeepsTheSize) (bytes : ByteKeepsTheSize) (copies : CopyKee
   keeps-store : {A S : Type 0} (s : S) (m : List ℕ) (a w : ℕ) (next : List ℕ → Effect A S) (k : ℕ)
       → length m ≡ k → ((n : List ℕ) → length n ≡ k → Sized k (next n))
       → Sized k (tried (with_word m a w) s m next)
-  keeps-store s m a w next k e f = keeps-written (with_word m a w) s m next k (λ n h. words m n a w h) e f
+  keeps-store s m a w next k same holds = keeps-written (with_word m a w) s m next k (λ n h. words m n a w h) same holds
 
   keeps-store_byte : {A S : Type 0} (s : S) (m : List ℕ) (a b : ℕ) (next : List ℕ → Effect A S) (k : ℕ)
       → length m ≡ k → ((n : List ℕ) → length n ≡ k → Sized k (next n))
       → Sized k (tried (with_byte m a b) s m next)
-  keeps-store_byte s m a b next k e f = keeps-written (with_byte m a b) s m next k (λ n h. bytes m n a b h) e f
+  keeps-store_byte s m a b next k same holds = keeps-written (with_byte m a b) s m next k
+      (λ n h. bytes m n a b h) same holds
 
   keeps-copy : {A S : Type 0} (s : S) (m : List ℕ) (count from to : ℕ) (next : List ℕ → Effect A S) (k : ℕ)
       → length m ≡ k → ((n : List ℕ) → length n ≡ k → Sized k (next n))
       → Sized k (copy s m count from to next)
-  keeps-copy s m count from to next k e f =
-      let copied_size : length (copied count m from to).1 ≡ k = copies count m from to ∙ e in
+  keeps-copy s m count from to next k same holds =
+      let copied_size : length (copied count m from to).1 ≡ k = copies count m from to ∙ same in
       keeps-tried (copied count m from to).0 s (copied count m from to).1 (λ _. next (copied count m from to).1) k
-      copied_size (λ x. f (copied count m from to).1 copied_size)
+      copied_size (λ x. holds (copied count m from to).1 copied_size)
 
   ruleset parts = (gave, halted, keeps-if, keeps-tried, keeps-perform, keeps-beside, keeps-within)
 
@@ -128,137 +129,141 @@ module _ (words : WordKeepsTheSize) (bytes : ByteKeepsTheSize) (copies : CopyKee
   -- the queue
   size-put : (q : Queue) (m : List ℕ) (w k : ℕ) → length m ≡ k → Sized k (after_put q m w)
   unfolding after_put
-  size-put q m w k e = search acts depth 12
+  size-put q m w k same = search acts depth 12
 
   size-take : (q : Queue) (m : List ℕ) (k : ℕ) → length m ≡ k → Sized k (after_take q m)
   unfolding after_take
-  size-take q m k e = search acts depth 12
+  size-take q m k same = search acts depth 12
 
   -- the operations of the table, but for those on channels
   size-slice : (s : Cpu) (ls : FourLinks) (m : List ℕ) (k : ℕ) → length m ≡ k → Sized k (slice s ls m)
-  size-slice s ls m k e = search (acts, size-put) depth 12
+  size-slice s ls m k same = search (acts, size-put) depth 12
 
   size-row : (operation : PlainOperation) (s : Cpu) (ls : FourLinks) (m : List ℕ) (k : ℕ) → length m ≡ k
       → Sized k (row operation s ls m)
   unfolding row
-  size-row op.Reverse s ls m k e = gave _ ls m k e
-  size-row operation s ls m k e = search (acts, keeps-error, size-put, size-slice) depth 12
+  size-row op.Reverse s ls m k same = gave _ ls m k same
+  size-row operation s ls m k same = search (acts, keeps-error, size-put, size-slice) depth 12
 
   -- services of links
   size-complete : (channel : ℕ) (l : Link) (q : Queue) (m : List ℕ) (k : ℕ) → length m ≡ k
       → Sized k (complete channel l q m)
-  size-complete channel l q m k e = search (acts, size-put) depth 12
+  size-complete channel l q m k same = search (acts, size-put) depth 12
 
   size-input_of : (byte : Option ℕ) (channel : ℕ) (l : Link) (q : Queue) (m : List ℕ) (k : ℕ) → length m ≡ k
       → Sized k (input_of_buffer byte channel l q m)
-  size-input_of None channel l q m k e = gave _ l m k e
-  size-input_of (Some byte) channel l q m k e = search (acts, size-complete) depth 12
+  size-input_of None channel l q m k same = gave _ l m k same
+  size-input_of (Some byte) channel l q m k same = search (acts, size-complete) depth 12
 
   size-wakes : (other : Option ℕ) (l : Link) (q : Queue) (m : List ℕ) (k : ℕ) → length m ≡ k
       → Sized k (wakes other l q m)
-  size-wakes None l q m k e = gave _ l m k e
-  size-wakes (Some v) l q m k e = search (acts, size-put) depth 12
+  size-wakes None l q m k same = gave _ l m k same
+  size-wakes (Some v) l q m k same = search (acts, size-put) depth 12
 
-  size-serve_link : (i o : ℕ) (l : Link) (q : Queue) (m : List ℕ) (k : ℕ) → length m ≡ k
-      → Sized k (serve_link i o l q m)
+  size-serve_link : (i output : ℕ) (l : Link) (q : Queue) (m : List ℕ) (k : ℕ) → length m ≡ k
+      → Sized k (serve_link i output l q m)
   unfolding serve_link
-  size-serve_link i o l q m k e = search (acts, size-complete, size-input_of, size-wakes) depth 12
+  size-serve_link i output l q m k same = search (acts, size-complete, size-input_of, size-wakes) depth 12
 
   size-serve_all : (ls : FourLinks) (q : Queue) (m : List ℕ) (k : ℕ) → length m ≡ k → Sized k (serve_all ls q m)
   unfolding serve_all
-  size-serve_all ls q m k e = search (acts, size-serve_link) depth 12
+  size-serve_all ls q m k same = search (acts, size-serve_link) depth 12
 
   -- messages on channels
   size-wait_there : {L : Type 0} (p : Process) (t : Transfer) (l : L) (q : Queue) (m : List ℕ) (k : ℕ) → length m ≡ k
       → Sized k (wait_there p t l q m)
-  size-wait_there p t l q m k e = search acts depth 12
+  size-wait_there p t l q m k same = search acts depth 12
 
   size-exchange : {L : Type 0} (from to v : ℕ) (t : Transfer) (l : L) (q : Queue) (m : List ℕ) (k : ℕ) → length m ≡ k
       → Sized k (exchange from to v t l q m)
-  size-exchange from to v t l q m k e = search (acts, size-put) depth 12
+  size-exchange from to v t l q m k same = search (acts, size-put) depth 12
 
   size-input_from : (other : Option ℕ) (p : Process) (t : Transfer) (ls : FourLinks) (q : Queue) (m : List ℕ) (k : ℕ)
       → length m ≡ k
       → Sized k (input_from other p t ls q m)
-  size-input_from None p t ls q m k e = size-wait_there p t ls q m k e
-  size-input_from (Some v) p t ls q m k e = search (acts, size-exchange) depth 12
+  size-input_from None p t ls q m k same = size-wait_there p t ls q m k same
+  size-input_from (Some v) p t ls q m k same = search (acts, size-exchange) depth 12
 
   size-output_to : (other : Option ℕ) (p : Process) (t : Transfer) (ls : FourLinks) (q : Queue) (m : List ℕ) (k : ℕ)
       → length m ≡ k
       → Sized k (output_to other p t ls q m)
-  size-output_to None p t ls q m k e = size-wait_there p t ls q m k e
-  size-output_to (Some v) p t ls q m k e = search (acts, size-put, size-wait_there, size-exchange) depth 12
+  size-output_to None p t ls q m k same = size-wait_there p t ls q m k same
+  size-output_to (Some v) p t ls q m k same = search (acts, size-put, size-wait_there, size-exchange) depth 12
 
-  size-input_at : (c : Channel) (p : Process) (t : Transfer) (ls : FourLinks) (q : Queue) (m : List ℕ) (k : ℕ)
+  size-input_at : (kind : Channel) (p : Process) (t : Transfer) (ls : FourLinks) (q : Queue)
+      (m : List ℕ) (k : ℕ)
       → length m ≡ k
-      → Sized k (input_at c p t ls q m)
+      → Sized k (input_at kind p t ls q m)
   unfolding soft_input
-  size-input_at channel.Event p t ls q m k e = halted _ ls m k e
-  size-input_at c p t ls q m k e = search (acts, size-input_from) depth 12
+  size-input_at channel.Event p t ls q m k same = halted _ ls m k same
+  size-input_at kind p t ls q m k same = search (acts, size-input_from) depth 12
 
-  size-output_at : (c : Channel) (p : Process) (t : Transfer) (ls : FourLinks) (q : Queue) (m : List ℕ) (k : ℕ)
+  size-output_at : (kind : Channel) (p : Process) (t : Transfer) (ls : FourLinks) (q : Queue)
+      (m : List ℕ) (k : ℕ)
       → length m ≡ k
-      → Sized k (output_at c p t ls q m)
+      → Sized k (output_at kind p t ls q m)
   unfolding soft_output
-  size-output_at channel.Event p t ls q m k e = halted _ ls m k e
-  size-output_at c p t ls q m k e = search (acts, size-output_to) depth 12
+  size-output_at channel.Event p t ls q m k same = halted _ ls m k same
+  size-output_at kind p t ls q m k same = search (acts, size-output_to) depth 12
 
-  size-enable_at : (c : Channel) (p : Process) (a : ℕ) (ls : FourLinks) (m : List ℕ) (k : ℕ) → length m ≡ k
-      → Sized k (enable_at c p a ls m)
+  size-enable_at : (kind : Channel) (p : Process) (a : ℕ) (ls : FourLinks) (m : List ℕ) (k : ℕ) → length m ≡ k
+      → Sized k (enable_at kind p a ls m)
   unfolding soft_enable
-  size-enable_at channel.Event p a ls m k e = halted _ ls m k e
-  size-enable_at c p a ls m k e = search acts depth 12
+  size-enable_at channel.Event p a ls m k same = halted _ ls m k same
+  size-enable_at kind p a ls m k same = search acts depth 12
 
-  size-disable_at : (c : Channel) (p : Process) (a offset : ℕ) (ls : FourLinks) (m : List ℕ) (k : ℕ) → length m ≡ k
-      → Sized k (disable_at c p a offset ls m)
+  size-disable_at : (kind : Channel) (p : Process) (a offset : ℕ) (ls : FourLinks) (m : List ℕ)
+      (k : ℕ) → length m ≡ k
+      → Sized k (disable_at kind p a offset ls m)
   unfolding soft_disable
-  size-disable_at channel.Event p a offset ls m k e = halted _ ls m k e
-  size-disable_at c p a offset ls m k e = search acts depth 12
+  size-disable_at channel.Event p a offset ls m k same = halted _ ls m k same
+  size-disable_at kind p a offset ls m k same = search acts depth 12
 
-  size-reset_at : (c : Channel) (a : ℕ) (ls : FourLinks) (m : List ℕ) (k : ℕ) → length m ≡ k
-      → Sized k (reset_at c a ls m)
+  size-reset_at : (kind : Channel) (a : ℕ) (ls : FourLinks) (m : List ℕ) (k : ℕ) → length m ≡ k
+      → Sized k (reset_at kind a ls m)
   unfolding soft_reset
-  size-reset_at channel.Event a ls m k e = halted _ ls m k e
-  size-reset_at c a ls m k e = search acts depth 12
+  size-reset_at channel.Event a ls m k same = halted _ ls m k same
+  size-reset_at kind a ls m k same = search acts depth 12
 
   size-channel_row : (operation : ChannelOperation) (s : Cpu) (ls : FourLinks) (m : List ℕ) (k : ℕ) → length m ≡ k
       → Sized k (channel_row operation s ls m)
   unfolding channel_row
-  size-channel_row InputMessage s ls m k e = search (acts, size-input_at) depth 12
-  size-channel_row operation s ls m k e =
+  size-channel_row InputMessage s ls m k same = search (acts, size-input_at) depth 12
+  size-channel_row operation s ls m k same =
       search (acts, size-output_at, size-enable_at, size-disable_at, size-reset_at) depth 12
 
-  size-operate : (operation : Option Operation) (o : ℕ) (s : Cpu) (ls : FourLinks) (m : List ℕ) (k : ℕ) → length m ≡ k
-      → Sized k (operate operation o s ls m)
-  size-operate None o s ls m k e = halted _ ls m k e
-  size-operate (Some (operation.Plain x)) o s ls m k e = size-row x s ls m k e
-  size-operate (Some (operation.Channel x)) o s ls m k e = size-channel_row x s ls m k e
+  size-operate : (operation : Option Operation) (operand : ℕ) (s : Cpu) (ls : FourLinks) (m : List ℕ)
+      (k : ℕ) → length m ≡ k
+      → Sized k (operate operation operand s ls m)
+  size-operate None operand s ls m k same = halted _ ls m k same
+  size-operate (Some (operation.Plain x)) operand s ls m k same = size-row x s ls m k same
+  size-operate (Some (operation.Channel x)) operand s ls m k same = size-channel_row x s ls m k same
 
   -- the functions of the table
-  size-direct : (function : Function) (o : ℕ) (s : Cpu) (ls : FourLinks) (m : List ℕ) (k : ℕ) → length m ≡ k
-      → Sized k (direct function o s ls m)
+  size-direct : (function : Function) (operand : ℕ) (s : Cpu) (ls : FourLinks) (m : List ℕ) (k : ℕ) → length m ≡ k
+      → Sized k (direct function operand s ls m)
   unfolding direct
-  size-direct Jump o s ls m k e = size-slice _ ls m k e
-  size-direct function o s ls m k e = search (acts, keeps-error, size-operate) depth 12
+  size-direct Jump operand s ls m k same = size-slice _ ls m k same
+  size-direct function operand s ls m k same = search (acts, keeps-error, size-operate) depth 12
 
   -- one instruction byte, and a step of the processor
   size-byte : (s : Cpu) (ls : FourLinks) (m : List ℕ) (k : ℕ) → length m ≡ k → Sized k (byte_done s ls m)
   unfolding byte_done
-  size-byte s ls m k e = search (acts, size-direct) depth 12
+  size-byte s ls m k same = search (acts, size-direct) depth 12
 
-  size-resumed_at : (w : Option ℕ) (s : Cpu) (m : List ℕ) (k : ℕ) → length m ≡ k → Sized k (resumed_at w s m)
-  size-resumed_at None s m k e = gave _ s m k e
-  size-resumed_at (Some w) s m k e = search acts depth 12
+  size-resumed_at : (number : Option ℕ) (s : Cpu) (m : List ℕ) (k : ℕ) → length m ≡ k → Sized k (resumed_at number s m)
+  size-resumed_at None s m k same = gave _ s m k same
+  size-resumed_at (Some w) s m k same = search acts depth 12
 
   size-step : (s : Cpu) (ls : FourLinks) (m : List ℕ) (k : ℕ) → length m ≡ k → Sized k (step s ls m)
   unfolding step
-  size-step s ls m k e = search (acts, size-serve_all, size-take, size-resumed_at, size-byte) depth 12
+  size-step s ls m k same = search (acts, size-serve_all, size-take, size-resumed_at, size-byte) depth 12
 
   -- what booting writes
-  size-kept : (r : Result (List ℕ) Fault) (m : List ℕ) → ((n : List ℕ) → r ≡ Ok n → length n ≡ length m)
-      → length (or_kept r m) ≡ length m
-  size-kept (Ok n) m h = h n refl
-  size-kept (Err fault) m h = refl
+  size-kept : (outcome : Result (List ℕ) Fault) (m : List ℕ) → ((n : List ℕ) → outcome ≡ Ok n → length n ≡ length m)
+      → length (or_kept outcome m) ≡ length m
+  size-kept (Ok n) m holds = holds n refl
+  size-kept (Err fault) m holds = refl
 
   size-freed : (i : ℕ) (m : List ℕ) → length (freed i m) ≡ length m
   size-freed zero m = refl
@@ -269,12 +274,12 @@ module _ (words : WordKeepsTheSize) (bytes : ByteKeepsTheSize) (copies : CopyKee
 
   node-if : (b : Bool) (x y : Node) (k : ℕ) → length x.memory ≡ k → length y.memory ≡ k
       → length (if b then x else y).memory ≡ k
-  node-if true x y k e f = e
-  node-if false x y k e f = f
+  node-if true x y k same equal = same
+  node-if false x y k same equal = equal
 
   size-loaded : (left end : ℕ) (link : LinkNumber) (m : List ℕ) (n : Node) (k : ℕ) → length m ≡ k
       → length (loaded_to left end link m n).memory ≡ k
-  size-loaded left end link m n k e = node-if (nat_lt 1 left) _ _ k e (size-freed 9 m ∙ e)
+  size-loaded left end link m n k same = node-if (nat_lt 1 left) _ _ k same (size-freed 9 m ∙ same)
 
   size-given : (task : Task) (byte : ℕ) (link : LinkNumber) (n : Node)
       → length (given task byte link n).memory ≡ length n.memory
@@ -291,22 +296,23 @@ module _ (words : WordKeepsTheSize) (bytes : ByteKeepsTheSize) (copies : CopyKee
   size-fed : (byte : Option ℕ) (next : ℕ → Node) (n : Node) (k : ℕ)
       → length n.memory ≡ k → ((x : ℕ) → length (next x).memory ≡ k)
       → length (fed byte next n).0.memory ≡ k
-  size-fed None next n k e f = e
-  size-fed (Some byte) next n k e f = f byte
+  size-fed None next n k same holds = same
+  size-fed (Some byte) next n k same holds = holds byte
 
   size-controlled : (link : Option LinkNumber) (n : Node) → length (controlled link n).0.memory ≡ length n.memory
   size-controlled None n = refl
   size-controlled (Some link) n = size-fed (at link n.links).end.input.buffer _ n (length n.memory) refl (λ byte. refl)
 
-  pair-if : (b : Bool) (x y : Node × Stepped) (k : ℕ) → length x.0.memory ≡ k → length y.0.memory ≡ k
-      → length (if b then x else y).0.memory ≡ k
-  pair-if true x y k e f = e
-  pair-if false x y k e f = f
+  pair-if : (b : Bool) (pair other_pair : Node × Stepped) (k : ℕ) → length pair.0.memory ≡ k
+      → length other_pair.0.memory ≡ k
+      → length (if b then pair else other_pair).0.memory ≡ k
+  pair-if true pair other_pair k same equal = same
+  pair-if false pair other_pair k same equal = equal
 
-  size-ran : (r : StepEffect) (k : ℕ) → Sized k r → length (ran r).0.memory ≡ k
-  size-ran (Gave (true, s) ls m) k h = h.size
-  size-ran (Gave (false, s) ls m) k h = h.size
-  size-ran (Halted fault ls m) k h = h.size
+  size-ran : (effect : StepEffect) (k : ℕ) → Sized k effect → length (ran effect).0.memory ≡ k
+  size-ran (Gave (true, s) ls m) k holds = holds.size
+  size-ran (Gave (false, s) ls m) k holds = holds.size
+  size-ran (Halted fault ls m) k holds = holds.size
 
   size-state : (st : NodeState) (n : Node) → length (step_by_state st n).0.memory ≡ length n.memory
   size-state WantsControl n = size-controlled (offered n.links) n

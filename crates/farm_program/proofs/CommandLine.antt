@@ -232,15 +232,15 @@ flag_of E (Some text) (Some false) none value =
     rw is refl
 
 -- a number that was read of an option's text
-module _ (command : Command) (m : ArgMatches) (words : List Text) (is : app_of command ≡ farm_command)
-    (p : IsParsedFrom command m) (matches : HasMatchesOf (app_of command) words m) where
+module _ (command : Command) (arg_matches : ArgMatches) (words : List Text) (is : app_of command ≡ farm_command)
+    (given : IsParsedFrom command arg_matches) (matches : HasMatchesOf (app_of command) words arg_matches) where
   options : AreThree rule_of workers_rule quantum_rule explain_rule (args_of command)
   options = three_of rule_of workers_rule quantum_rule explain_rule (args_of command) (ap (λ (a : App). a.top.rules) is)
 
   plain : has_plain_fields (out-Command command) ≡ true
   plain = ap (λ (a : App). a.top.is_plain) is
 
-  rows : rows_of (found_of m) ≡ matches_of farm_command words
+  rows : rows_of (found_of arg_matches) ≡ matches_of farm_command words
   rows = (matches (ap is_simple is ∙ farm_is_simple)).0 ∙ ap (λ (a : App). matches_of a words) is
 
   globals : (out-Command command).has_globals ≡ false
@@ -254,43 +254,45 @@ module _ (command : Command) (m : ArgMatches) (words : List Text) (is : app_of c
       subst (All (λ (a : Arg). a.groups.items ≡ [])) (sym options.list)
       (all_without_groups options.one options.other options.last workers quantum explain)
 
-  no_groups : groups_of p.built ≡ []
+  no_groups : groups_of given.built ≡ []
   no_groups =
-      (p.from.same_groups names_no_group).1 ∙ empty_is (groups_of command) (plain_parts (out-Command command) plain).0
+      (given.from.same_groups names_no_group).1 ∙ empty_is (groups_of command)
+      (plain_parts (out-Command command) plain).0
 
-  said_at : (k : ℕ) (d : Arg) (name default : Text) (most bits : ℕ) (E : Type 0)
-      (G : List ℕ → Result ℕ E → Type 0) (r : Option ℕ) (fallback : ℕ)
+  said_at : (k : ℕ) (arg : Arg) (name default : Text) (most bits : ℕ) (E : Type 0)
+      (G : List ℕ → Result ℕ E → Type 0) (parsed : Option ℕ) (fallback : ℕ)
       → k < length (args_of command)
-      → rule_of (slice_index_or (args_of command) k d) ≡ number_option name default (Signed (pos 1) (pos most))
+      → rule_of (slice_index_or (args_of command) k arg) ≡ number_option name default (Signed (pos 1) (pos most))
       → IsOwnId name
       → ((j : ℕ) (e : Arg) → j < length (args_of command)
-      → bytes_eq (slice_index_or (args_of command) j e).id.now (slice_index_or (args_of command) k d).id.now ≡ true
+      → bytes_eq (slice_index_or (args_of command) j e).id.now (slice_index_or (args_of command) k arg).id.now ≡ true
       → j ≡ k)
-      → most < 2 ^ bits → ((text : List ℕ) → one_text (found_of m) name ≡ Some text → ReadsOne G text r)
-      → ((u : List ℕ) (x : Result ℕ E) → G u x → ParsesUnsigned bits 10 u x) → (n : ℕ) → n ≡ unwrap_or r fallback
+      → most < 2 ^ bits → ((text : List ℕ) → one_text (found_of arg_matches) name ≡ Some text → ReadsOne G text parsed)
+      → ((u : List ℕ) (x : Result ℕ E) → G u x → ParsesUnsigned bits 10 u x) → (n : ℕ) → n ≡ unwrap_or parsed fallback
       → (1 ≤ n) × (n ≤ most) × IsSaid words name n
-  said_at k d name default most bits E G r fallback lt rule own unique fits value only n is_n =
-      let id : (slice_index_or (args_of command) k d).id.now ≡ name = ap (λ (x : Rule). x.id) rule in
-      let option = is_option (slice_index_or (args_of command) k d) name default (Signed (pos 1) (pos most)) rule in
-      let got = option_reads command m p k d lt (Signed (pos 1) (pos most)) option unique (λ e. own.0 (sym id ∙ e))
+  said_at k arg name default most bits E G parsed fallback lt rule own unique fits value only n is_n =
+      let id : (slice_index_or (args_of command) k arg).id.now ≡ name = ap (λ (x : Rule). x.id) rule in
+      let option = is_option (slice_index_or (args_of command) k arg) name default (Signed (pos 1) (pos most)) rule in
+      let got = option_reads command arg_matches given k arg lt (Signed (pos 1) (pos most)) option unique
+      (λ e. own.0 (sym id ∙ e))
       (λ auto. elim auto [ inl h ↦ own.1 (sym id ∙ h) | inr h ↦ own.2 (sym id ∙ h) ]) no_groups globals in
       let text = without_minus got.0 in
-      let there : one_text (found_of m) name ≡ Some text =
-      subst (λ (w : List ℕ). one_text (found_of m) w ≡ Some text) id got.1 in
-      let read : ReadsOne G text r = value text there in
-      let number = signed_reads E G bits 1 most got.0 r read only fits got.2 in
+      let there : one_text (found_of arg_matches) name ≡ Some text =
+      subst (λ (w : List ℕ). one_text (found_of arg_matches) w ≡ Some text) id got.1 in
+      let read : ReadsOne G text parsed = value text there in
+      let number = signed_reads E G bits 1 most got.0 parsed read only fits got.2 in
       let parsed = only text (Ok number.0) (subst (λ (o : Option ℕ). ReadsOne G text o) number.1 read) in
       let row : one_of name (matches_of farm_command words) ≡ Some text =
-      ap (one_of name) (sym rows) ∙ (sym (one_text-rows (found_of m) name) ∙ there) in
+      ap (one_of name) (sym rows) ∙ (sym (one_text-rows (found_of arg_matches) name) ∙ there) in
       let is : number.0 ≡ n = sym (is_n ∙ ap (λ (o : Option ℕ). unwrap_or o fallback) number.1) in
       subst (λ (x : ℕ). (1 ≤ x) × (x ≤ most) × IsSaid words name x) is (number.2, number.3, (text, row, parsed.1))
 
   -- the number that is read of `--workers` is from 1 to 8, and the words say it
-  pub workers_said : (E : Type 0) (G : List ℕ → Result ℕ E → Type 0) (r : Option ℕ) (fallback : ℕ)
-      → ((text : List ℕ) → one_text (found_of m) (codes "workers") ≡ Some text → ReadsOne G text r)
+  pub workers_said : (E : Type 0) (G : List ℕ → Result ℕ E → Type 0) (parsed : Option ℕ) (fallback : ℕ)
+      → ((text : List ℕ) → one_text (found_of arg_matches) (codes "workers") ≡ Some text → ReadsOne G text parsed)
       → ((u : List ℕ) (x : Result ℕ E) → G u x → ParsesUnsigned 8 10 u x)
-      → (n : ℕ) → n ≡ unwrap_or r fallback → (1 ≤ n) × (n ≤ 8) × IsSaid words (codes "workers") n
-  workers_said E G r fallback value only n is_n =
+      → (n : ℕ) → n ≡ unwrap_or parsed fallback → (1 ≤ n) × (n ≤ 8) × IsSaid words (codes "workers") n
+  workers_said E G parsed fallback value only n is_n =
       let xs = options in
       let d = xs.one in
       let elem : slice_index_or (args_of command) 0 d ≡ xs.one = ap (λ (l : List Arg). slice_index_or l 0 d) xs.list in
@@ -300,15 +302,16 @@ module _ (command : Command) (m : ArgMatches) (words : List Text) (is : app_of c
       → bytes_eq (slice_index_or l j e).id.now (slice_index_or l 0 d).id.now ≡ true
       → j ≡ 0)
       (sym xs.list) (one_place xs.one xs.other xs.last 0 d xs.one_is xs.other_is xs.last_is (omega arith)) in
-      said_at 0 d (codes "workers") (codes "2") 8 8 E G r fallback lt (ap rule_of elem ∙ xs.one_is) workers_own unique
+      said_at 0 d (codes "workers") (codes "2") 8 8 E G parsed fallback lt (ap rule_of elem ∙ xs.one_is)
+      workers_own unique
       (omega arith) value only n is_n
 
   -- the number that is read of `--quantum` is from 1 to 4096, and the words say it
-  pub quantum_said : (E : Type 0) (G : List ℕ → Result ℕ E → Type 0) (r : Option ℕ) (fallback : ℕ)
-      → ((text : List ℕ) → one_text (found_of m) (codes "quantum") ≡ Some text → ReadsOne G text r)
+  pub quantum_said : (E : Type 0) (G : List ℕ → Result ℕ E → Type 0) (parsed : Option ℕ) (fallback : ℕ)
+      → ((text : List ℕ) → one_text (found_of arg_matches) (codes "quantum") ≡ Some text → ReadsOne G text parsed)
       → ((u : List ℕ) (x : Result ℕ E) → G u x → ParsesUnsigned 16 10 u x)
-      → (n : ℕ) → n ≡ unwrap_or r fallback → (1 ≤ n) × (n ≤ 4096) × IsSaid words (codes "quantum") n
-  quantum_said E G r fallback value only n is_n =
+      → (n : ℕ) → n ≡ unwrap_or parsed fallback → (1 ≤ n) × (n ≤ 4096) × IsSaid words (codes "quantum") n
+  quantum_said E G parsed fallback value only n is_n =
       let xs = options in
       let d = xs.other in
       let elem : slice_index_or (args_of command) 1 d ≡ xs.other =
@@ -319,17 +322,20 @@ module _ (command : Command) (m : ArgMatches) (words : List Text) (is : app_of c
       → bytes_eq (slice_index_or l j e).id.now (slice_index_or l 1 d).id.now ≡ true
       → j ≡ 1)
       (sym xs.list) (one_place xs.one xs.other xs.last 1 d xs.one_is xs.other_is xs.last_is (omega arith)) in
-      said_at 1 d (codes "quantum") (codes "256") 4096 16 E G r fallback lt (ap rule_of elem ∙ xs.other_is) quantum_own
+      said_at 1 d (codes "quantum") (codes "256") 4096 16 E G parsed fallback lt
+      (ap rule_of elem ∙ xs.other_is) quantum_own
       unique (omega arith) value only n is_n
 
   -- the flag `--explain` is read as set just if the words have it
-  pub explain_said : (E : Type 0) (r : Option Bool) → (one_text (found_of m) (codes "explain") ≡ None → r ≡ None)
-      → ((text : List ℕ) → one_text (found_of m) (codes "explain") ≡ Some text → ReadsOne (ParsesBool {E = E}) text r)
-      → (b : Bool) → b ≡ unwrap_or r false → b ≡ ask_why words
-  explain_said E r none value b is_b =
+  pub explain_said : (E : Type 0) (flag : Option Bool) →
+      (one_text (found_of arg_matches) (codes "explain") ≡ None → flag ≡ None)
+      → ((text : List ℕ) → one_text (found_of arg_matches) (codes "explain") ≡ Some text
+      → ReadsOne (ParsesBool {E = E}) text flag)
+      → (b : Bool) → b ≡ unwrap_or flag false → b ≡ ask_why words
+  explain_said E flag none value b is_b =
       let id = codes "explain" in
-      let row : one_text (found_of m) id ≡ one_of id (matches_of farm_command words) =
-      one_text-rows (found_of m) id ∙ ap (one_of id) rows in
+      let row : one_text (found_of arg_matches) id ≡ one_of id (matches_of farm_command words) =
+      one_text-rows (found_of arg_matches) id ∙ ap (one_of id) rows in
       is_b
-      ∙ (flag_of E (one_text (found_of m) id) r none value
+      ∙ (flag_of E (one_text (found_of arg_matches) id) flag none value
       ∙ ap (λ o. option_map_or (λ text. bytes_eq text (codes "true")) o false) row)

@@ -71,16 +71,19 @@ text_at : (found : Found) (id : List ℕ) (matched : MatchedArg) (text : Bor (Li
 text_at other_found id matched text how found first is = rw (found, first, is) refl
 
 -- the entry of an option has a first value, which passed its parser and is read as this says
-module _ (old : Command) (m : ArgMatches) (p : IsParsedFrom old m) (k : ℕ) (d : Arg) (lt : k < length (args_of old))
-    (numbers : ValueParser) (option : IsOption (slice_index_or (args_of old) k d) numbers)
+module _ (old : Command) (arg_matches : ArgMatches) (given : IsParsedFrom old arg_matches) (k : ℕ) (arg : Arg)
+    (lt : k < length (args_of old))
+    (numbers : ValueParser) (option : IsOption (slice_index_or (args_of old) k arg) numbers)
     (unique : (j : ℕ) (e : Arg) → j < length (args_of old)
-    → bytes_eq (slice_index_or (args_of old) j e).id.now (slice_index_or (args_of old) k d).id.now ≡ true
+    → bytes_eq (slice_index_or (args_of old) j e).id.now (slice_index_or (args_of old) k arg).id.now ≡ true
     → j ≡ k)
-    (named : (slice_index_or (args_of old) k d).id.now ≡ [] → ⊥) (own : IsAuto (slice_index_or (args_of old) k d) → ⊥)
-    (no_groups : groups_of p.built ≡ []) where
-  is_filled : (e : Entry) → e.0.now ≡ (slice_index_or (args_of old) k d).id.now → EntryPasses p.built e
-      → 0 < length e.1.vals.items
-  is_filled e key_id pass = elim pass.1 [
+    (named : (slice_index_or (args_of old) k arg).id.now ≡ [] → ⊥)
+    (own : IsAuto (slice_index_or (args_of old) k arg) → ⊥)
+    (no_groups : groups_of given.built ≡ []) where
+  is_filled : (entry : Entry) → entry.0.now ≡ (slice_index_or (args_of old) k arg).id.now
+      → EntryPasses given.built entry
+      → 0 < length entry.1.vals.items
+  is_filled entry key_id pass = elim pass.1 [
     | inl h ↦ elim h.1 [
       | inl empty ↦ absurd (named (sym key_id ∙ empty))
       | inr has ↦
@@ -90,12 +93,13 @@ module _ (old : Command) (m : ArgMatches) (p : IsParsedFrom old m) (k : ℕ) (d 
     | inr (inl v) ↦ v
     | inr (inr (inl h)) ↦
         let any = h.1 in
-        let s = same_rules_by_id old m p k d lt unique own any.0 any.1 any.2 any.3 (rw key_id at any.4.0) in
+        let s = same_rules_by_id old arg_matches given k arg lt unique own any.0 any.1 any.2 any.3
+        (rw key_id at any.4.0) in
         let is_set : any.1.action ≡ Some Set = s.action Set option.set in
         let bad : Set ≡ Count = rw is_set at any.4.1 in
         cc
     | inr (inr (inr h)) ↦
-        let s = same_rules_by_id old m p k d lt unique own h.0 h.1 h.2 h.3 (rw key_id at h.4.0) in
+        let s = same_rules_by_id old arg_matches given k arg lt unique own h.0 h.1 h.2 h.3 (rw key_id at h.4.0) in
         elim h.4.1 [
           | inl none ↦
               let one = s.least option.set option.least in
@@ -106,56 +110,65 @@ module _ (old : Command) (m : ArgMatches) (p : IsParsedFrom old m) (k : ℕ) (d 
         ]
   ]
 
-  is_no_group : (e : Entry)
-      → e.0.now ≡ (slice_index_or (args_of old) k d).id.now → EntryPasses p.built e → e.1.is_group ≡ true
+  is_no_group : (entry : Entry)
+      → entry.0.now ≡ (slice_index_or (args_of old) k arg).id.now → EntryPasses given.built entry
+      → entry.1.is_group ≡ true
       → ⊥
-  is_no_group e key_id pass g = elim (pass.3 g) [
+  is_no_group entry key_id pass same = elim (pass.3 same) [
     | inl empty ↦ named (sym key_id ∙ empty)
     | inr has ↦
         let bad : 0 < 0 = rw no_groups at has in
         absurd (omega arith)
   ]
 
-  accepts : (w text : List ℕ) → w ≡ (slice_index_or (args_of old) k d).id.now → PassesArg p.built w text
-      → Accepts (slice_index_or (args_of old) k d).ignore_case numbers text
-  accepts w text key_id any =
-      let s = same_rules_by_id old m p k d lt unique own any.0 any.1 any.2 any.3 (rw key_id at any.4.0) in
+  accepts : (other_text text : List ℕ) → other_text ≡ (slice_index_or (args_of old) k arg).id.now
+      → PassesArg given.built other_text text
+      → Accepts (slice_index_or (args_of old) k arg).ignore_case numbers text
+  accepts other_text text key_id any =
+      let s = same_rules_by_id old arg_matches given k arg lt unique own any.0 any.1 any.2 any.3
+      (rw key_id at any.4.0) in
       let is : parser_of any.1 ≡ numbers = ap parser_of_value (s.parser numbers option.parser) in
       let passed = subst (λ (q : ValueParser). Accepts any.1.ignore_case q text) is any.4.1 in
       subst (λ (b : Bool). Accepts b numbers text) s.ignore_case passed
 
-  reads_by : (w : List ℕ) (how : Reading) → w ≡ (slice_index_or (args_of old) k d).id.now → HasReading p.built w how
+  reads_by : (text : List ℕ) (how : Reading) → text ≡ (slice_index_or (args_of old) k arg).id.now
+      → HasReading given.built text how
       → how ≡ reading_of numbers
-  reads_by w how key_id any =
-      let s = same_rules_by_id old m p k d lt unique own any.0 any.1 any.2 any.3 (rw key_id at any.4.0) in
+  reads_by text how key_id any =
+      let s = same_rules_by_id old arg_matches given k arg lt unique own any.0 any.1 any.2 any.3
+      (rw key_id at any.4.0) in
       sym any.4.1 ∙ ap (λ (q : Option ValueParser). reading_of (parser_of_value q)) (s.parser numbers option.parser)
 
-  of_entry : (e : Entry) → e.0.now ≡ (slice_index_or (args_of old) k d).id.now → EntryPasses p.built e
-      → (v : Bor (List ℕ)) × (slice_get e.1.vals.items 0 ≡ Some v) × (e.1.reading ≡ reading_of numbers)
-      × Accepts (slice_index_or (args_of old) k d).ignore_case numbers v.now
-  of_entry e key_id pass =
-      let no_group = is_no_group e key_id pass in
-      let all : All (λ v. PassesArg p.built e.0.now v.now) e.1.vals.items =
+  of_entry : (entry : Entry) → entry.0.now ≡ (slice_index_or (args_of old) k arg).id.now → EntryPasses given.built entry
+      → (text : Bor (List ℕ)) × (slice_get entry.1.vals.items 0 ≡ Some text) × (entry.1.reading ≡ reading_of numbers)
+      × Accepts (slice_index_or (args_of old) k arg).ignore_case numbers text.now
+  of_entry entry key_id pass =
+      let no_group = is_no_group entry key_id pass in
+      let all : All (λ v. PassesArg given.built entry.0.now v.now) entry.1.vals.items =
       elim pass.0 [ inl g ↦ absurd (no_group g) | inr h ↦ h ] in
-      let how : e.1.reading ≡ reading_of numbers =
-      elim pass.4 [ inl g ↦ absurd (no_group g) | inr h ↦ reads_by e.0.now e.1.reading key_id h ] in
-      let first = first_in (λ v. PassesArg p.built e.0.now v.now) e.1.vals.items (is_filled e key_id pass) all in
-      (first.0, first.1, how, accepts e.0.now first.0.now key_id first.2)
+      let how : entry.1.reading ≡ reading_of numbers =
+      elim pass.4 [ inl g ↦ absurd (no_group g) | inr h ↦ reads_by entry.0.now entry.1.reading key_id h ] in
+      let first = first_in (λ v. PassesArg given.built entry.0.now v.now) entry.1.vals.items
+      (is_filled entry key_id pass) all in
+      (first.0, first.1, how, accepts entry.0.now first.0.now key_id first.2)
 
   -- after a parse a getter reads a text of the option, as its parser reads it, and the parser accepts the text
   pub option_reads : (out-Command old).has_globals ≡ false
       → (text : List ℕ)
-      × (one_text (found_of m) (slice_index_or (args_of old) k d).id.now ≡ Some (read_as (reading_of numbers) text))
-      × Accepts (slice_index_or (args_of old) k d).ignore_case numbers text
+      × (one_text (found_of arg_matches) (slice_index_or (args_of old) k arg).id.now
+      ≡ Some (read_as (reading_of numbers) text))
+      × Accepts (slice_index_or (args_of old) k arg).ignore_case numbers text
   option_reads globals =
-      let id = (slice_index_or (args_of old) k d).id.now in
-      let parsed = p.parsed (p.from.globals ∙ globals) in
-      let found = found_in (found_of m).entries.items id (default_present old m p globals k d lt option.wants) in
-      let entry = entry_by_id (EntryPasses p.built) (found_of m).entries.items id found.0 parsed.values found.1 in
+      let id = (slice_index_or (args_of old) k arg).id.now in
+      let parsed = given.parsed (given.from.globals ∙ globals) in
+      let found = found_in (found_of arg_matches).entries.items id
+      (default_present old arg_matches given globals k arg lt option.wants) in
+      let entry = entry_by_id (EntryPasses given.built) (found_of arg_matches).entries.items id found.0
+      parsed.values found.1 in
       let key_id : entry.0.0.now ≡ id = (bytes_eq-Decides entry.0.0.now id).0 entry.2 in
       let first = of_entry entry.0 key_id entry.3 in (
         first.0.now,
-        text_at (found_of m) id entry.0.1 first.0 (reading_of numbers)
+        text_at (found_of arg_matches) id entry.0.1 first.0 (reading_of numbers)
             (found.1 ∙ ap Some (sym entry.1)) first.1 first.2,
         first.3,
       )

@@ -104,62 +104,65 @@ module _ (domains : List (List ℕ)) where
   -- the seat that sees or stores the word itself
   knows_mine : (words : List ℕ) (v : View) (i n : ℕ) → i < 32 → length words ≡ 32 → Knows domains words v
       → Knows domains (set words i n) (with_view_word v i n)
-  knows_mine words v i n low wide h = let wide_view : length v.words ≡ 32 = h.wide in record {
-    plan = h.plan;
-    wide = length-set v.words i n ∙ h.wide;
-    own = h.own;
-    separate = h.separate;
+  knows_mine words v i n low wide given = let wide_view : length v.words ≡ 32 = given.wide in record {
+    plan = given.plan;
+    wide = length-set v.words i n ∙ given.wide;
+    own = given.own;
+    separate = given.separate;
     exact =
-        λ k mine. set_both (λ x y. x ≡ y) words v.words i n k (omega arith) (omega arith) refl (λ _. h.exact k mine);
-    fresh = λ k. set_both IsNewer words v.words i n k (omega arith) (omega arith) (newer_same n) (λ _. h.fresh k);
+        λ k mine. set_both (λ x y. x ≡ y) words v.words i n k (omega arith) (omega arith) refl
+        (λ _. given.exact k mine);
+    fresh = λ k. set_both IsNewer words v.words i n k (omega arith) (omega arith) (newer_same n) (λ _. given.fresh k);
   }
 
   -- another seat, where the word is replaced by a newer one
-  knows_other : (words : List ℕ) (u : View) (i n : ℕ)
-      → i < 32 → length words ≡ 32 → ¬ StoresAlone u i → IsNewer n (slice_index words i) → Knows domains words u
-      → Knows domains (set words i n) u
-  knows_other words u i n low wide other newer h = record {
-    plan = h.plan;
-    wide = h.wide;
-    own = h.own;
-    separate = h.separate;
-    exact = λ k mine. get_or-set_other words i k n 0 (λ e. other (subst (StoresAlone u) e mine)) ∙ h.exact k mine;
-    fresh = λ k. newer_trans _ _ _ (set_newer words i n k newer (omega arith)) (h.fresh k);
+  knows_other : (words : List ℕ) (view : View) (i n : ℕ)
+      → i < 32 → length words ≡ 32 → ¬ StoresAlone view i → IsNewer n (slice_index words i) → Knows domains words view
+      → Knows domains (set words i n) view
+  knows_other words view i n low wide other newer given = record {
+    plan = given.plan;
+    wide = given.wide;
+    own = given.own;
+    separate = given.separate;
+    exact = λ k mine. get_or-set_other words i k n 0 (λ e. other (subst (StoresAlone view) e mine))
+        ∙ given.exact k mine;
+    fresh = λ k. newer_trans _ _ _ (set_newer words i n k newer (omega arith)) (given.fresh k);
   }
 
   module _ {S : Type 0} where
-    still_apart : (s : State S View) (r : IsRuled domains s) (id : ℕ) (v w : View)
+    still_apart : (s : State S View) (given : IsRuled domains s) (id : ℕ) (v w : View)
         → get_elem? s.views id ≡ some v → w.held ≡ v.held
-        → (one other i : ℕ) (x y : View)
-        → get_elem? (set s.views id w) one ≡ some x → get_elem? (set s.views id w) other ≡ some y → StoresAlone x i
-        → StoresAlone y i → one ≡ other
-    still_apart s r id v w at same one other i x y ex ey hx hy =
-        let before_x = held_before s.views id one v w x at same ex in
-        let before_y = held_before s.views id other v w y at same ey in
-        r.apart one other i before_x.0 before_y.0 before_x.1 before_y.1 (held_by x before_x.0 i before_x.2 hx)
-        (held_by y before_y.0 i before_y.2 hy)
+        → (one other i : ℕ) (view other_view : View)
+        → get_elem? (set s.views id w) one ≡ some view → get_elem? (set s.views id w) other ≡ some other_view
+        → StoresAlone view i
+        → StoresAlone other_view i → one ≡ other
+    still_apart s given id v w at same one other i view other_view ex ey hx hy =
+        let before_x = held_before s.views id one v w view at same ex in
+        let before_y = held_before s.views id other v w other_view at same ey in
+        given.apart one other i before_x.0 before_y.0 before_x.1 before_y.1 (held_by view before_x.0 i before_x.2 hx)
+        (held_by other_view before_y.0 i before_y.2 hy)
 
     -- the seat's word and its view of it become n
-    changes : (s : State S View) (r : IsRuled domains s) (id i n : ℕ) (v : View) → get_elem? s.views id ≡ some v
+    changes : (s : State S View) (given : IsRuled domains s) (id i n : ℕ) (v : View) → get_elem? s.views id ≡ some v
         → i < 32
         → ((seat : ℕ) (u : View) → seat ≢ id → get_elem? s.views seat ≡ some u → Knows domains (set s.words i n) u)
         → IsConfined domains i n
         → IsRuled domains
         record { words = set s.words i n; homes = s.homes; views = set s.views id (with_view_word v i n) }
-    changes s r id i n v at low others confined = let wide_words : length s.words ≡ 32 = r.wide in record {
-      wide = length-set s.words i n ∙ r.wide;
-      separate = r.separate;
+    changes s given id i n v at low others confined = let wide_words : length s.words ≡ 32 = given.wide in record {
+      wide = length-set s.words i n ∙ given.wide;
+      separate = given.separate;
       knows = λ seat u e. ⊎_elim
           (λ (t : (seat ≡ id) × (with_view_word v i n ≡ u)).
-          subst (Knows domains (set s.words i n)) t.1 (knows_mine s.words v i n low r.wide (r.knows id v at)))
+          subst (Knows domains (set s.words i n)) t.1 (knows_mine s.words v i n low given.wide (given.knows id v at)))
           (λ (t : (seat ≢ id) × (get_elem? s.views seat ≡ some u)). others seat u t.0 t.1)
           (at_set s.views id seat (with_view_word v i n) u e);
-      apart = still_apart s r id v (with_view_word v i n) at refl;
+      apart = still_apart s given id v (with_view_word v i n) at refl;
       confined = λ k. dite (ℕ_discrete k i)
           (λ e.
           subst (λ (j : ℕ). IsConfined domains j (slice_index (set s.words i n) j)) (sym e)
           (subst (IsConfined domains i) (sym (get_or-set_same s.words i n 0 (omega arith))) confined))
-          (λ other. subst (IsConfined domains k) (sym (get_or-set_other s.words i k n 0 other)) (r.confined k));
+          (λ other. subst (IsConfined domains k) (sym (get_or-set_other s.words i k n 0 other)) (given.confined k));
     }
 
     -- a load of a word that the seat alone stores finds the view's word, and no view changes

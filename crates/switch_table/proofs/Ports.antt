@@ -21,7 +21,7 @@ module _ (view : View) (ports : List ℕ) (v i : ℕ) (there : v < length ports)
 
   -- if the seat holds this domain alone, it alone stores at that port
   pub port_held : view.held ≡ ports ∷ [] → StoresAlone view i
-  port_held h = (0, ports, ap (λ (held : List (List ℕ)). slice_get held 0) h, port_own)
+  port_held same = (0, ports, ap (λ (held : List (List ℕ)). slice_get held 0) same, port_own)
 
   -- the word of the virtual number is the view's word of the port
   pub port_word : slice_index (bits_of view ports) v ≡ slice_index view.words i
