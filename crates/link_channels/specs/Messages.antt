@@ -11,6 +11,8 @@ use Rattle.link_channels.specs.declared.link.FourLinks.{FourLinks}
 use Rattle.link_channels.specs.declared.number.LinkNumber.{LinkNumber}
 use Rattle.link_channels.specs.declared.process.Process.{Process}
 use Rattle.link_channels.specs.declared.process.Transfer.{Transfer}
+use Rattle.link_channels.specs.declared.process.TransferDirection.{TransferDirection}
+use Rattle.link_channels.specs.declared.process.TransferDirection.TheVariants.{Input, Output}
 use Rattle.link_channels.specs.declared.process.Turn.{Turn}
 use Rattle.link_channels.specs.Kinds.{kind_of}
 use Rattle.link_channels.specs.Links.{at, with_link, within}
@@ -47,6 +49,12 @@ output_at Event p t ls q m = wrong_channel ls m
 -- out, at any channel
 abbrev pub output : Process → Transfer → FourLinks → Queue → List ℕ → Effect (Turn × Queue) FourLinks
 output p t ls q m = output_at (kind_of t.channel) p t ls q m
+
+-- in, or out
+abbrev pub transferred : TransferDirection → Process → Transfer → FourLinks → Queue → List ℕ
+    → Effect (Turn × Queue) FourLinks
+transferred Input p t ls q m = input p t ls q m
+transferred Output p t ls q m = output p t ls q m
 
 -- enbc, by the kind of the channel, if the guard isn't 0
 abbrev pub enable_at : Channel → Process → ℕ → FourLinks → List ℕ → Effect (Unit {0}) FourLinks

@@ -4,65 +4,50 @@ ghost use Rattle.std.specs.Prelude.{◌≡◌, OnErr};
 
 use crate::channel::Channel;
 use crate::links::Links;
-use crate::process::{Process, Transfer, Turn};
+use crate::process::{Process, Transfer, TransferDirection, Turn};
 use node_memory::{Fault, Memory};
 use process_queue::Queue;
 
 impl Process {
-    ghost use Rattle.link_channels.specs.Messages.{input, output, enable, disable};
+    ghost use Rattle.link_channels.specs.Messages.{transferred, enable, disable};
     ghost use Rattle.node_memory.specs.Effect.{effect_of, effect_with};
 
-    /// Takes a message from a channel, or waits for it: instruction set handbook, in.
+    /// Takes a message from a channel, or gives it one, or waits for the other side: instruction set handbook, in and out.
     ///
-    /// `Fault::WrongChannel` comes before all else, for the event channel and a link's output channel;
+    /// `Fault::WrongChannel` comes before all else, for the event channel and for a link's channel of the other direction;
     /// `HighPriority` where a process of high priority waits at a soft channel; `OutsideMemory` where a word or
     /// a byte lies outside. What was written before a fault stays, in memory and in the links; the queue is unchanged.
-    pub fn input(
+    pub fn transfer(
         &self,
         memory: &mut Memory,
         links: &mut Links,
         queue: &mut Queue,
+        direction: TransferDirection,
         transfer: Transfer,
     ) -> Result<Turn, Fault>
-        ensures answer { effect_with result queue.new links.new memory.new ≡ input self.now transfer links.old queue.old memory.old }
+        ensures answer { effect_with result queue.new links.new memory.new ≡ transferred direction self.now transfer links.old queue.old memory.old }
         ensures queue_unchanged { OnErr result (queue.new ≡ queue.old) }
     {
-        match Channel::of(transfer.channel) {
-            Channel::Soft => self.input_softly(memory, queue, transfer),
-            Channel::LinkInput(number) => {
+        match (direction, Channel::of(transfer.channel)) {
+            (TransferDirection::Input, Channel::Soft) => {
+                self.input_softly(memory, queue, transfer)
+            }
+            (TransferDirection::Output, Channel::Soft) => {
+                self.output_softly(memory, queue, transfer)
+            }
+            (TransferDirection::Input, Channel::LinkInput(number)) => {
                 let mut link = links.at(number);
                 let turn = self.input_from_link(memory, &mut link, transfer);
                 links.set(number, link);
                 turn
             }
-            Channel::LinkOutput(_) | Channel::Event => Err(Fault::WrongChannel),
-        }
-    }
-
-    /// Gives a message to a channel, or waits for it to be taken: instruction set handbook, out.
-    ///
-    /// `Fault::WrongChannel` comes before all else, for the event channel and a link's input channel;
-    /// `HighPriority` where a process of high priority waits at a soft channel; `OutsideMemory` where a word or
-    /// a byte lies outside. What was written before a fault stays, in memory and in the links; the queue is unchanged.
-    pub fn output(
-        &self,
-        memory: &mut Memory,
-        links: &mut Links,
-        queue: &mut Queue,
-        transfer: Transfer,
-    ) -> Result<Turn, Fault>
-        ensures answer { effect_with result queue.new links.new memory.new ≡ output self.now transfer links.old queue.old memory.old }
-        ensures queue_unchanged { OnErr result (queue.new ≡ queue.old) }
-    {
-        match Channel::of(transfer.channel) {
-            Channel::Soft => self.output_softly(memory, queue, transfer),
-            Channel::LinkOutput(number) => {
+            (TransferDirection::Output, Channel::LinkOutput(number)) => {
                 let mut link = links.at(number);
                 let turn = self.output_to_link(memory, &mut link, transfer);
                 links.set(number, link);
                 turn
             }
-            Channel::LinkInput(_) | Channel::Event => Err(Fault::WrongChannel),
+            _ => Err(Fault::WrongChannel),
         }
     }
 

@@ -17,6 +17,13 @@ pub struct Transfer {
     pub pointer: u32,
 }
 
+/// Whether a process takes bytes from a channel, or gives it bytes.
+#[derive(Clone, Copy, Debug, PartialEq, Eq)]
+pub enum TransferDirection {
+    Input,
+    Output,
+}
+
 /// Whether the process goes on, or waits with its place saved.
 #[derive(Clone, Copy, Debug, PartialEq, Eq)]
 pub enum Turn {

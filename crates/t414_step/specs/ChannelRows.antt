@@ -2,13 +2,14 @@
 -- Instruction set handbook, in, out, outbyte, outword, resetch, enbc, disc.
 use Rattle.std.specs.Prelude.{ℕ, ◌==◌, List, if◌then◌else◌}
 use Rattle.node_memory.specs.Effect.{Effect, Gave, ◌>>=◌, store, perform}
-use Rattle.process_queue.specs.declared.queue.Queue.{Queue}
 use Rattle.link_channels.specs.declared.link.FourLinks.{FourLinks}
 use Rattle.link_channels.specs.declared.process.Process.{Process}
 use Rattle.link_channels.specs.declared.process.Transfer.{Transfer}
+use Rattle.link_channels.specs.declared.process.TransferDirection.{TransferDirection}
+use Rattle.link_channels.specs.declared.process.TransferDirection.TheVariants.{Input, Output}
 use Rattle.link_channels.specs.declared.process.Turn.{Turn}
 use Rattle.link_channels.specs.declared.process.Turn.TheVariants.{GoesOn, Waits}
-use Rattle.link_channels.specs.Messages.{input, output, enable, disable, reset}
+use Rattle.link_channels.specs.Messages.{transferred, enable, disable, reset}
 use Rattle.t414_decode.specs.declared.instruction.ChannelOperation.{ChannelOperation}
 use Rattle.t414_decode.specs.declared.instruction.ChannelOperation.TheVariants.{InputMessage, OutputMessage, OutputByte, OutputWord, ResetChannel, DisableChannel, EnableChannel}
 use Rattle.t414_step.specs.declared.cpu.Cpu.{Cpu}
@@ -32,22 +33,20 @@ abbrev pub turned : Turn → Cpu → Cpu
 turned GoesOn s = s
 turned Waits s = leave s
 
--- goes on with the registers after a message, the queue's among them
-abbrev pub after_message : Effect (Turn × Queue) FourLinks → Cpu → CpuEffect
-after_message r s = do (x, ls, m) ← perform r; Gave (turned x.0 (record s { queue = x.1 })) ls m
-
--- the running process gives a message to a channel
-abbrev pub output_by : Transfer → Cpu → FourLinks → List ℕ → CpuEffect
-output_by t s ls m = after_message (output (process_of s) t ls s.queue m) s
+-- the running process takes a message from a channel, or gives it one; it goes on with the queue's registers among its own
+abbrev pub message_by : TransferDirection → Transfer → Cpu → FourLinks → List ℕ → CpuEffect
+message_by direction t s ls m = do
+  (x, ls, m) ← perform (transferred direction (process_of s) t ls s.queue m)
+  Gave (turned x.0 (record s { queue = x.1 })) ls m
 
 -- outbyte and outword: word(W) becomes A; out of so many bytes, pointer W, channel B
 abbrev pub send : ℕ → Cpu → FourLinks → List ℕ → CpuEffect
-send count s ls m = do m ← store ls m s.workspace s.a; output_by (transfer count s.b s.workspace) s ls m
+send count s ls m = do m ← store ls m s.workspace s.a; message_by Output (transfer count s.b s.workspace) s ls m
 
 -- an operation on a channel, after the byte that asked for it. A guard of 0 looks at no channel
 unfoldable pub channel_row : ChannelOperation → Cpu → FourLinks → List ℕ → CpuEffect
-channel_row InputMessage s ls m = after_message (input (process_of s) (transfer s.a s.b s.c) ls s.queue m) s  -- 07 in
-channel_row OutputMessage s ls m = output_by (transfer s.a s.b s.c) s ls m  -- 0B out
+channel_row InputMessage s ls m = message_by Input (transfer s.a s.b s.c) s ls m  -- 07 in
+channel_row OutputMessage s ls m = message_by Output (transfer s.a s.b s.c) s ls m  -- 0B out
 channel_row OutputByte s ls m = send 1 s ls m  -- 0E outbyte
 channel_row OutputWord s ls m = send 4 s ls m  -- 0F outword
 channel_row ResetChannel s ls m = do (word, ls, m) ← perform (reset s.a ls m); Gave (unary_result word s) ls m  -- 12 resetch

@@ -5,13 +5,13 @@
 ghost use Rattle.std.specs.Prelude.{◌≡◌};
 
 use crate::cpu::Cpu;
-use link_channels::{Links, Process, Transfer, Turn};
+use link_channels::{Links, Process, Transfer, TransferDirection, Turn};
 use node_memory::{Fault, Memory};
 
 #[tactic(auto, unfolding(crate::specs::ChannelRows::channel_row))]
 impl Cpu {
     ghost use Rattle.t414_decode.specs.declared.instruction.ChannelOperation.TheVariants as op;
-    ghost use Rattle.t414_step.specs.ChannelRows.{channel_row, output_by, process_of, transfer, turned, send};
+    ghost use Rattle.t414_step.specs.ChannelRows.{channel_row, message_by, process_of, transfer, turned, send};
     ghost use Rattle.t414_step.specs.Answers.{finished};
 
     // The process that asks.
@@ -48,20 +48,21 @@ impl Cpu {
         }
     }
 
-    // Gives a message to a channel, or waits for it to be taken.
+    // Takes a message from a channel, or gives it one, or waits for the other side.
     #[inline(always)]
-    fn output(
+    fn message(
         &mut self,
         memory: &mut Memory,
         links: &mut Links,
+        direction: TransferDirection,
         transfer: Transfer,
     ) -> Result<(), Fault>
-        ensures { finished result self.new links.new memory.new ≡ output_by transfer self.old links.old memory.old }
+        ensures { finished result self.new links.new memory.new ≡ message_by direction transfer self.old links.old memory.old }
     {
         let process = self.process();
         // A call gets a copy of the queue, so that no address of the registers is taken.
         let mut queue = self.queue;
-        let turn = process.output(memory, links, &mut queue, transfer)?;
+        let turn = process.transfer(memory, links, &mut queue, direction, transfer)?;
         self.queue = queue;
         self.take_turn(turn);
         Ok(())
@@ -76,13 +77,7 @@ impl Cpu {
     ) -> Result<(), Fault>
         ensures { finished result self.new links.new memory.new ≡ channel_row op.InputMessage self.old links.old memory.old }
     {
-        let process = self.process();
-        // A copy of the queue, as in `output`.
-        let mut queue = self.queue;
-        let turn = process.input(memory, links, &mut queue, self.transfer())?;
-        self.queue = queue;
-        self.take_turn(turn);
-        Ok(())
+        self.message(memory, links, TransferDirection::Input, self.transfer())
     }
 
     // out
@@ -94,7 +89,7 @@ impl Cpu {
     ) -> Result<(), Fault>
         ensures { finished result self.new links.new memory.new ≡ channel_row op.OutputMessage self.old links.old memory.old }
     {
-        self.output(memory, links, self.transfer())
+        self.message(memory, links, TransferDirection::Output, self.transfer())
     }
 
     // Sends so many bytes of A, which becomes the word at the workspace.
@@ -108,7 +103,7 @@ impl Cpu {
             channel: self.b,
             pointer: self.workspace,
         };
-        self.output(memory, links, transfer)
+        self.message(memory, links, TransferDirection::Output, transfer)
     }
 
     // outbyte
