@@ -17,8 +17,8 @@ use std::thread::Threads;
 use std::time::Duration;
 use token_queue::Token;
 
-/// After so many turns with nothing to do a worker naps, if somebody settles: his thread may have use for the core.
-const TURNS_BEFORE_NAP: u32 = 400;
+/// After so many turns with nothing to do, some milliseconds, a worker naps, if somebody settles and cores are free.
+const TURNS_BEFORE_NAP: u32 = 20_000;
 
 /// After so many turns with nothing to do a worker looks through all tokens once more, and then sleeps, if nobody settles.
 const TURNS_BEFORE_SLEEP: u32 = 256;
