@@ -1,9 +1,12 @@
 -- What becomes of a packet, output by output, for the clauses of `fate_of`, `copy_to` and `RunningMachine::route`.
-use Rattle.std.proofs.Common.{◌≡◌, ◌≢◌, ℕ, zero, suc, ◌+◌, ◌<◌, ◌==◌, Bool, true, false, not, ◌&&◌, List, [], ◌∷◌, ◌++◌}
-use Rattle.std.proofs.Common.{length, get_or, Option, Some, None, refl, ap, sym, ◌∙◌, arith, if◌then◌else◌}
+use Rattle.std.proofs.Common.{◌≡◌, ◌≢◌, ℕ, zero, suc, ◌+◌, ◌*◌, ◌/◌, ◌^◌, ◌<◌, ◌==◌, Bool, true, false, not, ◌&&◌}
+use Rattle.std.proofs.Common.{List, [], ◌∷◌, ◌++◌, length, get_or, Option, Some, None, refl, ap, sym, ◌∙◌, arith, if◌then◌else◌}
 use Rattle.std.specs.Int.{bit_at}
 use Rattle.std.specs.List.{range_with_len}
 use Rattle.std.specs.FinSet as set
+use Rattle.std.proofs.Math.Nat.{div-lt_iff_lt-mul}
+use Rattle.std.proofs.lemmas.Nat.{pow_pos}
+use Rattle.std.proofs.lemmas.Nat.Bits.{bit_at_above}
 use Rattle.std.proofs.lemmas.List.{length-map, append-nil}
 use Rattle.std.proofs.lemmas.List.Elements.{filter-append}
 use Rattle.std.proofs.lemmas.List.Folds.{list_all-append}
@@ -48,6 +51,24 @@ pub marked_more : (mask i : ℕ)
     → marked_by mask (range_with_len 0 (i + 1)) ≡ marked_by mask (range_with_len 0 i) ++ marked_by mask (i ∷ [])
 marked_more mask i =
     ap (marked_by mask) (range_more i) ∙ filter-append (λ q. bit_at mask q == 1) (range_with_len 0 i) (i ∷ [])
+
+not_set : (bit : ℕ) → bit ≡ 0 → (bit == 1) ≡ false
+not_set bit is = rw is refl
+
+-- if what is left of a mask behind its first bits is 0, the outputs behind them aren't marked
+pub none_behind : (mask i : ℕ) → mask / 2 ^ i ≡ 0 → (more : ℕ)
+    → marked_by mask (range_with_len 0 (i + more)) ≡ marked_by mask (range_with_len 0 i)
+none_behind mask i nothing zero =
+    ap (λ (count : ℕ). marked_by mask (range_with_len 0 count)) (let e : i + 0 ≡ i = omega arith in e)
+none_behind mask i nothing (suc more) =
+    let below : mask < 1 * 2 ^ i = (div-lt_iff_lt-mul (pow_pos i)).0 (omega (arith, nothing)) in
+    let unset : bit_at mask (i + more) ≡ 0 = bit_at_above mask i (i + more) (omega (arith, below)) (omega arith) in
+    ap (λ (count : ℕ). marked_by mask (range_with_len 0 count)) (let e : i + suc more ≡ i + more + 1 = omega arith in e)
+    ∙ marked_more mask (i + more)
+    ∙ ap (λ (qs : List ℕ). marked_by mask (range_with_len 0 (i + more)) ++ qs)
+    (none_marked mask (i + more) (not_set (bit_at mask (i + more)) unset))
+    ∙ append-nil (marked_by mask (range_with_len 0 (i + more)))
+    ∙ none_behind mask i nothing more
 
 -- ---- what becomes of the packet
 

@@ -1,5 +1,5 @@
 //! What becomes of a packet that waits at a port, and the masks of outputs: bit q is virtual output q.
-ghost use Rattle.std.specs.Prelude.{◌≡◌, ◌<◌, ◌≤◌, ◌==◌, ◌↔◌, ◌++◌, ◌∷◌, [], IsTrue, ℕ, List, length};
+ghost use Rattle.std.specs.Prelude.{◌≡◌, ◌<◌, ◌≤◌, ◌==◌, ◌↔◌, ◌+◌, ◌++◌, ◌∷◌, [], IsTrue, ℕ, List, length};
 ghost use Rattle.std.specs.Int.{bit_at};
 ghost use Rattle.std.specs.List.{range_with_len};
 ghost use Rattle.virtual_switch.specs.SwitchValue.{private_of};
@@ -70,6 +70,14 @@ fn is_marked(outputs: u32, output: u8) -> bool
     outputs >> output & 1 == 1
 }
 
+// Whether neither this output nor one behind it is in a mask.
+fn is_past(outputs: u32, output: u8) -> bool
+    requires { output < 32 }
+    ensures { IsTrue result → (more : ℕ) → marked_by outputs (range_with_len 0 (output + more)) ≡ marked_by outputs (range_with_len 0 output) }
+{
+    outputs >> output == 0
+}
+
 // Whether an output that isn't ready was met.
 fn has_stayed(fate: Fate) -> bool
     ensures { IsTrue result ↔ (fate_answer fate ≡ Moved.Stayed) }
@@ -115,6 +123,9 @@ pub(crate) fn fate_of<O: Outputs>(switch: &mut VirtualSwitch<O>, outputs: u32) -
 {
     let mut fate = Fate::Lost;
     for output in 0..switch.count() {
+        if is_past(outputs, output) {
+            break;
+        }
         fate = fate_with(fate, switch, outputs, output);
     }
     fate
@@ -162,6 +173,9 @@ pub(crate) fn copy_to(
     ensures { devices.new ≡ copies_arrived (joining_of part.now) packet (marked_by outputs (range_with_len 0 part.now.count)) devices.old }
 {
     for output in 0..part.count() {
+        if is_past(outputs, output) {
+            break;
+        }
         copy_at(devices, part, table, outputs, output, packet);
     }
 }
