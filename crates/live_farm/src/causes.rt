@@ -2,12 +2,12 @@
 ghost use Rattle.std.specs.Prelude.{◌<◌, IfOk, length};
 ghost use Rattle.farm_causes.specs.Following.{IsReached};
 
-use crate::record::PIECE;
 use domain_core::{Entry, Mark, NoMemory};
 use farm_causes::laws::moments_go_on;
 use farm_causes::{FollowFault, Follower, explain_moment};
 use farm_service::Service;
 use plan_checker::AcceptedPlan;
+use record_keeping::PIECE;
 use std::alloc::Global;
 use std::sync::Wait;
 

@@ -38,7 +38,7 @@ pub use outlet::{Outlet, SharedOutlet};
 pub use parsing::{is_operators, parse_live_line};
 pub use program::run_live;
 pub use reading::{InputLine, MOST_BYTES, next_line};
-pub use record::{DomainRecord, NotKept, RecordStore, SharedRecord};
+pub use record::SharedRecord;
 pub use record_file::{FileRecords, RecordFile, RecordFolder, no_records};
 pub use station::{Station, serve};
 pub use texts::{LiveAnswer, Why, error_answer};

@@ -11,7 +11,7 @@ use crate::crew::Crew;
 use crate::failure::{LiveFailure, Trouble};
 use crate::operator::Operator;
 use crate::outlet::SharedOutlet;
-use crate::record::{NotKept, SharedRecord};
+use crate::record::SharedRecord;
 use crate::threads::run_crew;
 use domain_core::Refusal;
 use farm_service::{
@@ -19,6 +19,7 @@ use farm_service::{
     run_users_and_workers,
 };
 use line_answers::Quantum;
+use record_keeping::NotKept;
 use std::alloc::Global;
 use std::io::{BufRead, Write};
 use std::slice;

@@ -3,11 +3,11 @@
 use crate::command_line::RecordSettings;
 use crate::crew::{UserNumber, name_of};
 use crate::failure::LiveFailure;
-use crate::record::{DomainRecord, RecordStore};
 use domain_core::NoMemory;
 use farm_records::{HeadFault, RecordFault, Redone, head_of, redo_record};
 use farm_service::{Histories, SeatedDomain};
 use plan_checker::AcceptedPlan;
+use record_keeping::{DomainRecord, RecordStore};
 use script_text::write_whole;
 use std::alloc::Global;
 use std::fs::{self, File, Files, OpenFile, OpenOptions, TryLockError};

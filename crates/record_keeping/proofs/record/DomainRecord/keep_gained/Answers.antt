@@ -1,0 +1,40 @@
+use Rattle.std.proofs.Common.{rules, sym, subst, Bool, true, false}
+use Rattle.record_keeping.specs.declared.record.DomainRecord.{DomainRecord}
+use Rattle.record_keeping.specs.KeptPieces.{KeepsPieces}
+use Rattle.record_keeping.proofs.Keeping.{both_kept, still_same}
+use Rattle.record_keeping.proofs.record.DomainRecord.keep_gained.Goals.{in-None, in-Some+in_ok-keep_piece+then-not-branch}
+use Rattle.record_keeping.proofs.record.DomainRecord.keep_gained.Goals as goal
+
+pub loop-preserved : goal.loop-preserved
+loop-preserved g c =
+    let contents = g.S.RecordStore.contents in
+    let plan = c.args.service.now.plan in
+    let old = c.args.self.now in
+    let new = c.keep_piece.new.self in
+    record {
+      kept =
+          both_kept contents plan c.args.domain true old c.loop.self new c.loop.invariant.same.places
+          c.loop.invariant.kept
+          (subst (λ (more : Bool). KeepsPieces contents plan c.args.domain more c.loop.self new) c.if-not-branch.false
+          c.in_ok-keep_piece.ensures.kept);
+      same = still_same old c.loop.self new c.loop.invariant.same c.keep_piece.ensures.same;
+      failed = search rules;
+      can_next = tt;
+      is_finite = tt;
+    }
+
+pub returns-clause-kept : goal.returns-clause-kept
+returns-clause-kept g c = elim c.match-next.branch [
+  | in-None w ↦ search rules
+  | in-Some+in_ok-keep_piece+then-not-branch w ↦
+      let contents = g.S.RecordStore.contents in
+      let plan = c.args.service.now.plan in
+      let old = c.args.self.now in
+      let new = w.keep_piece.new.self in
+      subst (λ (kept : DomainRecord g.row.S.Denot). KeepsPieces contents plan c.args.domain false old kept)
+      (sym w.self-is)
+      (both_kept contents plan c.args.domain false old c.loop.self new c.loop.invariant.same.places
+      c.loop.invariant.kept
+      (subst (λ (more : Bool). KeepsPieces contents plan c.args.domain more c.loop.self new) w.if-not-branch.true
+      w.in_ok-keep_piece.ensures.kept))
+]

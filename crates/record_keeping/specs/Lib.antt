@@ -1,0 +1,6 @@
+-- what must be believed
+pub mod Writing
+pub mod Pieces
+pub mod Keeping
+-- what only helps contracts
+pub mod KeptPieces
