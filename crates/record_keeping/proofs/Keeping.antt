@@ -1,7 +1,7 @@
 -- What a record kept, piece by piece.
-use Rattle.std.proofs.Common.{◌≡◌, ◌∙◌, ℕ, Bool, true, List, [], ◌++◌, refl, sym, subst, vec_capacity, Option}
+use Rattle.std.proofs.Common.{◌≡◌, ◌∙◌, ℕ, Bool, true, List, ◌++◌, sym, subst, vec_capacity, Option}
 use Rattle.std.specs.Io.KnownBytes.{Appends}
-use Rattle.std.proofs.KnownBytes.{Appends-nil, Appends-trans}
+use Rattle.std.proofs.KnownBytes.{Appends-trans}
 use Rattle.plan_rules.specs.Data.{DomainData}
 use Rattle.farm_records.specs.RecordText.{record_text, lines_of}
 use Rattle.record_keeping.specs.declared.record.DomainRecord.{DomainRecord}
@@ -10,16 +10,6 @@ use Rattle.record_keeping.specs.Keeping.{IsSameRecord}
 use Rattle.record_keeping.specs.KeptPieces.{KeepsPieces}
 use Rattle.record_keeping.specs.Writing.{stored_text}
 use Rattle.record_keeping.proofs.Pieces.{both_gained, all_end_with_room, text_of_both}
-
--- no piece yet
-pub none_kept : {S : Type 0} (contents : S → Option (List ℕ)) (plan : List DomainData) (number : ℕ) (old : DomainRecord S)
-    → KeepsPieces contents plan number true old old
-none_kept contents plan number old = record {
-  pieces = [];
-  gained = refl;
-  last = λ none. absurd (cc);
-  text = Appends-nil (stored_text contents old.store);
-}
 
 -- pieces, and pieces behind them
 pub both_kept : {S : Type 0} (contents : S → Option (List ℕ)) (plan : List DomainData) (number : ℕ) (more : Bool)
@@ -33,7 +23,8 @@ both_kept contents plan number more old between new same first second =
     record {
       pieces = first.pieces ++ second.pieces;
       gained =
-          both_gained plan number places old.mark between.mark new.mark first.pieces second.pieces first.gained gained;
+          both_gained plan number places old.mark between.mark new.mark first.pieces second.pieces first.gained
+          gained;
       last =
           λ done inside.
           all_end_with_room places first.pieces second.pieces

@@ -32,8 +32,10 @@ pub text_of_both : (before later : List Piece)
 text_of_both before later =
     let entries : entries_of (before ++ later) ≡ entries_of before ++ entries_of later =
     flat_map-append (λ (piece : Piece). piece.entries) before later in
-    let lines : lines_of (entries_of (before ++ later)) ≡ lines_of (entries_of before) ++ lines_of (entries_of later) =
-    ap (λ (xs : List Entry). lines_of xs) entries ∙ flat_map-append entry_lines (entries_of before) (entries_of later) in
+    let lines : lines_of (entries_of (before ++ later))
+    ≡ lines_of (entries_of before) ++ lines_of (entries_of later) =
+    ap (λ (xs : List Entry). lines_of xs) entries
+    ∙ flat_map-append entry_lines (entries_of before) (entries_of later) in
     ap (λ (xs : List RecordLine). record_text xs) lines
     ∙ flat_map-append record_line_text (lines_of (entries_of before)) (lines_of (entries_of later))
 

@@ -99,7 +99,7 @@ impl<S: RecordStore> DomainRecord<S> {
             return Ok(());
         }
         let Some(store) = &mut self.store else {
-            return Ok(());
+            unreachable!()
         };
         self.text.clear();
         write_records_of(&mut self.text, self.room.as_slice())?;
@@ -160,7 +160,7 @@ impl<S: RecordStore> DomainRecord<S> {
         ensures failed { self.new.failed ≡ self.old.failed }
     {
         let Some(store) = &mut self.store else {
-            return Ok(());
+            unreachable!()
         };
         self.mark = Mark::start();
         store.begin_next()?;
@@ -193,7 +193,6 @@ impl<S: RecordStore> DomainRecord<S> {
     /// # Errors
     ///
     /// Why it isn't recorded. After an error nothing more is written, and each call is an error.
-    // Five clauses: what is kept, with a store and without one, after an error and from then on, and what stays.
     pub fn keep<R: Wait>(
         &mut self,
         rt: &R,

@@ -2,7 +2,8 @@ use Rattle.std.proofs.Common.{rules, sym, subst, Bool, true, false}
 use Rattle.record_keeping.specs.declared.record.DomainRecord.{DomainRecord}
 use Rattle.record_keeping.specs.KeptPieces.{KeepsPieces}
 use Rattle.record_keeping.proofs.Keeping.{both_kept, still_same}
-use Rattle.record_keeping.proofs.record.DomainRecord.keep_gained.Goals.{in-None, in-Some+in_ok-keep_piece+then-not-branch}
+use Rattle.record_keeping.proofs.record.DomainRecord.keep_gained.Goals.{in-None}
+use Rattle.record_keeping.proofs.record.DomainRecord.keep_gained.Goals.{in-Some+in_ok-keep_piece+then-not-branch}
 use Rattle.record_keeping.proofs.record.DomainRecord.keep_gained.Goals as goal
 
 pub loop-preserved : goal.loop-preserved

@@ -14,13 +14,14 @@ returns-clause-kept g c =
     record {
       pieces = piece ∷ [];
       gained =
-          one_gained c.args.service.now.plan c.args.domain (vec_capacity old.room) old.mark c.in-Ok.mark _ _ _ _ c.clear.ensures.items c.clear.ensures.len
-          c.clear.ensures.capacity c.in-Ok.ensures.copied;
+          one_gained c.args.service.now.plan c.args.domain (vec_capacity old.room) old.mark c.in-Ok.mark _ _ _ _
+          c.clear.ensures.items c.clear.ensures.len c.clear.ensures.capacity c.in-Ok.ensures.copied;
       last =
           λ few inside some.
           let same = c.in_ok-write_room.ensures.rest.1 in
           let places : vec_capacity written.room ≡ vec_capacity old.room = search rules in
-          let less : length written.room.items < vec_capacity written.room = c.is_room_full.ensures few (λ none. some (search rules)) in
+          let less : length written.room.items < vec_capacity written.room =
+          c.is_room_full.ensures few (λ none. some (search rules)) in
           search rules;
       text =
           subst (λ (text : List ℕ). Appends (stored_text contents old.store) (stored_text contents written.store) text)
