@@ -6,11 +6,12 @@ use Rattle.domain_core.specs.declared.copying.Mark.{Mark}
 use Rattle.domain_core.specs.declared.journal.Entry.{Entry}
 use Rattle.farm_records.specs.RecordText.{RecordLine, record_line_text, entry_lines, record_text, lines_of}
 use Rattle.farm_service.specs.Domains.{GainsCopies}
-use Rattle.record_keeping.specs.Pieces.{Piece, entries_of, AreGained, EndWithRoom}
+use Rattle.record_keeping.specs.Pieces.{JournalPiece, entries_of, AreGained, EndWithRoom}
 
 -- pieces up to a mark, and pieces from there
-pub both_gained : (plan : List DomainData) (number places : ℕ) (from between to : Mark) (before later : List Piece)
-    → AreGained plan number places from before between → AreGained plan number places between later to
+pub both_gained : (plan : List DomainData) (number places : ℕ) (from between to : Mark)
+    (before later : List JournalPiece) → AreGained plan number places from before between
+    → AreGained plan number places between later to
     → AreGained plan number places from (before ++ later) to
 both_gained plan number places from between to [] later first second =
     subst (λ (mark : Mark). AreGained plan number places mark later to) first second
@@ -18,7 +19,7 @@ both_gained plan number places from between to (piece ∷ before) later first se
     (first.0, both_gained plan number places piece.reached between to before later first.1 second)
 
 -- if the later ones end with room, all do
-pub all_end_with_room : (places : ℕ) (before later : List Piece) → EndWithRoom places later
+pub all_end_with_room : (places : ℕ) (before later : List JournalPiece) → EndWithRoom places later
     → EndWithRoom places (before ++ later)
 all_end_with_room places [] later room = room
 all_end_with_room places (piece ∷ []) [] room = absurd room
@@ -26,12 +27,12 @@ all_end_with_room places (piece ∷ []) (next ∷ later) room = room
 all_end_with_room places (piece ∷ next ∷ before) later room = all_end_with_room places (next ∷ before) later room
 
 -- the text of pieces, and of pieces behind them
-pub text_of_both : (before later : List Piece)
+pub text_of_both : (before later : List JournalPiece)
     → record_text (lines_of (entries_of (before ++ later)))
     ≡ record_text (lines_of (entries_of before)) ++ record_text (lines_of (entries_of later))
 text_of_both before later =
     let entries : entries_of (before ++ later) ≡ entries_of before ++ entries_of later =
-    flat_map-append (λ (piece : Piece). piece.entries) before later in
+    flat_map-append (λ (piece : JournalPiece). piece.entries) before later in
     let lines : lines_of (entries_of (before ++ later))
     ≡ lines_of (entries_of before) ++ lines_of (entries_of later) =
     ap (λ (xs : List Entry). lines_of xs) entries
@@ -40,7 +41,7 @@ text_of_both before later =
     ∙ flat_map-append record_line_text (lines_of (entries_of before)) (lines_of (entries_of later))
 
 -- the text of one piece
-pub text_of_one : (piece : Piece)
+pub text_of_one : (piece : JournalPiece)
     → record_text (lines_of piece.entries) ≡ record_text (lines_of (entries_of (piece ∷ [])))
 text_of_one piece = ap (λ (xs : List Entry). record_text (lines_of xs)) (sym (append-nil piece.entries))
 

@@ -4,7 +4,7 @@ use Rattle.plan_rules.specs.Data.{DomainData}
 use Rattle.domain_core.specs.declared.copying.Mark.{Mark}
 use Rattle.farm_records.specs.RecordText.{record_text, lines_of}
 use Rattle.record_keeping.specs.declared.record.DomainRecord.{DomainRecord}
-use Rattle.record_keeping.specs.Pieces.{Piece, entries_of, AreGained, EndWithRoom, IsBeginning}
+use Rattle.record_keeping.specs.Pieces.{JournalPiece, entries_of, AreGained, EndWithRoom, IsBeginning}
 use Rattle.record_keeping.specs.Writing.{IsWritten, stored_text}
 
 -- what no call changes of a record: its head, how many entries are copied at a time, and whether it has a store
@@ -18,7 +18,7 @@ pub record IsSameRecord {S : Type 0} (old new : DomainRecord S) : Type 0 where
 pub record KeepsGained {S : Type 0} (contents : S → Option (List ℕ)) (plan : List DomainData) (number : ℕ) (anew : Bool)
     (old new : DomainRecord S) : Type 0 where
   pub from : Mark
-  pub pieces : List Piece
+  pub pieces : List JournalPiece
   pub beginning : IsBeginning anew old.mark from
   pub gained : AreGained plan number (vec_capacity old.room) from pieces new.mark
   pub last : number < length plan → EndWithRoom (vec_capacity old.room) pieces

@@ -8,26 +8,26 @@ use Rattle.domain_core.specs.Marks.{StandsIn, events_from}
 use Rattle.farm_service.specs.Domains.{GainsCopies}
 
 -- the entries of a piece, and the mark behind them
-pub record Piece : Type 0 where
+pub record JournalPiece : Type 0 where
   pub entries : List Entry
   pub reached : Mark
 
 -- the entries of all pieces
-abbrev pub entries_of : List Piece → List Entry
+abbrev pub entries_of : List JournalPiece → List Entry
 entries_of pieces = flat_map (λ piece. piece.entries) pieces
 
 -- a domain's journal gained these pieces one after another, from a mark up to another; each was copied where there were so many places
-abbrev pub AreGained : List DomainData → ℕ → ℕ → Mark → List Piece → Mark → Type 0
+abbrev pub AreGained : List DomainData → ℕ → ℕ → Mark → List JournalPiece → Mark → Type 0
 AreGained plan number places from [] to = to ≡ from
 AreGained plan number places from (piece ∷ later) to =
     GainsCopies plan number from piece.reached [] piece.entries 0 places × AreGained plan number places piece.reached later to
 
--- a piece doesn't fill so many places
-abbrev pub LeavesRoom : ℕ → Piece → Type 0
+-- a piece that has entries doesn't fill so many places
+abbrev pub LeavesRoom : ℕ → JournalPiece → Type 0
 LeavesRoom places piece = ¬ (piece.entries ≡ []) → length piece.entries < places
 
--- there is a last piece, and it doesn't fill so many places
-abbrev pub EndWithRoom : ℕ → List Piece → Type 0
+-- there is a last piece, and it leaves room where there are so many places
+abbrev pub EndWithRoom : ℕ → List JournalPiece → Type 0
 EndWithRoom places [] = ⊥
 EndWithRoom places (piece ∷ []) = LeavesRoom places piece
 EndWithRoom places (piece ∷ next ∷ later) = EndWithRoom places (next ∷ later)

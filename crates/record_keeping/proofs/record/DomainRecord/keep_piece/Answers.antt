@@ -1,6 +1,6 @@
 use Rattle.std.proofs.Common.{rules, ◌≡◌, ◌<◌, subst, List, [], ◌∷◌, ℕ, length, vec_capacity}
 use Rattle.std.specs.Io.KnownBytes.{Appends}
-use Rattle.record_keeping.specs.Pieces.{Piece}
+use Rattle.record_keeping.specs.Pieces.{JournalPiece}
 use Rattle.record_keeping.specs.Writing.{stored_text}
 use Rattle.record_keeping.proofs.Pieces.{one_gained, text_of_one}
 use Rattle.record_keeping.proofs.record.DomainRecord.keep_piece.Goals as goal
@@ -10,7 +10,7 @@ returns-clause-kept g c =
     let contents = g.S.RecordStore.contents in
     let old = c.args.self.now in
     let written = c.write_room.new.self in
-    let piece : Piece = record { entries = c.copy_gained.new.room.items; reached = c.in-Ok.mark } in
+    let piece : JournalPiece = record { entries = c.copy_gained.new.room.items; reached = c.in-Ok.mark } in
     record {
       pieces = piece ∷ [];
       gained =
