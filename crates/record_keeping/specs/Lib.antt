@@ -3,4 +3,5 @@ pub mod Writing
 pub mod Pieces
 pub mod Keeping
 -- what only helps contracts
+pub mod Reasons
 pub mod KeptPieces

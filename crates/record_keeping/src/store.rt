@@ -1,6 +1,9 @@
 //! Where records are written.
 ghost use Rattle.std.specs.Prelude.{◌≡◌, ℕ, List, [], None, Option, OnOk};
 ghost use Rattle.std.specs.Io.KnownBytes.{Appends};
+ghost use Rattle.std.specs.IoError.{error_kind};
+ghost use Rattle.record_keeping.specs.declared.store.NotKept.TheVariants.{Memory};
+ghost use Rattle.record_keeping.specs.Reasons.{reason_of};
 ghost use Rattle.record_keeping.specs.Writing.{Becomes};
 
 use domain_core::NoMemory;
@@ -36,6 +39,8 @@ pub enum NotKept {
 }
 
 impl From<io::Error> for NotKept {
+    ghost from_gives = { λ error reason. reason ≡ reason_of (error_kind error) };
+
     fn from(error: io::Error) -> NotKept {
         match error.kind() {
             io::ErrorKind::OutOfMemory => NotKept::Memory,
@@ -45,6 +50,8 @@ impl From<io::Error> for NotKept {
 }
 
 impl From<NoMemory> for NotKept {
+    ghost from_gives = { λ _ reason. reason ≡ Memory };
+
     fn from(_error: NoMemory) -> NotKept {
         NotKept::Memory
     }
