@@ -1,13 +1,13 @@
 -- What becomes of a packet, output by output, for the clauses of `fate_of`, `copy_to` and `RunningMachine::route`.
-use Rattle.std.proofs.Common.{◌≡◌, ◌≢◌, ℕ, zero, suc, ◌+◌, ◌*◌, ◌/◌, ◌^◌, ◌<◌, ◌==◌, Bool, true, false, not, ◌&&◌}
+use Rattle.std.proofs.Common.{◌≡◌, ◌≢◌, ℕ, zero, suc, ◌+◌, ◌*◌, ◌/◌, ◌^◌, ◌<◌, ◌≤◌, ◌==◌, Bool, true, false, not, ◌&&◌}
 use Rattle.std.proofs.Common.{List, [], ◌∷◌, ◌++◌, length, get_or, Option, Some, None, refl, ap, sym, ◌∙◌, arith}
 use Rattle.std.proofs.Common.{if◌then◌else◌}
-use Rattle.std.specs.Int.{bit_at}
+use Rattle.std.specs.Int.{bit_at, trailing_zeros, w32}
 use Rattle.std.specs.List.{range_with_len}
 use Rattle.std.specs.FinSet as set
 use Rattle.std.proofs.Math.Nat.{div-lt_iff_lt-mul}
 use Rattle.std.proofs.lemmas.Nat.{pow_pos}
-use Rattle.std.proofs.lemmas.Nat.Bits.{bit_at_above}
+use Rattle.std.proofs.lemmas.Nat.Bits.{bit_at_above, bit_at-trailing_zeros}
 use Rattle.std.proofs.lemmas.List.{length-map, append-nil}
 use Rattle.std.proofs.lemmas.List.Elements.{filter-append}
 use Rattle.std.proofs.lemmas.List.Folds.{list_all-append}
@@ -70,6 +70,22 @@ none_behind mask i nothing (suc more) =
     (none_marked mask (i + more) (not_set (bit_at mask (i + more)) unset))
     ∙ append-nil (marked_by mask (range_with_len 0 (i + more)))
     ∙ none_behind mask i nothing more
+
+-- no output is marked below the lowest bit of a mask
+none_below : (mask bound : ℕ) → ((i : ℕ) → i < bound → bit_at mask i ≡ 0) → (i : ℕ) → i ≤ bound
+    → marked_by mask (range_with_len 0 i) ≡ []
+none_below mask bound zeros zero few = refl
+none_below mask bound zeros (suc i) few =
+    ap (λ (count : ℕ). marked_by mask (range_with_len 0 count)) (let e : suc i ≡ i + 1 = omega arith in e)
+    ∙ marked_more mask i
+    ∙ ap (λ (qs : List ℕ). qs ++ marked_by mask (i ∷ [])) (none_below mask bound zeros i (omega (arith, few)))
+    ∙ none_marked mask i (not_set (bit_at mask i) (zeros i (omega (arith, few))))
+
+-- nor below any output that isn't behind it
+pub none_before : (mask first : ℕ) → 0 < mask → mask < 2 ^ 32 → first ≤ trailing_zeros w32 mask
+    → marked_by mask (range_with_len 0 first) ≡ []
+none_before mask first some fits low =
+    none_below mask (trailing_zeros w32 mask) (bit_at-trailing_zeros w32 mask some fits).2 first low
 
 -- ---- what becomes of the packet
 

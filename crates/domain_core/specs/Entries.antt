@@ -1,5 +1,5 @@
 -- How a journal keeps its entries: small ones, and apart from them what looks saw.
-use Rattle.std.specs.Prelude.{ℕ, ◌<◌, List, [], length, slice_index_or}
+use Rattle.std.specs.Prelude.{ℕ, ◌<◌, Bool, true, false, List, [], length, slice_index_or}
 use Rattle.bootstrap.specs.declared.seen.Activity.TheVariants.{Booting}
 use Rattle.bootstrap.specs.declared.seen.Seen.{Seen}
 use Rattle.domain_core.specs.declared.entries.SmallEntry.{SmallEntry}
@@ -45,15 +45,15 @@ IsStored seen (One by asked answer) = Unit {0}
 IsStored seen (Look by asked place) = place < length seen
 IsStored seen (Run by node last count) = Unit {0}
 
--- there is room for what the event sees, if it is a look
-abbrev pub HasRoomToLook : Event → ℕ → Type 0
-HasRoomToLook (event.Config byte) room = Unit {0}
-HasRoomToLook (event.Write host byte) room = Unit {0}
-HasRoomToLook (event.Read host) room = Unit {0}
-HasRoomToLook (event.Reset node) room = Unit {0}
-HasRoomToLook (event.Look node) room = 0 < room
-HasRoomToLook (event.Step node) room = Unit {0}
-HasRoomToLook (event.Move port) room = Unit {0}
+-- an event whose reply shows what a node is
+abbrev pub is_look : Event → Bool
+is_look (event.Config byte) = false
+is_look (event.Write host byte) = false
+is_look (event.Read host) = false
+is_look (event.Reset node) = false
+is_look (event.Look node) = true
+is_look (event.Step node) = false
+is_look (event.Move port) = false
 
 -- there is room for what the reply shows, if it is that to a look
 abbrev pub HasRoomToShow : Reply → ℕ → Type 0

@@ -200,6 +200,7 @@ impl Devices {
     }
 
     /// Whether a Step of a node would not be recorded.
+    #[inline(always)]
     pub(crate) fn is_quiet(&self, node: u8) -> bool
         requires { node < length self.now.nodes }
         ensures { result ≡ is_quiet (node_at self.now node) }
@@ -220,6 +221,7 @@ impl Devices {
     }
 
     /// One Step of a node.
+    #[inline(always)]
     pub(crate) fn step(&mut self, node: u8) -> Stepped
         requires { node < length self.old.nodes }
         ensures answer { result ≡ (node_step (node_at self.old node)).1 }

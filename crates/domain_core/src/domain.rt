@@ -10,15 +10,17 @@ ghost use Rattle.domain_core.specs.declared.domain.Committed.TheVariants.{Done, 
 ghost use Rattle.domain_core.specs.declared.event.By.TheVariants.{Farm};
 ghost use Rattle.domain_core.specs.declared.event.Event.{Event as SpecEvent};
 ghost use Rattle.domain_core.specs.declared.event.Refusal.TheVariants.{NoSuch, JournalFull};
+ghost use Rattle.domain_core.specs.declared.event.Reply.TheVariants.{Look};
 ghost use Rattle.domain_core.specs.Machine.{is_recorded};
 ghost use Rattle.domain_core.specs.MachineValue.{machine_of};
-ghost use Rattle.domain_core.specs.PrivateFarm.{opening};
+ghost use Rattle.domain_core.specs.PrivateFarm.{is_there, opening};
 ghost use Rattle.domain_core.specs.Journal.{expanded};
 ghost use Rattle.domain_core.specs.Domain.{state_of, IsMeant, IsCalled, IsPastLimit, Fits, IsQuiet};
 ghost use Rattle.domain_core.specs.PortStates.{IsPortState};
 ghost use Rattle.domain_core.specs.Ticket.{IsCurrent, Commits, fresh_ticket};
 
 use crate::NoMemory;
+use crate::entries::SmallReply;
 use crate::event::{By, Event, Refusal, Reply};
 use crate::host::Host;
 use crate::journal::Journal;
@@ -26,7 +28,7 @@ use crate::machine::{Acted, RunningMachine};
 use crate::moves::has_moved;
 use crate::port_state::PortState;
 use crate::ticket::Ticket;
-use bootstrap::Node;
+use bootstrap::{Node, Seen};
 use crossbar::laws::unchanged_words_count_nothing;
 use crossbar::{Outputs, Word};
 use plan_rules::{AcceptedPlan, Part};
@@ -112,8 +114,28 @@ impl<O: Outputs + Drop> Domain<O> {
     /// `NoSuch` where there is no such user, host, node or port, or the host isn't the user's; else
     /// `JournalFull` where the recorded events number the limit; else `NoMemory` where the journal
     /// can't grow. After a refusal nothing has changed.
-    #[tactic(auto, using(crate::proofs::Unchanged::counts_itself))]
+    // Each kind of event has a copy of the code, in which its tests are known.
     pub fn apply(&mut self, by: By, event: Event) -> Result<Reply, Refusal>
+        ensures called { IsCalled (record { by = by; event = event }) result self.old self.new }
+        ensures err { OnErr result (self.new ≡ self.old) }
+        ensures part { self.new.machine.part ≡ self.old.machine.part }
+        ensures ports { self.new.machine.switch.ports ≡ self.old.machine.switch.ports }
+    {
+        match event {
+            Event::Config(byte) => self.answer(by, Event::Config(byte)),
+            Event::Write(host, byte) => self.answer(by, Event::Write(host, byte)),
+            Event::Read(host) => self.answer(by, Event::Read(host)),
+            Event::Reset(node) => self.answer(by, Event::Reset(node)),
+            Event::Look(node) => self.answer(by, Event::Look(node)),
+            Event::Step(node) => self.answer(by, Event::Step(node)),
+            Event::Move(port) => self.answer(by, Event::Move(port)),
+        }
+    }
+
+    // Answers an event of any kind.
+    #[inline(always)]
+    #[tactic(auto, using(crate::proofs::Unchanged::counts_itself))]
+    fn answer(&mut self, by: By, event: Event) -> Result<Reply, Refusal>
         ensures called { IsCalled (record { by = by; event = event }) result self.old self.new }
         ensures err { OnErr result (self.new ≡ self.old) }
         ensures part { self.new.machine.part ≡ self.old.machine.part }
@@ -127,8 +149,11 @@ impl<O: Outputs + Drop> Domain<O> {
         if self.recorded == self.machine.part().limit() {
             return Err(Refusal::JournalFull);
         }
+        if let Event::Look(node) = event {
+            return Ok(Reply::Look(self.answer_look(by, node)?));
+        }
         let journal = &mut self.journal;
-        if journal.entries.reserve_for(event).is_err() {
+        if journal.entries.reserve().is_err() {
             return Err(Refusal::NoMemory);
         }
         // A Step that isn't recorded changes nothing.
@@ -138,7 +163,32 @@ impl<O: Outputs + Drop> Domain<O> {
             journal.entries.push_answer(by, event, reply);
             self.recorded += 1;
         }
-        Ok(reply)
+        Ok(reply.reply())
+    }
+
+    // Answers a look by what is seen. That is large, so that the other events are answered without it.
+    // Seven clauses: two of when it is asked, and those of `apply`, of which one is of a look and one of a refusal.
+    #[inline(never)]
+    #[tactic(auto, using(crate::proofs::Unchanged::counts_itself))]
+    fn answer_look(&mut self, by: By, node: u8) -> Result<Seen, Refusal>
+        requires there { is_there self.old.machine.part (record { by = by; event = SpecEvent.Look node }) ≡ true }
+        requires room { length (expanded self.old.journal) ≢ self.old.machine.part.limit }
+        ensures called { IfOk result (λ seen. IsCalled (record { by = by; event = SpecEvent.Look node }) (Ok (Look seen)) self.old self.new) }
+        ensures refused { IfErr result (λ refusal. IsCalled (record { by = by; event = SpecEvent.Look node }) (Err refusal) self.old self.new) }
+        ensures err { OnErr result (self.new ≡ self.old) }
+        ensures part { self.new.machine.part ≡ self.old.machine.part }
+        ensures ports { self.new.machine.switch.ports ≡ self.old.machine.switch.ports }
+    {
+        // Words that stay count no change.
+        unchanged_words_count_nothing();
+        let journal = &mut self.journal;
+        if journal.entries.reserve_look().is_err() {
+            return Err(Refusal::NoMemory);
+        }
+        let seen = self.machine.look(node);
+        journal.entries.push_seen(by, Event::Look(node), seen);
+        self.recorded += 1;
+        Ok(seen)
     }
 
     /// As [`Domain::apply`] of a Move of a port of the domain, for which the farm asks. The packet's way is found once, and
@@ -166,7 +216,7 @@ impl<O: Outputs + Drop> Domain<O> {
             self.machine.follow(route);
             journal
                 .entries
-                .push_answer(By::Farm, Event::Move(port), Reply::Moved(moved));
+                .push_answer(By::Farm, Event::Move(port), SmallReply::Moved(moved));
             self.recorded += 1;
         }
         Ok(Reply::Moved(moved))

@@ -1,10 +1,10 @@
-//! The entries of a journal as they are kept: 16 bytes each, and apart from them what looks saw.
+//! The entries of a journal as they are kept: 24 bytes each, and apart from them what looks saw.
 ghost use Rattle.std.specs.Prelude.{◌≡◌, ◌<◌, ◌≤◌, ◌+◌, ◌^◌, ◌++◌, ◌∷◌, [], ℕ, IsTrue, IfOk, MatchResult, length, slice_get, is_ok, if◌then◌else◌};
 ghost use Rattle.std.specs.List.{All};
 ghost use Rattle.domain_core.specs.declared.entries.SmallEntry.TheVariants.{Run};
 ghost use Rattle.domain_core.specs.declared.event.Reply.TheVariants.{Look};
 ghost use Rattle.domain_core.specs.declared.journal.Entry.TheVariants.{One as SpecOne, Run as SpecRun};
-ghost use Rattle.domain_core.specs.Entries.{reply_of, entry_of, HasRoomToLook, HasRoomToShow};
+ghost use Rattle.domain_core.specs.Entries.{reply_of, entry_of, HasRoomToShow};
 ghost use Rattle.domain_core.specs.Journal.{expanded, steps};
 ghost use Rattle.domain_core.specs.Ticket.{steps_told};
 ghost use Rattle.t414_step.specs.declared.stepping.Stepped.TheVariants.{Ran};
@@ -30,7 +30,7 @@ pub(crate) enum SmallReply {
     Moved(Moved),
 }
 
-// An entry of 16 bytes. The widest field of a variant stands last, so that none is wider.
+// An entry of 24 bytes. The widest field of a variant stands last, so that none is wider.
 #[derive(Clone, Copy)]
 pub(crate) enum SmallEntry {
     // One event, with a small reply.
@@ -71,8 +71,9 @@ impl SmallReply {
         }
     }
 
-    // The reply that it stands for.
-    fn reply(self) -> Reply
+    /// The reply that it stands for.
+    #[inline(always)]
+    pub(crate) fn reply(self) -> Reply
         ensures { result ≡ reply_of self }
     {
         match self {
@@ -89,6 +90,7 @@ impl SmallReply {
 
 impl SmallEntry {
     // Lets a run of the same node go on, if the entry is one that may; whether it is.
+    #[inline(always)]
     fn extend_run(&mut self, by: By, node: u8, count: u64, last: Stepped) -> bool
         requires { (before : ℕ) → self.old ≡ Run by node Ran before → before + count ≤ 2 ^ 40 }
         ensures grown { IsTrue result → (before : ℕ) × (self.old ≡ Run by node Ran before) × (self.new ≡ Run by node last (before + count)) }
@@ -186,15 +188,13 @@ impl Entries {
         self.small.reserve(1)
     }
 
-    /// Reserves memory for the answer to an event.
-    pub(crate) fn reserve_for(&mut self, event: Event) -> Result<(), NoMemory>
+    /// Reserves memory for one more look.
+    pub(crate) fn reserve_look(&mut self) -> Result<(), NoMemory>
         ensures room { IfOk result (λ _. 0 < self.new.room) }
-        ensures look_room { IfOk result (λ _. HasRoomToLook event self.new.look_room) }
+        ensures look_room { IfOk result (λ _. 0 < self.new.look_room) }
         ensures unchanged { self.new.entries ≡ self.old.entries }
     {
-        if let Event::Look(_) = event {
-            self.seen.reserve(1)?;
-        }
+        self.seen.reserve(1)?;
         self.small.reserve(1)
     }
 
@@ -211,6 +211,16 @@ impl Entries {
             .push_reserved(SmallEntry::Look { by, event, place });
     }
 
+    // Appends one event with a small reply, if there is room.
+    #[inline(always)]
+    fn push_small(&mut self, by: By, event: Event, reply: SmallReply)
+        requires { 0 < self.old.room }
+        ensures { self.new.entries ≡ self.old.entries ++ SpecOne by event (reply_of reply) ∷ [] }
+    {
+        self.small
+            .push_reserved(SmallEntry::One { by, event, reply });
+    }
+
     // Appends one event, if there is room.
     fn push_one(&mut self, by: By, event: Event, reply: Reply)
         requires room { 0 < self.old.room }
@@ -218,14 +228,13 @@ impl Entries {
         ensures { self.new.entries ≡ self.old.entries ++ SpecOne by event reply ∷ [] }
     {
         match SmallReply::of(reply) {
-            Ok(reply) => self
-                .small
-                .push_reserved(SmallEntry::One { by, event, reply }),
+            Ok(reply) => self.push_small(by, event, reply),
             Err(seen) => self.push_look(by, event, seen),
         }
     }
 
     // Appends a run, if there is room.
+    #[inline(never)]
     fn push_run(&mut self, by: By, node: u8, count: u64, last: Stepped)
         requires { 0 < self.old.room }
         ensures { self.new.entries ≡ self.old.entries ++ SpecRun by node count last ∷ [] }
@@ -257,6 +266,7 @@ impl Entries {
     }
 
     // Lets the last run go on, if it is one that may; whether it is.
+    #[inline(always)]
     fn extend_last(&mut self, by: By, node: u8, count: u64, last: Stepped) -> bool
         requires some { 0 < count }
         requires few { length (expanded self.old.entries) + count ≤ 2 ^ 40 }
@@ -270,6 +280,7 @@ impl Entries {
     }
 
     /// Appends so many Steps of a node, of which the last answered `last` and all others `Ran`, if there is room.
+    #[inline(always)]
     #[tactic(auto, using(crate::proofs::Runs::expanded_new))]
     pub(crate) fn push_steps(&mut self, by: By, node: u8, count: u64, last: Stepped)
         requires room { 0 < self.old.room }
@@ -282,18 +293,28 @@ impl Entries {
         self.push_run(by, node, count, last);
     }
 
-    /// Appends an answered event, if there is room.
+    /// Appends an answered event that is no look, if there is room.
+    #[inline(always)]
     #[tactic(auto, using(crate::proofs::Runs::expanded_one))]
-    pub(crate) fn push_answer(&mut self, by: By, event: Event, reply: Reply)
+    pub(crate) fn push_answer(&mut self, by: By, event: Event, reply: SmallReply)
         requires room { 0 < self.old.room }
-        requires look_room { HasRoomToShow reply self.old.look_room }
         requires few { length (expanded self.old.entries) < 2 ^ 40 }
-        ensures { expanded self.new.entries ≡ expanded self.old.entries ++ record { call = record { by = by; event = event }; reply = reply } ∷ [] }
+        ensures { expanded self.new.entries ≡ expanded self.old.entries ++ record { call = record { by = by; event = event }; reply = reply_of reply } ∷ [] }
     {
         match (event, reply) {
-            (Event::Step(node), Reply::Stepped(last)) => self.push_steps(by, node, 1, last),
-            _ => self.push_one(by, event, reply),
+            (Event::Step(node), SmallReply::Stepped(last)) => self.push_steps(by, node, 1, last),
+            _ => self.push_small(by, event, reply),
         }
+    }
+
+    /// Appends an answered look, if there is room.
+    #[tactic(auto, using(crate::proofs::Runs::expanded_one))]
+    pub(crate) fn push_seen(&mut self, by: By, event: Event, seen: Seen)
+        requires room { 0 < self.old.room }
+        requires look_room { 0 < self.old.look_room }
+        ensures { expanded self.new.entries ≡ expanded self.old.entries ++ record { call = record { by = by; event = event }; reply = Look seen } ∷ [] }
+    {
+        self.push_look(by, event, seen);
     }
 
     /// Appends the Steps of a ticket, of which the last answered `last`, if there is room.

@@ -33,7 +33,7 @@ pub enum Entry {
     },
 }
 
-/// What a domain answered, in order: a list of entries. Each takes 16 bytes, and a look 24 more.
+/// What a domain answered, in order: a list of entries. Each takes 24 bytes, and a look 28 more.
 #[derive(Drop)]
 pub struct Journal {
     pub(crate) entries: Entries,

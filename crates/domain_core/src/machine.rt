@@ -8,7 +8,9 @@ ghost use Rattle.crossbar.specs.Switch.{cleared};
 ghost use Rattle.virtual_switch.specs.Each.{KeepsPorts};
 ghost use Rattle.virtual_switch.specs.SwitchValue.{private_of, row_of};
 ghost use Rattle.bootstrap.specs.Steps.{IsBurst, after_steps};
+ghost use Rattle.bootstrap.specs.Seen.{seen};
 ghost use Rattle.domain_core.specs.Devices.{memories, node_at, with_node};
+ghost use Rattle.domain_core.specs.Entries.{is_look, reply_of};
 ghost use Rattle.domain_core.specs.Moves.{moved};
 ghost use Rattle.domain_core.specs.Machine.{acted, is_recorded, fresh_machine};
 ghost use Rattle.domain_core.specs.MachineValue.{machine_of, IsIn};
@@ -19,13 +21,14 @@ ghost use Rattle.domain_core.specs.Ticket.{fresh_ticket};
 
 use crate::NoMemory;
 use crate::devices::Devices;
-use crate::event::{By, Event, Moved, Reply};
+use crate::entries::SmallReply;
+use crate::event::{By, Event, Moved};
 use crate::host::Host;
 use crate::moves::{Fate, Route, copy_to, fate_of, has_moved};
 use crate::port_state::PortState;
 use crate::table::{DeviceTable, table_of};
 use crate::ticket::Ticket;
-use bootstrap::{Burst, Node};
+use bootstrap::{Burst, Node, Seen};
 use crossbar::laws::unchanged_words_count_nothing;
 use crossbar::{Numbering, Outputs, PlainOutputs, Word};
 use plan_rules::Part;
@@ -33,10 +36,10 @@ use std::alloc::Global;
 use std::marker::Model;
 use virtual_switch::VirtualSwitch;
 
-/// A reply, and whether the event is recorded.
+/// A reply to an event that is no look, and whether the event is recorded.
 #[derive(Clone, Copy)]
 pub(crate) struct Acted {
-    pub reply: Reply,
+    pub reply: SmallReply,
     pub recorded: bool,
 }
 
@@ -114,6 +117,7 @@ impl<O: Outputs + Drop> RunningMachine<O> {
     }
 
     /// Whether he who asks is known, and the host, node or port of his event is there for him.
+    #[inline(always)]
     pub(crate) fn has_target(&self, by: By, event: Event) -> bool
         ensures there { result ≡ is_there self.now.part (record { by = by; event = event }) }
         ensures named { result ≡ true → IsIn self.now.part event }
@@ -150,12 +154,14 @@ impl<O: Outputs + Drop> RunningMachine<O> {
         }
     }
 
-    /// Does an event, and answers it.
+    /// Does an event that is no look, and answers it.
+    #[inline(always)]
     #[tactic(auto, using(crate::proofs::Unchanged::keeps_itself))]
-    // Six clauses: the answer, whether it is recorded and the state, each by its definition, and what stays.
+    // Seven clauses: two of what it needs, the answer, whether it is recorded and the state, and what stays.
     pub(crate) fn act(&mut self, event: Event) -> Acted
-        requires { IsIn self.old.part event }
-        ensures reply { result.reply ≡ (acted self.old.part (machine_of self.old) event).1 }
+        requires there { IsIn self.old.part event }
+        requires no_look { is_look event ≡ false }
+        ensures reply { reply_of result.reply ≡ (acted self.old.part (machine_of self.old) event).1 }
         ensures recorded { result.recorded ≡ is_recorded self.old.part (machine_of self.old) event }
         ensures state { machine_of self.new ≡ (acted self.old.part (machine_of self.old) event).0 }
         ensures part { self.new.part ≡ self.old.part }
@@ -167,31 +173,39 @@ impl<O: Outputs + Drop> RunningMachine<O> {
         unchanged_words_count_nothing();
         let mut recorded = true;
         let reply = match event {
-            Event::Config(byte) => Reply::Config(self.switch.feed(byte)),
+            Event::Config(byte) => SmallReply::Config(self.switch.feed(byte)),
             Event::Write(host, byte) => {
                 if self.devices.write(host, byte) {
-                    Reply::Written
+                    SmallReply::Written
                 } else {
-                    Reply::Full
+                    SmallReply::Full
                 }
             }
-            Event::Read(host) => Reply::Read(self.devices.read(host)),
+            Event::Read(host) => SmallReply::Read(self.devices.read(host)),
             Event::Reset(node) => {
                 self.devices.reset(node);
-                Reply::Reset
+                SmallReply::Reset
             }
-            Event::Look(node) => Reply::Look(self.devices.look(node)),
+            Event::Look(_) => unreachable!(),
             Event::Step(node) => {
                 recorded = !self.devices.is_quiet(node);
-                Reply::Stepped(self.devices.step(node))
+                SmallReply::Stepped(self.devices.step(node))
             }
             Event::Move(port) => {
                 let moved = self.move_packet(port);
                 recorded = has_moved(moved);
-                Reply::Moved(moved)
+                SmallReply::Moved(moved)
             }
         };
         Acted { reply, recorded }
+    }
+
+    /// What is seen of a node of the part.
+    pub(crate) fn look(&self, node: u8) -> Seen
+        requires { node < length self.now.part.nodes }
+        ensures { result ≡ seen (node_at self.now.devices node) }
+    {
+        self.devices.look(node)
     }
 
     /// Whether no Step and no Move would be recorded.

@@ -92,11 +92,15 @@ impl Moment {
         if self.recorded == self.machine.part().limit() {
             return Err(Refusal::JournalFull);
         }
+        if let Event::Look(node) = event {
+            self.recorded += 1;
+            return Ok(Reply::Look(self.machine.look(node)));
+        }
         let Acted { reply, recorded } = self.machine.act(event);
         if recorded {
             self.recorded += 1;
         }
-        Ok(reply)
+        Ok(reply.reply())
     }
 
     /// Steps of a node for which the farm asks, up to so many, to the first that would not be recorded, or to the limit.

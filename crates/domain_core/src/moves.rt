@@ -70,6 +70,17 @@ fn is_marked(outputs: u32, output: u8) -> bool
     outputs >> output & 1 == 1
 }
 
+// An output, at most of this number, before which none is in a mask.
+fn first_among(outputs: u32, count: u8) -> u8
+    ensures few { result ≤ count }
+    ensures none { marked_by outputs (range_with_len 0 result) ≡ [] }
+{
+    if outputs == 0 {
+        return 0;
+    }
+    (outputs.trailing_zeros() as u8).min(count)
+}
+
 // Whether neither this output nor one behind it is in a mask.
 fn is_past(outputs: u32, output: u8) -> bool
     requires { output < 32 }
@@ -122,7 +133,8 @@ pub(crate) fn fate_of<O: Outputs>(switch: &mut VirtualSwitch<O>, outputs: u32) -
     ensures unchanged { switch.new ≡ switch.old }
 {
     let mut fate = Fate::Lost;
-    for output in 0..switch.count() {
+    let count = switch.count();
+    for output in first_among(outputs, count)..count {
         if is_past(outputs, output) {
             break;
         }
@@ -172,7 +184,8 @@ pub(crate) fn copy_to(
     requires hosts { length devices.old.hosts ≡ length part.now.hosts }
     ensures { devices.new ≡ copies_arrived (joining_of part.now) packet (marked_by outputs (range_with_len 0 part.now.count)) devices.old }
 {
-    for output in 0..part.count() {
+    let count = part.count();
+    for output in first_among(outputs, count)..count {
         if is_past(outputs, output) {
             break;
         }

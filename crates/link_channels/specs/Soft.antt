@@ -7,6 +7,8 @@ use Rattle.process_queue.specs.Queue.{put}
 use Rattle.process_queue.specs.declared.queue.Queue.{Queue}
 use Rattle.link_channels.specs.declared.process.Process.{Process}
 use Rattle.link_channels.specs.declared.process.Transfer.{Transfer}
+use Rattle.link_channels.specs.declared.process.TransferDirection.{TransferDirection}
+use Rattle.link_channels.specs.declared.process.TransferDirection.TheVariants.{Input, Output}
 use Rattle.link_channels.specs.declared.process.Turn.{Turn}
 use Rattle.link_channels.specs.declared.process.Turn.TheVariants.{GoesOn, Waits}
 use Rattle.link_channels.specs.Waiting.{waiting_at, descriptor_of, state_address, save}
@@ -40,14 +42,17 @@ soft_input p t ls q m = do
   other ← tried (waiting_at m t.channel) ls m
   input_from other p t ls q m
 
--- out to a process that waits, by the word 12 below its workspace: an alternative becomes ready, and runs if
--- it waited; any other value is the pointer of an input
+-- out to an alternative, which becomes ready, and runs if it waited: the message waits for its input
+abbrev pub message_told : {L : Type 0} → Bool → ℕ → Process → Transfer → L → Queue → List ℕ → Effect (Turn × Queue) L
+message_told waits v p t ls q m = do
+  m ← store ls m (state_address v) ready
+  if waits then (do (q, m) ← put ls q m v; wait_there p t ls q m) else wait_there p t ls q m
+
+-- out to a process that waits, by the word 12 below its workspace: the state of an alternative, or the pointer of an input
 abbrev pub soft_output_by_state : {L : Type 0} → ℕ → ℕ → Process → Transfer → L → Queue → List ℕ → Effect (Turn × Queue) L
 soft_output_by_state s v p t ls q m =
-    if s == enabling || s == ready then (do m ← store ls m (state_address v) ready; wait_there p t ls q m)
-    else (if s == waiting
-    then (do m ← store ls m (state_address v) ready; (q, m) ← put ls q m v; wait_there p t ls q m)
-    else exchange t.pointer s v t ls q m)
+    if s == enabling || s == ready then message_told false v p t ls q m
+    else (if s == waiting then message_told true v p t ls q m else exchange t.pointer s v t ls q m)
 
 -- out, by who waits at the channel
 abbrev pub output_to : {L : Type 0} → Option ℕ → Process → Transfer → L → Queue → List ℕ → Effect (Turn × Queue) L
@@ -61,6 +66,12 @@ unfoldable pub soft_output : {L : Type 0} → Process → Transfer → L → Que
 soft_output p t ls q m = do
   other ← tried (waiting_at m t.channel) ls m
   output_to other p t ls q m
+
+-- in or out, at a soft channel
+abbrev pub soft_transferred : {L : Type 0} → TransferDirection → Process → Transfer → L → Queue → List ℕ
+    → Effect (Turn × Queue) L
+soft_transferred Input p t ls q m = soft_input p t ls q m
+soft_transferred Output p t ls q m = soft_output p t ls q m
 
 -- enbc, if the guard isn't 0
 unfoldable pub soft_enable : {L : Type 0} → Process → ℕ → L → List ℕ → Effect (Unit {0}) L

@@ -4,19 +4,61 @@ ghost use Rattle.std.specs.Prelude.{◌≡◌, OnErr};
 
 use crate::channel::Channel;
 use crate::links::Links;
+use crate::number::LinkNumber;
 use crate::process::{Process, Transfer, TransferDirection, Turn};
 use node_memory::{Fault, Memory};
 use process_queue::Queue;
 
 impl Process {
+    ghost use Rattle.link_channels.specs.Hard.{link_input, link_output};
+    ghost use Rattle.link_channels.specs.Links.{at, within};
     ghost use Rattle.link_channels.specs.Messages.{transferred, enable, disable};
     ghost use Rattle.node_memory.specs.Effect.{effect_of, effect_with};
+
+    // Waits for a message from the link of a number. It is apart from soft channels, and takes the address of nothing that
+    // these use.
+    #[cold]
+    #[inline(never)]
+    fn input_over(
+        self,
+        memory: &mut Memory,
+        links: &mut Links,
+        number: LinkNumber,
+        transfer: Transfer,
+    ) -> Result<Turn, Fault>
+        ensures answer { effect_of result links.new memory.new ≡ within number links.old (link_input self transfer (at number links.old) memory.old) }
+    {
+        let mut link = links.at(number);
+        let turn = self.input_from_link(memory, &mut link, transfer);
+        links.set(number, link);
+        turn
+    }
+
+    // Gives a message to the link of a number.
+    #[cold]
+    #[inline(never)]
+    fn output_over(
+        self,
+        memory: &mut Memory,
+        links: &mut Links,
+        number: LinkNumber,
+        transfer: Transfer,
+    ) -> Result<Turn, Fault>
+        ensures answer { effect_of result links.new memory.new ≡ within number links.old (link_output self transfer (at number links.old) memory.old) }
+    {
+        let mut link = links.at(number);
+        let turn = self.output_to_link(memory, &mut link, transfer);
+        links.set(number, link);
+        turn
+    }
 
     /// Takes a message from a channel, or gives it one, or waits for the other side: instruction set handbook, in and out.
     ///
     /// `Fault::WrongChannel` comes before all else, for the event channel and for a link's channel of the other direction;
     /// `HighPriority` where a process of high priority waits at a soft channel; `OutsideMemory` where a word or
     /// a byte lies outside. What was written before a fault stays, in memory and in the links; the queue is unchanged.
+    // A message through a soft channel is done where it is asked for, without a call.
+    #[inline(always)]
     pub fn transfer(
         &self,
         memory: &mut Memory,
@@ -28,24 +70,13 @@ impl Process {
         ensures answer { effect_with result queue.new links.new memory.new ≡ transferred direction self.now transfer links.old queue.old memory.old }
         ensures queue_unchanged { OnErr result (queue.new ≡ queue.old) }
     {
-        match (direction, Channel::of(transfer.channel)) {
-            (TransferDirection::Input, Channel::Soft) => {
-                self.input_softly(memory, queue, transfer)
+        match (Channel::of(transfer.channel), direction) {
+            (Channel::Soft, _) => self.transfer_softly(memory, queue, direction, transfer),
+            (Channel::LinkInput(number), TransferDirection::Input) => {
+                self.input_over(memory, links, number, transfer)
             }
-            (TransferDirection::Output, Channel::Soft) => {
-                self.output_softly(memory, queue, transfer)
-            }
-            (TransferDirection::Input, Channel::LinkInput(number)) => {
-                let mut link = links.at(number);
-                let turn = self.input_from_link(memory, &mut link, transfer);
-                links.set(number, link);
-                turn
-            }
-            (TransferDirection::Output, Channel::LinkOutput(number)) => {
-                let mut link = links.at(number);
-                let turn = self.output_to_link(memory, &mut link, transfer);
-                links.set(number, link);
-                turn
+            (Channel::LinkOutput(number), TransferDirection::Output) => {
+                self.output_over(memory, links, number, transfer)
             }
             _ => Err(Fault::WrongChannel),
         }

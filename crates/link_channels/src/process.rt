@@ -35,6 +35,7 @@ impl Process {
     ghost use Rattle.link_channels.specs.Waiting.{descriptor_of};
 
     // The own descriptor.
+    #[inline(always)]
     pub(crate) fn descriptor(&self) -> u32
         ensures answer { result ≡ descriptor_of self.now }
     {

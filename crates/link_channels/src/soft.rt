@@ -4,15 +4,16 @@ ghost use Rattle.std.specs.Prelude.{◌≡◌, OnErr};
 ghost use Rattle.node_memory.specs.Effect.{effect_of, effect_with};
 ghost use Rattle.link_channels.specs.declared.link.FourLinks.{FourLinks};
 ghost use Rattle.link_channels.specs.declared.link.Link.{Link};
-ghost use Rattle.link_channels.specs.Soft.{chosen, soft_disable, soft_enable, soft_input, soft_output, soft_reset, wait_there};
+ghost use Rattle.link_channels.specs.Soft.{message_told, chosen, soft_disable, soft_enable, soft_reset, soft_transferred, wait_there};
 
-use crate::process::{Process, Transfer, Turn};
+use crate::process::{Process, Transfer, TransferDirection, Turn};
 use crate::waiting::{ENABLING, NONE_SELECTED, READY, WAITING, waiting_at};
 use node_memory::{Fault, Memory};
 use process_queue::{NOT_PROCESS, Queue};
 
 impl Process {
     // Waits at the channel: its pointer lies where the other finds it, and its place is saved.
+    #[inline(always)]
     fn wait_there(
         &self,
         memory: &mut Memory,
@@ -27,64 +28,85 @@ impl Process {
         Ok(Turn::Waits)
     }
 
-    // Takes a message from a process that has one, or waits for it.
-    #[tactic(auto, unfolding(crate::specs::Soft::soft_input))]
-    pub(crate) fn input_softly(
-        &self,
+    // Tells an alternative of a message, which goes on if it waited, and waits for the input that it does then. It is apart
+    // from messages between two processes that wait for each other, and takes the address of nothing that these use.
+    #[cold]
+    #[inline(never)]
+    fn tell_by_value(
+        self,
         memory: &mut Memory,
-        queue: &mut Queue,
+        queue: Queue,
         transfer: Transfer,
-    ) -> Result<Turn, Fault>
-        ensures answer { (ls : FourLinks) → effect_with result queue.new ls memory.new ≡ soft_input self.now transfer ls queue.old memory.old }
-        ensures queue_unchanged { OnErr result (queue.new ≡ queue.old) }
+        other: u32,
+        waits: bool,
+    ) -> (Queue, Result<Turn, Fault>)
+        ensures answer { (ls : FourLinks) → effect_with result.1 result.0 ls memory.new ≡ message_told waits other self transfer ls queue memory.old }
+        ensures queue_unchanged { OnErr result.1 (result.0 ≡ queue) }
     {
-        let Some(sender) = waiting_at(memory, transfer.channel)? else {
-            return self.wait_there(memory, queue, transfer);
-        };
-        let source = memory.word(sender.wrapping_sub(12))?;
-        memory.copy_up(source, transfer.pointer, transfer.count)?;
-        memory.set_word(transfer.channel, NOT_PROCESS)?;
-        queue.put(memory, sender)?;
-        Ok(Turn::GoesOn)
-    }
-
-    // Gives a message to a process that waits for one, or waits for it.
-    #[tactic(auto, unfolding(crate::specs::Soft::soft_output))]
-    pub(crate) fn output_softly(
-        &self,
-        memory: &mut Memory,
-        queue: &mut Queue,
-        transfer: Transfer,
-    ) -> Result<Turn, Fault>
-        ensures answer { (ls : FourLinks) → effect_with result queue.new ls memory.new ≡ soft_output self.now transfer ls queue.old memory.old }
-        ensures queue_unchanged { OnErr result (queue.new ≡ queue.old) }
-    {
-        let Some(receiver) = waiting_at(memory, transfer.channel)? else {
-            return self.wait_there(memory, queue, transfer);
-        };
-        let state = receiver.wrapping_sub(12);
-        match memory.word(state)? {
-            ENABLING | READY => {
-                memory.set_word(state, READY)?;
-                self.wait_there(memory, queue, transfer)
-            }
-            WAITING => {
-                memory.set_word(state, READY)?;
-                let before = *queue;
-                queue.put(memory, receiver)?;
-                let turn = self.wait_there(memory, queue, transfer);
-                if turn.is_err() {
-                    *queue = before;
-                }
-                turn
-            }
-            target => {
-                memory.copy_up(transfer.pointer, target, transfer.count)?;
-                memory.set_word(transfer.channel, NOT_PROCESS)?;
-                queue.put(memory, receiver)?;
-                Ok(Turn::GoesOn)
+        if let Err(fault) = memory.set_word(other.wrapping_sub(12), READY) {
+            return (queue, Err(fault));
+        }
+        let mut after = queue;
+        if waits {
+            if let Err(fault) = after.put(memory, other) {
+                return (queue, Err(fault));
             }
         }
+        match self.wait_there(memory, &after, transfer) {
+            Ok(turn) => (after, Ok(turn)),
+            Err(fault) => (queue, Err(fault)),
+        }
+    }
+
+    // The same, with the queue in its place.
+    #[inline(always)]
+    fn tell_alternative(
+        &self,
+        memory: &mut Memory,
+        queue: &mut Queue,
+        transfer: Transfer,
+        other: u32,
+        waits: bool,
+    ) -> Result<Turn, Fault>
+        ensures answer { (ls : FourLinks) → effect_with result queue.new ls memory.new ≡ message_told waits other self.now transfer ls queue.old memory.old }
+        ensures queue_unchanged { OnErr result (queue.new ≡ queue.old) }
+    {
+        let (after, turn) = self.tell_by_value(memory, *queue, transfer, other, waits);
+        *queue = after;
+        turn
+    }
+
+    // Takes a message from a process that has one, or gives one to a process that waits for it, or waits.
+    #[inline(always)]
+    #[tactic(auto, unfolding(crate::specs::Soft::soft_input, crate::specs::Soft::soft_output))]
+    pub(crate) fn transfer_softly(
+        &self,
+        memory: &mut Memory,
+        queue: &mut Queue,
+        direction: TransferDirection,
+        transfer: Transfer,
+    ) -> Result<Turn, Fault>
+        ensures answer { (ls : FourLinks) → effect_with result queue.new ls memory.new ≡ soft_transferred direction self.now transfer ls queue.old memory.old }
+        ensures queue_unchanged { OnErr result (queue.new ≡ queue.old) }
+    {
+        let Some(other) = waiting_at(memory, transfer.channel)? else {
+            return self.wait_there(memory, queue, transfer);
+        };
+        let there = memory.word(other.wrapping_sub(12))?;
+        let (from, to) = match direction {
+            TransferDirection::Input => (there, transfer.pointer),
+            TransferDirection::Output => match there {
+                ENABLING | READY => return self.tell_alternative(
+                    memory, queue, transfer, other, false,
+                ),
+                WAITING => return self.tell_alternative(memory, queue, transfer, other, true),
+                target => (transfer.pointer, target),
+            },
+        };
+        memory.copy_up(from, to, transfer.count)?;
+        memory.set_word(transfer.channel, NOT_PROCESS)?;
+        queue.put(memory, other)?;
+        Ok(Turn::GoesOn)
     }
 
     // Names a channel that the process is ready to take from.

@@ -22,6 +22,7 @@ pub const NONE_SELECTED: u32 = 0xffff_ffff;
 
 // The workspace of the process that waits at a channel, if there is one. A word that is the descriptor of a process
 // of high priority is a fault.
+#[inline(always)]
 #[tactic(auto, unfolding(crate::specs::Waiting::waiting_at))]
 pub(crate) fn waiting_at(memory: &Memory, channel: u32) -> Result<Option<u32>, Fault>
     ensures answer { result ≡ waiting_at memory.now channel }

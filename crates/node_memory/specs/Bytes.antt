@@ -74,3 +74,8 @@ abbrev pub copied : ℕ → List ℕ → ℕ → ℕ → Result (Unit {0}) Fault
 copied zero m from to = (Ok tt, m)
 copied (suc count) m from to =
     after_write (result_and_then (byte_at m from) (with_byte m to)) m (λ n. copied count n (from + 1) (to + 1))
+
+-- bytes of a list copied so from one place to another
+abbrev pub copied_within : ℕ → List ℕ → ℕ → ℕ → List ℕ
+copied_within zero bytes from to = bytes
+copied_within (suc count) bytes from to = copied_within count (slice_set bytes to (slice_index bytes from)) (from + 1) (to + 1)

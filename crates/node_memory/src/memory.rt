@@ -1,7 +1,7 @@
 //! Bytes from the most negative address upwards, and words of four bytes among them.
 
 ghost use Rattle.std.specs.Prelude.{◌≡◌, ◌+◌, ◌<◌, ◌≤◌, ◌↔◌, IfOk, IsTrue, OnErr, length, nat_lt, replicate, vec_capacity};
-ghost use Rattle.node_memory.specs.Bytes.{IsMemorySize, byte_at, word_at, with_byte, with_word, with_word_from, stored, copied};
+ghost use Rattle.node_memory.specs.Bytes.{IsMemorySize, byte_at, word_at, with_byte, with_word, with_word_from, stored, copied, copied_within};
 ghost use Rattle.node_memory.specs.Kept.{AreKept, memory_of};
 
 use crate::fault::Fault;
@@ -31,6 +31,19 @@ fn put_word(bytes: &mut [u8], first: usize, word: u32)
     part[1] = ((word >> 8) % 0x100) as u8;
     part[2] = ((word >> 16) % 0x100) as u8;
     part[3] = (word >> 24) as u8;
+}
+
+// Copies four bytes from one index to another, upwards and one by one.
+#[inline(always)]
+fn copy_four(bytes: &mut [u8], from: usize, to: usize)
+    requires from { from + 4 ≤ length bytes.old }
+    requires to { to + 4 ≤ length bytes.old }
+    ensures { bytes.new ≡ copied_within 4 bytes.old from to }
+{
+    bytes[to] = bytes[from];
+    bytes[to + 1] = bytes[from + 1];
+    bytes[to + 2] = bytes[from + 2];
+    bytes[to + 3] = bytes[from + 3];
 }
 
 // Keeps the bytes up to the end of the word in which an offset lies that is behind those that are kept; whether it lies
@@ -187,15 +200,10 @@ impl Memory {
         Ok(())
     }
 
-    /// Copies `count` bytes from one address to another, upwards and one by one, so that a byte
-    /// written is read again where the two blocks overlap so.
-    ///
-    /// `Fault::OutsideMemory` at the first byte that can't be read or written; the bytes before it
-    /// are copied and stay so.
-    ///
-    /// Source: Transputer instruction set handbook, move message; for blocks that overlap and for
-    /// a fault our choice.
-    pub fn copy_up(&mut self, from: u32, to: u32, count: u32) -> Result<(), Fault>
+    // Copies bytes as `copy_up` does, and tests each address.
+    #[cold]
+    #[inline(never)]
+    fn copy_bytes(&mut self, from: u32, to: u32, count: u32) -> Result<(), Fault>
         ensures { (result, self.new) ≡ copied count self.old from to }
     {
         for i in 0..count {
@@ -205,6 +213,29 @@ impl Memory {
             self.set_byte(to + i, byte)?;
         }
         Ok(())
+    }
+
+    /// Copies `count` bytes from one address to another, upwards and one by one, so that a byte
+    /// written is read again where the two blocks overlap so.
+    ///
+    /// `Fault::OutsideMemory` at the first byte that can't be read or written; the bytes before it
+    /// are copied and stay so.
+    ///
+    /// Source: Transputer instruction set handbook, move message; for blocks that overlap and for
+    /// a fault our choice.
+    // Most messages are words, whose bytes are kept: two tests are enough for all four.
+    #[inline(always)]
+    pub fn copy_up(&mut self, from: u32, to: u32, count: u32) -> Result<(), Fault>
+        ensures { (result, self.new) ≡ copied count self.old from to }
+    {
+        let source = from.wrapping_sub(MEMORY_START) as usize;
+        let target = to.wrapping_sub(MEMORY_START) as usize;
+        let kept = self.kept.len();
+        if count == 4 && source + 4 <= kept && target + 4 <= kept {
+            copy_four(self.kept.as_mut_slice(), source, target);
+            return Ok(());
+        }
+        self.copy_bytes(from, to, count)
     }
 
     /// Makes every byte zero.

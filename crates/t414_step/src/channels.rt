@@ -11,7 +11,7 @@ use node_memory::{Fault, Memory};
 #[tactic(auto, unfolding(crate::specs::ChannelRows::channel_row))]
 impl Cpu {
     ghost use Rattle.t414_decode.specs.declared.instruction.ChannelOperation.TheVariants as op;
-    ghost use Rattle.t414_step.specs.ChannelRows.{channel_row, message_by, process_of, transfer, turned, send};
+    ghost use Rattle.t414_step.specs.ChannelRows.{channel_row, message_by, process_of, transfer, turned};
     ghost use Rattle.t414_step.specs.Answers.{finished};
 
     // The process that asks.
@@ -38,7 +38,7 @@ impl Cpu {
 
     // The transfer of in and out: as many bytes as A says, through channel B, at C.
     #[inline(always)]
-    fn transfer(&self) -> Transfer
+    pub(crate) fn transfer(&self) -> Transfer
         ensures { result ≡ transfer self.now.a self.now.b self.now.c }
     {
         Transfer {
@@ -50,7 +50,7 @@ impl Cpu {
 
     // Takes a message from a channel, or gives it one, or waits for the other side.
     #[inline(always)]
-    fn message(
+    pub(crate) fn message(
         &mut self,
         memory: &mut Memory,
         links: &mut Links,
@@ -68,66 +68,16 @@ impl Cpu {
         Ok(())
     }
 
-    // in
+    // The transfer of outbyte and outword: so many bytes from the word at the workspace, through channel B.
     #[inline(always)]
-    pub(crate) fn input_message(
-        &mut self,
-        memory: &mut Memory,
-        links: &mut Links,
-    ) -> Result<(), Fault>
-        ensures { finished result self.new links.new memory.new ≡ channel_row op.InputMessage self.old links.old memory.old }
+    pub(crate) fn sent(&self, count: u32) -> Transfer
+        ensures { result ≡ transfer count self.now.b self.now.workspace }
     {
-        self.message(memory, links, TransferDirection::Input, self.transfer())
-    }
-
-    // out
-    #[inline(always)]
-    pub(crate) fn output_message(
-        &mut self,
-        memory: &mut Memory,
-        links: &mut Links,
-    ) -> Result<(), Fault>
-        ensures { finished result self.new links.new memory.new ≡ channel_row op.OutputMessage self.old links.old memory.old }
-    {
-        self.message(memory, links, TransferDirection::Output, self.transfer())
-    }
-
-    // Sends so many bytes of A, which becomes the word at the workspace.
-    #[inline(always)]
-    fn send(&mut self, memory: &mut Memory, links: &mut Links, count: u32) -> Result<(), Fault>
-        ensures { finished result self.new links.new memory.new ≡ send count self.old links.old memory.old }
-    {
-        memory.set_word(self.workspace, self.a)?;
-        let transfer = Transfer {
+        Transfer {
             count,
             channel: self.b,
             pointer: self.workspace,
-        };
-        self.message(memory, links, TransferDirection::Output, transfer)
-    }
-
-    // outbyte
-    #[inline(always)]
-    pub(crate) fn output_byte(
-        &mut self,
-        memory: &mut Memory,
-        links: &mut Links,
-    ) -> Result<(), Fault>
-        ensures { finished result self.new links.new memory.new ≡ channel_row op.OutputByte self.old links.old memory.old }
-    {
-        self.send(memory, links, 1)
-    }
-
-    // outword
-    #[inline(always)]
-    pub(crate) fn output_word(
-        &mut self,
-        memory: &mut Memory,
-        links: &mut Links,
-    ) -> Result<(), Fault>
-        ensures { finished result self.new links.new memory.new ≡ channel_row op.OutputWord self.old links.old memory.old }
-    {
-        self.send(memory, links, 4)
+        }
     }
 
     // resetch

@@ -4,7 +4,7 @@ ghost use Rattle.std.specs.Prelude.{◌≡◌, ◌+◌, min};
 
 use crate::cpu::Cpu;
 use crate::next::Next;
-use link_channels::Links;
+use link_channels::{Links, TransferDirection};
 use node_memory::{Fault, Memory};
 use t414_decode::{ChannelOperation, Function, Operation, PlainOperation, decode, operation};
 
@@ -122,6 +122,16 @@ impl Cpu {
         (self, done)
     }
 
+    // The same, with the registers in their place.
+    #[inline(always)]
+    fn perform_apart(&mut self, memory: &mut Memory, operation: PlainOperation) -> Result<(), Fault>
+        ensures answer { (ls : FourLinks) → finished result self.new ls memory.new ≡ row operation self.old ls memory.old }
+    {
+        let (after, done) = self.perform_by_value(memory, operation);
+        *self = after;
+        done
+    }
+
     // One operation on registers and memory, if it is a frequent one.
     #[inline(always)]
     fn perform(&mut self, memory: &mut Memory, operation: PlainOperation) -> Next
@@ -157,6 +167,7 @@ impl Cpu {
 
     // One operation on a channel.
     #[inline(always)]
+    #[tactic(auto, unfolding(crate::specs::ChannelRows::channel_row))]
     fn perform_channel(
         &mut self,
         memory: &mut Memory,
@@ -165,15 +176,23 @@ impl Cpu {
     ) -> Result<(), Fault>
         ensures answer { finished result self.new links.new memory.new ≡ channel_row operation self.old links.old memory.old }
     {
-        match operation {
-            ChannelOperation::InputMessage => self.input_message(memory, links),
-            ChannelOperation::OutputMessage => self.output_message(memory, links),
-            ChannelOperation::OutputByte => self.output_byte(memory, links),
-            ChannelOperation::OutputWord => self.output_word(memory, links),
-            ChannelOperation::ResetChannel => self.reset_channel(memory, links),
-            ChannelOperation::DisableChannel => self.disable_channel(memory, links),
-            ChannelOperation::EnableChannel => self.enable_channel(memory, links),
-        }
+        // All messages go one way, so that the loop of steps has it once.
+        let (direction, transfer) = match operation {
+            ChannelOperation::InputMessage => (TransferDirection::Input, self.transfer()),
+            ChannelOperation::OutputMessage => (TransferDirection::Output, self.transfer()),
+            ChannelOperation::OutputByte => {
+                memory.set_word(self.workspace, self.a)?;
+                (TransferDirection::Output, self.sent(1))
+            }
+            ChannelOperation::OutputWord => {
+                memory.set_word(self.workspace, self.a)?;
+                (TransferDirection::Output, self.sent(4))
+            }
+            ChannelOperation::ResetChannel => return self.reset_channel(memory, links),
+            ChannelOperation::DisableChannel => return self.disable_channel(memory, links),
+            ChannelOperation::EnableChannel => return self.enable_channel(memory, links),
+        };
+        self.message(memory, links, direction, transfer)
     }
 
     // The operation of a code.
@@ -253,11 +272,7 @@ impl Cpu {
         match next {
             Next::Byte => Ok(()),
             Next::Jumped => self.slice(memory),
-            Next::Plain(operation) => {
-                let (after, done) = self.perform_by_value(memory, operation);
-                *self = after;
-                done
-            }
+            Next::Plain(operation) => self.perform_apart(memory, operation),
             Next::Channel(operation) => self.perform_channel(memory, links, operation),
             Next::Fault(fault) => Err(fault),
         }

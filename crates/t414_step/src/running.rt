@@ -19,7 +19,7 @@ use node_memory::Memory;
 fn counted(before: u32, more: u64) -> u32
     ensures { result ≡ min (before + more) 1024 }
 {
-    (before.min(1024) + more.min(1024) as u32).min(1024)
+    u64::from(before).saturating_add(more).min(1024) as u32
 }
 
 impl Cpu {
@@ -55,12 +55,24 @@ impl Cpu {
     }
 
     // One step by value, apart from the loop of bytes.
+    #[cold]
     #[inline(never)]
     fn advance_by_value(mut self, memory: &mut Memory, links: &mut Links) -> (Cpu, Stepped)
         ensures answer { step_answer_of result.1 result.0 links.new memory.new ≡ step self links.old memory.old }
     {
         let answer = advance(&mut self, memory, links);
         (self, answer)
+    }
+
+    // The same, with the registers in their place. What a call returns is cleared before it, where this stands and not at
+    // each byte.
+    #[inline(always)]
+    fn advance_apart(&mut self, memory: &mut Memory, links: &mut Links) -> Stepped
+        ensures answer { step_answer_of result self.new links.new memory.new ≡ step self.old links.old memory.old }
+    {
+        let (after, answer) = self.advance_by_value(memory, links);
+        *self = after;
+        answer
     }
 
     // Steps up to the nth, and one at least: a service of links, or else bytes of one process.
@@ -74,9 +86,7 @@ impl Cpu {
         // Links without work are left as they are.
         services_act_on_work();
         if links.has_work() {
-            let (after, answer) = self.advance_by_value(memory, links);
-            *self = after;
-            return (1, answer);
+            return (1, self.advance_apart(memory, links));
         }
         if !self.running {
             match self.resume(memory) {

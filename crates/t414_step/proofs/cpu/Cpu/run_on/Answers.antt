@@ -11,7 +11,7 @@ use Rattle.t414_step.proofs.cpu.Cpu.run_on.Goals as goal
 
 pub returns-then-has_work-clause-answer : goal.returns-then-has_work-clause-answer
 returns-then-has_work-clause-answer c =
-    one-step c.args.self.now c.args.links.now c.args.memory.now _ (sym c.advance_by_value-answer.ensures.answer)
+    one-step c.args.self.now c.args.links.now c.args.memory.now _ (sym c.advance_apart.ensures.answer)
 
 pub returns-in-Ok-false-clause-answer : goal.returns-in-Ok-false-clause-answer
 returns-in-Ok-false-clause-answer c =
