@@ -780,12 +780,12 @@ fn rests(domain: &mut Domain) -> bool {
 
 fn steps(domain: &mut Domain, count: u64) -> u64 {
     (0..count)
-        .take_while(|_| domain.apply(By::Farm, Event::Step(0)) == Ok(Reply::Stepped(Stepped::Ran)))
+        .take_while(|_| matches!(domain.apply(By::Farm, Event::Step(0)), Ok(Reply::Stepped(Stepped::Ran))))
         .count() as u64
 }
 
 fn passes(domain: &mut Domain, port: u8) -> bool {
-    domain.apply(By::Farm, Event::Move(port)) == Ok(Reply::Moved(Moved::Passed))
+    matches!(domain.apply(By::Farm, Event::Move(port)), Ok(Reply::Moved(Moved::Passed)))
 }
 
 fn pings(domain: &mut Domain, count: u64) -> u64 {
@@ -794,10 +794,10 @@ fn pings(domain: &mut Domain, count: u64) -> u64 {
             domain.begin(&[1, 2, 3, 3]);
         }
         let byte = (done % 256) as u8;
-        let came = domain.apply(By::User(0), Event::Write(0, byte)) == Ok(Reply::Written)
+        let came = matches!(domain.apply(By::User(0), Event::Write(0, byte)), Ok(Reply::Written))
             && passes(domain, 3)
             && passes(domain, 2)
-            && domain.apply(By::User(0), Event::Read(1)) == Ok(Reply::Read(Some(byte)));
+            && matches!(domain.apply(By::User(0), Event::Read(1)), Ok(Reply::Read(Some(it))) if it == byte);
         if !came {
             return done;
         }
@@ -812,12 +812,12 @@ fn configs(domain: &mut Domain, count: u64) -> u64 {
         }
         for byte in [0, 2, 5, 2] {
             let reply = domain.apply(By::User(0), Event::Config(byte));
-            if reply != Ok(Reply::Config(ConfigReply::Nothing)) {
+            if !matches!(reply, Ok(Reply::Config(ConfigReply::Nothing))) {
                 return done;
             }
         }
         let reply = domain.apply(By::User(0), Event::Config(5));
-        if reply != Ok(Reply::Config(ConfigReply::Answer(0x82))) {
+        if !matches!(reply, Ok(Reply::Config(ConfigReply::Answer(0x82)))) {
             return done;
         }
     }

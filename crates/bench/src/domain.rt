@@ -140,7 +140,8 @@ fn load_used(domain: &mut Plain) -> Result<(), Refusal> {
 // Steps node 0 until a Step doesn't run, at most so many times; how many ran.
 fn steps(domain: &mut Plain, count: u64) -> u64 {
     for done in 0..count {
-        if domain.apply(By::Farm, Event::Step(0)) != Ok(Reply::Stepped(Stepped::Ran)) {
+        let answer = domain.apply(By::Farm, Event::Step(0));
+        if !matches!(answer, Ok(Reply::Stepped(Stepped::Ran))) {
             return done;
         }
     }
@@ -149,15 +150,18 @@ fn steps(domain: &mut Plain, count: u64) -> u64 {
 
 // Moves the packet that waits at a port; whether it passed.
 fn passes(domain: &mut Plain, port: u8) -> bool {
-    domain.apply(By::Farm, Event::Move(port)) == Ok(Reply::Moved(Moved::Passed))
+    let answer = domain.apply(By::Farm, Event::Move(port));
+    matches!(answer, Ok(Reply::Moved(Moved::Passed)))
 }
 
 // Sends a byte from host 0 to host 1, and its acknowledge back; whether it came.
 fn ping(domain: &mut Plain, byte: u8) -> bool {
-    domain.apply(ANN, Event::Write(0, byte)) == Ok(Reply::Written)
-        && passes(domain, 3)
-        && passes(domain, 2)
-        && domain.apply(ANN, Event::Read(1)) == Ok(Reply::Read(Some(byte)))
+    let written = domain.apply(ANN, Event::Write(0, byte));
+    if !matches!(written, Ok(Reply::Written)) || !passes(domain, 3) || !passes(domain, 2) {
+        return false;
+    }
+    let read = domain.apply(ANN, Event::Read(1));
+    matches!(read, Ok(Reply::Read(Some(came))) if came == byte)
 }
 
 // Pings until a byte doesn't come, at most so many times; how many came.
@@ -176,11 +180,13 @@ fn pings(domain: &mut Plain, count: u64) -> Result<u64, Refusal> {
 // Connects input 2 to output 5, and enquires it; whether that is answered.
 fn is_connected(domain: &mut Plain) -> bool {
     for byte in [0, 2, 5, 2] {
-        if domain.apply(ANN, Event::Config(byte)) != Ok(Reply::Config(ConfigReply::Nothing)) {
+        let answer = domain.apply(ANN, Event::Config(byte));
+        if !matches!(answer, Ok(Reply::Config(ConfigReply::Nothing))) {
             return false;
         }
     }
-    domain.apply(ANN, Event::Config(5)) == Ok(Reply::Config(ConfigReply::Answer(0x82)))
+    let answer = domain.apply(ANN, Event::Config(5));
+    matches!(answer, Ok(Reply::Config(ConfigReply::Answer(0x82))))
 }
 
 // Rounds of five configuration bytes, at most so many; how many were answered.
