@@ -1,9 +1,14 @@
 // The loops of crates/bench/src/step.rt in C: the yardstick of the proved step. It does only the functions and operations
-// that these loops have, serves no links, and tests addresses, Error and slices as the proved step does.
+// that these loops have, serves no links, and tests addresses, Error and slices as the proved step does. If it is compiled
+// with -DFUSED=1, what follows a prefix is fetched and done at once, as far as there is room for both bytes.
 #include <stdint.h>
 #include <stdio.h>
 #include <stdlib.h>
 #include <string.h>
+
+#ifndef FUSED
+#define FUSED 0
+#endif
 
 #define NOT_PROCESS 0x80000000u
 #define START 0x80000100u
@@ -125,7 +130,7 @@ static int operate(Cpu *s, uint32_t code) {
     }
 }
 
-static int do_byte(Cpu *s) {
+static int do_one_byte(Cpu *s, int *is_prefix) {
     uint8_t *at = byte_at(s->instruction);
     if (!at) return 1;
     s->instruction++;
@@ -135,9 +140,9 @@ static int do_byte(Cpu *s) {
     switch (*at >> 4) {
     case 0x0: s->instruction += k; return slice(s);
     case 0x1: push(s, s->workspace + 4 * k); return 0;
-    case 0x2: s->operand = k << 4; return 0;
+    case 0x2: s->operand = k << 4; *is_prefix = 1; return 0;
     case 0x4: push(s, k); return 0;
-    case 0x6: s->operand = ~k << 4; return 0;
+    case 0x6: s->operand = ~k << 4; *is_prefix = 1; return 0;
     case 0x7:
         if (load(s->workspace + 4 * k, &word)) return 1;
         push(s, word);
@@ -162,7 +167,16 @@ static int do_byte(Cpu *s) {
     }
 }
 
-static int step(Cpu *s) {
+// so many bytes at most; the count of those that are left goes down by one less than were done
+static int do_byte(Cpu *s, uint32_t *left) {
+    for (;;) {
+        int is_prefix = 0, fault = do_one_byte(s, &is_prefix);
+        if (!FUSED || fault || !is_prefix || *left <= 1) return fault;
+        --*left;
+    }
+}
+
+static int step(Cpu *s, uint32_t *left) {
     if (!s->running) {
         uint32_t workspace = s->front, next = NOT_PROCESS;
         if (workspace == NOT_PROCESS) return -1;
@@ -174,7 +188,7 @@ static int step(Cpu *s) {
         s->a = s->b = s->c = s->operand = s->bytes = 0;
         s->running = 1;
     }
-    return do_byte(s);
+    return do_byte(s, left);
 }
 
 static const uint8_t ARITHMETIC[] = {0x40, 0xd0, 0x40, 0xd1, 0x70, 0x81, 0xd0, 0x71, 0x70, 0xf2, 0xd1, 0x71,
@@ -196,10 +210,10 @@ static void run(const char *name, const uint8_t *code, size_t length, uint32_t c
     if (!memory) exit(1);
     memcpy(memory + (START - NOT_PROCESS), code, length);
     Cpu s = {START, 0x80000200u, 0, 0, 0, 0, NOT_PROCESS, NOT_PROCESS, 0, 0, 0, 1};
-    uint32_t done = 0, word = 0;
-    while (done < count && !step(&s)) done++;
+    uint32_t left = count, word = 0;
+    while (left && !step(&s, &left)) left--;
     load(0x80000204u, &word);
-    printf("%s: %u bytes, word %u\n", name, done, word);
+    printf("%s: %u bytes, word %u\n", name, count - left, word);
     free(memory);
 }
 

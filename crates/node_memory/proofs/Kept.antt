@@ -1,9 +1,10 @@
 -- Reads and writes of what is kept of memory are those of memory.
 use Rattle.std.proofs.Common.{◌≡◌, ℕ, ◌+◌, ◌-◌, ◌/◌, ◌%◌, ◌^◌, ◌<◌, ◌≤◌, List, [], ◌∷◌, ◌++◌, Ok, length, take}
-use Rattle.std.proofs.Common.{drop, replicate, slice_index, slice_set, refl, sym, ap, ◌∙◌, arith, length-set}
+use Rattle.std.proofs.Common.{drop, replicate, slice_index, slice_set, inl, inr, refl, sym, ap, ◌∙◌, arith, length-set}
 use Rattle.std.proofs.lemmas.List.{set-append_left, length-append, length-replicate, get_or-append_right}
 use Rattle.std.proofs.lemmas.List.{get_or_append_left, get_or-replicate, append_assoc, replicate-append-replicate}
 use Rattle.std.proofs.lemmas.List.{take-append-drop, take-append-le, ext_get_or, get_or-drop, length-drop}
+use Rattle.std.proofs.lemmas.Bool.{cases_lt}
 use Rattle.std.proofs.lemmas.Bool.Decides.{nat_tests}
 use Rattle.node_memory.specs.Bytes.{with_word, with_word_from, word_from, word_offset}
 use Rattle.node_memory.specs.Kept.{memory_of}
@@ -78,18 +79,21 @@ kept_word_set kept size i w below =
     ∙ ap (λ (m : List ℕ). slice_set m (i + 3) b3) (kept_set k2 size (i + 2) b2 (omega (arith, below, n2)))
     ∙ kept_set k3 size (i + 3) b3 (omega (arith, below, n3))
 
--- a word goes where an address leads that lies in what is kept
-pub stores : (kept : List ℕ) (size a w : ℕ)
-    → a < 2 ^ 32 → length kept % 4 ≡ 0 → length kept ≤ size → size ≤ 65536 → (a + 2147483648) % 4294967296 < length kept
-    → with_word (memory_of kept size) a w
-    ≡ Ok (memory_of (with_word_from kept ((a + 2147483648) % 4294967296 - (a + 2147483648) % 4294967296 % 4) w) size)
+-- a word goes where an address leads that lies in what is kept, by its offset, which is great if it lies below memory
+pub stores : (kept : List ℕ) (size a w offset : ℕ)
+    → (2147483648 ≤ a → offset ≡ a - 2147483648) → (a < 2147483648 → 65536 < offset)
+    → length kept % 4 ≡ 0 → length kept ≤ size → size ≤ 65536 → offset < length kept
+    → with_word (memory_of kept size) a w ≡ Ok (memory_of (with_word_from kept (offset - offset % 4) w) size)
 unfolding with_word
-stores kept size a w fits words within most below =
-    let whole = length_memory kept size within in
-    let place : word_offset a ≡ (a + 2147483648) % 4294967296 - (a + 2147483648) % 4294967296 % 4 =
-    omega (arith, fits, within, most, below) in
-    let written = kept_word_set kept size (word_offset a) w (omega (arith, place, words, below)) in
-    rw (← place, ← written) (grind (arith, nat_tests))
+stores kept size a w offset there great words within most below = elim (cases_lt a 2147483648) [
+  | inl less ↦ let above = great less in absurd (omega (arith, above, within, most, below))
+  | inr more ↦
+      let whole = length_memory kept size within in
+      let equal = there more in
+      let place : word_offset a ≡ offset - offset % 4 = omega (arith, equal, more) in
+      let written = kept_word_set kept size (word_offset a) w (omega (arith, place, words, below)) in
+      rw (← place, ← written) (grind (arith, nat_tests, equal, more, words, within, most, below, whole))
+]
 
 -- one more byte that is kept, and is 0, changes no memory
 pub one_more : (kept : List ℕ) (size : ℕ) → length kept < size → memory_of (kept ++ 0 ∷ []) size ≡ memory_of kept size

@@ -1,7 +1,7 @@
 //! Bytes from the most negative address upwards, and words of four bytes among them.
 
-ghost use Rattle.std.specs.Prelude.{◌≡◌, ◌+◌, ◌<◌, ◌≤◌, ◌↔◌, IfOk, IsTrue, OnErr, length, nat_lt, replicate, vec_capacity};
-ghost use Rattle.node_memory.specs.Bytes.{IsMemorySize, byte_at, word_at, with_byte, with_word, with_word_from, stored, copied, copied_within};
+ghost use Rattle.std.specs.Prelude.{◌≡◌, ◌+◌, ◌-◌, ◌<◌, ◌≤◌, ◌↔◌, IfOk, IsTrue, OnErr, length, nat_lt, replicate, true, vec_capacity};
+ghost use Rattle.node_memory.specs.Bytes.{IsMemorySize, first_address, is_inside, byte_at, word_at, with_byte, with_word, with_word_from, stored, copied, copied_within};
 ghost use Rattle.node_memory.specs.Kept.{AreKept, memory_of};
 
 use crate::fault::Fault;
@@ -18,6 +18,15 @@ pub fn is_memory_size(size: usize) -> bool
     ensures answer { IsTrue result ↔ IsMemorySize size }
 {
     2048 <= size && size <= 65536 && size % 4 == 0
+}
+
+// The offset of an address. Below memory it is greater than any size.
+#[inline(always)]
+fn offset_of(address: u32) -> usize
+    ensures there { first_address ≤ address → result ≡ address - first_address }
+    ensures below { address < first_address → 65536 < result }
+{
+    (address as usize).wrapping_sub(MEMORY_START as usize)
 }
 
 // Puts a word's four bytes from an index on. They are the bytes of one part, so that one store writes them.
@@ -126,7 +135,7 @@ impl Memory {
     pub fn byte(&self, address: u32) -> Result<u8, Fault>
         ensures { result ≡ byte_at self.now address }
     {
-        let offset = address.wrapping_sub(MEMORY_START) as usize;
+        let offset = offset_of(address);
         if offset < self.kept.len() {
             Ok(self.kept[offset])
         } else if offset < self.size {
@@ -147,12 +156,24 @@ impl Memory {
         ensures stored { stored result self.new ≡ with_byte self.old address byte }
         ensures err { OnErr result (self.new ≡ self.old) }
     {
-        let offset = address.wrapping_sub(MEMORY_START) as usize;
+        let offset = offset_of(address);
         if offset >= self.kept.len() && !reach(&mut self.kept, self.size, offset) {
             return Err(Fault::OutsideMemory);
         }
         self.kept[offset] = byte;
         Ok(())
+    }
+
+    /// Whether the byte at an address is kept, so that a store there makes nothing longer. Then it lies in memory. If it
+    /// isn't kept nothing is said of it, so this is of use for speed alone.
+    ///
+    /// Source: our choice, as what is kept is.
+    #[inline]
+    pub fn keeps(&self, address: u32) -> bool
+        ensures { result ≡ true → is_inside self.now address ≡ true }
+    {
+        let offset = offset_of(address);
+        offset < self.kept.len()
     }
 
     /// The word that an address lies in, its low two bits ignored.
@@ -165,7 +186,7 @@ impl Memory {
     pub fn word(&self, address: u32) -> Result<u32, Fault>
         ensures { result ≡ word_at self.now address }
     {
-        let offset = address.wrapping_sub(MEMORY_START) as usize;
+        let offset = offset_of(address);
         if offset < self.kept.len() {
             let first = offset - offset % 4;
             let bytes = &self.kept.as_slice()[first..first + 4];
@@ -192,7 +213,7 @@ impl Memory {
         ensures stored { stored result self.new ≡ with_word self.old address word }
         ensures err { OnErr result (self.new ≡ self.old) }
     {
-        let offset = address.wrapping_sub(MEMORY_START) as usize;
+        let offset = offset_of(address);
         if offset >= self.kept.len() && !reach(&mut self.kept, self.size, offset) {
             return Err(Fault::OutsideMemory);
         }
@@ -201,7 +222,6 @@ impl Memory {
     }
 
     // Copies bytes as `copy_up` does, and tests each address.
-    #[cold]
     #[inline(never)]
     fn copy_bytes(&mut self, from: u32, to: u32, count: u32) -> Result<(), Fault>
         ensures { (result, self.new) ≡ copied count self.old from to }

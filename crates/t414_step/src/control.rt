@@ -3,12 +3,14 @@
 ghost use Rattle.std.specs.Prelude.{◌≡◌, List, ℕ};
 
 use crate::cpu::Cpu;
+use crate::next::Next;
 use node_memory::{Fault, Memory, signed};
+use t414_decode::PlainOperation;
 
 #[tactic(auto, unfolding(crate::specs::Rows::row))]
 impl Cpu {
     ghost use Rattle.t414_decode.specs.declared.instruction.PlainOperation.TheVariants as op;
-    ghost use Rattle.t414_step.specs.Next.{KeepsTurn, turned_back};
+    ghost use Rattle.t414_step.specs.Next.{KeepsTurn, back_after, completed, counted_down};
     ghost use Rattle.node_memory.specs.Effect.{Gave};
     ghost use Rattle.t414_step.specs.Answers.{finished};
     ghost use Rattle.link_channels.specs.declared.link.FourLinks.{FourLinks};
@@ -35,22 +37,63 @@ impl Cpu {
         Ok(())
     }
 
-    // lend, without the slice: whether it goes back
+    // lend, up to the count: the index that is to be stored if it goes back
     #[inline(always)]
-    pub(crate) fn turn_back(&mut self, memory: &mut Memory) -> Result<bool, Fault>
-        ensures answer { (ls : FourLinks) → turned_back result self.new ls memory.new ≡ row op.LoopEnd self.old ls memory.old }
-        ensures kept { KeepsTurn self.old self.new }
+    fn count_down(&self, memory: &mut Memory) -> Result<Option<u32>, Fault>
+        ensures { (ls : FourLinks) → counted_down result self.now ls memory.new ≡ row op.LoopEnd self.now ls memory.old }
     {
         let counter = self.b.wrapping_add(4);
         let count = memory.word(counter)?;
         memory.set_word(counter, count.wrapping_sub(1))?;
         if signed(count) <= 1 {
-            return Ok(false);
+            return Ok(None);
         }
         let index = memory.word(self.b)?;
-        memory.set_word(self.b, index.wrapping_add(1))?;
+        Ok(Some(index.wrapping_add(1)))
+    }
+
+    // lend, as far as it stores no word that isn't kept yet
+    #[inline(always)]
+    pub(crate) fn turn_back(&mut self, memory: &mut Memory) -> Next
+        ensures answer { (ls : FourLinks) → completed result self.new ls memory.new ≡ row op.LoopEnd self.old ls memory.old }
+        ensures kept { KeepsTurn self.old self.new }
+    {
+        if !memory.keeps(self.b.wrapping_add(4)) {
+            return Next::Plain(PlainOperation::LoopEnd);
+        }
+        match self.count_down(memory) {
+            Ok(Some(index)) => self.store_index(memory, index),
+            Ok(None) => Next::Byte,
+            Err(fault) => Next::Fault(fault),
+        }
+    }
+
+    // The end of lend without the slice, if the index is kept.
+    #[inline(always)]
+    fn store_index(&mut self, memory: &mut Memory, index: u32) -> Next
+        ensures answer { (ls : FourLinks) → completed result self.new ls memory.new ≡ back_after index self.old ls memory.old }
+        ensures kept { KeepsTurn self.old self.new }
+    {
+        if !memory.keeps(self.b) {
+            return Next::Index(index);
+        }
+        match memory.set_word(self.b, index) {
+            Ok(()) => {
+                self.instruction = self.instruction.wrapping_sub(self.a);
+                Next::Jumped
+            }
+            Err(fault) => Next::Fault(fault),
+        }
+    }
+
+    // The end of lend.
+    #[inline(always)]
+    pub(crate) fn go_back(&mut self, memory: &mut Memory, index: u32) -> Result<(), Fault>
+        ensures { (ls : FourLinks) → finished result self.new ls memory.new ≡ back_after index self.old ls memory.old }
+    {
+        memory.set_word(self.b, index)?;
         self.instruction = self.instruction.wrapping_sub(self.a);
-        Ok(true)
+        self.slice(memory)
     }
 
     // lend
@@ -58,10 +101,9 @@ impl Cpu {
     pub(crate) fn loop_end(&mut self, memory: &mut Memory) -> Result<(), Fault>
         ensures { (ls : FourLinks) → finished result self.new ls memory.new ≡ row op.LoopEnd self.old ls memory.old }
     {
-        if self.turn_back(memory)? {
-            self.slice(memory)
-        } else {
-            Ok(())
+        match self.count_down(memory)? {
+            Some(index) => self.go_back(memory, index),
+            None => Ok(()),
         }
     }
 

@@ -215,14 +215,14 @@ impl Cpu {
     ghost use Rattle.node_memory.specs.Words.{◌⊕◌, ◌⊗◌};
 
     // The address of a word that many above the workspace.
-    fn local(&self, words: u32) -> u32
+    pub(crate) fn local(&self, words: u32) -> u32
         ensures { result ≡ self.now.workspace ⊕ 4 ⊗ words }
     {
         self.workspace.wrapping_add(4u32.wrapping_mul(words))
     }
 
     // The address of a word that many above A.
-    fn beyond(&self, words: u32) -> u32
+    pub(crate) fn beyond(&self, words: u32) -> u32
         ensures { result ≡ self.now.a ⊕ 4 ⊗ words }
     {
         self.a.wrapping_add(4u32.wrapping_mul(words))

@@ -149,10 +149,12 @@ impl Cpu {
             PlainOperation::WordSubscript => next!(self.word_subscript()),
             PlainOperation::Subtract => Next::of(self.subtract()),
             PlainOperation::Return => Next::of(self.return_from_call(memory)),
-            PlainOperation::LoopEnd => Next::of_turn(self.turn_back(memory)),
+            PlainOperation::LoopEnd => self.turn_back(memory),
             PlainOperation::Not => next!(self.not()),
             PlainOperation::ExclusiveOr => next!(self.exclusive_or()),
-            PlainOperation::StoreByte => Next::of(self.store_byte(memory)),
+            PlainOperation::StoreByte if memory.keeps(self.a) => {
+                Next::of(self.store_byte(memory))
+            }
             PlainOperation::ShiftRight => next!(self.shift_right()),
             PlainOperation::ShiftLeft => next!(self.shift_left()),
             PlainOperation::MinimumInteger => next!(self.minimum_integer()),
@@ -227,12 +229,18 @@ impl Cpu {
             Function::NegativePrefix => next!(self.negative_prefix(operand)),
             Function::LoadLocal => Next::of(self.load_local(memory, operand)),
             Function::AddConstant => Next::of(self.add_constant(operand)),
-            Function::Call => Next::of(self.call(memory, operand)),
+            Function::Call => Next::Call(operand),
             Function::ConditionalJump => next!(self.conditional_jump(operand)),
             Function::AdjustWorkspace => next!(self.adjust_workspace(operand)),
             Function::EqualsConstant => next!(self.equals_constant(operand)),
-            Function::StoreLocal => Next::of(self.store_local(memory, operand)),
-            Function::StoreNonLocal => Next::of(self.store_non_local(memory, operand)),
+            Function::StoreLocal if memory.keeps(self.local(operand)) => {
+                Next::of(self.store_local(memory, operand))
+            }
+            Function::StoreLocal => Next::StoreLocal(operand),
+            Function::StoreNonLocal if memory.keeps(self.beyond(operand)) => {
+                Next::of(self.store_non_local(memory, operand))
+            }
+            Function::StoreNonLocal => Next::StoreNonLocal(operand),
             Function::Operate => self.operate(memory, operand),
         }
     }
@@ -272,6 +280,10 @@ impl Cpu {
         match next {
             Next::Byte => Ok(()),
             Next::Jumped => self.slice(memory),
+            Next::StoreLocal(operand) => self.store_local(memory, operand),
+            Next::StoreNonLocal(operand) => self.store_non_local(memory, operand),
+            Next::Call(operand) => self.call(memory, operand),
+            Next::Index(index) => self.go_back(memory, index),
             Next::Plain(operation) => self.perform_apart(memory, operation),
             Next::Channel(operation) => self.perform_channel(memory, links, operation),
             Next::Fault(fault) => Err(fault),

@@ -1,7 +1,7 @@
 //! What an instruction byte came to, as far as registers and memory do it.
 
 ghost use Rattle.std.specs.Prelude.{◌≡◌, List, ℕ};
-ghost use Rattle.t414_step.specs.Next.{completed, turned_back};
+ghost use Rattle.t414_step.specs.Next.{completed};
 ghost use Rattle.t414_step.specs.Answers.{finished};
 ghost use Rattle.link_channels.specs.declared.link.FourLinks.{FourLinks};
 ghost use Rattle.t414_step.specs.declared.cpu.Cpu.{Cpu};
@@ -16,6 +16,15 @@ pub(crate) enum Next {
     Byte,
     // It is done but for the slice, which follows a jump.
     Jumped,
+    // It is stl by an operand, to a word that isn't kept yet. The loop of bytes makes no memory longer, since that is a
+    // call, over which few registers last.
+    StoreLocal(u32),
+    // It is stnl so.
+    StoreNonLocal(u32),
+    // It is a call by an operand.
+    Call(u32),
+    // It is lend, which goes back once this index is stored.
+    Index(u32),
     // It asks for an operation that the loop of bytes doesn't do.
     Plain(PlainOperation),
     // It asks for an operation on a channel.
@@ -32,18 +41,6 @@ impl Next {
     {
         match done {
             Ok(()) => Next::Byte,
-            Err(fault) => Next::Fault(fault),
-        }
-    }
-
-    // What lend came to, by whether it went back.
-    #[inline(always)]
-    pub(crate) fn of_turn(back: Result<bool, Fault>) -> Next
-        ensures { (s : Cpu) (ls : FourLinks) (m : List ℕ) → completed result s ls m ≡ turned_back back s ls m }
-    {
-        match back {
-            Ok(true) => Next::Jumped,
-            Ok(false) => Next::Byte,
             Err(fault) => Next::Fault(fault),
         }
     }

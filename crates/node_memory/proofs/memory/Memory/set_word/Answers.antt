@@ -1,4 +1,4 @@
-use Rattle.std.proofs.Common.{◌≡◌, ℕ, ◌+◌, ◌-◌, ◌%◌, ◌<◌, ◌≤◌, ◌∙◌, List, ◌++◌, Ok, length, take, drop, ap, sym, rules}
+use Rattle.std.proofs.Common.{◌≡◌, ℕ, ◌-◌, ◌%◌, ◌<◌, ◌≤◌, ◌∙◌, List, ◌++◌, Ok, length, take, drop, ap, sym, rules}
 use Rattle.std.specs.Vec.{with_items}
 use Rattle.std.proofs.Math.Seq.{take-append_seam}
 use Rattle.node_memory.specs.Bytes.{with_word, with_word_from}
@@ -10,19 +10,20 @@ use Rattle.node_memory.proofs.memory.Memory.set_word.Goals.{else-offset-len-via-
 use Rattle.node_memory.proofs.memory.Memory.set_word.Goals.{else-offset-len-via-else-offset-len}
 
 -- what is kept once the word's place is: the same memory, and the place in it
-record IsReached (kept : List ℕ) (size address : ℕ) (memory : List ℕ) : Type 0 where
+record IsReached (kept : List ℕ) (size offset : ℕ) (memory : List ℕ) : Type 0 where
   same : memory_of kept size ≡ memory
   words : length kept % 4 ≡ 0
   within : length kept ≤ size
   most : size ≤ 65536
-  below : (address + 2147483648) % 4294967296 < length kept
+  below : offset < length kept
 
 pub returns-clause-stored : goal.returns-clause-stored
 returns-clause-stored c =
     let kept = c.else-offset-len.self-inside.kept.items in
     let size = c.else-offset-len.self-inside.size in
-    let first = (c.args.address + 2147483648) % 4294967296 - (c.args.address + 2147483648) % 4294967296 % 4 in
-    let it : IsReached kept size c.args.address c.args.self.now = elim c.else-offset-len.branch [
+    let offset = c.offset_of-offset.result in
+    let first = offset - offset % 4 in
+    let it : IsReached kept size offset c.args.self.now = elim c.else-offset-len.branch [
       | else-offset-len-via-then-offset-len+else-not-reach w ↦ record {
         same = search rules;
         words = search rules;
@@ -41,7 +42,8 @@ returns-clause-stored c =
     let written : c.put_word.new.bytes ≡ with_word_from kept first c.args.word =
     c.put_word.ensures ∙ ap (λ (bytes : List ℕ). with_word_from bytes first c.args.word) c.as_mut_slice.ensures.value in
     let at_word =
-    stores kept size c.args.address c.args.word c.ranges.address.fits it.words it.within it.most it.below
+    stores kept size c.args.address c.args.word offset c.offset_of-offset.ensures.there c.offset_of-offset.ensures.below
+    it.words it.within it.most it.below
     ∙ ap (λ (bytes : List ℕ). Ok (memory_of bytes size)) (sym written) in
     let from_memory = ap (λ (memory : List ℕ). with_word memory c.args.address c.args.word) it.same in
     let room : c.else-offset-len.self-inside.kept.len ≡ length c.put_word.new.bytes =
