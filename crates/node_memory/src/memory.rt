@@ -172,8 +172,7 @@ impl Memory {
     pub fn keeps(&self, address: u32) -> bool
         ensures { result ≡ true → is_inside self.now address ≡ true }
     {
-        let offset = offset_of(address);
-        offset < self.kept.len()
+        offset_of(address) < self.kept.len()
     }
 
     /// The word that an address lies in, its low two bits ignored.
