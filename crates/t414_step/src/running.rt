@@ -40,13 +40,17 @@ impl Cpu {
         // The count of bytes follows from that of the loop, which so keeps one of them alone.
         let before = self.bytes;
         let unsliced = u64::from(1023 - before.min(1023));
-        for done in 0..most {
+        // As long as so many are left, no jump is the end of a slice.
+        let sliced = most.saturating_sub(unsliced);
+        let mut left = most;
+        while left > 0 {
+            left -= 1;
             match self.do_byte(memory) {
                 Next::Byte => {}
-                Next::Jumped if done < unsliced => {}
+                Next::Jumped if left >= sliced => {}
                 next => {
-                    self.bytes = counted(before, done + 1);
-                    return (done + 1, next);
+                    self.bytes = counted(before, most - left);
+                    return (most - left, next);
                 }
             }
         }
