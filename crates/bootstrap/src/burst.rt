@@ -10,7 +10,7 @@ use node_memory::Memory;
 use t414_step::{Cpu, Stepped, idle_where_it_rests};
 
 /// What a burst of Steps came to.
-#[derive(Clone, Copy, Debug, PartialEq, Eq)]
+#[derive(Clone, Copy)]
 pub struct Burst {
     /// How many Steps were done that would be recorded.
     pub steps: u64,

@@ -8,7 +8,7 @@ use std::alloc::Global;
 use thiserror::Error;
 
 /// Why code can't be sent as a boot message.
-#[derive(Clone, Copy, Debug, PartialEq, Eq, Error)]
+#[derive(Clone, Copy, Debug, Error)]
 pub enum BootFault {
     /// It is shorter than 2 bytes, so its length would be a control byte of another meaning.
     #[error("code is at least two bytes long")]

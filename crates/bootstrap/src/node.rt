@@ -9,7 +9,7 @@ use os_link::Packet;
 use std::alloc::Global;
 
 /// A node: its memory, its links and what it is doing.
-#[derive(Debug, Drop)]
+#[derive(Drop)]
 pub struct Node {
     pub(crate) memory: Memory,
     pub(crate) links: Links,

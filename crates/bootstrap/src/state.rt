@@ -7,7 +7,7 @@ use t414_step::Cpu;
 /// What a node takes the bytes of a link for, after its control byte.
 ///
 /// Source: Transputer Reference Manual, bootstrapping.
-#[derive(Clone, Copy, Debug, PartialEq, Eq)]
+#[derive(Clone, Copy, PartialEq, Eq)]
 pub enum Task {
     /// To store a word. `left` bytes, 1 to 8, are still to come: first those of the address, then those of the word.
     Poke { left: u8, address: u32, word: u32 },
@@ -20,7 +20,7 @@ pub enum Task {
 /// What a node is doing. A node that halted has given up its registers.
 ///
 /// Source: Transputer Reference Manual, bootstrapping.
-#[derive(Clone, Copy, Debug, PartialEq, Eq)]
+#[derive(Clone, Copy, PartialEq, Eq)]
 pub enum NodeState {
     /// It waits for a control byte.
     WantsControl,

@@ -8,7 +8,7 @@ use std::marker::Model;
 
 /// The physical ports of a domain in the order of their virtual numbers. Contracts see it as that
 /// list: distinct ports below 32.
-#[derive(Debug, Drop)]
+#[derive(Drop)]
 pub struct Numbering {
     ports: [u8; PORTS as usize],
     numbers: [Option<u8>; PORTS as usize],

@@ -7,7 +7,7 @@ pub const PORTS: u8 = 32;
 pub const MOST_RANGES: usize = 4;
 
 /// A range of physical ports, both ends in it.
-#[derive(Clone, Copy, Debug, PartialEq, Eq)]
+#[derive(Clone, Copy, PartialEq, Eq)]
 pub struct PortRange {
     /// The first port, 0 to 31.
     pub first: u8,

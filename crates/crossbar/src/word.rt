@@ -4,7 +4,7 @@ ghost use Rattle.crossbar.specs.Word.{connection_of, changes_of, low_byte, word_
 ghost use Rattle.crossbar.specs.Fits.{InputFits};
 
 /// What drives an output, and whether the output is ready.
-#[derive(Clone, Copy, Debug, PartialEq, Eq)]
+#[derive(Clone, Copy)]
 pub struct Connection {
     /// The physical input, below 32.
     pub input: u8,
@@ -16,7 +16,7 @@ pub struct Connection {
 /// What a switch keeps of an output, in 64 bits: bits 0 to 4 the physical input, bit 6 ready, bit 7
 /// connected, bits 8 to 63 how often bits 0 to 7 have changed. Bit 5 is 0, and so are bits 0 to 7 of
 /// a disconnected output.
-#[derive(Clone, Copy, Debug, PartialEq, Eq)]
+#[derive(Clone, Copy, PartialEq, Eq)]
 pub struct Word {
     /// The bits as they lie in memory.
     pub bits: u64,

@@ -7,7 +7,7 @@ ghost use Rattle.domain_core.specs.Marks.{Copies, StandsIn, events_from};
 use crate::journal::{Entry, Journal};
 
 /// How far a journal was copied: so many entries, and of the next one so many events.
-#[derive(Clone, Copy, Debug, PartialEq, Eq)]
+#[derive(Clone, Copy)]
 pub struct Mark {
     entries: usize,
     events: u64,

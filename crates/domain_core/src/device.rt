@@ -3,7 +3,7 @@
 use link_channels::LinkNumber;
 
 /// What sends on a port's input and listens to its output.
-#[derive(Clone, Copy, Debug, PartialEq, Eq)]
+#[derive(Clone, Copy, PartialEq, Eq)]
 pub enum Device {
     /// A host, by its number in the domain.
     Host(u8),

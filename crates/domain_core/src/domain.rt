@@ -36,7 +36,7 @@ use std::alloc::Global;
 use std::marker::Model;
 
 /// What became of a ticket.
-#[derive(Clone, Copy, Debug, PartialEq, Eq)]
+#[derive(Clone, Copy, PartialEq, Eq)]
 pub enum Committed {
     /// The copy is in the node's place, and its Steps are in the journal.
     Done,

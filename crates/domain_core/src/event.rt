@@ -10,7 +10,7 @@ use thiserror::Error;
 use virtual_switch::ConfigReply;
 
 /// Who asks.
-#[derive(Clone, Copy, Debug, PartialEq, Eq)]
+#[derive(Clone, Copy, PartialEq, Eq)]
 pub enum By {
     /// A user, by his number in the domain.
     User(u8),

@@ -9,7 +9,7 @@ use std::marker::Model;
 use t414_step::Stepped;
 
 /// An entry of a journal.
-#[derive(Clone, Copy, Debug, PartialEq, Eq)]
+#[derive(Clone, Copy, PartialEq, Eq)]
 pub enum Entry {
     /// One event, with who asked and the reply.
     One {

@@ -171,6 +171,7 @@ fn copy_at(
 }
 
 /// A packet arrives at the devices of these outputs, in rising order.
+#[inline(always)]
 pub(crate) fn copy_to(
     devices: &mut Devices,
     part: &Part,

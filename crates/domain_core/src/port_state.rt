@@ -4,7 +4,7 @@ use crate::event::Moved;
 use os_link::Packet;
 
 /// What waits at a virtual port, and what a Move of it would come to.
-#[derive(Clone, Copy, Debug, PartialEq, Eq)]
+#[derive(Clone, Copy)]
 pub struct PortState {
     /// The packet that leaves the port's device next, if one waits.
     pub packet: Option<Packet>,

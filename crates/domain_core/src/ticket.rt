@@ -14,7 +14,7 @@ pub const MOST_STEPS: u64 = 1 << 40;
 
 /// A copy of a node, and the Steps that it has done since it was copied. The home node may change
 /// meanwhile: then the ticket is stale.
-#[derive(Debug, Drop)]
+#[derive(Drop)]
 pub struct Ticket {
     domain: u8,
     number: u8,

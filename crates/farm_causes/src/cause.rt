@@ -5,7 +5,7 @@ use link_channels::{LinkNumber, Process};
 use node_memory::Fault;
 
 /// A process waits for bytes of a link.
-#[derive(Clone, Copy, Debug, PartialEq, Eq)]
+#[derive(Clone, Copy)]
 pub struct InputWait {
     /// Who waits, if that can still be read in memory.
     pub process: Option<Process>,
@@ -16,7 +16,7 @@ pub struct InputWait {
 }
 
 /// A byte was posted at a link, and its acknowledge hasn't come.
-#[derive(Clone, Copy, Debug, PartialEq, Eq)]
+#[derive(Clone, Copy)]
 pub struct OutputWait {
     /// Who waits, if that can still be read in memory.
     pub process: Option<Process>,
@@ -25,7 +25,7 @@ pub struct OutputWait {
 }
 
 /// What a link is waited for.
-#[derive(Clone, Copy, Debug, PartialEq, Eq)]
+#[derive(Clone, Copy)]
 pub struct LinkWaits {
     pub input: Option<InputWait>,
     pub output: Option<OutputWait>,
@@ -34,7 +34,7 @@ pub struct LinkWaits {
 }
 
 /// Why a node does no more than it does.
-#[derive(Clone, Copy, Debug, PartialEq, Eq)]
+#[derive(Clone, Copy)]
 pub enum Cause {
     /// It waits for a control byte, by any link.
     WantsControl,
@@ -51,7 +51,7 @@ pub enum Cause {
 }
 
 /// What a process wants of a channel in memory.
-#[derive(Clone, Copy, Debug, PartialEq, Eq)]
+#[derive(Clone, Copy)]
 pub enum Rendezvous {
     Receives,
     Sends,
@@ -60,7 +60,7 @@ pub enum Rendezvous {
 }
 
 /// A process waits at a channel in memory.
-#[derive(Clone, Copy, Debug, PartialEq, Eq)]
+#[derive(Clone, Copy)]
 pub struct InsideWait {
     /// The address of the channel's word.
     pub channel: u32,

@@ -9,7 +9,7 @@ use std::alloc::Global;
 const BEFORE_THE_ANSWER: &str = " = ";
 
 /// A call, and how often it was made.
-#[derive(Clone, Copy, Debug, PartialEq, Eq)]
+#[derive(Clone, Copy)]
 pub struct SaidCall {
     pub times: u64,
     pub by: By,

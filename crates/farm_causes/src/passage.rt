@@ -10,7 +10,7 @@ use os_link::{LinkEnd, Packet};
 use plan_rules::Part;
 
 /// Where the byte is that a device sent last.
-#[derive(Clone, Copy, Debug, PartialEq, Eq)]
+#[derive(Clone, Copy)]
 pub enum SentByte {
     /// The device has no port, so that nothing leaves it.
     Unwired,
@@ -21,7 +21,7 @@ pub enum SentByte {
 }
 
 /// What became of a byte that came to an output.
-#[derive(Clone, Copy, Debug, PartialEq, Eq)]
+#[derive(Clone, Copy)]
 pub enum Arrival {
     /// No device is joined there.
     Nobody,
@@ -34,7 +34,7 @@ pub enum Arrival {
 }
 
 /// Whence bytes come to a device.
-#[derive(Clone, Copy, Debug, PartialEq, Eq)]
+#[derive(Clone, Copy)]
 pub enum Supply {
     /// The device has no port, so that nothing comes to it.
     Unwired,

@@ -5,7 +5,7 @@ use os_link::Packet;
 use t414_step::Cpu;
 
 /// What was lost at a port, since nothing of its kind passed from there.
-#[derive(Clone, Copy, Debug, PartialEq, Eq)]
+#[derive(Clone, Copy)]
 pub struct PortPast {
     /// The event in which a byte was lost.
     pub byte: Option<u64>,
@@ -14,7 +14,7 @@ pub struct PortPast {
 }
 
 /// What a node met at its fault.
-#[derive(Clone, Copy, Debug, PartialEq, Eq)]
+#[derive(Clone, Copy)]
 pub struct FaultPast {
     /// The event.
     pub event: u64,
@@ -25,7 +25,7 @@ pub struct FaultPast {
 }
 
 /// What was noted of a node.
-#[derive(Clone, Copy, Debug, PartialEq, Eq)]
+#[derive(Clone, Copy)]
 pub struct NodePast {
     /// The address behind the code that was loaded last.
     pub code_end: Option<u32>,

@@ -1,7 +1,7 @@
 //! What the command line settles.
 
 /// How many workers step the nodes, how many Steps each does at a time, and whether a refused text is explained.
-#[derive(Clone, Copy, Debug, PartialEq, Eq)]
+#[derive(Clone, Copy, PartialEq, Eq)]
 pub struct Settings {
     /// 1 to 8.
     pub workers: u8,

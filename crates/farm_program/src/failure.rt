@@ -11,7 +11,7 @@ use std::alloc::AllocError;
 use std::io::{self, Write};
 
 /// Why a run ends without its output.
-#[derive(Clone, Copy, Debug, PartialEq, Eq)]
+#[derive(Clone, Copy, Debug)]
 pub enum FarmFailure {
     /// The plan is refused.
     Plan(PlanFault),
@@ -24,7 +24,7 @@ pub enum FarmFailure {
 }
 
 /// How a run ends.
-#[derive(Clone, Copy, Debug, PartialEq, Eq)]
+#[derive(Clone, Copy)]
 pub struct Ending {
     /// The status of the process.
     pub status: u8,

@@ -5,7 +5,7 @@ use std::io;
 use thiserror::Error;
 
 /// Why a domain doesn't do a line of a record again.
-#[derive(Clone, Copy, Debug, PartialEq, Eq, Error)]
+#[derive(Clone, Copy, Debug, Error)]
 pub enum RedoFault {
     /// It is no line of a record.
     #[error("it is no line of a record")]
@@ -52,7 +52,7 @@ impl RecordFault {
 }
 
 /// Why a head isn't made.
-#[derive(Clone, Copy, Debug, PartialEq, Eq, Error)]
+#[derive(Clone, Copy, Debug, Error)]
 pub enum HeadFault {
     /// What was written doesn't read as the plan of the domain alone. That never happens, but it is looked at.
     #[error("the head of a record doesn't read as its plan")]

@@ -10,7 +10,7 @@ use std::alloc::Global;
 const BEFORE_THE_ANSWER: &str = " = ";
 
 /// A call of a record, and how often it was made.
-#[derive(Clone, Copy, Debug, PartialEq, Eq)]
+#[derive(Clone, Copy)]
 pub struct RecordedCall {
     pub times: u64,
     pub by: By,

@@ -11,7 +11,7 @@ use std::alloc::Global;
 use std::io::{self, BufRead};
 
 /// What a record was.
-#[derive(Clone, Copy, Debug, PartialEq, Eq)]
+#[derive(Clone, Copy)]
 pub enum Redone {
     /// A beginning of its head, which isn't whole: it says nothing yet.
     Beginning,

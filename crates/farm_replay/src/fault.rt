@@ -6,7 +6,7 @@ use step_meter::StepsEnd;
 use thiserror::Error;
 
 /// Why a domain doesn't do all that is asked of it.
-#[derive(Clone, Copy, Debug)]
+#[derive(Clone, Copy)]
 pub enum AskFault {
     /// The farm refuses it.
     Refused(Refusal),

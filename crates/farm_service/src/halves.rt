@@ -11,7 +11,7 @@ use crate::service::SeatedDomain;
 use domain_core::{Committed, Refusal, Ticket};
 
 /// What became of the node of a turn.
-#[derive(Clone, Copy, Debug, PartialEq, Eq)]
+#[derive(Clone, Copy, PartialEq, Eq)]
 pub enum Turned {
     /// It was committed, and its Steps are in the journal.
     BurstRecorded,

@@ -15,7 +15,7 @@ use std::marker::Model;
 use std::sync::Wait;
 
 /// How a settling ended.
-#[derive(Clone, Copy, Debug, PartialEq, Eq)]
+#[derive(Clone, Copy)]
 pub enum Settled {
     /// No Step and no Move of the domain would have been recorded, the limit aside.
     Quiet,

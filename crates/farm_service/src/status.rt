@@ -10,7 +10,7 @@ use domain_core::Refusal;
 use std::sync::Wait;
 
 /// How it is with a domain.
-#[derive(Clone, Copy, Debug, PartialEq, Eq)]
+#[derive(Clone, Copy)]
 pub struct DomainStatus {
     /// How many events are recorded since it was opened or restarted.
     pub recorded: u64,

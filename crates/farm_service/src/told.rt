@@ -7,7 +7,7 @@ ghost use Rattle.farm_service.specs.Commands.{commands_of};
 use domain_core::{By, Entry, Event, Reply};
 
 /// What a user asked, and the answer.
-#[derive(Clone, Copy, Debug, PartialEq, Eq)]
+#[derive(Clone, Copy, PartialEq, Eq)]
 pub struct Told {
     /// What was asked.
     pub event: Event,

@@ -35,7 +35,7 @@ impl Gate for NoGate {
 }
 
 /// Why a worker came back.
-#[derive(Clone, Copy, Debug, PartialEq, Eq)]
+#[derive(Clone, Copy)]
 pub enum Worked {
     /// The turns are over.
     Turns,

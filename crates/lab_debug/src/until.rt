@@ -23,7 +23,7 @@ pub enum Goal {
 }
 
 /// Which of several events that are so is taken.
-#[derive(Clone, Copy, PartialEq, Eq)]
+#[derive(Clone, Copy)]
 enum Taken {
     First,
     Last,

@@ -19,7 +19,7 @@ use step_meter::StepMeter;
 pub const USUAL_COUNT: u64 = 100_000;
 
 /// Which part of a record is shown.
-#[derive(Clone, Copy, Debug, PartialEq, Eq)]
+#[derive(Clone, Copy)]
 pub struct Span {
     /// How many events are done before the first frame.
     pub from: u64,

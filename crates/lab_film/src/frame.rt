@@ -12,7 +12,7 @@ use std::alloc::Global;
 use std::collections::VecDeque;
 
 /// What is told of a node.
-#[derive(Clone, Copy, Debug, PartialEq, Eq)]
+#[derive(Clone, Copy)]
 pub struct NodeFrame {
     /// What a look shows of it.
     pub seen: Seen,
@@ -21,7 +21,7 @@ pub struct NodeFrame {
 }
 
 /// The queues of a host, front first.
-#[derive(Debug, Drop, PartialEq)]
+#[derive(Drop)]
 pub struct HostFrame {
     /// What is to be sent, with the byte whose acknowledge hasn't come.
     pub sending: Vec<u8>,
@@ -30,7 +30,7 @@ pub struct HostFrame {
 }
 
 /// A domain as a film shows it at a moment.
-#[derive(Debug, Drop)]
+#[derive(Drop)]
 pub struct Frame {
     /// How many events were recorded till then.
     pub recorded: u64,

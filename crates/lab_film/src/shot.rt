@@ -11,7 +11,7 @@ use std::alloc::Global;
 use step_meter::StepMeter;
 
 /// A packet that a Move found at its port, and the outputs that the port drove then, as a mask.
-#[derive(Clone, Copy, Debug, PartialEq, Eq)]
+#[derive(Clone, Copy)]
 pub struct FoundPacket {
     pub packet: Packet,
     pub drives: u32,

@@ -2,7 +2,7 @@
 ghost use Rattle.std.specs.Prelude.{◌≡◌, ◌≤◌};
 
 /// How many Steps a node does at a time, 1 to 4,096.
-#[derive(Clone, Copy, Debug, PartialEq, Eq)]
+#[derive(Clone, Copy)]
 pub struct Quantum {
     steps: u64,
     ghost in_range: { (1 ≤ steps) × (steps ≤ 4096) },

@@ -8,7 +8,7 @@ use script_text::is_passed_over;
 use std::alloc::Global;
 
 /// A line that asks something.
-#[derive(Clone, Copy, Debug)]
+#[derive(Clone, Copy)]
 pub struct Question<'a> {
     /// The number of the line in its text, from 1.
     pub line: u64,
@@ -19,7 +19,7 @@ pub struct Question<'a> {
 }
 
 /// What a line asked, and what it was answered.
-#[derive(Debug, Drop)]
+#[derive(Drop)]
 pub struct Answered<'a> {
     /// What was asked.
     pub question: Question<'a>,

@@ -5,7 +5,7 @@ ghost use Rattle.std.specs.Prelude.{◌≡◌};
 use crate::number::LinkNumber;
 
 /// What a channel's address stands for. T414 data sheet, memory map.
-#[derive(Clone, Copy, Debug, PartialEq, Eq)]
+#[derive(Clone, Copy)]
 pub enum Channel {
     /// A word of memory at which two processes of the node meet.
     Soft,

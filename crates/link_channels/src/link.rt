@@ -7,7 +7,7 @@ use os_link::LinkEnd;
 
 /// A link end, and what a process has asked of it. Counts are bytes that are still to come or to go, pointers the
 /// addresses of the next one.
-#[derive(Clone, Copy, Debug, PartialEq, Eq)]
+#[derive(Clone, Copy)]
 pub struct Link {
     pub end: LinkEnd,
     /// Where the next byte that arrives is stored.
@@ -23,7 +23,7 @@ pub struct Link {
 }
 
 /// The links of a node, as plain values.
-#[derive(Clone, Copy, Debug, PartialEq, Eq)]
+#[derive(Clone, Copy)]
 pub struct FourLinks {
     pub zero: Link,
     pub one: Link,

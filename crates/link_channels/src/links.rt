@@ -10,7 +10,7 @@ use process_queue::Queue;
 use std::marker::Model;
 
 /// The links of a node: four link ends, each with what a process has asked of it.
-#[derive(Debug, Drop)]
+#[derive(Drop)]
 pub struct Links {
     links: FourLinks,
     // Whether a service would do something, so that a step with nothing to serve costs one test.

@@ -3,14 +3,14 @@
 ghost use Rattle.std.specs.Prelude.{◌≡◌};
 
 /// The process that asks: its workspace, and the address of its next instruction.
-#[derive(Clone, Copy, Debug, PartialEq, Eq)]
+#[derive(Clone, Copy, PartialEq, Eq)]
 pub struct Process {
     pub workspace: u32,
     pub instruction: u32,
 }
 
 /// What is asked for: so many bytes through the channel at an address, from or to a pointer.
-#[derive(Clone, Copy, Debug, PartialEq, Eq)]
+#[derive(Clone, Copy)]
 pub struct Transfer {
     pub count: u32,
     pub channel: u32,
@@ -18,14 +18,14 @@ pub struct Transfer {
 }
 
 /// Whether a process takes bytes from a channel, or gives it bytes.
-#[derive(Clone, Copy, Debug, PartialEq, Eq)]
+#[derive(Clone, Copy)]
 pub enum TransferDirection {
     Input,
     Output,
 }
 
 /// Whether the process goes on, or waits with its place saved.
-#[derive(Clone, Copy, Debug, PartialEq, Eq)]
+#[derive(Clone, Copy)]
 pub enum Turn {
     GoesOn,
     Waits,

@@ -3,7 +3,7 @@
 use script_lines::Command;
 
 /// What a user asks of his domain as a whole.
-#[derive(Clone, Copy, Debug, PartialEq, Eq)]
+#[derive(Clone, Copy)]
 pub enum WholeRequest {
     /// Whether it is at rest.
     Rest,
@@ -14,7 +14,7 @@ pub enum WholeRequest {
 }
 
 /// What a user's line asks.
-#[derive(Debug, Drop)]
+#[derive(Drop)]
 pub enum LiveRequest {
     /// What the same line of a script asks.
     Script(Command),
@@ -23,7 +23,7 @@ pub enum LiveRequest {
 }
 
 /// What an operator's line asks.
-#[derive(Clone, Copy, Debug, PartialEq, Eq)]
+#[derive(Clone, Copy)]
 pub enum OperatorRequest {
     /// The words of all outputs.
     Words,
@@ -36,7 +36,7 @@ pub enum OperatorRequest {
 }
 
 /// What a line asks, and who.
-#[derive(Debug, Drop)]
+#[derive(Drop)]
 pub enum LiveLine {
     /// A user, by the place of his name among all.
     User { user: usize, request: LiveRequest },

@@ -18,7 +18,7 @@ Example:
 docs/LIVE.md says what lines there are.";
 
 /// Where the farm is recorded.
-#[derive(Debug, Drop)]
+#[derive(Drop)]
 pub struct RecordSettings {
     /// The path of the folder.
     pub path: String,
@@ -29,7 +29,7 @@ pub struct RecordSettings {
 }
 
 /// The plan's file, how many workers step the nodes, and how many Steps each does at a time.
-#[derive(Debug, Drop)]
+#[derive(Drop)]
 pub struct LiveSettings {
     /// The path of the plan.
     pub path: String,

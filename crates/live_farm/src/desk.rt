@@ -27,7 +27,7 @@ pub struct Desk<'a, 'b> {
 }
 
 /// Whether lines are still read.
-#[derive(Clone, Copy, Debug, PartialEq, Eq)]
+#[derive(Clone, Copy)]
 enum Goes {
     On,
     Stopped,

@@ -10,7 +10,7 @@ use std::io::{self, Write};
 use thiserror::Error;
 
 /// Why no more lines are answered.
-#[derive(Clone, Copy, Debug, PartialEq, Eq)]
+#[derive(Clone, Copy)]
 pub enum Trouble {
     /// There is no memory.
     Memory,

@@ -3,7 +3,7 @@
 use script_lines::LineFault;
 
 /// Why a line asks nothing.
-#[derive(Clone, Copy, Debug, PartialEq, Eq)]
+#[derive(Clone, Copy)]
 pub enum LiveFault {
     /// The first word is no user's name.
     UnknownUser,

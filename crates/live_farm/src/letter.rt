@@ -4,7 +4,7 @@ use crate::asked::LiveRequest;
 use crate::texts::Why;
 
 /// What is to be answered.
-#[derive(Debug, Drop)]
+#[derive(Drop)]
 pub enum Matter {
     /// A line that asks something.
     Asked(LiveRequest),
@@ -15,7 +15,7 @@ pub enum Matter {
 }
 
 /// A line for a domain's thread.
-#[derive(Debug, Drop)]
+#[derive(Drop)]
 pub struct Letter {
     /// Whose it is, by his number in the domain.
     pub user: u8,

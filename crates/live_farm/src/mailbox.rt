@@ -19,7 +19,7 @@ struct Letters {
 }
 
 /// What became of a letter.
-#[derive(Clone, Copy, Debug, PartialEq, Eq)]
+#[derive(Clone, Copy)]
 pub enum Sent {
     /// It waits for its thread.
     Waits,

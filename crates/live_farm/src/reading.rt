@@ -7,7 +7,7 @@ use std::io::{self, BufRead, Read};
 pub const MOST_BYTES: usize = 1_048_576;
 
 /// What a reader gives.
-#[derive(Debug, Drop)]
+#[derive(Drop)]
 pub enum InputLine {
     /// A line with its line feed; what stands behind the last line feed has none.
     Whole(Vec<u8>),

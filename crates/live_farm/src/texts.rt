@@ -11,7 +11,7 @@ use script_lines::LineFault;
 use std::alloc::Global;
 
 /// Why a line isn't done.
-#[derive(Clone, Copy, Debug, PartialEq, Eq)]
+#[derive(Clone, Copy)]
 pub enum Why {
     /// It is wrong as a line of a script is.
     Fault(LineFault),
@@ -44,7 +44,7 @@ impl Why {
 }
 
 /// What is written at once: whole lines; and whether the domain began anew thereby.
-#[derive(Debug, Drop)]
+#[derive(Drop)]
 pub struct LiveAnswer {
     pub(crate) text: String,
     pub(crate) begins_anew: bool,

@@ -5,7 +5,7 @@ ghost use Rattle.live_farm.specs.declared.verbs.OperatorVerb.{OperatorVerb as Sp
 ghost use Rattle.live_farm.specs.LiveVerbs.{domain_verb_name, operator_verb_name};
 
 /// What a user asks of his domain as a whole.
-#[derive(Clone, Copy, Debug, PartialEq, Eq)]
+#[derive(Clone, Copy)]
 pub enum DomainVerb {
     /// Whether it is at rest.
     Rest,
@@ -30,7 +30,7 @@ impl DomainVerb {
 }
 
 /// What the operator asks.
-#[derive(Clone, Copy, Debug, PartialEq, Eq)]
+#[derive(Clone, Copy)]
 pub enum OperatorVerb {
     /// The words of all outputs.
     Words,

@@ -97,7 +97,7 @@ fn are_same(bytes: &[u8], others: &[u8]) -> bool
 ///
 /// Only the bytes up to the last word that was ever written are kept, since all behind it are 0. So a
 /// copy and a comparison cost what a program has used of memory, and not its size.
-#[derive(Debug, Drop)]
+#[derive(Drop)]
 pub struct Memory {
     kept: Vec<u8>,
     size: usize,

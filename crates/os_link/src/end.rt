@@ -9,7 +9,7 @@ use crate::outgoing::LinkOut;
 /// A link end of a node or a host.
 ///
 /// Source: Transputer Reference Manual, links.
-#[derive(Clone, Copy, Debug, PartialEq, Eq)]
+#[derive(Clone, Copy)]
 pub struct LinkEnd {
     /// What waits to leave.
     pub latch: Latch,

@@ -6,7 +6,7 @@ ghost use Rattle.os_link.specs.End.{with_arrived};
 /// The input buffer of one byte, and how many bytes were dropped because it was full.
 ///
 /// Source: Transputer Reference Manual, links; that an overrun is counted is our choice.
-#[derive(Clone, Copy, Debug, PartialEq, Eq)]
+#[derive(Clone, Copy, PartialEq, Eq)]
 pub struct LinkIn {
     /// The byte that has arrived and is not taken yet.
     pub buffer: Option<u8>,

@@ -6,7 +6,7 @@ ghost use Rattle.os_link.specs.End.{next_of, without_next};
 /// What one link end sends to another.
 ///
 /// Source: Transputer Reference Manual, links.
-#[derive(Clone, Copy, Debug, PartialEq, Eq)]
+#[derive(Clone, Copy, PartialEq, Eq)]
 pub enum Packet {
     /// A byte of a message.
     Byte(u8),
@@ -17,7 +17,7 @@ pub enum Packet {
 /// At most one byte and one acknowledge that wait to leave. The acknowledge leaves first.
 ///
 /// Source: Transputer Reference Manual, links; the order of the two is our choice.
-#[derive(Clone, Copy, Debug, PartialEq, Eq)]
+#[derive(Clone, Copy, PartialEq, Eq)]
 pub struct Latch {
     /// The byte that waits.
     pub byte: Option<u8>,

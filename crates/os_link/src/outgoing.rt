@@ -6,7 +6,7 @@ ghost use Rattle.os_link.specs.End.{with_acknowledge};
 /// Whether an acknowledge is awaited, and whether one has come that nobody has asked after yet.
 ///
 /// Source: Transputer Reference Manual, links.
-#[derive(Clone, Copy, Debug, PartialEq, Eq)]
+#[derive(Clone, Copy, PartialEq, Eq)]
 pub struct LinkOut {
     /// A byte was sent, and its acknowledge has not come.
     pub awaits: bool,

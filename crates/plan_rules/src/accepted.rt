@@ -15,7 +15,7 @@ use std::alloc::Global;
 use std::marker::Model;
 
 /// A plan whose domains are separate. Contracts see the data of the plan.
-#[derive(Debug, Drop)]
+#[derive(Drop)]
 pub struct AcceptedPlan {
     domains: Vec<DomainPlan>,
     parts: Vec<Part>,

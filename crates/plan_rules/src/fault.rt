@@ -8,7 +8,7 @@ use std::fmt;
 use thiserror::Error;
 
 /// Why a plan was refused. Each variant has its number behind it.
-#[derive(Clone, Copy, Debug, PartialEq, Eq, Error)]
+#[derive(Clone, Copy, Debug, Error)]
 pub enum PlanFault {
     /// The text isn't UTF-8 or isn't TOML (1).
     Text,

@@ -7,7 +7,7 @@ use std::alloc::Global;
 use std::marker::Model;
 
 /// A node of a domain.
-#[derive(Clone, Copy, Debug, PartialEq, Eq)]
+#[derive(Clone, Copy, PartialEq, Eq)]
 pub struct NodePart {
     /// The memory in bytes, a multiple of 4 from 2,048 to 65,536.
     pub memory: u32,
@@ -16,7 +16,7 @@ pub struct NodePart {
 }
 
 /// A host of a domain.
-#[derive(Clone, Copy, Debug, PartialEq, Eq)]
+#[derive(Clone, Copy, PartialEq, Eq)]
 pub struct HostPart {
     /// The virtual port, below the domain's count.
     pub port: u8,
@@ -27,7 +27,7 @@ pub struct HostPart {
 /// The part of a domain: what its machine needs of the plan, without names and physical ports.
 ///
 /// Contracts see its number of ports, limit and number of users, and the lists of its nodes and hosts.
-#[derive(Debug, Drop)]
+#[derive(Drop)]
 pub struct Part {
     pub(crate) count: u8,
     pub(crate) limit: u64,

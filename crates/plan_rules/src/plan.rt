@@ -4,7 +4,7 @@ ghost use Rattle.std.specs.Prelude.{ℕ, ℤ, List, string_bytes};
 use std::marker::Model;
 
 /// A node of a domain.
-#[derive(Debug, Drop)]
+#[derive(Drop)]
 pub struct NodePlan {
     /// The memory in bytes.
     pub memory: i64,
@@ -13,7 +13,7 @@ pub struct NodePlan {
 }
 
 /// A range of physical ports, both ends in it.
-#[derive(Debug, Drop)]
+#[derive(Drop)]
 pub struct RangePlan {
     /// The first port.
     pub first: i64,
@@ -22,7 +22,7 @@ pub struct RangePlan {
 }
 
 /// A user of a domain.
-#[derive(Debug, Drop)]
+#[derive(Drop)]
 pub struct UserPlan {
     /// His name.
     pub name: String,
@@ -40,7 +40,7 @@ impl Model for UserPlan {
 }
 
 /// A domain. In version 1 of the text it has one user and one range, in version 2 one user.
-#[derive(Debug, Drop)]
+#[derive(Drop)]
 pub struct DomainPlan {
     /// The users, in the order of their numbers.
     pub users: Vec<UserPlan>,
@@ -66,7 +66,7 @@ impl Model for DomainPlan {
 }
 
 /// A plan.
-#[derive(Debug, Drop)]
+#[derive(Drop)]
 pub struct Plan {
     /// The domains, in the order of their numbers.
     pub domains: Vec<DomainPlan>,

@@ -22,7 +22,7 @@ pub const LINK_BELOW: u32 = 8;
 ///
 /// Source: Transputer instruction set handbook, processes; that the high queue is always empty is
 /// our choice.
-#[derive(Clone, Copy, Debug, PartialEq, Eq)]
+#[derive(Clone, Copy, PartialEq, Eq)]
 pub struct Queue {
     /// The workspace that is taken next, or `NOT_PROCESS`.
     pub front: u32,

@@ -30,7 +30,7 @@ pub trait RecordStore: Drop {
 }
 
 /// Why what a domain answered isn't recorded.
-#[derive(Clone, Copy, Debug, PartialEq, Eq)]
+#[derive(Clone, Copy)]
 pub enum NotKept {
     /// It can't be written, now or from an earlier time on.
     Failed,

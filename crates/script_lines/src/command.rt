@@ -5,7 +5,7 @@ ghost use Rattle.script_lines.specs.Verbs.{verb_of, place_asked};
 use crate::verb::Verb;
 
 /// What a script line asks.
-#[derive(Debug, Drop)]
+#[derive(Drop)]
 pub enum Command {
     /// Configuration bytes for the switch of the user's domain.
     Config(Vec<u8>),

@@ -6,7 +6,7 @@ use std::alloc::AllocError;
 use thiserror::Error;
 
 /// What is wrong with a script line, in the order of the tests.
-#[derive(Clone, Copy, Debug, PartialEq, Eq, Error)]
+#[derive(Clone, Copy, Debug, Error)]
 pub enum LineFault {
     /// The first word is no user's name.
     #[error("user")]
@@ -23,7 +23,7 @@ pub enum LineFault {
 }
 
 /// Why a script isn't read.
-#[derive(Clone, Copy, Debug, PartialEq, Eq, Error)]
+#[derive(Clone, Copy, Debug, Error)]
 pub enum ScriptFault {
     /// A line is wrong: the first that is, with its number, from 1.
     #[error("line {number}: {fault}")]
@@ -34,7 +34,7 @@ pub enum ScriptFault {
 }
 
 /// Why a line isn't read.
-#[derive(Clone, Copy, Debug, PartialEq, Eq)]
+#[derive(Clone, Copy)]
 pub enum Unread {
     /// It is wrong.
     Faulty(LineFault),

@@ -10,7 +10,7 @@ use script_text::{is_passed_over, split_line};
 use std::alloc::Global;
 
 /// What a line asks, and for which user.
-#[derive(Debug, Drop)]
+#[derive(Drop)]
 pub struct ScriptLine {
     /// The place of the user's name among all names.
     pub user: usize,

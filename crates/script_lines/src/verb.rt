@@ -4,7 +4,7 @@ ghost use Rattle.script_lines.specs.declared.verb.Verb.{Verb as SpecVerb};
 ghost use Rattle.script_lines.specs.Verbs.{name_of};
 
 /// What a line asks for, without its words.
-#[derive(Clone, Copy, Debug, PartialEq, Eq)]
+#[derive(Clone, Copy)]
 pub enum Verb {
     /// Configuration bytes for the switch of the user's domain.
     Config,

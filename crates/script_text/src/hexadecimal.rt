@@ -7,7 +7,7 @@ use std::alloc::Global;
 use thiserror::Error;
 
 /// Why a word gives no bytes.
-#[derive(Clone, Copy, Debug, PartialEq, Eq, Error)]
+#[derive(Clone, Copy, Debug, Error)]
 pub enum HexFault {
     #[error("not an even number of hexadecimal digits, at least two")]
     NotHex,

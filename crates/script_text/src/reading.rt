@@ -9,7 +9,7 @@ use thiserror::Error;
 pub const MOST_READS: u32 = 4_194_304;
 
 /// Why a stream gives no text.
-#[derive(Clone, Copy, Debug, PartialEq, Eq, Error)]
+#[derive(Clone, Copy, Debug, Error)]
 pub enum ReadFault {
     /// A read failed, or the stream hadn't ended after `MOST_READS` reads.
     #[error("a read failed")]

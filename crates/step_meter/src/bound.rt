@@ -7,7 +7,7 @@ use thiserror::Error;
 pub const STEPS_AT_ONCE: u64 = 1_048_576;
 
 /// As many Steps were done in all as may be, and more are wanted.
-#[derive(Clone, Copy, Debug, PartialEq, Eq, Error)]
+#[derive(Clone, Copy, Debug, Error)]
 #[error("stopped after {most} Steps: --steps N allows more")]
 pub struct StepsEnd {
     /// How many may be done.

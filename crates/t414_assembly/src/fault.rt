@@ -11,7 +11,7 @@ use thiserror::Error;
 const MOST_SHOWN: usize = 40;
 
 /// What was expected in place of what stands in a text. The texts begin with the numbers of the faults.
-#[derive(Clone, Copy, Debug, PartialEq, Eq)]
+#[derive(Clone, Copy, Debug)]
 pub enum Expected {
     Text,
     Statement,
@@ -79,7 +79,7 @@ impl fmt::Display for Expected {
 }
 
 /// Where something stands in a text: its line and its character in that line, both from 1.
-#[derive(Clone, Copy, Debug, PartialEq, Eq, Error)]
+#[derive(Clone, Copy, Debug, Error)]
 #[error("line {line}, column {column}")]
 pub struct Position {
     pub line: u64,

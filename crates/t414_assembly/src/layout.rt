@@ -20,7 +20,7 @@ pub struct Image {
 }
 
 /// Why a program has no bytes.
-#[derive(Clone, Copy, Debug, PartialEq, Eq, Error)]
+#[derive(Clone, Copy, Debug, Error)]
 pub enum LayoutFault {
     /// With this statement, counted from 0, the code has more than `MOST_CODE` bytes.
     #[error("more than 65464 bytes of code")]

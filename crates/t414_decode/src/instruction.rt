@@ -3,7 +3,7 @@
 /// What the high nibble of an instruction byte asks for.
 ///
 /// Source: Transputer instruction set handbook, direct functions.
-#[derive(Clone, Copy, Debug, PartialEq, Eq)]
+#[derive(Clone, Copy)]
 pub enum Function {
     /// j, 0
     Jump,
@@ -42,7 +42,7 @@ pub enum Function {
 /// What `Operate` does with an operand that is a known code.
 ///
 /// Source: Transputer instruction set handbook, operations.
-#[derive(Clone, Copy, Debug, PartialEq, Eq)]
+#[derive(Clone, Copy)]
 pub enum Operation {
     /// Names no channel.
     Plain(PlainOperation),
@@ -53,7 +53,7 @@ pub enum Operation {
 /// An operation on registers and memory alone.
 ///
 /// Source: Transputer instruction set handbook, operations.
-#[derive(Clone, Copy, Debug, PartialEq, Eq)]
+#[derive(Clone, Copy)]
 pub enum PlainOperation {
     /// rev, 00
     Reverse,
@@ -194,7 +194,7 @@ pub enum PlainOperation {
 /// An operation on a channel, which may belong to a link.
 ///
 /// Source: Transputer instruction set handbook, channels.
-#[derive(Clone, Copy, Debug, PartialEq, Eq)]
+#[derive(Clone, Copy)]
 pub enum ChannelOperation {
     /// in, 07
     InputMessage,

@@ -10,7 +10,7 @@ use process_queue::Queue;
 ///
 /// Source: Transputer instruction set handbook, registers; the count of bytes, by which processes take turns, is our
 /// choice in place of time.
-#[derive(Clone, Copy, Debug, PartialEq, Eq)]
+#[derive(Clone, Copy, PartialEq, Eq)]
 pub struct Cpu {
     /// Iptr, the address of the next instruction byte.
     pub instruction: u32,

@@ -9,7 +9,7 @@ use plan_checker::AcceptedPlan;
 use std::alloc::Global;
 
 /// What is lost.
-#[derive(Clone, Copy, PartialEq, Eq)]
+#[derive(Clone, Copy)]
 pub enum Loss {
     /// Of each journal a Step of the first Steps of one node that are more than one.
     Step,

@@ -9,7 +9,7 @@ use plan_checker::AcceptedPlan;
 use std::alloc::{AllocError, Global};
 
 /// What is told of what is left, after all was compared with the farm on one thread.
-#[derive(Clone, Copy, PartialEq, Eq)]
+#[derive(Clone, Copy)]
 pub enum ToldAtEnd {
     /// Nothing.
     Nothing,

@@ -1,7 +1,7 @@
 //! The right to step a node.
 
 /// The right to step a node. Whoever holds it is the only worker that checks the node out.
-#[derive(Clone, Copy, Debug, PartialEq, Eq)]
+#[derive(Clone, Copy, PartialEq, Eq)]
 pub struct Token {
     /// The number of the domain in the plan.
     pub domain: u8,
