@@ -10,6 +10,8 @@ sys.path.append(os.path.join(os.path.dirname(os.path.dirname(os.path.abspath(__f
 from tree import TOP, built, crate_lines, crates_below
 
 RUNS = 5
+# Rounds over all works of a table.
+ROUNDS = 8
 # What ./farm sets.
 KEEPS_MEMORY = {"MALLOC_TRIM_THRESHOLD_": "268435456", "MALLOC_TOP_PAD_": "1048576"}
 
@@ -35,12 +37,20 @@ def timed(call, text="", cores=None, more=None):
 
 def in_turns(is_right, *calls, runs=RUNS, **how):
     """So many runs of each of these calls, which take turns, as `timed` tells them. What any run prints must be right."""
-    taken = [[] for _ in calls]
+    [taken] = in_rounds([(is_right, *calls)], runs, **how)
+    return taken
+
+
+def in_rounds(works, runs=ROUNDS, **how):
+    """The same of several works, each with what is right of it and its calls, in rounds over all of them: so a minute in which
+    the machine is slow tells on no work alone."""
+    taken = [[[] for _ in calls] for _, *calls in works]
     for _ in range(runs):
-        for at, call in enumerate(calls):
-            taken[at].append(timed(call, **how))
-            if not is_right(taken[at][-1][1]):
-                sys.exit(f"{call[-1]}: a wrong answer: {taken[at][-1][1][-300:]}")
+        for runs_of, (is_right, *calls) in zip(taken, works):
+            for runs_of_call, call in zip(runs_of, calls):
+                runs_of_call.append(timed(call, **how))
+                if not is_right(runs_of_call[-1][1]):
+                    sys.exit(f"{call[-1]}: a wrong answer: {runs_of_call[-1][1][-300:]}")
     return taken
 
 
