@@ -2,9 +2,7 @@
 //!
 //! - `step`: the processor's step through loops of instruction bytes;
 //! - `node`: a node's bursts beside the step;
-//! - `domain`: events through a domain, and Steps of tickets;
-//! - `table`: loads, stores and surveys of switch words;
-//! - `service`: users, workers and an operator at a service.
+//! - `domain`: events through a domain, and Steps of tickets.
 //!
 //! COUNT is how many rounds, and NAME one of the work's names, which stand at the head of its module; without NAME all of
 //! them run. Without words there is a short run of every work, and `--help` tells these words.
@@ -15,15 +13,10 @@ mod faults;
 mod node;
 mod processor;
 mod selection;
-mod service;
 mod step;
-mod table;
-mod users;
 
 use crate::selection::Selection;
 use std::alloc::Global;
-use std::sync::Wait;
-use std::thread::Threads;
 use std::{env, io};
 
 /// What is measured.
@@ -32,20 +25,11 @@ enum Measurement {
     Step,
     Node,
     Domain,
-    Table,
-    Service,
 }
 
-const WORKS: [Measurement; 5] = [
-    Measurement::Step,
-    Measurement::Node,
-    Measurement::Domain,
-    Measurement::Table,
-    Measurement::Service,
-];
+const WORKS: [Measurement; 3] = [Measurement::Step, Measurement::Node, Measurement::Domain];
 
-const USAGE: &str =
-    "usage: bench [WORK [COUNT [NAME]]], where WORK is step, node, domain, table or service";
+const USAGE: &str = "usage: bench [WORK [COUNT [NAME]]], where WORK is step, node or domain";
 
 impl Measurement {
     // The work of this name.
@@ -54,8 +38,6 @@ impl Measurement {
             "step" => Some(Measurement::Step),
             "node" => Some(Measurement::Node),
             "domain" => Some(Measurement::Domain),
-            "table" => Some(Measurement::Table),
-            "service" => Some(Measurement::Service),
             _ => None,
         }
     }
@@ -63,30 +45,23 @@ impl Measurement {
     // How many rounds a short run has.
     fn few(self) -> u64 {
         match self {
-            Measurement::Step | Measurement::Node | Measurement::Table => 1000,
-            Measurement::Domain | Measurement::Service => 100,
+            Measurement::Step | Measurement::Node => 1000,
+            Measurement::Domain => 100,
         }
     }
 
     // Does what is asked for, and prints what came of it.
-    fn measure<R: Print + Threads + Wait + Sync>(
-        self,
-        rt: &R,
-        alloc: Global,
-        selection: Selection<'_>,
-    ) -> io::Result<()> {
+    fn measure(self, rt: &impl Print, alloc: Global, selection: Selection<'_>) -> io::Result<()> {
         match self {
             Measurement::Step => step::measure(rt, alloc, selection),
             Measurement::Node => node::measure(rt, alloc, selection),
             Measurement::Domain => domain::measure(rt, alloc, selection),
-            Measurement::Table => table::measure(rt, alloc, selection),
-            Measurement::Service => service::measure(rt, alloc, selection),
         }
     }
 }
 
 // A short run of every work.
-fn measure_all<R: Print + Threads + Wait + Sync>(rt: &R, alloc: Global) -> io::Result<()> {
+fn measure_all(rt: &impl Print, alloc: Global) -> io::Result<()> {
     for work in WORKS {
         let count = work.few();
         work.measure(rt, alloc, Selection { count, name: None })?;
