@@ -1,5 +1,6 @@
 """Proves crates, several at one time: how many jobs there are, which crate goes first, and what is shown of it."""
 import os
+import shutil
 import sys
 from concurrent.futures import FIRST_COMPLETED, ThreadPoolExecutor, wait
 
@@ -10,6 +11,20 @@ MEMORY_OF_A_JOB = 2 << 30
 MOST_JOBS_OF_A_CRATE = 4
 # How far the system may put a crate back behind others.
 LAST_RANK = 10
+# Where the toolchain's commands are.
+KIT = os.path.dirname(os.path.realpath(shutil.which("rt") or "rt"))
+
+
+def kit_crates(libraries):
+    """The toolchain's own commands, and its view of each crate, if the libraries of crates stand in their folders out/LIBRARIES."""
+    sys.path.insert(0, KIT)
+    import rtlib  # pylint: disable=import-error,import-outside-toplevel
+
+    rtlib.guarded()
+    crates = {it.name: it for it in rtlib.crates_below(TOP)}
+    for it in crates.values():
+        it.rlib = f"{it.folder}/out/{libraries}/{it.name}.rlib"
+    return rtlib, crates
 
 
 def cores():
