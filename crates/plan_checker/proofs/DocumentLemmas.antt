@@ -1,15 +1,17 @@
 -- Data of a TOML document and the plans that it spells: the contracts of `read_plan`, of the readers of a plan's
 -- parts, and of `list_of`.
 use Rattle.std.proofs.Common.{◌≡◌, ◌<◌, ◌+◌, ◌++◌, ℕ, suc, List, [], ◌∷◌, map, take, length, get_or, codes}
-use Rattle.std.proofs.Common.{Some, Result, Ok, Err, All, Vec, Global, subst, zero, refl, ap, sym, ◌∙◌, arith}
+use Rattle.std.proofs.Common.{ℤ, MatchResult, Option, Some, Result, Ok, Err, All, Vec, Global, subst, zero, refl, ap}
+use Rattle.std.proofs.Common.{sym, ◌∙◌, arith}
 use Rattle.toml.specs.Data.{Data, string, integer, float, boolean, datetime, array, table, Items, no_items}
 use Rattle.toml.specs.Data.{item, Members, no_members, member, get_member, get_item, push_item, as_array}
 use Rattle.toml.specs.View.{view, items_of, items_view}
 use Rattle.toml.specs.declared.value.Value.{Value}
 use Rattle.toml.proofs.Views.{items_view-push, get_item_within}
 use Rattle.plan_checker.specs.Fields.{keys_of}
-use Rattle.plan_rules.specs.Data.{DomainData}
-use Rattle.plan_checker.specs.Document.{ReadsValue, list, document, IsDocument, ReadsDocument, ReadsPlan}
+use Rattle.plan_rules.specs.Data.{UserData, DomainData}
+use Rattle.plan_checker.specs.Version.{version_number}
+use Rattle.plan_checker.specs.Document.{ReadsValue, list, user, document, IsDocument, ReadsDocument, ReadsPlan}
 use Rattle.plan_rules.specs.declared.fault.PlanFault.{PlanFault}
 use Rattle.plan_rules.specs.declared.fault.PlanFault.TheVariants.{Text, Shape, DomainCount, Name, NameTwice}
 use Rattle.plan_rules.specs.declared.fault.PlanFault.TheVariants.{Range, SharedPort, NodeCount, Memory}
@@ -106,6 +108,12 @@ pub same_length : {X : Type 0} (make : X → Data) (value : Data) (xs ys : List 
     → length xs ≡ length ys
 same_length make value xs ys same equal =
     sym (count_items-map make xs) ∙ ap (λ d. count_items (items_in d)) (sym same ∙ equal) ∙ count_items-map make ys
+
+-- one list of the data of a field has one length
+pub same_field_length : {X : Type 0} (make : X → Data) (field : Option Data) (xs ys : List X)
+    → field ≡ Some (list make xs) → field ≡ Some (list make ys)
+    → length xs ≡ length ys
+same_field_length make field xs ys same equal = same_length make (list make xs) xs ys refl (cc)
 
 -- a table with just the keys of a node has just these two values
 pub node_fields : (ms : Members) (links memory : Data)
@@ -260,7 +268,56 @@ part_fault Part f shown Whole g seen v w NoMemory of taken given = tt
 part_fault Part f shown Whole g seen v w _ of taken given = absurd given
 
 -- the value of a field, in a table that is written in two ways
-pub at_field : (value : Data) (ms ns : Members) (key : List ℕ) (other_data third_data : Data)
-    → value ≡ table ms → value ≡ table ns → get_member key ms ≡ Some other_data → get_member key ns ≡ Some third_data
-    → other_data ≡ third_data
-at_field value ms ns key other_data third_data first second at_ms at_ns = cc
+pub at_field : (value : Data) (ms ns : Members) (key : List ℕ) → value ≡ table ms → value ≡ table ns
+    → get_member key ms ≡ get_member key ns
+at_field value ms ns key first second = cc
+
+-- the values of two fields, in a table that is written in two ways
+pub at_fields : (value : Data) (ms ns : Members) (key other : List ℕ) → value ≡ table ms → value ≡ table ns
+    → get_member key ms ∷ get_member other ms ∷ [] ≡ get_member key ns ∷ get_member other ns ∷ []
+at_fields value ms ns key other first second = cc
+
+-- two values that are equal to two others
+pub both : {A : Type 0} (a b c d : A) → a ∷ b ∷ [] ≡ c ∷ d ∷ [] → (a ≡ c) × (b ≡ d)
+both a b c d same = (cc, cc)
+
+-- what the reader of a value says of the field that has it
+pub in_field : {X Y : Type 0} (Whole : Y → Type 0) (make : Y → Data) (shown : X → Y) (field : Option Data)
+    (value : Data) (outcome : Result X PlanFault)
+    → field ≡ Some value → ReadsValue {X = X} Whole make shown value outcome
+    → ReadsValue {X = X} Whole (λ y. Some (make y)) shown field outcome
+in_field Whole make shown field value (Ok x) at given = (at ∙ ap Some given.0, given.1)
+in_field Whole make shown field value (Err Shape) at given = λ y whole is. given y whole (cc)
+in_field Whole make shown field value (Err NoMemory) at given = tt
+in_field Whole make shown field value (Err _) at given = absurd given
+
+-- a list of one item that is read, as the only one
+pub only_item : {Y D : Type 0} (Whole : List Y → Type 0) (make : List Y → D) (v : D) (y : Y)
+    (outcome : Result (Vec Y Global) PlanFault) → v ≡ make (y ∷ []) → Whole (y ∷ [])
+    → MatchResult outcome (λ xs. xs.items ≡ y ∷ []) (λ e. e ≡ NoMemory)
+    → ReadsValue {X = Vec Y Global} Whole make (λ xs. xs.items) v outcome
+only_item Whole make v y (Ok xs) is whole given = rw given (is, whole)
+only_item Whole make v y (Err fault) is whole given = rw given tt
+
+-- what the reader of a user's fields says of the value whose table has just them
+pub whole_user : (value : Data) (ms : Members) (outcome : Result UserData PlanFault) → value ≡ table ms
+    → keys_of ms ≡ codes "host" ∷ codes "name" ∷ []
+    → ReadsValue {X = UserData} (λ _. Unit {0}) (λ u. Some (list integer u.hosts) ∷ Some (string u.name) ∷ []) (λ u. u)
+    (get_member (codes "host") ms ∷ get_member (codes "name") ms ∷ []) outcome
+    → ReadsValue {X = UserData} (λ _. Unit {0}) user (λ u. u) value outcome
+whole_user value ms (Ok u) is keys given =
+    let two = both _ _ _ _ given.0 in
+    (is ∙ ap table (user_fields ms _ _ keys two.0 two.1), tt)
+whole_user value ms (Err fault) is keys given =
+    part_fault {X = UserData} (λ _. Unit {0}) (λ u. Some (list integer u.hosts) ∷ Some (string u.name) ∷ []) (λ u. u)
+    (λ _. Unit {0}) user (λ u. u) _ value fault (λ (u : UserData). u)
+    (λ u whole e. (at_fields value ms _ (codes "host") (codes "name") is e, tt)) given
+
+-- a fault of the number of the version is that of the document
+pub number_fault : (ms : Members) (fault : PlanFault)
+    → ReadsValue {X = ℤ} (λ _. Unit {0}) (λ z. Some (integer z)) (λ z. z) (get_member (codes "version") ms) (Err fault)
+    → ReadsDocument ms (Err fault)
+number_fault ms Shape given =
+    λ version plan is. given (version_number version) tt (ap (get_member (codes "version")) is.0)
+number_fault ms NoMemory given = tt
+number_fault ms _ given = absurd given

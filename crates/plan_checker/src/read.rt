@@ -1,12 +1,13 @@
 //! Reading a plan from TOML text.
-ghost use Rattle.std.specs.Prelude.{◌≡◌, ℤ, [], ◌∷◌, length, MatchResult};
-ghost use Rattle.toml.specs.Data.{integer};
+ghost use Rattle.std.specs.Prelude.{◌≡◌, ℤ, [], ◌∷◌, length, MatchResult, Some, codes};
+ghost use Rattle.toml.specs.Data.{integer, string, get_member};
 ghost use Rattle.toml.specs.View.{view, table_view};
 ghost use Rattle.plan_checker.specs.declared.version.PlanVersion.TheVariants.{One, Two, Three};
 ghost use Rattle.plan_checker.specs.Document.{ReadsPlan, ReadsDocument, ReadsValue, list, node, range, user, domain, HasFourLinks, IsWhole};
+ghost use Rattle.plan_checker.specs.Document.{first_of, last_of, hosts_of_first, name_of_first};
 
 use crate::fields::has_fields;
-use crate::values::{FromValue, integer_of, integers_of, list_of, table_of, text_of, value_at};
+use crate::values::{FromValue, integer_at, integers_of, list_at, table_of, text_at};
 use crate::version::PlanVersion;
 use plan_rules::{DomainPlan, NodePlan, Plan, PlanFault, RangePlan, UserPlan};
 use std::alloc::Global;
@@ -23,17 +24,18 @@ impl FromValue for NodePlan {
         value: &Value,
     ) -> Result<NodePlan, PlanFault> {
         let table = table_of(value, &["links", "memory"])?;
-        let memory = integer_of(value_at(table, "memory")?)?;
-        let links = links_of(alloc, value_at(table, "links")?)?;
+        let memory = integer_at(table, "memory")?;
+        let links = links_of(alloc, table)?;
         Ok(NodePlan { memory, links })
     }
 }
 
-fn links_of(alloc: Global, value: &Value) -> Result<[i64; 4], PlanFault>
-    ensures { ReadsValue (λ links. length links ≡ 4) (list integer) (λ links. links)
-        (view value.now) result }
+/// The four links that the field `links` of a table gives.
+fn links_of(alloc: Global, table: &Table) -> Result<[i64; 4], PlanFault>
+    ensures { ReadsValue (λ links. length links ≡ 4) (λ links. Some (list integer links)) (λ links. links)
+        (get_member (codes "links") (table_view table.now)) result }
 {
-    let links = integers_of(alloc, value)?;
+    let links: Vec<i64> = list_at(alloc, PlanVersion::Three, table, "links")?;
     match links.as_slice() {
         [a, b, c, d] => Ok([*a, *b, *c, *d]),
         _ => Err(PlanFault::Shape),
@@ -72,10 +74,19 @@ impl FromValue for UserPlan {
         value: &Value,
     ) -> Result<UserPlan, PlanFault> {
         let table = table_of(value, &["host", "name"])?;
-        let hosts = integers_of(alloc, value_at(table, "host")?)?;
-        let name = text_of(alloc, value_at(table, "name")?)?;
-        Ok(UserPlan { name, hosts })
+        user_of(alloc, table)
     }
+}
+
+/// The user that the fields `host` and `name` of a table give.
+fn user_of(alloc: Global, table: &Table) -> Result<UserPlan, PlanFault>
+    ensures { ReadsValue (λ _. Unit {0}) (λ u. Some (list integer u.hosts) ∷ Some (string u.name) ∷ []) (λ u. u)
+        (get_member (codes "host") (table_view table.now) ∷ get_member (codes "name") (table_view table.now) ∷ [])
+        result }
+{
+    let hosts = list_at(alloc, PlanVersion::Three, table, "host")?;
+    let name = text_at(alloc, table, "name")?;
+    Ok(UserPlan { name, hosts })
 }
 
 impl FromValue for DomainPlan {
@@ -101,14 +112,10 @@ fn domain_of_one_range(alloc: Global, value: &Value) -> Result<DomainPlan, PlanF
     ensures { ReadsValue (IsWhole One) (domain One) (λ d. d) (view value.now) result }
 {
     let table = table_of(value, &["first", "host", "last", "limit", "name", "node"])?;
-    let first = integer_of(value_at(table, "first")?)?;
-    let hosts = integers_of(alloc, value_at(table, "host")?)?;
-    let last = integer_of(value_at(table, "last")?)?;
-    let limit = integer_of(value_at(table, "limit")?)?;
-    let name = text_of(alloc, value_at(table, "name")?)?;
-    let nodes = list_of(alloc, PlanVersion::One, value_at(table, "node")?)?;
-    let users = list_of_one(alloc, UserPlan { name, hosts })?;
-    let ranges = list_of_one(alloc, RangePlan { first, last })?;
+    let limit = integer_at(table, "limit")?;
+    let ranges = only_range(alloc, table)?;
+    let users = only_user(alloc, table)?;
+    let nodes = list_at(alloc, PlanVersion::One, table, "node")?;
     Ok(DomainPlan {
         users,
         ranges,
@@ -122,12 +129,10 @@ fn domain_of_one_user(alloc: Global, value: &Value) -> Result<DomainPlan, PlanFa
     ensures { ReadsValue (IsWhole Two) (domain Two) (λ d. d) (view value.now) result }
 {
     let table = table_of(value, &["host", "limit", "name", "node", "range"])?;
-    let hosts = integers_of(alloc, value_at(table, "host")?)?;
-    let limit = integer_of(value_at(table, "limit")?)?;
-    let name = text_of(alloc, value_at(table, "name")?)?;
-    let nodes = list_of(alloc, PlanVersion::Two, value_at(table, "node")?)?;
-    let ranges = list_of(alloc, PlanVersion::Two, value_at(table, "range")?)?;
-    let users = list_of_one(alloc, UserPlan { name, hosts })?;
+    let limit = integer_at(table, "limit")?;
+    let users = only_user(alloc, table)?;
+    let nodes = list_at(alloc, PlanVersion::Two, table, "node")?;
+    let ranges = list_at(alloc, PlanVersion::Two, table, "range")?;
     Ok(DomainPlan {
         users,
         ranges,
@@ -141,16 +146,38 @@ fn domain_of_users(alloc: Global, value: &Value) -> Result<DomainPlan, PlanFault
     ensures { ReadsValue (IsWhole Three) (domain Three) (λ d. d) (view value.now) result }
 {
     let table = table_of(value, &["limit", "node", "range", "user"])?;
-    let limit = integer_of(value_at(table, "limit")?)?;
-    let nodes = list_of(alloc, PlanVersion::Three, value_at(table, "node")?)?;
-    let ranges = list_of(alloc, PlanVersion::Three, value_at(table, "range")?)?;
-    let users = list_of(alloc, PlanVersion::Three, value_at(table, "user")?)?;
+    let limit = integer_at(table, "limit")?;
+    let nodes = list_at(alloc, PlanVersion::Three, table, "node")?;
+    let ranges = list_at(alloc, PlanVersion::Three, table, "range")?;
+    let users = list_at(alloc, PlanVersion::Three, table, "user")?;
     Ok(DomainPlan {
         users,
         ranges,
         limit,
         nodes,
     })
+}
+
+/// The range that the fields `first` and `last` of a table give, as the only one.
+fn only_range(alloc: Global, table: &Table) -> Result<Vec<RangePlan>, PlanFault>
+    ensures { ReadsValue (λ rs. length rs ≡ 1)
+        (λ rs. Some (integer (first_of rs)) ∷ Some (integer (last_of rs)) ∷ []) (λ v. v.items)
+        (get_member (codes "first") (table_view table.now) ∷ get_member (codes "last") (table_view table.now) ∷ [])
+        result }
+{
+    let first = integer_at(table, "first")?;
+    let last = integer_at(table, "last")?;
+    list_of_one(alloc, RangePlan { first, last })
+}
+
+/// The user that the fields `host` and `name` of a table give, as the only one.
+fn only_user(alloc: Global, table: &Table) -> Result<Vec<UserPlan>, PlanFault>
+    ensures { ReadsValue (λ us. length us ≡ 1)
+        (λ us. Some (list integer (hosts_of_first us)) ∷ Some (string (name_of_first us)) ∷ []) (λ v. v.items)
+        (get_member (codes "host") (table_view table.now) ∷ get_member (codes "name") (table_view table.now) ∷ [])
+        result }
+{
+    list_of_one(alloc, user_of(alloc, table)?)
 }
 
 /// A list of one item.
@@ -169,10 +196,10 @@ fn plan_of(alloc: Global, document: &Table) -> Result<Plan, PlanFault>
     if !has_fields(document, &["domain", "version"]) {
         return Err(PlanFault::Shape);
     }
-    let number = integer_of(value_at(document, "version")?)?;
+    let number = integer_at(document, "version")?;
     match PlanVersion::of(number) {
         Some(version) => {
-            let domains = list_of(alloc, version, value_at(document, "domain")?)?;
+            let domains = list_at(alloc, version, document, "domain")?;
             Ok(Plan { domains })
         }
         None => Err(PlanFault::Shape),

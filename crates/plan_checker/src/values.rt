@@ -75,6 +75,35 @@ pub fn value_at<'a>(table: &'a Table, name: &str) -> Result<&'a Value, PlanFault
     }
 }
 
+/// The integer that a field is.
+pub fn integer_at(table: &Table, name: &str) -> Result<i64, PlanFault>
+    ensures { ReadsValue (λ _. Unit {0}) (λ z. Some (integer z)) (λ z. z)
+        (get_member name.now (table_view table.now)) result }
+{
+    integer_of(value_at(table, name)?)
+}
+
+/// The text that a field is.
+pub fn text_at(alloc: Global, table: &Table, name: &str) -> Result<String, PlanFault>
+    ensures { ReadsValue (λ _. Unit {0}) (λ s. Some (string s)) string_bytes
+        (get_member name.now (table_view table.now)) result }
+{
+    text_of(alloc, value_at(table, name)?)
+}
+
+/// The values that the items of a field's array spell.
+pub fn list_at<T: FromValue>(
+    alloc: Global,
+    version: PlanVersion,
+    table: &Table,
+    name: &str,
+) -> Result<Vec<T>, PlanFault>
+    ensures { ReadsValue (All (T.is_whole version)) (λ xs. Some (list (T.spelling version) xs)) (λ v. v.items)
+        (get_member name.now (table_view table.now)) result }
+{
+    list_of(alloc, version, value_at(table, name)?)
+}
+
 /// The values that the items of an array spell.
 pub fn list_of<T: FromValue>(
     alloc: Global,

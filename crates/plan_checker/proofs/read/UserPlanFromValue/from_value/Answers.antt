@@ -1,7 +1,6 @@
-use Rattle.std.proofs.Common.{ap, ◌∙◌, Some, refl}
+use Rattle.std.proofs.Common.{refl}
 use Rattle.std.proofs.lemmas.Result.{err_from_is_err_and}
-use Rattle.toml.specs.Data.{table}
-use Rattle.plan_checker.proofs.DocumentLemmas.{user_fields}
+use Rattle.plan_checker.proofs.DocumentLemmas.{whole_user}
 use Rattle.plan_checker.proofs.read.UserPlanFromValue.from_value.Goals as goal
 
 pub returns-in_err-table : goal.returns-in_err-table
@@ -10,8 +9,4 @@ returns-in_err-table c =
     rw (p.1, p.2, c.in_err-table.ensures.0) (λ u whole e. c.in_err-table.ensures.1 _ (e, refl))
 
 pub returns : goal.returns
-returns c =
-    let fields = user_fields _ _ _ c.in_ok-table.ensures.1
-    (c.in_ok-value_at.ensures ∙ ap Some c.in_ok-hosts.ensures.0)
-    (c.in_ok-value_at-2.ensures ∙ ap Some c.in_ok-name.ensures.0) in
-    (c.in_ok-table.ensures.0 ∙ ap table fields, tt)
+returns c = whole_user _ _ _ c.in_ok-table.ensures.0 c.in_ok-table.ensures.1 c.user_of.ensures
