@@ -1,11 +1,13 @@
--- Lists whose elements are related, each to the later ones, for
--- the rules of a plan that compare ports, names and ranges.
+-- Lists whose elements are related, each to the later ones, for the rules of a plan that compare ports, names and
+-- ranges, and lists that a loop makes of another's items.
 use Rattle.std.proofs.Common.{◌≡◌, ◌<◌, ◌≤◌, ◌+◌, ◌++◌, ℕ, suc, List, [], ◌∷◌, length, take, drop, get_or, refl, ap}
-use Rattle.std.proofs.Common.{sym, subst, All, AllPairs, flat_map, ◌∙◌, arith, length-append}
-use Rattle.std.proofs.lemmas.List.{take_more, append-nil, take-append-drop}
+use Rattle.std.proofs.Common.{Bool, true, false, sym, subst, All, AllPairs, map, filter, flat_map, ◌∙◌, arith}
+use Rattle.std.proofs.Common.{length-append}
+use Rattle.std.proofs.lemmas.List.{take_more, take_all, map_more, flat_map_more, append_assoc, append-nil}
+use Rattle.std.proofs.lemmas.List.{take-append-drop}
 use Rattle.std.proofs.lemmas.List.Concat.{flat_map-cons}
 use Rattle.std.proofs.lemmas.Grind.{flat_map-append}
-use Rattle.std.proofs.lemmas.List.Elements.{All-push, All-append, All-head, All-tail, All-cons, All-nil}
+use Rattle.std.proofs.lemmas.List.Elements.{filter_more, All-push, All-append, All-head, All-tail, All-cons, All-nil}
 use Rattle.std.proofs.lemmas.List.Kept.{AllPairs-cons}
 
 -- one more element that has the fact
@@ -186,3 +188,43 @@ pairs_alone R make d given = rw (flat_map-cons make d [], append-nil (make d)) g
 pub pairs_of_one : {D X : Type 0} (R : X → X → Type 0) (make : D → List X) (d : D) → AllPairs R (flat_map make (d ∷ []))
     → AllPairs R (make d)
 pairs_of_one R make d given = All-head (λ d. AllPairs R (make d)) d [] (lists_each R make (d ∷ []) given)
+
+-- one more item, behind the values of those before it
+pub mapped_more : {X Y : Type 0} (f : X → Y) (xs : List X) (i : ℕ) (x : X) (ys : List Y) → i < length xs
+    → ys ≡ map f (take i xs)
+    → ys ++ f (get_or xs i x) ∷ [] ≡ map f (take (i + 1) xs)
+mapped_more f xs i x ys within so_far = rw (map_more f xs i x within, so_far) refl
+
+-- the values of one more item, behind other values and those of the items before it
+pub added_more : {X A : Type 0} (make : X → List A) (front : List A) (xs : List X) (i : ℕ) (x : X) (ys : List A)
+    → i < length xs → ys ≡ front ++ flat_map make (take i xs)
+    → ys ++ make (get_or xs i x) ≡ front ++ flat_map make (take (i + 1) xs)
+added_more make front xs i x ys within so_far =
+    rw (take_more xs i x within, so_far) (flat_map_more make front (take i xs) (get_or xs i x))
+
+-- what holds up to an index past the end holds of the whole list
+pub at_end : {X Y : Type 0} (shown : List X → Y) (xs : List X) (i : ℕ) (y : Y) → length xs ≤ i → y ≡ shown (take i xs)
+    → y ≡ shown xs
+at_end shown xs i y past so_far = so_far ∙ ap shown (take_all i xs past)
+
+-- one more item, behind other values and those of the items before it
+pub mapped_behind : {X Y : Type 0} (f : X → Y) (front : List Y) (xs : List X) (i : ℕ) (x : X) (ys : List Y)
+    → i < length xs → ys ≡ front ++ map f (take i xs)
+    → ys ++ f (get_or xs i x) ∷ [] ≡ front ++ map f (take (i + 1) xs)
+mapped_behind f front xs i x ys within so_far =
+    rw (map_more f xs i x within, so_far) (append_assoc front (map f (take i xs)) (f (get_or xs i x) ∷ []))
+
+-- one more item that passes the test, behind other values and the items before it that pass
+pub kept_behind : {X : Type 0} (p : X → Bool) (front xs : List X) (i : ℕ) (x : X) (ys : List X) → i < length xs
+    → ys ≡ front ++ filter p (take i xs) → p (get_or xs i x) ≡ true
+    → ys ++ get_or xs i x ∷ [] ≡ front ++ filter p (take (i + 1) xs)
+kept_behind p front xs i x ys within so_far passes =
+    rw (filter_more p xs i x within, passes, so_far)
+    (append_assoc front (filter p (take i xs)) (get_or xs i x ∷ []))
+
+-- one more item that fails the test, behind other values and the items before it that pass
+pub left_out : {X : Type 0} (p : X → Bool) (front xs : List X) (i : ℕ) (x : X) (ys : List X) → i < length xs
+    → ys ≡ front ++ filter p (take i xs) → p (get_or xs i x) ≡ false
+    → ys ≡ front ++ filter p (take (i + 1) xs)
+left_out p front xs i x ys within so_far fails =
+    rw (filter_more p xs i x within, fails, append-nil (filter p (take i xs))) so_far

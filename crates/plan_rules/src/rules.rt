@@ -33,7 +33,7 @@ pub fn is_range(range: &RangePlan) -> bool
 pub fn has_ranges(domain: &DomainPlan) -> bool
     ensures { IsTrue result ↔ All IsRange domain.now.ranges }
 {
-    domain.ranges.iter().all(|range| is_range(range))
+    domain.ranges.iter().all(is_range)
 }
 
 /// Whether there are one to four ranges.
@@ -89,7 +89,7 @@ pub fn has_wired_link(node: &NodePlan) -> bool
 pub fn has_wired_nodes(domain: &DomainPlan) -> bool
     ensures { IsTrue result ↔ All HasWiredLink domain.now.nodes }
 {
-    domain.nodes.iter().all(|node| has_wired_link(node))
+    domain.nodes.iter().all(has_wired_link)
 }
 
 fn has_host(user: &UserPlan) -> bool
@@ -116,7 +116,7 @@ fn has_few_hosts(domain: &DomainPlan) -> bool
 pub fn has_host_count(domain: &DomainPlan) -> bool
     ensures { IsTrue result ↔ HasHosts domain.now }
 {
-    domain.users.iter().all(|user| has_host(user)) && has_few_hosts(domain)
+    domain.users.iter().all(has_host) && has_few_hosts(domain)
 }
 
 /// Whether the limit is 1 to 2^40.
