@@ -1,8 +1,8 @@
 -- One domain of a list of separate domains is changed, and what this is for every whole farm made of them: the clauses
 -- of `PlainFarm::apply`, `commit` and `restart`.
-use Rattle.std.proofs.Common.{◌≡◌, ℕ, ◌<◌, Some, Result, Ok, Err, List, length, get_or, slice_get, slice_set}
-use Rattle.std.proofs.Common.{option_map, refl, sym, ap, ◌∙◌, subst}
-use Rattle.std.proofs.lemmas.Option.{slice_get-map, slice_get_read, get_or_from_slice_get}
+use Rattle.std.proofs.Common.{◌≡◌, ℕ, ◌<◌, ◌≤◌, None, Some, Result, Ok, Err, OnErr, List, length, get_or}
+use Rattle.std.proofs.Common.{slice_get, slice_set, option_map, refl, sym, ap, ◌∙◌, subst}
+use Rattle.std.proofs.lemmas.Option.{slice_get-map, slice_get_read, slice_get_past, get_or_from_slice_get}
 use Rattle.std.proofs.lemmas.List.{map-set, set-get_or}
 use Rattle.std.proofs.Math.Seq.{map-set_same}
 use Rattle.domain_core.specs.declared.domain.Committed.{Committed}
@@ -13,12 +13,12 @@ use Rattle.domain_core.specs.Ticket.{TicketValue}
 use Rattle.domain_core.specs.PrivateFarm.{Answer, Call, next}
 use Rattle.domain_core.specs.Domain.{DomainValue, state_of, UnlessNoMemory, IsCalled}
 use Rattle.farm_core.specs.Places.{AreSeparatePlaces}
-use Rattle.farm_core.specs.Whole.{whole_next}
+use Rattle.farm_core.specs.Whole.{Farm, next_in, whole_next}
 use Rattle.farm_core.specs.Projection.{lowered_for}
 use Rattle.farm_core.specs.Domains.{IsMadeOf}
 use Rattle.farm_core.specs.Merges.{own_place}
 use Rattle.farm_core.specs.PlainFarm.{all_places, all_states, OthersStay, IsCalledAt, IsCallOfEachWhole, IsCommitted}
-use Rattle.farm_core.specs.PlainFarm.{IsCommittedAt, IsRestarted, IsRestartedAt}
+use Rattle.farm_core.specs.PlainFarm.{IsMadeOfDomains, IsWholeCall, IsCommittedAt, IsRestarted, IsRestartedAt}
 use Rattle.farm_core.proofs.MadeOfDomains.{get-set_same, get-set_other, each_call_is_private}
 use Rattle.crossbar.specs.Laws.{SwitchLaws}
 
@@ -43,6 +43,13 @@ pub read_there : (items domains : List DomainValue) (i domain : ℕ) (d : Domain
     → slice_get domains domain ≡ Some d
 read_there items domains i domain d same number within is =
     slice_get_read domains (length domains) domain d refl within (is ∙ (λ k. get_or (same k) (number k) d))
+
+-- there is no domain of a number that is past the end of the list
+pub none_at : (items domains : List DomainValue) (i domain : ℕ)
+    → items ≡ domains → i ≡ domain → length items ≤ i
+    → slice_get domains domain ≡ None
+none_at items domains i domain same number past =
+    (λ k. slice_get (sym same k) (sym number k)) ∙ slice_get_past items i past
 
 -- the domain at the number is the new one
 pub new_at : (domains later : List DomainValue) (domain : ℕ) (old new : DomainValue)
@@ -73,6 +80,14 @@ pub still_separate : (domains later : List DomainValue) (domain : ℕ) (old new 
     → AreSeparatePlaces (all_places later)
 still_separate domains later domain old new is separate =
     subst AreSeparatePlaces (sym (places_stay domains later domain old new is)) separate
+
+-- a domain that stays leaves all as they were
+pub all_stay : (domains later : List DomainValue) (domain : ℕ) (old new : DomainValue)
+    → Replaces domains later domain old new → new ≡ old
+    → later ≡ domains
+all_stay domains later domain old new is same =
+    is.later_is ∙ ap (slice_set domains domain) (same ∙ sym (get_or_from_slice_get domains domain old old is.there))
+    ∙ set-get_or domains domain old
 
 -- the place at a domain's number is its own
 pub place_at : (domains : List DomainValue) (domain : ℕ) (d : DomainValue) → slice_get domains domain ≡ Some d
@@ -139,6 +154,29 @@ call_of_each_whole laws domains later domain old new call told is separate calle
     (λ answer state. whole_call laws domains later domain old new call told is separate answer state) called.answer
     called.state
 
+-- a refusal that changes nothing leaves all domains as they were
+pub err_stays : (domains later : List DomainValue) (domain : ℕ) (old new : DomainValue) (told : Answer)
+    → Replaces domains later domain old new
+    → OnErr told (new ≡ old) → OnErr told (later ≡ domains)
+err_stays domains later domain old new (Ok reply) is same = tt
+err_stays domains later domain old new (Err refusal) is same = all_stay domains later domain old new is same
+
+-- a call of a domain that isn't there is refused, and changes no whole farm
+pub no_call_of_each_whole : (domains later : List DomainValue) (domain : ℕ) (call : Call)
+    → slice_get domains domain ≡ None → later ≡ domains
+    → IsCallOfEachWhole domain call (Err NoSuch) domains later
+no_call_of_each_whole domains later domain call none same farm made =
+    let plan = all_places domains in
+    let nowhere : slice_get plan domain ≡ None =
+    slice_get-map own_place domains domain ∙ ap (option_map own_place) none in
+    subst (λ (ds : List DomainValue). IsWholeCall farm domain call (Err NoSuch) domains ds) (sym same)
+    (record {
+      answer = sym (ap (λ found. lowered_for found (next_in plan farm domain call found).1) nowhere);
+      made =
+          subst (λ (f : Farm). IsMadeOfDomains f domains)
+          (sym (ap (λ found. (next_in plan farm domain call found).0) nowhere)) made;
+    })
+
 -- ---- a ticket
 
 -- a domain keeps its place when a ticket is committed
@@ -158,14 +196,6 @@ pub committed_at : (domains later : List DomainValue) (domain : ℕ) (old new : 
 committed_at domains later domain old new t told is committed =
     subst (λ found. IsCommittedAt t told found (slice_get later domain)) (sym is.there)
     (subst (λ found. IsCommittedAt t told (Some old) found) (sym (new_at domains later domain old new is)) committed)
-
--- a domain that stays leaves all as they were
-pub all_stay : (domains later : List DomainValue) (domain : ℕ) (old new : DomainValue)
-    → Replaces domains later domain old new → new ≡ old
-    → later ≡ domains
-all_stay domains later domain old new is same =
-    is.later_is ∙ ap (slice_set domains domain) (same ∙ sym (get_or_from_slice_get domains domain old old is.there))
-    ∙ set-get_or domains domain old
 
 -- ---- a restart
 

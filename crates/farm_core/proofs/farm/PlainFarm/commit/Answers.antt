@@ -1,9 +1,10 @@
-use Rattle.std.proofs.Common.{◌<◌, List, length, slice_set, subst}
+use Rattle.std.proofs.Common.{◌≡◌, ◌<◌, List, None, Err, length, refl, sym, ap, slice_get, slice_set, subst}
+use Rattle.domain_core.specs.declared.event.Refusal.TheVariants.{NoSuch}
 use Rattle.domain_core.specs.Domain.{DomainValue}
 use Rattle.farm_core.specs.Places.{AreSeparatePlaces}
-use Rattle.farm_core.specs.PlainFarm.{all_places, IsCommitted}
+use Rattle.farm_core.specs.PlainFarm.{all_places, IsCommitted, IsCommittedAt}
 use Rattle.farm_core.proofs.Plain.{Replaces, read_at, still_separate, committed_at, place_of_committed, others_stay}
-use Rattle.farm_core.proofs.Plain.{places_stay, all_stay}
+use Rattle.farm_core.proofs.Plain.{none_at, places_stay, all_stay}
 use Rattle.farm_core.proofs.farm.PlainFarm.commit.Goals as goal
 
 committed : (c : goal.After-self-2-1) → IsCommitted c.args.ticket c.commit.result c.in-Some.home.now c.commit.new.self
@@ -47,3 +48,27 @@ returns-clause-places c = places_stay _ _ _ _ _ (replaces c)
 
 pub returns-clause-unchanged : goal.returns-clause-unchanged
 returns-clause-unchanged c = λ other. all_stay _ _ _ _ _ (replaces c) (c.commit.ensures.unchanged other)
+
+pub invariant_of-self : goal.invariant_of-self
+invariant_of-self c = c.self.invariant
+
+-- there is no domain of the number
+none : (c : goal.After-drop-ticket-inside-in_default) → slice_get c.args.self.now c.args.domain ≡ None
+none c =
+    none_at c.self.inside.domains.items c.args.self.now c.from.result c.args.domain c.self.view_is c.from.ensures
+    c.in_default.ensures.item.3
+
+pub returns-in_default-clause-own : goal.returns-in_default-clause-own
+returns-in_default-clause-own c =
+    subst (λ found. IsCommittedAt c.args.ticket (Err NoSuch) found
+    (slice_get c.self.inside.domains.items c.args.domain)) (sym (none c)) refl
+
+pub returns-in_default-clause-others : goal.returns-in_default-clause-others
+returns-in_default-clause-others c =
+    λ other _. ap (λ (ds : List DomainValue). slice_get ds other) c.self.view_is
+
+pub returns-in_default-clause-places : goal.returns-in_default-clause-places
+returns-in_default-clause-places c = ap all_places c.self.view_is
+
+pub returns-in_default-clause-unchanged : goal.returns-in_default-clause-unchanged
+returns-in_default-clause-unchanged c = λ _. c.self.view_is
