@@ -14,6 +14,7 @@ pub mod Tables
 pub mod Wired
 pub mod Outcomes
 pub mod Sizes
+pub mod Acts
 pub mod Lists
 pub mod Unchanged
 -- a peek of a word, from its bytes up to the whole of it
