@@ -1,11 +1,10 @@
 //! Texts as code, and code as text.
 
 use crate::failure::LabFailure;
-use line_words::{Answered, Question, read_questions};
 use script_text::TextWriter;
 use std::alloc::{AllocError, Global};
 use t414_assembly::{
-    Assembly, BOOTED, Image, LOADED, MOST_CODE, assemble, bytes_of_digits, code_as_text,
+    Assembly, BOOTED, Image, LOADED, MOST_CODE, TextFault, assemble, bytes_of_digits, code_as_text,
     hexadecimal, listing, loader, pokes,
 };
 
@@ -65,43 +64,15 @@ fn print_boot(alloc: Global, code: &[u8]) -> Result<String, LabFailure> {
 }
 
 /// The instructions that hexadecimal digits spell, one a line.
-pub fn print_disassembled(alloc: Global, text: &[u8]) -> Result<String, LabFailure> {
+pub fn print_disassembled(alloc: Global, text: &[u8]) -> Result<String, TextFault> {
     let bytes = bytes_of_digits(alloc, text)?;
-    Ok(code_as_text(alloc, bytes.as_slice())?)
+    code_as_text(alloc, bytes.as_slice())
 }
 
-/// Tries each row of a text. Before ` = ` stands a program, whose lines ` / ` divides, and after it its code in
-/// hexadecimal or its fault; or `hex`, digits, and the instructions that they are. The code of a program is also
+/// What a row is answered. In it stands a program, whose lines ` / ` divides, and the answer is its code in hexadecimal or
+/// its fault; or `hex` and digits, and the answer is the instructions that they are. The code of a program is also
 /// disassembled and assembled again.
-///
-/// `Line` if a line isn't UTF-8.
-pub fn try_programs(alloc: Global, text: &[u8]) -> Result<Vec<Answered<'_>>, LabFailure> {
-    let questions = read_questions(alloc, text, 0)?;
-    answer_all(alloc, questions.as_slice())
-}
-
-fn answer_all<'a>(
-    alloc: Global,
-    questions: &[Question<'a>],
-) -> Result<Vec<Answered<'a>>, LabFailure> {
-    let mut answers = Vec::new(alloc);
-    for question in questions {
-        add_answer(alloc, &mut answers, *question)?;
-    }
-    Ok(answers)
-}
-
-fn add_answer<'a>(
-    alloc: Global,
-    answers: &mut Vec<Answered<'a>>,
-    question: Question<'a>,
-) -> Result<(), LabFailure> {
-    let answer = answer_row(alloc, question.text)?;
-    answers.push(Answered { question, answer })?;
-    Ok(())
-}
-
-fn answer_row(alloc: Global, row: &str) -> Result<String, LabFailure> {
+pub fn answer_row(alloc: Global, row: &str) -> Result<String, AllocError> {
     let answered = match row.strip_prefix("hex ") {
         Some(digits) => print_disassembled(alloc, digits.as_bytes()),
         None => answer_program(alloc, row),
@@ -110,12 +81,12 @@ fn answer_row(alloc: Global, row: &str) -> Result<String, LabFailure> {
 }
 
 // The code of a program in digits, or that its disassembly isn't the same code.
-fn answer_program(alloc: Global, row: &str) -> Result<String, LabFailure> {
+fn answer_program(alloc: Global, row: &str) -> Result<String, TextFault> {
     let code = code_of(alloc, lines_of(alloc, row)?.as_bytes())?;
     answer_code(alloc, code.as_slice())
 }
 
-fn answer_code(alloc: Global, code: &[u8]) -> Result<String, LabFailure> {
+fn answer_code(alloc: Global, code: &[u8]) -> Result<String, TextFault> {
     if is_disassembled(alloc, code)? {
         return Ok(hexadecimal(alloc, code)?);
     }
@@ -123,10 +94,15 @@ fn answer_code(alloc: Global, code: &[u8]) -> Result<String, LabFailure> {
 }
 
 // Whether the disassembly of code is assembled as the same code.
-fn is_disassembled(alloc: Global, code: &[u8]) -> Result<bool, LabFailure> {
+fn is_disassembled(alloc: Global, code: &[u8]) -> Result<bool, TextFault> {
     let text = code_as_text(alloc, code)?;
-    let again = code_of(alloc, text.as_bytes())?;
-    Ok(again.as_slice() == code)
+    is_assembled_as(alloc, text.as_bytes(), code)
+}
+
+// Whether the code of a text is this.
+fn is_assembled_as(alloc: Global, text: &[u8], code: &[u8]) -> Result<bool, TextFault> {
+    let made = code_of(alloc, text)?;
+    Ok(made.as_slice() == code)
 }
 
 // The lines that ` / ` divides.
@@ -140,7 +116,7 @@ fn lines_of(alloc: Global, row: &str) -> Result<String, AllocError> {
 }
 
 // The code of a text that a boot takes.
-fn code_of(alloc: Global, text: &[u8]) -> Result<Vec<u8>, LabFailure> {
+fn code_of(alloc: Global, text: &[u8]) -> Result<Vec<u8>, TextFault> {
     let Assembly {
         statements: _,
         lines: _,
@@ -151,11 +127,11 @@ fn code_of(alloc: Global, text: &[u8]) -> Result<Vec<u8>, LabFailure> {
 }
 
 // An answer without the line feed at its end, or a fault as it is told.
-fn without_end(alloc: Global, answer: Result<String, LabFailure>) -> Result<String, LabFailure> {
+fn without_end(alloc: Global, answer: Result<String, TextFault>) -> Result<String, AllocError> {
     match answer {
-        Ok(text) => Ok(trimmed(alloc, text.as_str())?),
-        Err(LabFailure::Text(fault)) => Ok(format!(in alloc; "{fault}")?),
-        Err(failure) => Err(failure),
+        Ok(text) => trimmed(alloc, text.as_str()),
+        Err(TextFault::Memory(error)) => Err(error),
+        Err(fault) => format!(in alloc; "{fault}"),
     }
 }
 

@@ -35,7 +35,7 @@ fn print_reading(rt: &HostRuntime, reading: &Reading, text: &[u8]) -> Result<Str
         Reading::Draw(drawing) => print_drawing(rt, *drawing, text),
         Reading::Trace(most) => print_traced(rt, *most, text),
         Reading::Assemble(options) => print_assembled(alloc, *options, text),
-        Reading::Disassemble => print_disassembled(alloc, text),
+        Reading::Disassemble => Ok(print_disassembled(alloc, text)?),
     }
 }
 

@@ -1,17 +1,18 @@
 //! Worked rows that stand in files, compared with the answers that they expect.
 
-use crate::assembly::try_programs;
+use crate::assembly::answer_row;
 use crate::failure::LabFailure;
 use crate::files::read_file;
 use crate::meter::TerminalMeter;
-use crate::mistakes::try_lines;
+use crate::mistakes::tell_mistake;
 use crate::plans::try_plans;
 use crate::reports::{Report, replayed};
 use crate::scripts::folder_of;
-use line_words::Answered;
+use line_words::{Answered, NumberedLineFault, Question, read_questions};
 use node_trace::trace;
 use script_replay::Replayed;
 use script_text::TextWriter;
+use std::alloc::Global;
 
 /// Which rows are compared.
 #[derive(Drop)]
@@ -74,9 +75,9 @@ fn answer_rows<'a>(
     } else if file.ends_with(".plans") {
         Ok(try_plans(alloc, text)?)
     } else if file.ends_with(".assembly") {
-        try_programs(alloc, text)
+        Ok(answer_each(alloc, RowKind::Program, text)?)
     } else if file.ends_with(".mistakes") {
-        try_lines(alloc, text)
+        Ok(answer_each(alloc, RowKind::Line, text)?)
     } else {
         Ok(trace(alloc, text, meter)?)
     }
@@ -90,6 +91,51 @@ fn answer_replayed<'a>(
 ) -> Result<Vec<Answered<'a>>, LabFailure> {
     let Replayed { answers, last: _ } = replayed(rt, folder_of(file), text, meter)?;
     Ok(answers)
+}
+
+// What stands in rows that are answered one by one.
+#[derive(Clone, Copy)]
+enum RowKind {
+    // A program, which is assembled, or code.
+    Program,
+    // A line, which is read.
+    Line,
+}
+
+// The answers to the rows of a text, each of which is answered by itself.
+fn answer_each(
+    alloc: Global,
+    kind: RowKind,
+    text: &[u8],
+) -> Result<Vec<Answered<'_>>, NumberedLineFault> {
+    let questions = read_questions(alloc, text, 0)?;
+    answer_all(alloc, kind, questions.as_slice())
+}
+
+fn answer_all<'a>(
+    alloc: Global,
+    kind: RowKind,
+    questions: &[Question<'a>],
+) -> Result<Vec<Answered<'a>>, NumberedLineFault> {
+    let mut answers = Vec::new(alloc);
+    for question in questions {
+        add_answer(alloc, kind, &mut answers, *question)?;
+    }
+    Ok(answers)
+}
+
+fn add_answer<'a>(
+    alloc: Global,
+    kind: RowKind,
+    answers: &mut Vec<Answered<'a>>,
+    question: Question<'a>,
+) -> Result<(), NumberedLineFault> {
+    let answer = match kind {
+        RowKind::Program => answer_row(alloc, question.text)?,
+        RowKind::Line => tell_mistake(alloc, &question)?,
+    };
+    answers.push(Answered { question, answer })?;
+    Ok(())
 }
 
 // Notes the wrong rows of a file and how many it has, and tells whether there are rows and all are right.

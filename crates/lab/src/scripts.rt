@@ -5,7 +5,7 @@ use crate::failure::LabFailure;
 use crate::files::read_file;
 use crate::meter::TerminalMeter;
 use crate::reports::Report;
-use lab_debug::DebugFault;
+use lab_debug::{DebugFault, Debugger};
 use lab_script::{Expanded, LoadedFile, expand, files_named};
 use script_replay::{record_script, run_script};
 use script_text::{TextWriter, divide, read_whole};
@@ -123,7 +123,11 @@ fn report_trace(
 // What the events of a record do, up to so many Steps.
 fn traced_record(rt: &HostRuntime, record: &[u8], steps: u64) -> Result<String, DebugFault> {
     let mut debugger = opened(rt, record, None)?;
-    let mut traced = TextWriter::new(rt.alloc());
+    trace_of(rt.alloc(), &mut debugger, steps)
+}
+
+fn trace_of(alloc: Global, debugger: &mut Debugger, steps: u64) -> Result<String, DebugFault> {
+    let mut traced = TextWriter::new(alloc);
     debugger.trace_from_opening(steps, &mut traced)?;
     Ok(traced.finish()?)
 }
