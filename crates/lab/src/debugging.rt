@@ -1,13 +1,12 @@
 //! A record is looked through by commands.
 
 use crate::failure::LabFailure;
-use crate::files::read_file;
+use crate::files::{read_file, readable_bytes};
 use crate::meter::TerminalMeter;
 use crate::reports::Report;
 use lab_debug::{DebugFault, Debugger, ProgramOf, ProgramTexts, debug};
 use std::alloc::AllocError;
-use std::fs;
-use std::io::{self, BufReader, IsTerminal};
+use std::io::{BufReader, IsTerminal};
 
 /// What is asked of the debugger.
 #[derive(Drop)]
@@ -24,11 +23,7 @@ struct Files<'a>(&'a HostRuntime);
 
 impl ProgramTexts for Files<'_> {
     fn text_of(&self, file: &str) -> Result<Option<Vec<u8>>, AllocError> {
-        match fs::read(self.0, file) {
-            Ok(bytes) => Ok(Some(bytes)),
-            Err(error) if error.kind() == io::ErrorKind::OutOfMemory => Err(AllocError),
-            Err(_) => Ok(None),
-        }
+        readable_bytes(self.0, file)
     }
 }
 

@@ -10,7 +10,7 @@ use line_words::Answered;
 use node_trace::trace;
 use plan_faults::{PlanRefusal, accepted, line_unread};
 use plan_views::{draw, draw_network, table_of};
-use script_replay::{Replayed, files_loaded, replay};
+use script_replay::{Replayed, ReplayedFarm, files_loaded, replay};
 use script_text::{TextWriter, divide};
 use std::alloc::{AllocError, Global};
 
@@ -104,15 +104,22 @@ fn script_line(alloc: Global, plan: &[u8]) -> Result<Option<u64>, AllocError> {
 
 // The switch of the last farm of a text, or the network of one of its domains.
 fn print_drawing(rt: &HostRuntime, drawing: Drawing, text: &[u8]) -> Result<String, LabFailure> {
-    let alloc = rt.alloc();
-    let Replayed { answers: _, last } = replayed_input(rt, drawing.most, text)?;
-    match (last, drawing.domain) {
-        (Some(farm), None) => Ok(draw(alloc, &farm.plan, farm.words.as_slice())?),
-        (Some(farm), Some(domain)) if domain < farm.plan.domains() => {
-            Ok(draw_network(alloc, &farm.plan, domain, farm.words.as_slice())?)
+    let replayed = replayed_input(rt, drawing.most, text)?;
+    match &replayed.last {
+        Some(farm) => draw_farm(rt.alloc(), farm, drawing.domain),
+        None => Ok(String::new(rt.alloc())),
+    }
+}
+
+// The switch of a farm, or the network of this domain.
+fn draw_farm(alloc: Global, farm: &ReplayedFarm, domain: Option<u8>) -> Result<String, LabFailure> {
+    let words = farm.words.as_slice();
+    match domain {
+        None => Ok(draw(alloc, &farm.plan, words)?),
+        Some(domain) if domain < farm.plan.domains() => {
+            Ok(draw_network(alloc, &farm.plan, domain, words)?)
         }
-        (Some(_), Some(domain)) => Err(LabFailure::Domain(domain)),
-        (None, _) => Ok(String::new(alloc)),
+        Some(domain) => Err(LabFailure::Domain(domain)),
     }
 }
 

@@ -2,15 +2,15 @@
 
 use crate::debugging::opened;
 use crate::failure::LabFailure;
-use crate::files::read_file;
+use crate::files::{read_file, readable_bytes};
 use crate::meter::TerminalMeter;
 use crate::reports::Report;
 use lab_debug::{DebugFault, Debugger};
 use lab_script::{Expanded, LoadedFile, expand, files_named};
+use line_words::NumberedLineFault;
 use script_replay::{record_script, run_script};
 use script_text::{TextWriter, divide, read_whole};
 use std::alloc::{AllocError, Global};
-use std::fs;
 
 /// How many Steps are traced unless the words say it.
 pub const USUAL_STEPS: u64 = 1000;
@@ -61,9 +61,27 @@ fn report_text(
     text: &[u8],
     what: ScriptUse,
 ) -> Result<Report, LabFailure> {
+    let files = loaded_files(rt, folder, text)?;
+    use_script(rt, text, files.as_slice(), what)
+}
+
+// The files that the lines of a script load, as far as they can be read.
+fn loaded_files<'a>(
+    rt: &HostRuntime,
+    folder: Option<&str>,
+    text: &'a [u8],
+) -> Result<Vec<LoadedFile<'a>>, NumberedLineFault> {
     let names = files_named(rt.alloc(), text)?;
-    let files = read_files(rt, folder, names.as_slice())?;
-    let files = files.as_slice();
+    Ok(read_files(rt, folder, names.as_slice())?)
+}
+
+// Does this with a script, whose lines may load these files.
+fn use_script(
+    rt: &HostRuntime,
+    text: &[u8],
+    files: &[LoadedFile],
+    what: ScriptUse,
+) -> Result<Report, LabFailure> {
     match what {
         ScriptUse::Expand => report_expansion(rt.alloc(), text, files),
         ScriptUse::Run(most) => report_run(rt, text, files, most),
@@ -153,7 +171,7 @@ pub fn read_files<'a>(
     rt: &HostRuntime,
     folder: Option<&str>,
     names: &[&'a str],
-) -> Result<Vec<LoadedFile<'a>>, LabFailure> {
+) -> Result<Vec<LoadedFile<'a>>, AllocError> {
     let mut files = Vec::new(rt.alloc());
     for name in names {
         files.push(loaded_file(rt, folder, *name)?)?;
@@ -166,18 +184,12 @@ fn loaded_file<'a>(
     rt: &HostRuntime,
     folder: Option<&str>,
     name: &'a str,
-) -> Result<LoadedFile<'a>, LabFailure> {
+) -> Result<LoadedFile<'a>, AllocError> {
     let path = path_of(rt.alloc(), folder, name)?;
-    match fs::read(rt, path.as_str()) {
-        Ok(text) => Ok(LoadedFile {
-            name,
-            text: Some(text),
-        }),
-        Err(error) => match LabFailure::of_input(&error) {
-            LabFailure::Memory => Err(LabFailure::Memory),
-            _ => Ok(LoadedFile { name, text: None }),
-        },
-    }
+    Ok(LoadedFile {
+        name,
+        text: readable_bytes(rt, path.as_str())?,
+    })
 }
 
 fn path_of(alloc: Global, folder: Option<&str>, name: &str) -> Result<String, AllocError> {
