@@ -5,10 +5,10 @@
 ghost use Rattle.std.specs.Prelude.{◌≤◌};
 
 /// The most quanta of a burst.
-const MOST_QUANTA: u64 = 64;
+const MOST_QUANTA: u64 = 256;
 
 /// The most Steps of a burst.
-const MOST_STEPS: u64 = 16_384;
+const MOST_STEPS: u64 = 65_536;
 
 /// How many Steps the bursts of a worker's turns have.
 #[derive(Clone, Copy)]

@@ -160,7 +160,7 @@ impl Session<'_> {
 
     /// Rounds of the domain, up to so many, until it is quiet: in each round every node does up to
     /// `quantum` Steps, 1 to 4,096, outside the lock, and then the packets of all ports move. While nothing
-    /// moves, a round has up to 64 quanta, never more than 16,384 Steps, and counts as as many rounds. The list
+    /// moves, a round has up to 256 quanta, never more than 65,536 Steps, and counts as as many rounds. The list
     /// of the user's pass stays.
     ///
     /// # Errors

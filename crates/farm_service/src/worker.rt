@@ -104,7 +104,7 @@ fn take_turns<R: Wait, G: Gate>(
 
 /// Works for so many turns. In each a token is taken, its node does up to `quantum` Steps, 1 to 4,096,
 /// outside the lock of its domain, the packets of the domain's ports move, and the token goes back. A worker
-/// for [`UNTIL_STOPPED`] turns does up to 64 quanta in a turn while nothing moves, but never more than 16,384 Steps. A
+/// for [`UNTIL_STOPPED`] turns does up to 256 quanta in a turn while nothing moves, but never more than 65,536 Steps. A
 /// turn that finds no token is spent all the same, and so is one of a node that rests, since nothing has changed in its
 /// domain since it had nothing to do; `JournalFull` ends a turn alone.
 ///
