@@ -8,7 +8,7 @@ use node_memory::Fault;
 use process_queue::NOT_PROCESS;
 
 /// What a node is seen to do.
-#[derive(Clone, Copy, Debug, PartialEq, Eq)]
+#[derive(Clone, Copy, PartialEq, Eq)]
 pub enum Activity {
     /// It takes bytes, or answers a peek, or waits for a control byte.
     Booting,
@@ -21,7 +21,7 @@ pub enum Activity {
 }
 
 /// What is seen of a node.
-#[derive(Clone, Copy, Debug, PartialEq, Eq)]
+#[derive(Clone, Copy, PartialEq, Eq)]
 pub struct Seen {
     /// What it does.
     pub state: Activity,

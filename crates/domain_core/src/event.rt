@@ -19,7 +19,7 @@ pub enum By {
 }
 
 /// What can be asked of a domain.
-#[derive(Clone, Copy, Debug, PartialEq, Eq)]
+#[derive(Clone, Copy, PartialEq, Eq)]
 pub enum Event {
     /// The next configuration byte comes to the switch.
     Config(u8),
@@ -38,7 +38,7 @@ pub enum Event {
 }
 
 /// What became of the packet that waits at a port.
-#[derive(Clone, Copy, Debug, PartialEq, Eq)]
+#[derive(Clone, Copy, PartialEq, Eq)]
 pub enum Moved {
     /// The port has no device, or no packet waits there.
     Nothing,
@@ -51,7 +51,7 @@ pub enum Moved {
 }
 
 /// What an event is answered.
-#[derive(Clone, Copy, Debug, PartialEq, Eq)]
+#[derive(Clone, Copy, PartialEq, Eq)]
 pub enum Reply {
     /// The switch's reply to a configuration byte.
     Config(ConfigReply),

@@ -11,7 +11,7 @@ use link_channels::{Links, services_act_on_work};
 use node_memory::{Fault, Memory};
 
 /// What one step came to.
-#[derive(Clone, Copy, Debug, PartialEq, Eq)]
+#[derive(Clone, Copy, PartialEq, Eq)]
 pub enum Stepped {
     /// A link was served or an instruction byte was done.
     Ran,

@@ -72,7 +72,7 @@ fn asked_again<R: Abort>(
     let before = shown(farm);
     match farm.apply(domain, by, event) {
         Err(Refusal::NoMemory) => {
-            assert!(rt; shown(farm) == before, "{event:?}");
+            assert!(rt; shown(farm) == before);
             farm.apply(domain, by, event)
         }
         answer => answer,

@@ -53,34 +53,6 @@ memory = 4096
 links = [0, -1, -1, -1]
 "#;
 
-/// One domain, ann's, at ports 24 to 31.
-pub const ANN_AT_PORT_24: &str = r#"
-version = 1
-[[domain]]
-name = "ann"
-first = 24
-last = 31
-limit = 1000000
-host = [7]
-[[domain.node]]
-memory = 4096
-links = [0, -1, -1, -1]
-"#;
-
-/// One domain, bob's, at ports 8 to 15.
-pub const BOB_AT_PORT_8: &str = r#"
-version = 1
-[[domain]]
-name = "bob"
-first = 8
-last = 15
-limit = 1000000
-host = [7]
-[[domain.node]]
-memory = 4096
-links = [0, -1, -1, -1]
-"#;
-
 /// One domain of all ports.
 pub const ALL_PORTS: &str = r#"
 version = 1
