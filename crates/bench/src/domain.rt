@@ -11,29 +11,11 @@ use crate::faults::{failed, refused};
 use crate::selection::Selection;
 use crossbar::{Outputs, PlainOutputs};
 use domain_core::{By, Committed, Domain, Event, Moved, Refusal, Reply};
-use plan_checker::PlanFault;
-use std::alloc::Global;
+use plan_rules::{DomainPlan, NodePlan, Plan, PlanFault, RangePlan, UserPlan, check};
+use std::alloc::{AllocError, Global};
 use std::io;
 use t414_step::Stepped;
-use test_plans::plan_of;
 use virtual_switch::ConfigReply;
-
-/// Node 0 has the least memory and node 1 the most.
-const PLAN: &str = r#"
-version = 1
-[[domain]]
-name = "ann"
-first = 0
-last = 7
-limit = 1099511627776
-host = [3, 2]
-[[domain.node]]
-memory = 2048
-links = [0, -1, -1, -1]
-[[domain.node]]
-memory = 65536
-links = [1, -1, -1, -1]
-"#;
 
 /// Each host is joined to the node of its number.
 const NODES_JOINED: [u8; 7] = [1, 0, 3, 1, 1, 2, 3];
@@ -84,9 +66,36 @@ const WORKS: [(&str, TimedWork); 9] = [
 
 type Plain = Domain<PlainOutputs>;
 
+// A node with its link 0 at a port.
+fn node_at(port: i64, memory: i64) -> NodePlan {
+    NodePlan {
+        memory,
+        links: [port, -1, -1, -1],
+    }
+}
+
+// Ann, whose hosts are at ports 3 and 2.
+fn ann(alloc: Global) -> Result<UserPlan, AllocError> {
+    Ok(UserPlan {
+        name: String::from_str(alloc, "ann")?,
+        hosts: vec![in alloc; 3, 2]?,
+    })
+}
+
+// One domain of ports 0 to 7. Node 0 has the least memory and node 1 the most.
+fn ann_with_two_nodes(alloc: Global) -> Result<DomainPlan, AllocError> {
+    Ok(DomainPlan {
+        users: vec![in alloc; ann(alloc)?]?,
+        ranges: vec![in alloc; RangePlan { first: 0, last: 7 }]?,
+        limit: 1_i64 << 40,
+        nodes: vec![in alloc; node_at(0, 2048), node_at(1, 65_536)]?,
+    })
+}
+
 // The domain of the plan, as it is opened.
 fn opened(alloc: Global) -> Result<Plain, PlanFault> {
-    let plan = plan_of(alloc, PLAN)?;
+    let domains = vec![in alloc; ann_with_two_nodes(alloc)?]?;
+    let plan = check(alloc, Plan { domains })?;
     if plan.domains() == 0 {
         return Err(PlanFault::DomainCount);
     }

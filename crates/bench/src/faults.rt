@@ -1,7 +1,7 @@
 //! Faults and refusals as errors of the program.
 
 use domain_core::Refusal;
-use plan_checker::PlanFault;
+use plan_rules::PlanFault;
 use std::io;
 
 /// A plan, a table or a domain that could not be had.

@@ -2,10 +2,10 @@
 
 use crate::actions::{ask, settle};
 use crate::draws::Draws;
+use crate::sized::Size;
 use domain_core::{Event, Refusal, Reply};
 use farm_service::Session;
 use std::sync::Wait;
-use test_plans::Size;
 
 /// Boot messages: a loop of two instruction bytes, a program that sends 41, and two that destroy what they stand on.
 const PROGRAMS: [&[u8]; 4] = [

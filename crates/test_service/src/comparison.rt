@@ -8,7 +8,7 @@ use crossbar::Word;
 use domain_core::{By, Entry, Event, Journal, NoMemory, Refusal};
 use farm_core::PlainFarm;
 use farm_service::{Closed, ClosedDomain, Token};
-use plan_checker::AcceptedPlan;
+use plan_rules::AcceptedPlan;
 use std::alloc::Global;
 
 /// The most domains of a plan.

@@ -4,13 +4,14 @@ ghost use Rattle.std.specs.Prelude.{◌≡◌, ◌≤◌};
 ghost use Rattle.farm_service.specs.Services.{IsItsOperator};
 ghost use Rattle.token_queue.specs.Passes.{AreItsPasses};
 
+use crate::plans::{TrialDomain, plan_of};
+use crate::sized::{Size, sized_plan};
 use crate::watch::Watch;
 use farm_service::{Closed, NotClosed, Opened, Service, UserPass, WorkerPass};
-use plan_checker::AcceptedPlan;
+use plan_rules::AcceptedPlan;
 use std::alloc::{AllocError, Global};
 use std::sync::Wait;
 use switch_table::OperatorSeat;
-use test_plans::{Size, plan_of, sized_plan};
 
 /// A service with its workers' passes and its operator's seat.
 #[derive(Drop)]
@@ -25,8 +26,8 @@ pub struct OpenedFarm {
 /// A plan of a trial.
 #[derive(Clone, Copy)]
 pub enum Ground {
-    /// That of a text.
-    Text(&'static str),
+    /// That of these domains.
+    Listed(&'static [TrialDomain]),
     /// That of a size.
     Sized(Size),
 }
@@ -35,7 +36,7 @@ impl Ground {
     // The plan, unless memory is wanting.
     fn plan_once(self, alloc: Global) -> Option<AcceptedPlan> {
         match self {
-            Ground::Text(text) => plan_of(alloc, text).ok(),
+            Ground::Listed(domains) => plan_of(alloc, domains).ok(),
             Ground::Sized(size) => sized_plan(alloc, size).ok(),
         }
     }

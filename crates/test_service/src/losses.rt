@@ -5,7 +5,7 @@ use crate::watch::Watch;
 use crossbar::Word;
 use domain_core::{Entry, Event, Journal, NoMemory, Reply};
 use farm_service::{Closed, ClosedDomain, Token};
-use plan_checker::AcceptedPlan;
+use plan_rules::AcceptedPlan;
 use std::alloc::Global;
 
 /// What is lost.

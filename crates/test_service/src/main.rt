@@ -1,7 +1,8 @@
 //! The service on trial: users, workers and an operator, on one thread and in threads of their own. It prints a line for
-//! each row, the same whatever the schedule, and then that of a short soak, in which they do anything at once.
+//! each part below it that may be out of memory, one for each row, the same whatever the schedule, and then that of a short
+//! soak, in which they do anything at once.
 //!
-//! `rows` prints the rows alone. `soak ROUNDS SEED WORKERS [COMMANDS]` soaks alone, and tells what it compared.
+//! `rows` prints the parts and the rows alone. `soak ROUNDS SEED WORKERS [COMMANDS]` soaks alone, and tells what it compared.
 #![tactic(auto)]
 
 mod actions;
@@ -13,8 +14,12 @@ mod farm;
 mod gates;
 mod losses;
 mod meeting;
+mod parts;
+mod plans;
+mod refusals;
 mod reopening;
 mod rows;
+mod sized;
 mod soak;
 mod stages;
 mod telling;
@@ -72,11 +77,34 @@ fn show(rt: &impl Print, name: &str, told: Result<String, AllocError>) -> io::Re
     }
 }
 
+// A line for each part of a farm, and for a farm on one thread.
+fn tell_parts(rt: &impl Print, alloc: Global) -> io::Result<()> {
+    for (name, came) in [
+        ("memory", parts::open_and_copy_memory(alloc)),
+        ("node", parts::open_and_copy_node(alloc)),
+        ("boot message", parts::make_boot_message(alloc)),
+        ("host", parts::open_host(alloc)),
+        ("switch", parts::feed_switch(alloc)),
+        ("change count", parts::change_the_greatest_count()),
+        ("farm", refusals::refuse_calls(alloc)),
+        ("run", refusals::run_again(alloc)),
+    ] {
+        let told = if came.is_ok() {
+            "as it must be"
+        } else {
+            "otherwise"
+        };
+        println!(rt; "{name}: {told}")?;
+    }
+    Ok(())
+}
+
 // A line for each row.
 fn tell_rows<R: Threads + Wait + Sync + Print>(rt: &R, alloc: Global) -> io::Result<()> {
+    tell_parts(rt, alloc)?;
     for row in &ROWS {
         let stages = [Stage::Alone(row.actions)];
-        let ground = Ground::Text(row.plan);
+        let ground = Ground::Listed(row.plan);
         show(
             rt,
             row.name,

@@ -7,6 +7,7 @@ use crate::farm::Ground;
 use crate::gates::Hold;
 use crate::losses::LOSSES;
 use crate::rows::SAYS_41;
+use crate::sized::Size;
 use crate::stages::{Stage, StageEnd, Trial, run as run_trial};
 use crate::users::Doing;
 use domain_core::Entry;
@@ -15,7 +16,6 @@ use std::alloc::{AllocError, Global};
 use std::io;
 use std::sync::Wait;
 use std::thread::Threads;
-use test_plans::Size;
 
 /// What a user does first, if his domain has so many nodes: he boots node 0 with a program that sends 41, and reads it. So
 /// each journal of his begins with Steps and bytes of which none can be lost unnoticed.

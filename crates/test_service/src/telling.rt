@@ -5,7 +5,7 @@ use crate::losses::{LOSSES, Loss};
 use crate::watch::Watch;
 use domain_core::{Entry, Journal};
 use farm_service::{Closed, Token};
-use plan_checker::AcceptedPlan;
+use plan_rules::AcceptedPlan;
 use std::alloc::{AllocError, Global};
 
 /// What is told of what is left, after all was compared with the farm on one thread.

@@ -2,16 +2,17 @@
 
 use crate::actions::Action::{self, Config, Fill, Knock, Look, Read, Rounds, Write};
 use crate::actions::{QUANTUM, SETTLE};
-use crate::farm::Ground::{self, Sized, Text};
+use crate::farm::Ground::{self, Listed, Sized};
 use crate::gates::Hold;
+use crate::plans::{ANN_AND_BOB, ANN_OF_THREE_EVENTS, ANN_WITH_CAS, TWO_NODES, TrialDomain};
 use crate::rows::{DRIVE_OUTPUT_5, JOIN, LOOPS, PEEK, POKE, SAYS_41};
+use crate::sized::Size;
 use crate::stages::Stage::{
     self, Alone, AtOnce, Begun, Burst, Committed, Copies, Count, Held, Meet, Reopen, Restart, Say,
     Status, Stop, Tell, Word, Work, Workers,
 };
 use crate::telling::ToldAtEnd;
 use crate::users::Doing;
-use test_plans::{ANN_AND_BOB, ANN_OF_THREE_EVENTS, ANN_WITH_CAS, Size, TWO_NODES};
 
 /// A row: its name, the plan, how many workers there are, what is done, and what is told of what is left.
 #[derive(Clone, Copy)]
@@ -57,21 +58,12 @@ const LOOPS_FOR_BOTH: [(usize, Action); 3] = [
 ];
 
 /// Node 0 with two links, on ports 0 and 1, node 1 with one on port 2, and a host for each on ports 3 and 4.
-const ECHO: &str = r#"
-version = 1
-[[domain]]
-name = "ann"
-first = 0
-last = 4
-limit = 1000000
-host = [3, 4]
-[[domain.node]]
-memory = 2048
-links = [0, 1, -1, -1]
-[[domain.node]]
-memory = 2048
-links = [2, -1, -1, -1]
-"#;
+const ECHO: [TrialDomain; 1] = [TrialDomain {
+    ports: (0, 4),
+    limit: 1_000_000,
+    nodes: &[(2048, [0, 1, -1, -1]), (2048, [2, -1, -1, -1])],
+    users: &[("ann", &[3, 4])],
+}];
 
 /// Again and again takes a byte from link 0, sends it by link 1, takes one from there, and sends it by link 0: ajw 5; ldlp 1,
 /// mint, adc 16, ldc 1, in; mint, adc 4, ldlp 1, lb, outbyte; ldlp 1, mint, adc 20, ldc 1, in; mint, ldlp 1, lb, outbyte; j -27.
@@ -127,7 +119,7 @@ const NINE_NODES: Size = Size {
 pub const TOGETHER: [Together; 17] = [
     Together {
         name: "bob's journal at close",
-        ground: Text(ANN_AND_BOB),
+        ground: Listed(&ANN_AND_BOB),
         workers: 1,
         stages: &[AtOnce(&[&[], &[Config(&DRIVE_OUTPUT_5)]]), Tell(1, "bob")],
         left: ToldAtEnd::Second,
@@ -135,7 +127,7 @@ pub const TOGETHER: [Together; 17] = [
     // Bob's output 5 is physical output 13, and output 20 is no domain's.
     Together {
         name: "survey after bob's thread",
-        ground: Text(ANN_AND_BOB),
+        ground: Listed(&ANN_AND_BOB),
         workers: 2,
         stages: &[
             AtOnce(&[]),
@@ -152,7 +144,7 @@ pub const TOGETHER: [Together; 17] = [
     },
     Together {
         name: "two domains at once",
-        ground: Text(ANN_AND_BOB),
+        ground: Listed(&ANN_AND_BOB),
         workers: 1,
         stages: &[
             AtOnce(&[&POKE_AND_PEEK, &POKE_AND_PEEK]),
@@ -164,7 +156,7 @@ pub const TOGETHER: [Together; 17] = [
     // Cas, of the same domain, writes to ann's host.
     Together {
         name: "two users of one domain at once",
-        ground: Text(ANN_WITH_CAS),
+        ground: Listed(&ANN_WITH_CAS),
         workers: 1,
         stages: &[
             AtOnce(&[&POKE_AND_PEEK, &[Knock(0, 100)]]),
@@ -175,7 +167,7 @@ pub const TOGETHER: [Together; 17] = [
     },
     Together {
         name: "worker runs a program",
-        ground: Text(ANN_AND_BOB),
+        ground: Listed(&ANN_AND_BOB),
         workers: 1,
         stages: &[
             AtOnce(&[&BOOT]),
@@ -189,7 +181,7 @@ pub const TOGETHER: [Together; 17] = [
     // Each of the worker's turns in ann's domain finds her journal full.
     Together {
         name: "full journal ends a turn alone",
-        ground: Text(ANN_OF_THREE_EVENTS),
+        ground: Listed(&ANN_OF_THREE_EVENTS),
         workers: 1,
         stages: &[
             AtOnce(&[&[Fill(0, 3)], &BOOT]),
@@ -204,7 +196,7 @@ pub const TOGETHER: [Together; 17] = [
     // from a checkout to its commit.
     Together {
         name: "one node waits for the other",
-        ground: Text(TWO_NODES),
+        ground: Listed(&TWO_NODES),
         workers: 2,
         stages: &[
             Alone(&LOOPS_FOR_BOTH),
@@ -217,7 +209,7 @@ pub const TOGETHER: [Together; 17] = [
     },
     Together {
         name: "stopped workers",
-        ground: Text(TWO_NODES),
+        ground: Listed(&TWO_NODES),
         workers: 8,
         stages: &[Work(10), Say(","), Stop, Held, Work(10), Say(","), Begun],
         left: ToldAtEnd::Tokens,
@@ -236,7 +228,7 @@ pub const TOGETHER: [Together; 17] = [
     // A boot message of four bytes takes a Step each, then three rounds and three turns of each node do 256 Steps.
     Together {
         name: "each node does its quantum",
-        ground: Text(TWO_NODES),
+        ground: Listed(&TWO_NODES),
         workers: 1,
         stages: &[
             Alone(&LOOPS_FOR_BOTH),
@@ -263,7 +255,7 @@ pub const TOGETHER: [Together; 17] = [
     // Four Steps boot bob's node, and then the burst does 256. Ann's has no Step to do.
     Together {
         name: "burst in the second domain",
-        ground: Text(ANN_AND_BOB),
+        ground: Listed(&ANN_AND_BOB),
         workers: 1,
         stages: &[
             Alone(&[(1, Config(&JOIN)), (1, Write(0, &LOOPS)), (1, Rounds(1, 5))]),
@@ -275,7 +267,7 @@ pub const TOGETHER: [Together; 17] = [
     // listed but cas's second.
     Together {
         name: "restart by all users",
-        ground: Text(ANN_WITH_CAS),
+        ground: Listed(&ANN_WITH_CAS),
         workers: 1,
         stages: &[
             Alone(&[(0, Write(0, &[5])), (1, Write(1, &[6]))]),
@@ -294,7 +286,7 @@ pub const TOGETHER: [Together; 17] = [
     // 20 entries. Then each burst does 256 Steps, which are one run.
     Together {
         name: "copies of a run that grows",
-        ground: Text(ANN_AND_BOB),
+        ground: Listed(&ANN_AND_BOB),
         workers: 1,
         stages: &[
             Alone(&[(1, Config(&JOIN)), (1, Write(0, &LOOPS)), (1, Rounds(1, 5))]),
@@ -307,7 +299,7 @@ pub const TOGETHER: [Together; 17] = [
     // connected to input 1 and ready, after its fifth change.
     Together {
         name: "closed and opened again",
-        ground: Text(ECHO),
+        ground: Listed(&ECHO),
         workers: 1,
         stages: &[
             Alone(&BOOT_ECHO),
@@ -333,7 +325,7 @@ pub const TOGETHER: [Together; 17] = [
     // Ann's and bob's programs send 41 and stop, so that a lost Step or byte changes what is answered.
     Together {
         name: "planted losses",
-        ground: Text(ANN_AND_BOB),
+        ground: Listed(&ANN_AND_BOB),
         workers: 1,
         stages: &[
             AtOnce(&[&BOOT, &BOOT]),

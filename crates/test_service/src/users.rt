@@ -3,10 +3,10 @@
 use crate::actions::{Action, perform};
 use crate::chance::ask_anything;
 use crate::draws::Draws;
+use crate::sized::Size;
 use farm_service::{Service, Session, Told, UserPass};
 use std::alloc::{AllocError, Global};
 use std::sync::Wait;
-use test_plans::Size;
 
 /// What users do.
 #[derive(Clone, Copy)]

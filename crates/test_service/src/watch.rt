@@ -4,7 +4,7 @@ ghost use Rattle.farm_service.specs.Services.{IsItsOperator};
 
 use crossbar::Word;
 use farm_service::Service;
-use plan_checker::AcceptedPlan;
+use plan_rules::AcceptedPlan;
 use std::sync::atomic::{AtomicBool, Ordering};
 use std::thread;
 use switch_table::OperatorSeat;

@@ -1,0 +1,151 @@
+//! The parts that a farm is made of, out of memory: a refused call changes nothing, and the second does what the first would
+//! have done. `test/service_refusals` refuses each allocation in turn.
+
+use crate::plans::{ANN_WITH_CAS, TrialDomain, plan_of};
+use bootstrap::{BootFault, LinkNumber, Memory, Node, Packet, boot_message};
+use crossbar::{Connection, PlainOutputs, Word};
+use domain_core::Host;
+use plan_rules::{AcceptedPlan, PlanFault};
+use std::alloc::{AllocError, Global};
+use virtual_switch::{ConfigReply, VirtualSwitch};
+
+/// Something was otherwise than it must be, or memory was wanting twice.
+#[derive(Clone, Copy)]
+pub struct Otherwise;
+
+/// Goes on if this is so.
+pub fn holds(is_so: bool) -> Result<(), Otherwise> {
+    if is_so { Ok(()) } else { Err(Otherwise) }
+}
+
+/// The plan of these domains, which is made again after a refusal.
+pub fn plan_again(alloc: Global, domains: &[TrialDomain]) -> Result<AcceptedPlan, Otherwise> {
+    let plan = match plan_of(alloc, domains) {
+        Err(PlanFault::NoMemory) => plan_of(alloc, domains),
+        answer => answer,
+    };
+    match plan {
+        Ok(plan) => Ok(plan),
+        Err(_) => Err(Otherwise),
+    }
+}
+
+fn memory_again(alloc: Global) -> Result<Memory, AllocError> {
+    match Memory::new(alloc, 2048) {
+        Err(_) => Memory::new(alloc, 2048),
+        opened => opened,
+    }
+}
+
+fn copy_again(memory: &Memory) -> Result<Memory, AllocError> {
+    match memory.copy() {
+        Err(_) => memory.copy(),
+        copied => copied,
+    }
+}
+
+/// A copy of memory keeps what the memory had.
+pub fn open_and_copy_memory(alloc: Global) -> Result<(), Otherwise> {
+    let Ok(mut memory) = memory_again(alloc) else {
+        return Err(Otherwise);
+    };
+    holds(memory.set_byte(0x8000_0000, 9).is_ok())?;
+    let Ok(copy) = copy_again(&memory) else {
+        return Err(Otherwise);
+    };
+    holds(memory.set_byte(0x8000_0000, 8).is_ok())?;
+    holds(copy.byte(0x8000_0000) == Ok(9) && memory.byte(0x8000_0000) == Ok(8))
+}
+
+fn node_again(alloc: Global) -> Result<Node, AllocError> {
+    match Node::open(alloc, 2048) {
+        Err(_) => Node::open(alloc, 2048),
+        opened => opened,
+    }
+}
+
+fn node_copy_again(node: &Node) -> Result<Node, AllocError> {
+    match node.copy() {
+        Err(_) => node.copy(),
+        copied => copied,
+    }
+}
+
+/// A copy of a node is the node until that changes.
+pub fn open_and_copy_node(alloc: Global) -> Result<(), Otherwise> {
+    let Ok(mut node) = node_again(alloc) else {
+        return Err(Otherwise);
+    };
+    node.deliver(LinkNumber::Three, Packet::Byte(9));
+    let Ok(copy) = node_copy_again(&node) else {
+        return Err(Otherwise);
+    };
+    let is_same = copy.equals(&node);
+    node.reset();
+    holds(is_same && !copy.equals(&node))
+}
+
+/// A boot message has the count before its code.
+pub fn make_boot_message(alloc: Global) -> Result<(), Otherwise> {
+    let code = [0x21, 0xf5];
+    let message = match boot_message(alloc, &code) {
+        Err(BootFault::NoMemory) => boot_message(alloc, &code),
+        answer => answer,
+    };
+    match message {
+        Ok(message) => holds(message.as_slice() == [0x02, 0x21, 0xf5].as_slice()),
+        Err(_) => Err(Otherwise),
+    }
+}
+
+/// A host takes a byte.
+pub fn open_host(alloc: Global) -> Result<(), Otherwise> {
+    let host = match Host::open(alloc) {
+        Err(_) => Host::open(alloc),
+        opened => opened,
+    };
+    match host {
+        Ok(mut host) => holds(host.write(1)),
+        Err(_) => Err(Otherwise),
+    }
+}
+
+/// After a refusal the switch is what it was, and the same bytes are answered as if they had come once.
+pub fn feed_switch(alloc: Global) -> Result<(), Otherwise> {
+    let plan = plan_again(alloc, &ANN_WITH_CAS)?;
+    if plan.domains() == 0 {
+        return Err(Otherwise);
+    }
+    let mut switch = VirtualSwitch::new(PlainOutputs::unused(plan.ranges(0)));
+    let bytes = [1, 0, 1, 2, 0, 7, 2, 8];
+    let replies = match switch.feed_all(alloc, &bytes) {
+        Err(_) => switch.feed_all(alloc, &bytes),
+        replies => replies,
+    };
+    let expected_replies = [
+        ConfigReply::Nothing,
+        ConfigReply::Nothing,
+        ConfigReply::Nothing,
+        ConfigReply::Nothing,
+        ConfigReply::Answer(0x81),
+        ConfigReply::BadCommand,
+        ConfigReply::Nothing,
+        ConfigReply::BadPort,
+    ];
+    match replies {
+        Ok(replies) => holds(replies.as_slice() == expected_replies.as_slice()),
+        Err(_) => Err(Otherwise),
+    }
+}
+
+/// The greatest change count stays: no text changes an output so often.
+pub fn change_the_greatest_count() -> Result<(), Otherwise> {
+    let full = Word {
+        bits: 0xffff_ffff_ffff_ff00,
+    };
+    let connected = full.after(Some(Connection {
+        input: 3,
+        ready: false,
+    }));
+    holds(connected.bits == 0xffff_ffff_ffff_ff83 && connected.changes() == 0x00ff_ffff_ffff_ffff)
+}
