@@ -54,21 +54,28 @@ pub enum OperationGroup {
     LaterTransputers,
 }
 
-impl fmt::Display for OperationGroup {
-    fn fmt<W: fmt::Write>(&self, f: &mut fmt::Formatter<W>) -> fmt::Result {
-        f.write_str(match self {
+impl OperationGroup {
+    // What they are called.
+    fn text(self) -> &'static str {
+        match self {
             OperationGroup::Timers => "the timers",
             OperationGroup::FloatingSupport => "the support of floating point",
             OperationGroup::FractionalMultiply => "the fractional multiply",
             OperationGroup::WordCount => "wcnt",
             OperationGroup::FloatingPoint => "the floating point of the T800",
             OperationGroup::LaterTransputers => "what only later transputers have",
-        })
+        }
+    }
+}
+
+impl fmt::Display for OperationGroup {
+    fn fmt<W: fmt::Write>(&self, f: &mut fmt::Formatter<W>) -> fmt::Result {
+        f.write_str(self.text())
     }
 }
 
 impl WordHint {
-    // What is said of it.
+    // What is said of it, before its name if it has one.
     fn text(self) -> &'static str {
         match self {
             WordHint::Tab => "a tab stands there, and words stand between single blanks",
@@ -82,8 +89,8 @@ impl WordHint {
             WordHint::NumberSign => "hexadecimal digits stand behind #, as in #2a",
             WordHint::Sign => "write the digits alone, without a sign",
             WordHint::OddDigits => "each byte has two digits, as 05",
-            WordHint::Capitals(_) => "small and capital letters differ",
-            WordHint::Nearest(_) => "is it",
+            WordHint::Capitals(_) => "small and capital letters differ: write ",
+            WordHint::Nearest(_) => "is it ",
             WordHint::SmallLetters => "names of instructions are in small letters",
             WordHint::DomainFirst =>
                 "a line begins with a domain's number in the plan, from 0, or with a user's name, and not with a verb",
@@ -91,7 +98,16 @@ impl WordHint {
             WordHint::FewerTimes => "only Steps of one node by the farm may be asked more often",
             WordHint::LinkFirst => "a state of a link stands behind link and the link's number",
             WordHint::Remark => "a remark stands on a line of its own, which begins with #",
-            WordHint::LeftOut(_) => "this processor leaves out",
+            WordHint::LeftOut(_) => "this processor leaves out ",
+        }
+    }
+
+    // The name that is said with it, or an empty text.
+    fn name(self) -> &'static str {
+        match self {
+            WordHint::Capitals(name) | WordHint::Nearest(name) => name,
+            WordHint::LeftOut(group) => group.text(),
+            _ => "",
         }
     }
 }
@@ -99,12 +115,12 @@ impl WordHint {
 impl fmt::Display for WordHint {
     fn fmt<W: fmt::Write>(&self, f: &mut fmt::Formatter<W>) -> fmt::Result {
         f.write_str(self.text())?;
-        match self {
-            WordHint::Capitals(name) => write!(f, ": write {name}"),
-            WordHint::Nearest(name) => write!(f, " {name}?"),
-            WordHint::LeftOut(group) => write!(f, " {group}"),
-            _ => Ok(()),
-        }
+        f.write_str(self.name())?;
+        f.write_str(if let WordHint::Nearest(_) = self {
+            "?"
+        } else {
+            ""
+        })
     }
 }
 
@@ -141,56 +157,100 @@ fn hint_of_character(word: &str) -> Option<WordHint> {
 
 fn hint_of_form(word: &str, form: WordForm) -> Option<WordHint> {
     match form {
-        WordForm::OneOf(names) | WordForm::InstructionOr(names) => names
-            .iter()
-            .find(|name| name.eq_ignore_ascii_case(word))
-            .map(|name| WordHint::Capitals(*name)),
+        WordForm::OneOf(names) | WordForm::InstructionOr(names) => hint_of_capitals(word, names),
         WordForm::Asker | WordForm::Instruction | WordForm::Once => None,
         form => hint_of_digits(word.as_bytes(), form),
     }
 }
 
+// What helps where a name of some has other capitals.
+fn hint_of_capitals(word: &str, names: &[&'static str]) -> Option<WordHint> {
+    for name in names {
+        if name.eq_ignore_ascii_case(word) {
+            return Some(WordHint::Capitals(*name));
+        }
+    }
+    None
+}
+
 // What helps where a name of some is mistyped.
 fn hint_of_slip(word: &str, form: WordForm) -> Option<WordHint> {
     match form {
-        WordForm::OneOf(names) | WordForm::InstructionOr(names) => nearest_name(word, names).map(
-            |name| WordHint::Nearest(name),
-        ),
+        WordForm::OneOf(names) | WordForm::InstructionOr(names) => hint_of_nearest(word, names),
         _ => None,
+    }
+}
+
+// The name of some that is nearest to a word.
+fn hint_of_nearest(word: &str, names: &[&'static str]) -> Option<WordHint> {
+    match nearest_name(word, names) {
+        Some(name) => Some(WordHint::Nearest(name)),
+        None => None,
     }
 }
 
 // What helps where a number should stand.
 fn hint_of_digits(word: &[u8], form: WordForm) -> Option<WordHint> {
     if let WordForm::Operand = form {
-        return word.starts_with(b"0x").then_some(WordHint::NumberSign);
+        return hint_if(word.starts_with(b"0x"), WordHint::NumberSign);
     }
     match word {
         [b'0', b'x' | b'X', ..] | [b'#', ..] => Some(WordHint::Prefix),
         [b'-' | b'+', ..] => Some(WordHint::Sign),
         _ => match form {
-            WordForm::TwoDigits | WordForm::DigitPairs | WordForm::TwoDigitsOrNone
-                if word.len() % 2 == 1 && word.iter().all(|byte| byte.is_ascii_hexdigit()) => {
-                Some(WordHint::OddDigits)
-            }
+            WordForm::TwoDigits | WordForm::DigitPairs | WordForm::TwoDigitsOrNone => hint_if(
+                word.len() % 2 == 1 && is_of_digits(word),
+                WordHint::OddDigits,
+            ),
             _ => None,
         },
     }
 }
 
+fn hint_if(helps: bool, hint: WordHint) -> Option<WordHint> {
+    if helps { Some(hint) } else { None }
+}
+
+// Whether each letter of a word is a hexadecimal digit.
+fn is_of_digits(word: &[u8]) -> bool {
+    for byte in word {
+        if !byte.is_ascii_hexdigit() {
+            return false;
+        }
+    }
+    true
+}
+
+// The commands of a script that begin with a user's name.
+const COMMANDS: [&str; 4] = ["boot", "poke", "peek", "collect"];
+
 fn hint_of_role(word: &str, role: WordRole) -> Option<WordHint> {
     match role {
         WordRole::Domain => hint_of_begin(word),
-        WordRole::DomainVerb => match word {
-            "boot" | "poke" | "peek" | "collect" => Some(WordHint::ScriptCommand),
-            _ => None,
-        },
+        WordRole::DomainVerb => hint_if(COMMANDS.contains(&word), WordHint::ScriptCommand),
         WordRole::Instruction | WordRole::InstructionOrState => {
-            let has_capital = word.as_bytes().iter().any(|byte| byte.is_ascii_uppercase());
-            has_capital.then_some(WordHint::SmallLetters)
+            hint_if(has_capital(word.as_bytes()), WordHint::SmallLetters)
         }
         _ => None,
     }
+}
+
+fn has_capital(word: &[u8]) -> bool {
+    for byte in word {
+        if byte.is_ascii_uppercase() {
+            return true;
+        }
+    }
+    false
+}
+
+fn has_letter(word: &[u8]) -> bool {
+    for byte in word {
+        if byte.is_ascii_alphabetic() {
+            return true;
+        }
+    }
+    false
 }
 
 // What may stand in a line in place of a domain's number.
@@ -198,14 +258,7 @@ const ALONE: [&str; 2] = ["words", "reopen"];
 
 // What helps where a line should begin with a domain's number.
 fn hint_of_begin(word: &str) -> Option<WordHint> {
-    let is_of_letters = word
-        .as_bytes()
-        .iter()
-        .any(|byte| byte.is_ascii_alphabetic());
-    ALONE
-        .iter()
-        .find(|name| name.eq_ignore_ascii_case(word))
-        .map(|name| WordHint::Capitals(*name))
-        .or(nearest_name(word, &ALONE).map(|name| WordHint::Nearest(name)))
-        .or(is_of_letters.then_some(WordHint::DomainFirst))
+    hint_of_capitals(word, &ALONE)
+        .or(hint_of_nearest(word, &ALONE))
+        .or(hint_if(has_letter(word.as_bytes()), WordHint::DomainFirst))
 }

@@ -42,8 +42,8 @@ impl ShownWord {
 impl fmt::Display for ShownWord {
     fn fmt<W: fmt::Write>(&self, f: &mut fmt::Formatter<W>) -> fmt::Result {
         f.write_str("\"")?;
-        for letter in self.letters.iter().take(self.count) {
-            write!(f, "{}", letter.escape_debug())?;
+        for place in 0..self.count.min(SHOWN) {
+            fmt::Display::fmt(&self.letters[place].escape_debug(), f)?;
         }
         f.write_str(if self.is_whole { "\"" } else { "...\"" })
     }
@@ -64,7 +64,7 @@ pub enum MetText {
 impl fmt::Display for MetText {
     fn fmt<W: fmt::Write>(&self, f: &mut fmt::Formatter<W>) -> fmt::Result {
         match self {
-            MetText::Word(word) => write!(f, "{word}"),
+            MetText::Word(word) => fmt::Display::fmt(word, f),
             MetText::Blank => f.write_str("a blank"),
             MetText::End => f.write_str("the end of the line"),
             MetText::Byte(byte) => write!(f, "the byte {byte:02x}"),
@@ -108,8 +108,11 @@ impl fmt::Debug for WordMistake {
 
 impl fmt::Display for WordMistake {
     fn fmt<W: fmt::Write>(&self, f: &mut fmt::Formatter<W>) -> fmt::Result {
-        let (column, met, wanted) = (self.column, self.met, self.wanted);
-        write!(f, "column {column}: {met} where {wanted}")?;
+        write!(
+            f,
+            "column {}: {} where {}",
+            self.column, self.met, self.wanted
+        )?;
         match self.hint {
             Some(hint) => write!(f, " ({hint})"),
             None => Ok(()),

@@ -78,13 +78,24 @@ pub fn read_questions<'a>(
     text: &'a [u8],
     before: u64,
 ) -> Result<Vec<Question<'a>>, NumberedLineFault> {
+    let lines = numbered_lines(alloc, text)?;
     let mut questions = Vec::new(alloc);
-    for line in &numbered_lines(alloc, text)? {
+    for line in &lines {
         if !is_passed_over(line.text) {
-            questions.push(read_question(*line, before)?)?;
+            push_question(&mut questions, *line, before)?;
         }
     }
     Ok(questions)
+}
+
+// Reads the question of a line behind so many others, and puts it behind these.
+fn push_question<'a>(
+    questions: &mut Vec<Question<'a>>,
+    line: NumberedLine<'a>,
+    before: u64,
+) -> Result<(), NumberedLineFault> {
+    questions.push(read_question(line, before)?)?;
+    Ok(())
 }
 
 // The question of a line behind so many others.

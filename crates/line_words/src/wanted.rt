@@ -45,9 +45,10 @@ pub enum WordRole {
     Subcommand,
 }
 
-impl fmt::Display for WordRole {
-    fn fmt<W: fmt::Write>(&self, f: &mut fmt::Formatter<W>) -> fmt::Result {
-        f.write_str(match self {
+impl WordRole {
+    // What it is called.
+    fn text(self) -> &'static str {
+        match self {
             WordRole::Domain => "a domain's number",
             WordRole::User => "the user who asks",
             WordRole::Host => "a host's number",
@@ -77,7 +78,13 @@ impl fmt::Display for WordRole {
             WordRole::Change => "a line of a change",
             WordRole::Replaced => "what is replaced",
             WordRole::Subcommand => "a subcommand",
-        })
+        }
+    }
+}
+
+impl fmt::Display for WordRole {
+    fn fmt<W: fmt::Write>(&self, f: &mut fmt::Formatter<W>) -> fmt::Result {
+        f.write_str(self.text())
     }
 }
 
@@ -114,43 +121,65 @@ pub enum WordForm {
 const INSTRUCTIONS: &str =
     "an operation as add, a function and its operand as ldc 5, or hex and bytes";
 
-impl fmt::Display for WordForm {
-    fn fmt<W: fmt::Write>(&self, f: &mut fmt::Formatter<W>) -> fmt::Result {
+/// The same before other names.
+const INSTRUCTIONS_OR: &str =
+    "an operation as add, a function and its operand as ldc 5, or hex and bytes, or ";
+
+impl WordForm {
+    // What is said of it before its names or its range, or all if it has none.
+    fn text(self) -> &'static str {
         match self {
-            WordForm::OneOf(names) => write_names(f, names),
-            WordForm::Decimal { least, most } => write!(f, "decimal digits, {least} to {most}"),
-            WordForm::MultipleOfFour { least, most } => {
-                write!(f, "decimal digits, a multiple of 4 from {least} to {most}")
-            }
-            WordForm::Hexadecimal => f.write_str("one to eight hexadecimal digits"),
-            WordForm::TwoDigits => f.write_str("two hexadecimal digits"),
-            WordForm::DigitPairs => f.write_str("two hexadecimal digits for each byte"),
-            WordForm::TwoDigitsOrNone => f.write_str("two hexadecimal digits, or - for none"),
-            WordForm::Asker => f.write_str("@farm, or @ and a number, 0 to 255"),
-            WordForm::Once => f.write_str("a text that stands just once in the plan"),
-            WordForm::Operand => f.write_str(
+            WordForm::OneOf(_) => "",
+            WordForm::Decimal { .. } => "decimal digits, ",
+            WordForm::MultipleOfFour { .. } => "decimal digits, a multiple of 4 from ",
+            WordForm::Hexadecimal => "one to eight hexadecimal digits",
+            WordForm::TwoDigits => "two hexadecimal digits",
+            WordForm::DigitPairs => "two hexadecimal digits for each byte",
+            WordForm::TwoDigitsOrNone => "two hexadecimal digits, or - for none",
+            WordForm::Asker => "@farm, or @ and a number, 0 to 255",
+            WordForm::Once => "a text that stands just once in the plan",
+            WordForm::Operand =>
                 "a decimal number from -2147483648 to 4294967295, or # and one to eight hexadecimal digits",
-            ),
-            WordForm::Instruction => f.write_str(INSTRUCTIONS),
-            WordForm::InstructionOr(names) => {
-                write!(f, "{INSTRUCTIONS}, or ")?;
-                write_names(f, names)
-            }
+            WordForm::Instruction => INSTRUCTIONS,
+            WordForm::InstructionOr(_) => INSTRUCTIONS_OR,
         }
     }
 }
 
+impl fmt::Display for WordForm {
+    fn fmt<W: fmt::Write>(&self, f: &mut fmt::Formatter<W>) -> fmt::Result {
+        f.write_str(self.text())?;
+        match self {
+            WordForm::OneOf(names) | WordForm::InstructionOr(names) => write_names(f, names),
+            WordForm::Decimal { least, most } | WordForm::MultipleOfFour { least, most } =>
+                write_range(f, *least, *most),
+            _ => Ok(()),
+        }
+    }
+}
+
+fn write_range<W: fmt::Write>(f: &mut fmt::Formatter<W>, least: u64, most: u64) -> fmt::Result {
+    write!(f, "{least} to {most}")
+}
+
 // Names with commas between them, and `or` before the last.
 fn write_names<W: fmt::Write>(f: &mut fmt::Formatter<W>, names: &[&str]) -> fmt::Result {
-    let Some((last, others)) = names.split_last() else {
-        return Ok(());
-    };
-    for (place, name) in others.iter().enumerate() {
-        f.write_str(if place == 0 { "" } else { ", " })?;
-        f.write_str(name)?;
+    for place in 0..names.len() {
+        f.write_str(before_name(place, names.len()))?;
+        f.write_str(names[place])?;
     }
-    f.write_str(if others.is_empty() { "" } else { " or " })?;
-    f.write_str(last)
+    Ok(())
+}
+
+// What is written before the name at a place of so many.
+fn before_name(place: usize, count: usize) -> &'static str {
+    if place == 0 {
+        ""
+    } else if place == count.saturating_sub(1) {
+        " or "
+    } else {
+        ", "
+    }
 }
 
 /// What a line should have at a place.

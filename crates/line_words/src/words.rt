@@ -228,7 +228,10 @@ impl<'a> Words<'a> {
             wanted,
             hint,
         } = noted;
-        let left = place.rest.map_or(0, |rest| rest.len());
+        let left = match place.rest {
+            Some(rest) => rest.len(),
+            None => 0,
+        };
         let start = self.line.len().saturating_sub(left);
         let column = column_at(self.line.as_bytes(), start);
         let (met, column) = match place.rest {
