@@ -65,30 +65,54 @@ impl ScriptArgument {
 
     /// Whether a word spells it.
     pub fn is_spelled_by(self, word: &[u8]) -> bool {
-        let is_hexadecimal = word.iter().all(|byte| byte.is_ascii_hexdigit());
         match self {
             ScriptArgument::Host | ScriptArgument::Node => parse_place(word).is_ok(),
-            ScriptArgument::Bytes => is_hexadecimal && !word.is_empty() && word.len() % 2 == 0,
-            ScriptArgument::Address | ScriptArgument::Word => is_hexadecimal && word.len() == 8,
+            ScriptArgument::Bytes => !word.is_empty()
+                && word.len() % 2 == 0
+                && no_digit_of(word).is_none(),
+            ScriptArgument::Address | ScriptArgument::Word => word.len() == 8
+                && no_digit_of(word).is_none(),
         }
     }
 }
 
-/// What stands behind the verb of this name; nothing if it is no verb.
-pub fn arguments_of(verb: &[u8]) -> &'static [ScriptArgument] {
-    match verb {
-        b"config" => &[ScriptArgument::Bytes],
-        b"write" | b"boot" => &[ScriptArgument::Host, ScriptArgument::Bytes],
-        b"poke" => &[
+/// The place of the first byte of a word that is no hexadecimal digit.
+pub fn no_digit_of(word: &[u8]) -> Option<usize> {
+    for (place, byte) in word.iter().enumerate() {
+        if !byte.is_ascii_hexdigit() {
+            return Some(place);
+        }
+    }
+    None
+}
+
+// What stands behind each verb.
+const ARGUMENTS: [(&str, &[ScriptArgument]); 8] = [
+    ("config", &[ScriptArgument::Bytes]),
+    ("write", &[ScriptArgument::Host, ScriptArgument::Bytes]),
+    ("boot", &[ScriptArgument::Host, ScriptArgument::Bytes]),
+    (
+        "poke",
+        &[
             ScriptArgument::Host,
             ScriptArgument::Address,
             ScriptArgument::Word,
         ],
-        b"peek" => &[ScriptArgument::Host, ScriptArgument::Address],
-        b"collect" => &[ScriptArgument::Host],
-        b"reset" | b"look" => &[ScriptArgument::Node],
-        _ => &[],
+    ),
+    ("peek", &[ScriptArgument::Host, ScriptArgument::Address]),
+    ("collect", &[ScriptArgument::Host]),
+    ("reset", &[ScriptArgument::Node]),
+    ("look", &[ScriptArgument::Node]),
+];
+
+/// What stands behind the verb of this name; nothing if it is no verb.
+pub fn arguments_of(verb: &[u8]) -> &'static [ScriptArgument] {
+    for (name, arguments) in &ARGUMENTS {
+        if name.as_bytes() == verb {
+            return *arguments;
+        }
     }
+    &[]
 }
 
 /// Appends the form of a user's line with this verb.

@@ -2,7 +2,7 @@
 
 use crate::wrong::{WrongScriptLine, write_wrong_line};
 use line_words::{NumberedLine, numbered_lines};
-use script_lines::{LineFault, ScriptFault, read_script};
+use script_lines::{LineFault, LineWords, ScriptFault, read_script};
 use script_text::TextWriter;
 use std::alloc::{AllocError, Global};
 
@@ -87,7 +87,8 @@ pub fn tell_wrong_line(
 
 fn words_of(alloc: Global, line: &[u8]) -> Result<Vec<&[u8]>, AllocError> {
     let mut words = Vec::new(alloc);
-    for word in line.split(|byte| *byte == b' ') {
+    let mut left = LineWords::of(line);
+    while let Some(word) = left.take() {
         words.push(word)?;
     }
     Ok(words)

@@ -1,10 +1,10 @@
 //! A wrong line of a script, and what is told of it.
 
-use crate::form::{ScriptArgument, VERBS, VERBS_THAT_HELP, arguments_of, write_form};
+use crate::form::{ScriptArgument, VERBS, VERBS_THAT_HELP, arguments_of, no_digit_of, write_form};
 use line_words::{
     MetText, NumberedLine, ShownWord, Wanted, WordForm, WordHint, WordRole, nearest_name,
 };
-use script_lines::LineFault;
+use script_lines::{LineFault, LineWords};
 use script_text::TextWriter;
 
 /// How many users' names are told.
@@ -52,13 +52,10 @@ fn write_wrong_user(text: &mut TextWriter, names: &[&str], word: &[u8]) {
     write_met(text, word);
     text.push(" is no user of the plan: ");
     write_names(text, names);
-    let same = names
-        .iter()
-        .find(|name| name.as_bytes().eq_ignore_ascii_case(word));
-    match same {
+    match same_letters(names, word) {
         Some(name) => {
             text.push(" (small and capital letters differ: write ");
-            text.push(*name);
+            text.push(name);
             text.push(")");
         }
         None if is_verb(word) => {
@@ -68,6 +65,16 @@ fn write_wrong_user(text: &mut TextWriter, names: &[&str], word: &[u8]) {
     }
 }
 
+// The first of some names that a word is, in small letters or capitals.
+fn same_letters<'a>(names: &[&'a str], word: &[u8]) -> Option<&'a str> {
+    for name in names {
+        if name.as_bytes().eq_ignore_ascii_case(word) {
+            return Some(*name);
+        }
+    }
+    None
+}
+
 // Whether a word is the verb of a script line, or that of a line that helps.
 fn is_verb(word: &[u8]) -> bool {
     !arguments_of(word).is_empty() || helping_verb(word).is_some()
@@ -75,26 +82,26 @@ fn is_verb(word: &[u8]) -> bool {
 
 /// Whether a line begins as one of a script does: with a word, a blank and a verb.
 pub fn has_verb(line: &[u8]) -> bool {
-    let mut words = line.split(|byte| *byte == b' ');
-    match (words.next(), words.next()) {
-        (Some(user), Some(verb)) => !user.is_empty() && is_verb(verb),
+    let mut words = LineWords::of(line);
+    match words.take() {
+        Some(user) if !user.is_empty() => match words.take() {
+            Some(verb) => is_verb(verb),
+            None => false,
+        },
         _ => false,
     }
 }
 
 // The verb of a line that helps which a word is, in small letters or capitals.
 fn helping_verb(word: &[u8]) -> Option<&'static str> {
-    VERBS_THAT_HELP
-        .iter()
-        .find(|verb| verb.as_bytes().eq_ignore_ascii_case(word))
-        .copied()
+    same_letters(&VERBS_THAT_HELP, word)
 }
 
 // The first names, and how many more there are.
 fn write_names(text: &mut TextWriter, names: &[&str]) {
-    for (place, name) in names.iter().take(MOST_NAMES).enumerate() {
+    for place in 0..names.len().min(MOST_NAMES) {
         text.push(if place == 0 { "" } else { ", " });
-        text.push(*name);
+        text.push(names[place]);
     }
     let more = names.len().saturating_sub(MOST_NAMES);
     if more > 0 {
@@ -166,10 +173,9 @@ fn write_wrong_arguments(text: &mut TextWriter, words: &[&[u8]]) {
             "too many words: "
         });
         write_form(text, user, verb);
-        if arguments.last().is_some_and(|word| word.is_empty()) {
-            text.push(" (a blank stands at the end of the line)");
-        } else {
-            write_hint_of_words(text, arguments);
+        match arguments.last() {
+            Some(word) if word.is_empty() => text.push(" (a blank stands at the end of the line)"),
+            _ => write_hint_of_words(text, arguments),
         }
     }
 }
@@ -197,11 +203,10 @@ fn write_help(text: &mut TextWriter, argument: ScriptArgument, word: &[u8]) {
 
 // Which character of a word is no hexadecimal digit; or how many digits there are.
 fn write_wrong_digit(text: &mut TextWriter, word: &[u8]) {
-    let wrong = word.iter().position(|byte| !byte.is_ascii_hexdigit());
-    match wrong {
+    match no_digit_of(word) {
         Some(place) => {
             text.push(" (");
-            write_met(text, first_character(&word[place..]));
+            write_met(text, first_character(word.get(place..).unwrap_or(word)));
             text.push(", its character ");
             text.push_decimal((place as u64).saturating_add(1));
             text.push(", is none)");
@@ -221,12 +226,25 @@ fn write_wrong_digit(text: &mut TextWriter, word: &[u8]) {
 // The first character of a word, or its first byte if that begins none.
 fn first_character(word: &[u8]) -> &[u8] {
     let count = match word.first() {
-        Some(0xc0..=0xdf) => 2,
-        Some(0xe0..=0xef) => 3,
-        Some(0xf0..=0xf7) => 4,
-        _ => 1,
+        Some(first) => length_of_character(*first),
+        None => 1,
     };
     word.get(..count).unwrap_or(word)
+}
+
+// How many bytes a character has that begins with this one.
+fn length_of_character(first: u8) -> usize {
+    if first < 0xc0 {
+        1
+    } else if first < 0xe0 {
+        2
+    } else if first < 0xf0 {
+        3
+    } else if first < 0xf8 {
+        4
+    } else {
+        1
+    }
 }
 
 // What stands in place of something else: a word in quotes, its beginning if it is long.
@@ -258,9 +276,11 @@ fn write_hint(text: &mut TextWriter, word: &[u8], wanted: Wanted) {
 
 // What helps with the first of some words of which there are too few or too many.
 fn write_hint_of_words(text: &mut TextWriter, words: &[&[u8]]) {
-    let first = words.iter().find_map(|word| hint_of(*word, Wanted::End));
-    if let Some(hint) = first {
-        write_in_brackets(text, hint);
+    for word in words {
+        if let Some(hint) = hint_of(*word, Wanted::End) {
+            write_in_brackets(text, hint);
+            break;
+        }
     }
 }
 
