@@ -165,34 +165,46 @@ struct Use {
 fn uses_of(alloc: Global, domain: &DomainPlan) -> Result<Vec<Use>, AllocError> {
     let mut uses = Vec::new(alloc);
     for (user, plan) in domain.users.iter().enumerate() {
-        for (host, port) in plan.hosts.iter().enumerate() {
-            let device = PlannedDevice::Host { user, host };
+        add_hosts(&mut uses, user, plan.hosts.as_slice())?;
+    }
+    for (node, plan) in domain.nodes.iter().enumerate() {
+        add_links(&mut uses, node, &plan.links)?;
+    }
+    Ok(uses)
+}
+
+fn add_hosts(uses: &mut Vec<Use>, user: usize, ports: &[i64]) -> Result<(), AllocError> {
+    for (host, port) in ports.iter().enumerate() {
+        let device = PlannedDevice::Host { user, host };
+        uses.push(Use {
+            port: *port,
+            device,
+        })?;
+    }
+    Ok(())
+}
+
+fn add_links(uses: &mut Vec<Use>, node: usize, ports: &[i64]) -> Result<(), AllocError> {
+    for (link, port) in ports.iter().enumerate() {
+        if is_wired(*port) {
+            let device = PlannedDevice::Link { node, link };
             uses.push(Use {
                 port: *port,
                 device,
             })?;
         }
     }
-    for (node, plan) in domain.nodes.iter().enumerate() {
-        for (link, port) in plan.links.iter().enumerate() {
-            if is_wired(*port) {
-                let device = PlannedDevice::Link { node, link };
-                uses.push(Use {
-                    port: *port,
-                    device,
-                })?;
-            }
-        }
-    }
-    Ok(uses)
+    Ok(())
 }
 
 // How many virtual ports a domain has.
 fn count_of(domain: &DomainPlan) -> i64 {
-    domain.ranges.iter().fold(0i64, |count, range| {
+    let mut count = 0i64;
+    for range in &domain.ranges {
         let length = range.last.saturating_sub(range.first).saturating_add(1);
-        count.saturating_add(length)
-    })
+        count = count.saturating_add(length);
+    }
+    count
 }
 
 fn write_wrong_port(text: &mut TextWriter, count: i64, uses: &[Use]) {
@@ -209,9 +221,19 @@ fn write_wrong_port(text: &mut TextWriter, count: i64, uses: &[Use]) {
     }
 }
 
+// The first of some uses of a port.
+fn use_of_port(uses: &[Use], port: i64) -> Option<Use> {
+    for it in uses {
+        if it.port == port {
+            return Some(*it);
+        }
+    }
+    None
+}
+
 fn write_port_twice(text: &mut TextWriter, uses: &[Use]) {
     for (number, later) in uses.iter().enumerate() {
-        if let Some(earlier) = uses[..number].iter().find(|it| it.port == later.port) {
+        if let Some(earlier) = use_of_port(&uses[..number], later.port) {
             text.push(": ");
             write_device(text, earlier.device);
             text.push(" and ");
@@ -262,18 +284,37 @@ struct PlannedName<'a> {
 fn names_of(alloc: Global, domains: &[DomainPlan]) -> Result<Vec<PlannedName<'_>>, AllocError> {
     let mut names = Vec::new(alloc);
     for (domain, plan) in domains.iter().enumerate() {
-        for (user, user_plan) in plan.users.iter().enumerate() {
-            let name = user_plan.name.as_str();
-            names.push(PlannedName { domain, user, name })?;
-        }
+        add_names(&mut names, domain, plan)?;
     }
     Ok(names)
+}
+
+fn add_names<'a>(
+    names: &mut Vec<PlannedName<'a>>,
+    domain: usize,
+    plan: &'a DomainPlan,
+) -> Result<(), AllocError> {
+    for (user, user_plan) in plan.users.iter().enumerate() {
+        let name = user_plan.name.as_str();
+        names.push(PlannedName { domain, user, name })?;
+    }
+    Ok(())
+}
+
+// The first of some users who has a name.
+fn user_of_name<'a>(names: &[PlannedName<'a>], name: &str) -> Option<PlannedName<'a>> {
+    for it in names {
+        if it.name == name {
+            return Some(*it);
+        }
+    }
+    None
 }
 
 // The first two users of the plan with one name.
 fn write_name_twice(text: &mut TextWriter, names: &[PlannedName]) {
     for (number, later) in names.iter().enumerate() {
-        if let Some(earlier) = names[..number].iter().find(|it| it.name == later.name) {
+        if let Some(earlier) = user_of_name(&names[..number], later.name) {
             write_place(text, "domain ", later.domain);
             write_place(text, ", user ", later.user);
             text.push(": the name ");
@@ -298,33 +339,49 @@ struct PlannedRange {
 fn ranges_of(alloc: Global, domains: &[DomainPlan]) -> Result<Vec<PlannedRange>, AllocError> {
     let mut ranges = Vec::new(alloc);
     for (domain, plan) in domains.iter().enumerate() {
-        for (number, range) in plan.ranges.iter().enumerate() {
-            ranges.push(PlannedRange {
-                domain,
-                number,
-                first: range.first,
-                last: range.last,
-            })?;
-        }
+        add_ranges(&mut ranges, domain, plan)?;
     }
     Ok(ranges)
+}
+
+fn add_ranges(
+    ranges: &mut Vec<PlannedRange>,
+    domain: usize,
+    plan: &DomainPlan,
+) -> Result<(), AllocError> {
+    for (number, range) in plan.ranges.iter().enumerate() {
+        ranges.push(PlannedRange {
+            domain,
+            number,
+            first: range.first,
+            last: range.last,
+        })?;
+    }
+    Ok(())
 }
 
 // The first two ranges of the plan that have a port in common.
 fn write_shared_port(text: &mut TextWriter, ranges: &[PlannedRange]) {
     for (index, later) in ranges.iter().enumerate() {
-        for earlier in &ranges[..index] {
-            let port = later.first.max(earlier.first);
-            if port <= later.last.min(earlier.last) {
-                write_place(text, "domain ", later.domain);
-                write_place(text, ", range ", later.number);
-                text.push(": port ");
-                text.push_signed(port);
-                write_place(text, " is in range ", earlier.number);
-                write_place(text, " of domain ", earlier.domain);
-                text.push(" already");
-                return;
-            }
+        if let Some(earlier) = range_beside(&ranges[..index], *later) {
+            write_place(text, "domain ", later.domain);
+            write_place(text, ", range ", later.number);
+            text.push(": port ");
+            text.push_signed(later.first.max(earlier.first));
+            write_place(text, " is in range ", earlier.number);
+            write_place(text, " of domain ", earlier.domain);
+            text.push(" already");
+            return;
         }
     }
+}
+
+// The first of some ranges that has a port in common with this one.
+fn range_beside(ranges: &[PlannedRange], later: PlannedRange) -> Option<PlannedRange> {
+    for earlier in ranges {
+        if later.first.max(earlier.first) <= later.last.min(earlier.last) {
+            return Some(*earlier);
+        }
+    }
+    None
 }

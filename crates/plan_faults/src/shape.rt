@@ -102,7 +102,10 @@ pub fn line_unread<'a>(
     match toml::table_from_str(alloc, document) {
         Ok(_) => Ok(None),
         Err(error) if error.is_memory() => Err(AllocError),
-        Err(error) => Ok(error.span().map(|span| line_at(text, span.start))),
+        Err(error) => match error.span() {
+            Some(span) => Ok(Some(line_at(text, span.start))),
+            None => Ok(None),
+        },
     }
 }
 
@@ -110,10 +113,10 @@ pub fn line_unread<'a>(
 fn line_at(text: &[u8], place: usize) -> UnreadLine<'_> {
     let mut number: u64 = 1;
     let mut start: usize = 0;
-    for (index, byte) in text.iter().take(place).enumerate() {
-        if *byte == b'\n' {
+    for index in 0..place.min(text.len()) {
+        if text[index] == b'\n' {
             number = number.saturating_add(1);
-            start = index.saturating_add(1);
+            start = index + 1;
         }
     }
     let (line, _) = split_line(text.get(start..).unwrap_or(&[]));
@@ -175,10 +178,7 @@ fn write_table_place(misfit: &mut TextWriter, place: PlanPlace) {
 // Writes the first misfit of a document, if it has one.
 fn write_document_misfit(misfit: &mut TextWriter, document: &Table) {
     write_table_misfit(misfit, document, &PLAN, PlanPlace::Plan);
-    let version = document
-        .get("version")
-        .and_then(Value::as_integer)
-        .unwrap_or(0);
+    let version = version_of(document);
     let fields: &[PlanField] = match version {
         1 => &DOMAIN_ONE,
         2 => &DOMAIN_TWO,
@@ -199,9 +199,20 @@ fn write_document_misfit(misfit: &mut TextWriter, document: &Table) {
     }
 }
 
+// The version that a document says, or 0 if it says none.
+fn version_of(document: &Table) -> i64 {
+    match document.get("version") {
+        Some(version) => version.as_integer().unwrap_or(0),
+        None => 0,
+    }
+}
+
 // The items of an array; none if the value is something else.
 fn items_of(value: Option<&Value>) -> &[Value] {
-    match value.and_then(Value::as_array) {
+    let Some(value) = value else {
+        return &[];
+    };
+    match value.as_array() {
         Some(items) => items.as_slice(),
         None => &[],
     }
@@ -257,10 +268,19 @@ fn write_table_misfit(
         }
     }
     for name in table.keys() {
-        if misfit.is_empty() && !fields.iter().any(|field| name.as_str() == field.0) {
+        if misfit.is_empty() && !has_field(fields, name.as_str()) {
             write_unknown_field(misfit, name.as_str(), place);
         }
     }
+}
+
+fn has_field(fields: &[PlanField], name: &str) -> bool {
+    for field in fields {
+        if name == field.0 {
+            return true;
+        }
+    }
+    false
 }
 
 // Writes that a field is missing or of a wrong kind, if it is.
@@ -308,23 +328,38 @@ fn has_kind(value: &Value, kind: Kind) -> bool {
         Kind::Text => value.as_str().is_some(),
         Kind::Integers => are_integers(value),
         Kind::FourIntegers => are_integers(value) && has_length(value, 4),
-        Kind::Ranges => match value.as_array() {
-            Some(ranges) => ranges
-                .iter()
-                .all(|range| are_integers(range) && has_length(range, 2)),
-            None => false,
-        },
+        Kind::Ranges => are_ranges(value),
         Kind::Users | Kind::Nodes | Kind::Domains => value.as_array().is_some(),
     }
 }
 
-fn are_integers(value: &Value) -> bool {
-    match value.as_array() {
-        Some(items) => items.iter().all(|item| item.is_integer()),
-        None => false,
+fn are_ranges(value: &Value) -> bool {
+    let Some(ranges) = value.as_array() else {
+        return false;
+    };
+    for range in ranges {
+        if !are_integers(range) || !has_length(range, 2) {
+            return false;
+        }
     }
+    true
+}
+
+fn are_integers(value: &Value) -> bool {
+    let Some(items) = value.as_array() else {
+        return false;
+    };
+    for item in items {
+        if !item.is_integer() {
+            return false;
+        }
+    }
+    true
 }
 
 fn has_length(value: &Value, length: usize) -> bool {
-    value.as_array().is_some_and(|items| items.len() == length)
+    match value.as_array() {
+        Some(items) => items.len() == length,
+        None => false,
+    }
 }
