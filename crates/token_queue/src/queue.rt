@@ -73,7 +73,6 @@ fn put<R: Wait>(rt: &R, ruled_queue: &RuledTokens, pass: &mut RuledPass, token: 
 }
 
 // Puts the tokens of a domain's nodes, which the pass holds.
-#[tactic(auto, using(crate::proofs::Counts::still_held, crate::proofs::Counts::one_node_more))]
 // Seven clauses: whose pass it is and what it holds, and each part of what it knows after.
 fn put_nodes<R: Wait>(
     rt: &R,
