@@ -1,8 +1,8 @@
 -- Data of a TOML document and the plans that it spells: the contracts of `read_plan`, of the readers of a plan's
 -- parts, and of `list_of`.
-use Rattle.std.proofs.Common.{◌≡◌, ◌<◌, ◌+◌, ◌++◌, ℕ, suc, List, [], ◌∷◌, map, take, length, get_or, codes}
-use Rattle.std.proofs.Common.{ℤ, MatchResult, Option, Some, Result, Ok, Err, All, Vec, Global, subst, zero, refl, ap}
-use Rattle.std.proofs.Common.{sym, ◌∙◌, arith}
+use Rattle.std.proofs.Common.{◌≡◌, ◌<◌, ◌≤◌, ◌+◌, ◌++◌, ℕ, suc, List, [], ◌∷◌, map, take, length, get_or, codes}
+use Rattle.std.proofs.Common.{ℤ, MatchResult, Option, Some, None, Result, Ok, Err, All, Vec, Global, subst, zero, refl}
+use Rattle.std.proofs.Common.{ap, sym, ◌∙◌, arith}
 use Rattle.toml.specs.Data.{Data, string, integer, float, boolean, datetime, array, table, Items, no_items}
 use Rattle.toml.specs.Data.{item, Members, no_members, member, get_member, get_item, push_item, as_array}
 use Rattle.toml.specs.View.{view, items_of, items_view}
@@ -17,7 +17,7 @@ use Rattle.plan_rules.specs.declared.fault.PlanFault.TheVariants.{Text, Shape, D
 use Rattle.plan_rules.specs.declared.fault.PlanFault.TheVariants.{Range, SharedPort, NodeCount, Memory}
 use Rattle.plan_rules.specs.declared.fault.PlanFault.TheVariants.{Port, PortTwice, HostCount, UnwiredNode}
 use Rattle.plan_rules.specs.declared.fault.PlanFault.TheVariants.{Limit, NoMemory, RangeCount, UserCount}
-use Rattle.std.proofs.lemmas.List.{take_more}
+use Rattle.std.proofs.lemmas.List.{take_more, take_all}
 
 -- the data of a list with x behind it is the data of the list with that of x behind it
 pub items_of-push : {X : Type 0} (make : X → Data) (xs : List X) (x : X)
@@ -64,6 +64,32 @@ array_is (boolean b) items same = cc
 array_is (datetime t) items same = cc
 array_is (array ds) items same = cc
 array_is (table ms) items same = cc
+
+-- values of which as many as there are spell a list are the array of that list
+pub spells_all : {X : Type 0} (make : X → Data) (value : Data) (vs : List Value) (i : ℕ) (xs : List X)
+    → value ≡ array (items_view vs) → length vs ≤ i → items_view (take i vs) ≡ items_of (map make xs)
+    → value ≡ list make xs
+spells_all make value vs i xs is all same =
+    is ∙ ap array (ap items_view (sym (take_all i vs all)) ∙ same)
+
+-- no values spell no items, and each of none is whole
+pub spells_none : {X : Type 0} (Whole : X → Type 0) (make : X → Data) (xs : List X) → xs ≡ []
+    → (no_items ≡ items_of (map make xs)) × All Whole xs
+spells_none Whole make xs none = rw none (refl, λ k other within. absurd (omega (arith, within)))
+
+-- what the reader of a list of items of any kind says
+pub any_items : {X : Type 0} (make : X → Data) (value : Data) (outcome : Result (Vec X Global) PlanFault)
+    → ReadsValue {X = Vec X Global} (All (λ _. Unit {0})) (list make) (λ v. v.items) value outcome
+    → ReadsValue {X = Vec X Global} (λ _. Unit {0}) (list make) (λ v. v.items) value outcome
+any_items make value (Ok v) given = (given.0, tt)
+any_items make value (Err Shape) given = λ xs whole. given xs (λ k other within. tt)
+any_items make value (Err NoMemory) given = tt
+any_items make value (Err _) given = absurd given
+
+-- data that isn't an array is no list
+pub no_list : {X : Type 0} (make : X → Data) (value : Data) (xs : List X) → None ≡ as_array value
+    → ¬ (value ≡ list make xs)
+no_list make value xs none same = let found : None ≡ Some (items_of (map make xs)) = none ∙ ap as_array same in cc
 
 -- the fault of an item is that of the list
 pub list_fault : {X : Type 0} (Whole : X → Type 0) (make : X → Data) (value : Data) (vs : List Value)
@@ -115,120 +141,134 @@ pub same_field_length : {X : Type 0} (make : X → Data) (field : Option Data) (
     → length xs ≡ length ys
 same_field_length make field xs ys same equal = same_length make (list make xs) xs ys refl (cc)
 
+-- a table whose first key is known has a value there, and the other keys in its rest
+first_field : (ms : Members) (key : List ℕ) (keys : List (List ℕ)) → keys_of ms ≡ key ∷ keys
+    → (value : Data) × (rest : Members) × (ms ≡ member key value rest) × (keys_of rest ≡ keys)
+first_field no_members key keys same = cc
+first_field (member k value rest) key keys same = (value, rest, cc, cc)
+
+-- a table without keys is empty
+no_field : (ms : Members) → keys_of ms ≡ [] → ms ≡ no_members
+no_field no_members same = refl
+no_field (member k value rest) same = cc
+
 -- a table with just the keys of a node has just these two values
 pub node_fields : (ms : Members) (links memory : Data)
     → keys_of ms ≡ codes "links" ∷ codes "memory" ∷ []
     → get_member (codes "links") ms ≡ Some links
     → get_member (codes "memory") ms ≡ Some memory
-    → ms ≡ member (codes "links") links (member (codes "memory") memory no_members)
-node_fields (member a s (member b t no_members)) links memory keys h1 h2 =
-    let ka : a ≡ codes "links" = cc in
-    let kb : b ≡ codes "memory" = cc in
-    let g1 : Some s ≡ Some links = rw ka at h1 in
-    let g2 : Some t ≡ Some memory = rw (ka, kb) at h2 in
-    cc
-node_fields _ links memory keys h1 h2 = cc
+    → ms
+    ≡ member (codes "links") links (member (codes "memory") memory no_members)
+node_fields ms links memory keys h1 h2 =
+    let a = first_field ms _ _ keys in
+    let b = first_field a.1 _ _ a.3 in
+    let g1 : Some a.0 ≡ Some links = rw (a.2) at h1 in
+    let g2 : Some b.0 ≡ Some memory = rw (a.2, b.2) at h2 in
+    rw (a.2, b.2, no_field b.1 b.3) (cc)
 
 -- a table with just the keys of a user has just these two values
 pub user_fields : (ms : Members) (host name : Data)
     → keys_of ms ≡ codes "host" ∷ codes "name" ∷ []
     → get_member (codes "host") ms ≡ Some host
     → get_member (codes "name") ms ≡ Some name
-    → ms ≡ member (codes "host") host (member (codes "name") name no_members)
-user_fields (member a s (member b t no_members)) host name keys h1 h2 =
-    let ka : a ≡ codes "host" = cc in
-    let kb : b ≡ codes "name" = cc in
-    let g1 : Some s ≡ Some host = rw ka at h1 in
-    let g2 : Some t ≡ Some name = rw (ka, kb) at h2 in
-    cc
-user_fields _ host name keys h1 h2 = cc
+    → ms
+    ≡ member (codes "host") host (member (codes "name") name no_members)
+user_fields ms host name keys h1 h2 =
+    let a = first_field ms _ _ keys in
+    let b = first_field a.1 _ _ a.3 in
+    let g1 : Some a.0 ≡ Some host = rw (a.2) at h1 in
+    let g2 : Some b.0 ≡ Some name = rw (a.2, b.2) at h2 in
+    rw (a.2, b.2, no_field b.1 b.3) (cc)
 
 -- a table with just the keys of a domain in version 1 has just these six values
 pub one_range_fields : (ms : Members) (first host last limit name node : Data)
     → keys_of ms ≡ codes "first" ∷ codes "host" ∷ codes "last" ∷ codes "limit" ∷ codes "name" ∷ codes "node" ∷ []
-    → get_member (codes "first") ms ≡ Some first → get_member (codes "host") ms ≡ Some host
-    → get_member (codes "last") ms ≡ Some last → get_member (codes "limit") ms ≡ Some limit
-    → get_member (codes "name") ms ≡ Some name → get_member (codes "node") ms ≡ Some node
+    → get_member (codes "first") ms ≡ Some first
+    → get_member (codes "host") ms ≡ Some host
+    → get_member (codes "last") ms ≡ Some last
+    → get_member (codes "limit") ms ≡ Some limit
+    → get_member (codes "name") ms ≡ Some name
+    → get_member (codes "node") ms ≡ Some node
     → ms
     ≡ member (codes "first") first
     (member (codes "host") host
     (member (codes "last") last
     (member (codes "limit") limit (member (codes "name") name (member (codes "node") node no_members)))))
-one_range_fields (member a s (member b t (member c u (member d v (member e w (member f x no_members)))))) first host
-    last limit name node keys h1 h2 h3 h4 h5 h6 =
-    let ka : a ≡ codes "first" = cc in
-    let kb : b ≡ codes "host" = cc in
-    let kc : c ≡ codes "last" = cc in
-    let kd : d ≡ codes "limit" = cc in
-    let ke : e ≡ codes "name" = cc in
-    let kf : f ≡ codes "node" = cc in
-    let g1 : Some s ≡ Some first = rw ka at h1 in
-    let g2 : Some t ≡ Some host = rw (ka, kb) at h2 in
-    let g3 : Some u ≡ Some last = rw (ka, kb, kc) at h3 in
-    let g4 : Some v ≡ Some limit = rw (ka, kb, kc, kd) at h4 in
-    let g5 : Some w ≡ Some name = rw (ka, kb, kc, kd, ke) at h5 in
-    let g6 : Some x ≡ Some node = rw (ka, kb, kc, kd, ke, kf) at h6 in
-    cc
-one_range_fields _ first host last limit name node keys h1 h2 h3 h4 h5 h6 = cc
+one_range_fields ms first host last limit name node keys h1 h2 h3 h4 h5 h6 =
+    let a = first_field ms _ _ keys in
+    let b = first_field a.1 _ _ a.3 in
+    let c = first_field b.1 _ _ b.3 in
+    let d = first_field c.1 _ _ c.3 in
+    let e = first_field d.1 _ _ d.3 in
+    let f = first_field e.1 _ _ e.3 in
+    let g1 : Some a.0 ≡ Some first = rw (a.2) at h1 in
+    let g2 : Some b.0 ≡ Some host = rw (a.2, b.2) at h2 in
+    let g3 : Some c.0 ≡ Some last = rw (a.2, b.2, c.2) at h3 in
+    let g4 : Some d.0 ≡ Some limit = rw (a.2, b.2, c.2, d.2) at h4 in
+    let g5 : Some e.0 ≡ Some name = rw (a.2, b.2, c.2, d.2, e.2) at h5 in
+    let g6 : Some f.0 ≡ Some node = rw (a.2, b.2, c.2, d.2, e.2, f.2) at h6 in
+    rw (a.2, b.2, c.2, d.2, e.2, f.2, no_field f.1 f.3) (cc)
 
 -- a table with just the keys of a domain in version 2 has just these five values
 pub one_user_fields : (ms : Members) (host limit name node range : Data)
     → keys_of ms ≡ codes "host" ∷ codes "limit" ∷ codes "name" ∷ codes "node" ∷ codes "range" ∷ []
-    → get_member (codes "host") ms ≡ Some host → get_member (codes "limit") ms ≡ Some limit
-    → get_member (codes "name") ms ≡ Some name → get_member (codes "node") ms ≡ Some node
+    → get_member (codes "host") ms ≡ Some host
+    → get_member (codes "limit") ms ≡ Some limit
+    → get_member (codes "name") ms ≡ Some name
+    → get_member (codes "node") ms ≡ Some node
     → get_member (codes "range") ms ≡ Some range
     → ms
     ≡ member (codes "host") host
     (member (codes "limit") limit
     (member (codes "name") name (member (codes "node") node (member (codes "range") range no_members))))
-one_user_fields (member a s (member b t (member c u (member d v (member e w no_members))))) host limit name node
-    range keys h1 h2 h3 h4 h5 =
-    let ka : a ≡ codes "host" = cc in
-    let kb : b ≡ codes "limit" = cc in
-    let kc : c ≡ codes "name" = cc in
-    let kd : d ≡ codes "node" = cc in
-    let ke : e ≡ codes "range" = cc in
-    let g1 : Some s ≡ Some host = rw ka at h1 in
-    let g2 : Some t ≡ Some limit = rw (ka, kb) at h2 in
-    let g3 : Some u ≡ Some name = rw (ka, kb, kc) at h3 in
-    let g4 : Some v ≡ Some node = rw (ka, kb, kc, kd) at h4 in
-    let g5 : Some w ≡ Some range = rw (ka, kb, kc, kd, ke) at h5 in
-    cc
-one_user_fields _ host limit name node range keys h1 h2 h3 h4 h5 = cc
+one_user_fields ms host limit name node range keys h1 h2 h3 h4 h5 =
+    let a = first_field ms _ _ keys in
+    let b = first_field a.1 _ _ a.3 in
+    let c = first_field b.1 _ _ b.3 in
+    let d = first_field c.1 _ _ c.3 in
+    let e = first_field d.1 _ _ d.3 in
+    let g1 : Some a.0 ≡ Some host = rw (a.2) at h1 in
+    let g2 : Some b.0 ≡ Some limit = rw (a.2, b.2) at h2 in
+    let g3 : Some c.0 ≡ Some name = rw (a.2, b.2, c.2) at h3 in
+    let g4 : Some d.0 ≡ Some node = rw (a.2, b.2, c.2, d.2) at h4 in
+    let g5 : Some e.0 ≡ Some range = rw (a.2, b.2, c.2, d.2, e.2) at h5 in
+    rw (a.2, b.2, c.2, d.2, e.2, no_field e.1 e.3) (cc)
 
 -- a table with just the keys of a domain in version 3 has just these four values
 pub users_fields : (ms : Members) (limit node range user : Data)
     → keys_of ms ≡ codes "limit" ∷ codes "node" ∷ codes "range" ∷ codes "user" ∷ []
-    → get_member (codes "limit") ms ≡ Some limit → get_member (codes "node") ms ≡ Some node
-    → get_member (codes "range") ms ≡ Some range → get_member (codes "user") ms ≡ Some user
+    → get_member (codes "limit") ms ≡ Some limit
+    → get_member (codes "node") ms ≡ Some node
+    → get_member (codes "range") ms ≡ Some range
+    → get_member (codes "user") ms ≡ Some user
     → ms
     ≡ member (codes "limit") limit
-    (member (codes "node") node (member (codes "range") range (member (codes "user") user no_members)))
-users_fields (member a s (member b t (member c u (member d v no_members)))) limit node range user keys h1 h2 h3 h4 =
-    let ka : a ≡ codes "limit" = cc in
-    let kb : b ≡ codes "node" = cc in
-    let kc : c ≡ codes "range" = cc in
-    let kd : d ≡ codes "user" = cc in
-    let g1 : Some s ≡ Some limit = rw ka at h1 in
-    let g2 : Some t ≡ Some node = rw (ka, kb) at h2 in
-    let g3 : Some u ≡ Some range = rw (ka, kb, kc) at h3 in
-    let g4 : Some v ≡ Some user = rw (ka, kb, kc, kd) at h4 in
-    cc
-users_fields _ limit node range user keys h1 h2 h3 h4 = cc
+    (member (codes "node") node
+    (member (codes "range") range (member (codes "user") user no_members)))
+users_fields ms limit node range user keys h1 h2 h3 h4 =
+    let a = first_field ms _ _ keys in
+    let b = first_field a.1 _ _ a.3 in
+    let c = first_field b.1 _ _ b.3 in
+    let d = first_field c.1 _ _ c.3 in
+    let g1 : Some a.0 ≡ Some limit = rw (a.2) at h1 in
+    let g2 : Some b.0 ≡ Some node = rw (a.2, b.2) at h2 in
+    let g3 : Some c.0 ≡ Some range = rw (a.2, b.2, c.2) at h3 in
+    let g4 : Some d.0 ≡ Some user = rw (a.2, b.2, c.2, d.2) at h4 in
+    rw (a.2, b.2, c.2, d.2, no_field d.1 d.3) (cc)
 
 -- a table with just the keys of a document has just these two values
 pub document_fields : (ms : Members) (domain version : Data)
     → keys_of ms ≡ codes "domain" ∷ codes "version" ∷ []
     → get_member (codes "domain") ms ≡ Some domain
     → get_member (codes "version") ms ≡ Some version
-    → ms ≡ member (codes "domain") domain (member (codes "version") version no_members)
-document_fields (member a s (member b t no_members)) domain version keys h1 h2 =
-    let ka : a ≡ codes "domain" = cc in
-    let kb : b ≡ codes "version" = cc in
-    let g1 : Some s ≡ Some domain = rw ka at h1 in
-    let g2 : Some t ≡ Some version = rw (ka, kb) at h2 in
-    cc
-document_fields _ domain version keys h1 h2 = cc
+    → ms
+    ≡ member (codes "domain") domain (member (codes "version") version no_members)
+document_fields ms domain version keys h1 h2 =
+    let a = first_field ms _ _ keys in
+    let b = first_field a.1 _ _ a.3 in
+    let g1 : Some a.0 ≡ Some domain = rw (a.2) at h1 in
+    let g2 : Some b.0 ≡ Some version = rw (a.2, b.2) at h2 in
+    rw (a.2, b.2, no_field b.1 b.3) (cc)
 
 -- what the reader of a document says of the bytes that write it
 pub reads_document : (bytes : List ℕ) (ms : Members) (outcome : Result (List DomainData) PlanFault)

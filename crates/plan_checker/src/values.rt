@@ -45,8 +45,10 @@ pub fn integer_of(value: &Value) -> Result<i64, PlanFault>
 pub fn text_of(alloc: Global, value: &Value) -> Result<String, PlanFault>
     ensures { ReadsValue (λ _. Unit {0}) string string_bytes (view value.now) result }
 {
-    let text = value.as_str().ok_or(PlanFault::Shape)?;
-    Ok(String::from_str(alloc, text)?)
+    match value.as_str() {
+        Some(text) => Ok(String::from_str(alloc, text)?),
+        None => Err(PlanFault::Shape),
+    }
 }
 
 /// The table that a value is, where it has exactly the fields of these names, which ascend.
@@ -55,11 +57,9 @@ pub fn table_of<'a>(value: &'a Value, names: &[&str]) -> Result<&'a Table, PlanF
         (λ t. IsTomlTable (view value.now) names.now (table_view t.now))
         (λ e. (e ≡ PlanFault.Shape) × ((t : Members) → ¬ IsTomlTable (view value.now) names.now t)) }
 {
-    let table = value.as_table().ok_or(PlanFault::Shape)?;
-    if has_fields(table, names) {
-        Ok(table)
-    } else {
-        Err(PlanFault::Shape)
+    match value.as_table() {
+        Some(table) if has_fields(table, names) => Ok(table),
+        _ => Err(PlanFault::Shape),
     }
 }
 
@@ -113,7 +113,9 @@ pub fn list_of<T: FromValue>(
     ensures { ReadsValue (All (T.is_whole version)) (list (T.spelling version)) (λ v. v.items)
         (view value.now) result }
 {
-    let array = value.as_array().ok_or(PlanFault::Shape)?;
+    let Some(array) = value.as_array() else {
+        return Err(PlanFault::Shape);
+    };
     let mut items = Vec::with_capacity(alloc, array.len())?;
     for value in array {
         items.push(T::from_value(alloc, version, value)?)?;
