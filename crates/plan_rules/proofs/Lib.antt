@@ -2,6 +2,7 @@
 pub mod ListLemmas
 pub mod RuleLemmas
 pub mod NumberLemmas
+pub mod AloneLemmas
 pub mod PartLemmas
 -- ports and parts
 pub mod PortLemmas

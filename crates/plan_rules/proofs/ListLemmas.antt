@@ -16,6 +16,11 @@ pub all_more : {X : Type 0} (P : X → Type 0) (xs : List X) (i : ℕ) (y : X)
     → All P (take (i + 1) xs)
 all_more P xs i y within at_i before here = rw (take_more xs i y within, ← at_i) (All-push P (take i xs) y before here)
 
+-- what holds of each element holds of the one at i
+pub all_at : {X : Type 0} (P : X → Type 0) (xs : List X) (i : ℕ) (y : X) → i < length xs → y ≡ get_or xs i y
+    → All P xs → P y
+all_at P xs i y within at_i all = subst P (sym at_i) (all i y within)
+
 -- what holds of each element of two lists in a row holds of each of the first
 pub all_left : {X : Type 0} (P : X → Type 0) (xs ys : List X) → All P (xs ++ ys) → All P xs
 all_left P [] ys given = All-nil P

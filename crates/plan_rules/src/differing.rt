@@ -69,7 +69,12 @@ impl PartOfDomain for RangePlan {
 fn is_new<T: Differs>(earlier: &[T], item: &T) -> bool
     ensures { IsTrue result ↔ All (λ x. T.differs_from x item.now) earlier.now }
 {
-    earlier.iter().all(|x| x.is_different(item))
+    for x in earlier {
+        if !x.is_different(item) {
+            return false;
+        }
+    }
+    true
 }
 
 /// Whether no item stands twice.
@@ -88,7 +93,12 @@ pub fn are_apart<T: Differs>(items: &[T]) -> bool
 fn are_new<T: Differs>(earlier: &[T], items: &[T]) -> bool
     ensures { IsTrue result ↔ All (λ y. All (λ x. T.differs_from x y) earlier.now) items.now }
 {
-    items.iter().all(|y| is_new(earlier, y))
+    for item in items {
+        if !is_new(earlier, item) {
+            return false;
+        }
+    }
+    true
 }
 
 /// Whether each item differs from each of the earlier domains' items.
@@ -96,7 +106,12 @@ fn are_new_after<T: PartOfDomain>(earlier: &[DomainPlan], items: &[T]) -> bool
     ensures { IsTrue result ↔
         All (λ d. All (λ y. All (λ x. T.differs_from x y) (T.list d)) items.now) earlier.now }
 {
-    earlier.iter().all(|d| are_new(T::list_of(d), items))
+    for domain in earlier {
+        if !are_new(T::list_of(domain), items) {
+            return false;
+        }
+    }
+    true
 }
 
 /// Whether no item stands twice in the lists of all domains.

@@ -1,5 +1,5 @@
 //! The smallest fault of a plan.
-ghost use Rattle.std.specs.Prelude.{◌≡◌, ◌↔◌, IsTrue, IfOk, MatchOption};
+ghost use Rattle.std.specs.Prelude.{◌≡◌, ◌≢◌, ◌↔◌, [], ◌∷◌, All, IsTrue, IfOk, MatchOption};
 ghost use Rattle.plan_rules.specs.Fault.{plan_fault_number};
 ghost use Rattle.plan_rules.specs.Separate.{Rule, IsSeparate, KeepsBelow, IsSmallestFault};
 
@@ -33,6 +33,44 @@ const RULES: [PlanFault; 15] = [
     PlanFault::UserCount,
 ];
 
+/// Whether the domain keeps the rule whose breach is this fault, of those that compare no domains and count no ports.
+fn keeps_alone(domain: &DomainPlan, rule: PlanFault) -> bool
+    requires names { rule ≢ PlanFault.NameTwice }
+    requires ranges { rule ≢ PlanFault.SharedPort }
+    requires ports { rule ≢ PlanFault.Port }
+    requires uses { rule ≢ PlanFault.PortTwice }
+    ensures { IsTrue result ↔ Rule rule (domain.now ∷ []) }
+{
+    match rule {
+        PlanFault::Name => has_names(domain),
+        PlanFault::Range => has_ranges(domain),
+        PlanFault::NodeCount => has_node_count(domain),
+        PlanFault::Memory => has_memory_sizes(domain),
+        PlanFault::HostCount => has_host_count(domain),
+        PlanFault::UnwiredNode => has_wired_nodes(domain),
+        PlanFault::Limit => has_limit(domain),
+        PlanFault::RangeCount => has_range_count(domain),
+        PlanFault::UserCount => has_user_count(domain),
+        _ => true,
+    }
+}
+
+/// Whether each domain keeps the rule by itself.
+fn each_keeps(domains: &[DomainPlan], rule: PlanFault) -> bool
+    requires names { rule ≢ PlanFault.NameTwice }
+    requires ranges { rule ≢ PlanFault.SharedPort }
+    requires ports { rule ≢ PlanFault.Port }
+    requires uses { rule ≢ PlanFault.PortTwice }
+    ensures { IsTrue result ↔ All (λ d. Rule rule (d ∷ [])) domains.now }
+{
+    for domain in domains {
+        if !keeps_alone(domain, rule) {
+            return false;
+        }
+    }
+    true
+}
+
 /// Whether the plan keeps the rule whose breach is this fault.
 fn keeps(alloc: Global, domains: &[DomainPlan], rule: PlanFault) -> Result<bool, NoMemory>
     requires { KeepsBelow domains.now (plan_fault_number rule) }
@@ -40,20 +78,11 @@ fn keeps(alloc: Global, domains: &[DomainPlan], rule: PlanFault) -> Result<bool,
 {
     let kept = match rule {
         PlanFault::DomainCount => (1..=16).contains(&domains.len()),
-        PlanFault::Name => domains.iter().all(has_names),
         PlanFault::NameTwice => differ::<UserPlan>(domains),
-        PlanFault::Range => domains.iter().all(has_ranges),
         PlanFault::SharedPort => differ::<RangePlan>(domains),
-        PlanFault::NodeCount => domains.iter().all(has_node_count),
-        PlanFault::Memory => domains.iter().all(has_memory_sizes),
         PlanFault::Port => have_virtual_ports(alloc, domains)?,
         PlanFault::PortTwice => have_distinct_ports(alloc, domains)?,
-        PlanFault::HostCount => domains.iter().all(has_host_count),
-        PlanFault::UnwiredNode => domains.iter().all(has_wired_nodes),
-        PlanFault::Limit => domains.iter().all(has_limit),
-        PlanFault::RangeCount => domains.iter().all(has_range_count),
-        PlanFault::UserCount => domains.iter().all(has_user_count),
-        PlanFault::Text | PlanFault::Shape | PlanFault::NoMemory => true,
+        _ => each_keeps(domains, rule),
     };
     Ok(kept)
 }

@@ -18,3 +18,11 @@ returns c =
     c.loop-port.port-index _ c.loop-port-test.false c.loop-port.invariant
     ∙ ap (λ ports. c.args.hosts.now.items ++ map (host_part c.args.number) ports)
     (c.deref-port-items.ensures.value ∙ ap (λ (u : UserData). u.hosts) c.user.view_is)
+
+pub overflow_cast-port : goal.overflow_cast-port
+overflow_cast-port c =
+    let fits : SFits w64 (get_or c.deref-port-items.result.now c.loop-port.port-index (pos 0)) = search rules in
+    let all = rw (← c.user.view_is) at c.requires in
+    let lies =
+    (rw (← c.deref-port-items.ensures.value) at all) c.loop-port.port-index (pos 0) c.loop-port-test.true in
+    rw (to_z-of_z w64 _ fits) (search rules)
