@@ -2,7 +2,7 @@
 
 ghost use Rattle.std.specs.Prelude.{◌≡◌, IfOk};
 ghost use Rattle.farm_causes.specs.Causes.{waiter_at, last_asked, input_wait, output_wait, watcher, link_waits, IsCause};
-ghost use Rattle.farm_causes.specs.Causes.{met_by, inside_wait_at, inside_waits};
+ghost use Rattle.farm_causes.specs.Causes.{is_waiting, met_by, inside_wait_at, inside_waits};
 
 use crate::cause::{Cause, InputWait, InsideWait, LinkWaits, OutputWait, Rendezvous};
 use bootstrap::{Node, NodeState};
@@ -130,6 +130,16 @@ pub fn cause_in(node: &Node) -> Cause
     }
 }
 
+// Whether the word behind the end of an alternative says that it waits.
+fn is_waiting(state: Result<u32, Fault>) -> bool
+    ensures { result ≡ is_waiting state }
+{
+    match state {
+        Ok(word) => word == WAITING,
+        Err(_) => false,
+    }
+}
+
 // What an instruction that ends with this byte wants of a channel.
 fn met_by(byte: u8, state: Result<u32, Fault>) -> Option<Rendezvous>
     ensures { result ≡ met_by byte state }
@@ -137,7 +147,7 @@ fn met_by(byte: u8, state: Result<u32, Fault>) -> Option<Rendezvous>
     match byte {
         0xf7 => Some(Rendezvous::Receives),
         0xfb | 0xfe | 0xff => Some(Rendezvous::Sends),
-        0xf4 if state == Ok(WAITING) => Some(Rendezvous::Chooses),
+        0xf4 if is_waiting(state) => Some(Rendezvous::Chooses),
         _ => None,
     }
 }

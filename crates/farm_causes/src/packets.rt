@@ -20,13 +20,18 @@ impl Scene<'_> {
                 text.push_decimal(u64::from(port));
                 push_move(text, port, moved);
             }
-            SentByte::Left { port, drives } => match self.past.port(port).byte {
-                Some(event) => {
-                    text.push("  The byte");
-                    push_lost(text, port, event);
-                }
-                None => self.write_arrivals(port, drives, text),
-            },
+            SentByte::Left { port, drives } => self.write_left(port, drives, text),
+        }
+    }
+
+    // Says what became of a byte that left a port.
+    fn write_left(&mut self, port: u8, drives: u32, text: &mut TextWriter) {
+        match self.past.port(port).byte {
+            Some(event) => {
+                text.push("  The byte");
+                push_lost(text, port, event);
+            }
+            None => self.write_arrivals(port, drives, text),
         }
     }
 
@@ -97,17 +102,9 @@ impl Scene<'_> {
     /// Says whence bytes come to a link.
     pub(crate) fn write_supply(&mut self, node: u8, link: LinkNumber, text: &mut TextWriter) {
         match supply_of(&mut self.moment, Device::Link { node, link }) {
-            Supply::Unwired => {
-                text.push("  No byte comes: no port of the switch is joined to ");
-                push_link(text, link);
-                text.push(".\n");
-            }
+            Supply::Unwired => push_unjoined(text, link),
             Supply::Undriven { port } => {
-                text.push("  No byte comes by ");
-                push_link(text, link);
-                text.push(": no input drives output ");
-                text.push_decimal(u64::from(port));
-                text.push(".\n");
+                push_undriven(text, link, port);
                 self.write_own_loss(port, link, text);
             }
             Supply::Driven {
@@ -117,13 +114,7 @@ impl Scene<'_> {
                 packet,
                 moved,
             } => {
-                text.push("  Input ");
-                text.push_decimal(u64::from(input));
-                text.push(" drives output ");
-                text.push_decimal(u64::from(port));
-                text.push(" of ");
-                push_link(text, link);
-                text.push(". ");
+                push_drive(text, input, port, link);
                 if self.write_source(input, source, packet, moved, text) {
                     self.write_own_loss(port, link, text);
                 }
@@ -185,6 +176,33 @@ impl Scene<'_> {
             push_lost(text, port, event);
         }
     }
+}
+
+// That a link is joined to no port.
+fn push_unjoined(text: &mut TextWriter, link: LinkNumber) {
+    text.push("  No byte comes: no port of the switch is joined to ");
+    push_link(text, link);
+    text.push(".\n");
+}
+
+// That no input drives the output to which a link is joined.
+fn push_undriven(text: &mut TextWriter, link: LinkNumber, port: u8) {
+    text.push("  No byte comes by ");
+    push_link(text, link);
+    text.push(": no input drives output ");
+    text.push_decimal(u64::from(port));
+    text.push(".\n");
+}
+
+// Which input drives the output to which a link is joined.
+fn push_drive(text: &mut TextWriter, input: u8, port: u8, link: LinkNumber) {
+    text.push("  Input ");
+    text.push_decimal(u64::from(input));
+    text.push(" drives output ");
+    text.push_decimal(u64::from(port));
+    text.push(" of ");
+    push_link(text, link);
+    text.push(". ");
 }
 
 // Begins a sentence about a packet that waits at a device's port.

@@ -50,20 +50,30 @@ pub fn write_causes(
         past: follower.past(),
         most_inside: chosen.most_inside,
     };
-    for number in 0..8u8 {
-        if let Some(cause) = follower.cause_of(number)
-            && chosen.node.unwrap_or(number) == number
-        {
-            scene.write_node(number, cause, text)?;
-        }
-    }
-    if chosen.node.is_none() {
-        scene.write_exchanges(text);
-    }
-    Ok(())
+    scene.write_nodes(follower, chosen.node, text)
 }
 
 impl Scene<'_> {
+    // Writes what is said of one node, or of all and of the domain.
+    fn write_nodes(
+        &mut self,
+        follower: &Follower,
+        chosen: Option<u8>,
+        text: &mut TextWriter,
+    ) -> Result<(), NoMemory> {
+        for number in 0..8u8 {
+            if let Some(cause) = follower.cause_of(number)
+                && chosen.unwrap_or(number) == number
+            {
+                self.write_node(number, cause, text)?;
+            }
+        }
+        if chosen.is_none() {
+            self.write_exchanges(text);
+        }
+        Ok(())
+    }
+
     // Writes what is said of a node.
     fn write_node(
         &mut self,
@@ -73,15 +83,26 @@ impl Scene<'_> {
     ) -> Result<(), NoMemory> {
         text.push("node ");
         text.push_decimal(u64::from(number));
+        self.write_cause(number, cause, text)?;
+        self.write_overruns(number, text);
+        Ok(())
+    }
+
+    // Writes why a node does no more than it does.
+    fn write_cause(
+        &mut self,
+        number: u8,
+        cause: Cause,
+        text: &mut TextWriter,
+    ) -> Result<(), NoMemory> {
         match cause {
             Cause::WantsControl => self.write_wanting(number, text),
             Cause::Takes { link, task } => self.write_taking(number, link, task, text),
             Cause::Answers { link, left } => self.write_answering(number, link, left, text),
             Cause::Runs => self.write_running(number, text),
-            Cause::Rests(waits) => self.write_resting(number, waits, text)?,
+            Cause::Rests(waits) => return self.write_resting(number, waits, text),
             Cause::Halted(fault) => self.write_halted(number, fault, text),
         }
-        self.write_overruns(number, text);
         Ok(())
     }
 
@@ -211,7 +232,7 @@ impl Scene<'_> {
             Some(node) => inside_waits(self.alloc, node.memory())?,
             None => Vec::new(self.alloc),
         };
-        if !inside.iter().any(|wait| !is_at_link(&waits, wait.process)) && !is_waited_for(&waits) {
+        if are_at_links(&waits, inside.as_slice()) && !is_waited_for(&waits) {
             text.push(" has ended: no process is left.\n");
             self.write_untaken(number, text);
             return Ok(());
@@ -379,25 +400,50 @@ impl Scene<'_> {
 
 // Whether somebody waits at a link.
 fn is_waited_for(waits: &[LinkWaits; 4]) -> bool {
-    waits.iter().any(|it| it.input.is_some() || it.output.is_some() || it.watch.is_some())
+    for it in waits {
+        if it.input.is_some() || it.output.is_some() || it.watch.is_some() {
+            return true;
+        }
+    }
+    false
 }
 
 // Whether a process waits at a link.
 fn is_at_link(waits: &[LinkWaits; 4], process: Process) -> bool {
-    waits.iter().any(|it| is_at(it, process))
+    for it in waits {
+        if is_at(it, process) {
+            return true;
+        }
+    }
+    false
+}
+
+// Whether each of these processes waits at a link.
+fn are_at_links(waits: &[LinkWaits; 4], inside: &[InsideWait]) -> bool {
+    for wait in inside {
+        if !is_at_link(waits, wait.process) {
+            return false;
+        }
+    }
+    true
+}
+
+// Whether it is this process that waits.
+fn is_process(waits: Option<Process>, process: Process) -> bool {
+    waits == Some(process)
 }
 
 // Whether it waits at this link.
 fn is_at(waits: &LinkWaits, process: Process) -> bool {
     let receives = match waits.input {
-        Some(wait) => wait.process == Some(process),
+        Some(wait) => is_process(wait.process, process),
         None => false,
     };
     let sends = match waits.output {
-        Some(wait) => wait.process == Some(process),
+        Some(wait) => is_process(wait.process, process),
         None => false,
     };
-    receives || sends || waits.watch == Some(process)
+    receives || sends || is_process(waits.watch, process)
 }
 
 // Writes who waits for bytes of a link.
