@@ -29,19 +29,24 @@ pub fn explain_record<M: StepMeter>(
 ) -> Result<String, RecordStop> {
     let record = read_record(alloc, text, most)?;
     let follower = follow_record(alloc, &record.plan, record.lines.as_slice(), meter)?;
+    Ok(explain_followed(alloc, &follower, record.is_cut)?)
+}
+
+// Says it of a domain that was led by its record, whose last line may be cut.
+fn explain_followed(alloc: Global, follower: &Follower, is_cut: bool) -> Result<String, NoMemory> {
     let mut told = TextWriter::new(alloc);
     told.push("after ");
     told.push_decimal(follower.recorded());
     told.push(" events\n");
-    if record.is_cut {
+    if is_cut {
         told.push("The last line is cut, and was left out.\n");
     }
     let all = Chosen {
         node: None,
         most_inside: usize::MAX,
     };
-    write_causes(alloc, &follower, all, &mut told)?;
-    Ok(told.finish()?)
+    write_causes(alloc, follower, all, &mut told)?;
+    told.finish()
 }
 
 /// Says why each node does no more than it does, or one of them, at the moment to which a domain was led. Of the processes that
