@@ -96,7 +96,12 @@ fn too_long(
     lines: &[usize],
     place: usize,
 ) -> TextFault {
-    let number = lines.iter().filter(|count| **count <= place).count();
+    let mut number: usize = 0;
+    for count in lines {
+        if *count <= place {
+            number = number.saturating_add(1);
+        }
+    }
     let line = match source.get(number.saturating_sub(1)) {
         Some(line) => *line,
         None => NumberedLine {

@@ -65,11 +65,7 @@ impl<'a> Cursor<'a> {
 
     /// Passes over blanks and tabs.
     pub fn skip_blanks(&mut self) {
-        let end = self
-            .rest
-            .iter()
-            .position(|byte| !matches!(*byte, b' ' | b'\t'));
-        self.rest = &self.rest[end.unwrap_or(self.rest.len())..];
+        self.rest = without_blanks(self.rest);
     }
 
     /// Passes over blanks, and tells whether nothing or a comment follows.
@@ -209,27 +205,44 @@ impl<'a> Cursor<'a> {
     }
 }
 
+/// A text without the blanks and tabs at its head.
+pub fn without_blanks(text: &[u8]) -> &[u8] {
+    for (place, byte) in text.iter().enumerate() {
+        if !matches!(*byte, b' ' | b'\t') {
+            return text.get(place..).unwrap_or(&[]);
+        }
+    }
+    &[]
+}
+
 /// How many bytes the name has with which a text begins, 0 if it begins with none.
 pub fn name_length(text: &[u8]) -> usize {
-    match text {
-        [b'a'..=b'z' | b'A'..=b'Z' | b'_', ..] => text
-            .iter()
-            .position(|byte| !(byte.is_ascii_alphanumeric() || matches!(*byte, b'_' | b'.')))
-            .unwrap_or(text.len()),
-        _ => 0,
+    for (place, byte) in text.iter().enumerate() {
+        let is_letter = byte.is_ascii_alphabetic() || *byte == b'_';
+        let goes_on = byte.is_ascii_digit() || *byte == b'.';
+        if !is_letter && (place == 0 || !goes_on) {
+            return place;
+        }
     }
+    text.len()
 }
 
 fn digits_length(text: &[u8]) -> usize {
-    text.iter()
-        .position(|byte| !byte.is_ascii_digit())
-        .unwrap_or(text.len())
+    for (place, byte) in text.iter().enumerate() {
+        if !byte.is_ascii_digit() {
+            return place;
+        }
+    }
+    text.len()
 }
 
 fn hexadecimal_length(text: &[u8]) -> usize {
-    text.iter()
-        .position(|byte| !byte.is_ascii_hexdigit())
-        .unwrap_or(text.len())
+    for (place, byte) in text.iter().enumerate() {
+        if !byte.is_ascii_hexdigit() {
+            return place;
+        }
+    }
+    text.len()
 }
 
 /// The operand that a word spells, as the assembler reads it; `None` if it is no number.

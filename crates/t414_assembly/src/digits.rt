@@ -25,10 +25,11 @@ pub fn bytes_of_digits(alloc: Global, text: &[u8]) -> Result<Vec<u8>, TextFault>
     if digits.is_empty() {
         return Ok(Vec::new(alloc));
     }
-    bytes_of(alloc, digits.as_str()).map_err(|fault| match fault {
-        HexFault::NoMemory => TextFault::Memory(AllocError),
-        HexFault::NotHex => fault_before(alloc, last, 0, Expected::Digits),
-    })
+    match bytes_of(alloc, digits.as_str()) {
+        Ok(bytes) => Ok(bytes),
+        Err(HexFault::NoMemory) => Err(TextFault::Memory(AllocError)),
+        Err(HexFault::NotHex) => Err(fault_before(alloc, last, 0, Expected::Digits)),
+    }
 }
 
 // Puts the digits of a line behind others.

@@ -1,6 +1,6 @@
 //! What is wrong with a text.
 
-use crate::cursor::name_length;
+use crate::cursor::{name_length, without_blanks};
 use crate::hints::{Hint, hint_of};
 use line_words::NumberedLine;
 use std::alloc::{AllocError, Global};
@@ -174,8 +174,13 @@ pub fn fault_before(
 
 // The number of the character behind these.
 fn column_behind(text: &[u8]) -> u64 {
-    let characters = text.iter().filter(|byte| **byte & 0xc0 != 0x80);
-    (characters.count() as u64).saturating_add(1)
+    let mut column: u64 = 1;
+    for byte in text {
+        if *byte & 0xc0 != 0x80 {
+            column = column.saturating_add(1);
+        }
+    }
+    column
 }
 
 // What follows the text of what was expected.
@@ -202,12 +207,6 @@ fn details_of(
     }
 }
 
-// A text without the blanks and tabs at its head.
-fn without_blanks(text: &[u8]) -> &[u8] {
-    let end = text.iter().position(|byte| !matches!(*byte, b' ' | b'\t'));
-    text.get(end.unwrap_or(text.len())..).unwrap_or(&[])
-}
-
 // What the rest of a line begins with.
 fn met_in<'a>(rest: &[u8], word: &'a str, is_in_quotes: bool) -> Met<'a> {
     if rest.is_empty() {
@@ -230,12 +229,19 @@ fn first_word(text: &[u8]) -> &str {
     let end = if name > 0 {
         name.min(MOST_SHOWN)
     } else {
-        text.iter()
-            .enumerate()
-            .position(|(place, byte)| place > 0 && ends_word(place, *byte))
-            .unwrap_or(text.len())
+        length_of_word(text)
     };
     std::str::from_utf8(text.get(..end).unwrap_or(text)).unwrap_or("")
+}
+
+// How many bytes of a text stand before what ends a word, its first one among them.
+fn length_of_word(text: &[u8]) -> usize {
+    for (place, byte) in text.iter().enumerate() {
+        if place > 0 && ends_word(place, *byte) {
+            return place;
+        }
+    }
+    text.len()
 }
 
 // Whether a byte that stands behind so many of a word isn't shown with them.

@@ -1,5 +1,6 @@
 //! What helps to mend a fault of a text.
 
+use crate::cursor::without_blanks;
 use crate::fault::Expected;
 use crate::mnemonics::{Omission, name_in_lower_case, nearest_statement, omission_named};
 use std::fmt;
@@ -97,15 +98,16 @@ fn statement_hint<'a>(rest: &[u8], word: &'a str) -> Option<Hint<'a>> {
         (Some(b':'), _) => Some(Hint::OneLabel),
         (_, Some(b':')) => Some(Hint::Colon),
         (_, Some(b'=')) => Some(Hint::Naming),
-        _ => nearest_statement(word).map(|name| Hint::Nearest(name)),
+        _ => match nearest_statement(word) {
+            Some(name) => Some(Hint::Nearest(name)),
+            None => None,
+        },
     }
 }
 
 // The first byte that is no blank and no tab.
 fn first_visible(text: &[u8]) -> Option<u8> {
-    text.iter()
-        .find(|byte| !matches!(**byte, b' ' | b'\t'))
-        .copied()
+    without_blanks(text).first().copied()
 }
 
 fn hexadecimal_hint(word: &str) -> Option<Hint<'_>> {

@@ -169,17 +169,24 @@ pub fn function_name(function: Function) -> &'static str {
 
 /// The handbook's name of the operation of a code, if there is one.
 pub fn operation_name(code: u32) -> Option<&'static str> {
-    OPERATIONS
-        .iter()
-        .find(|entry| entry.1 == code)
-        .map(|entry| entry.0)
+    for (name, its_code) in &OPERATIONS {
+        if *its_code == code {
+            return Some(*name);
+        }
+    }
+    None
 }
 
 /// What a name stands for.
 pub fn mnemonic_named(name: &str) -> Option<Mnemonic> {
-    match FUNCTIONS.iter().position(|it| *it == name) {
-        Some(nibble) => Some(Mnemonic::Function(decode((nibble as u8) << 4).0)),
-        None => value_named(&OPERATIONS, name).map(Mnemonic::Operation),
+    for (nibble, function) in FUNCTIONS.iter().enumerate() {
+        if *function == name {
+            return Some(Mnemonic::Function(decode((nibble as u8) << 4).0));
+        }
+    }
+    match value_named(&OPERATIONS, name) {
+        Some(code) => Some(Mnemonic::Operation(code)),
+        None => None,
     }
 }
 
@@ -188,38 +195,69 @@ pub fn omission_named(name: &str) -> Option<Omission> {
     if name.starts_with("fp") || name.starts_with("FP") {
         return Some(Omission::Float);
     }
-    OMISSIONS
-        .iter()
-        .find(|entry| entry.0.eq_ignore_ascii_case(name))
-        .map(|entry| entry.1)
+    for (operation, omission) in &OMISSIONS {
+        if operation.eq_ignore_ascii_case(name) {
+            return Some(*omission);
+        }
+    }
+    None
 }
 
 /// The name that begins a statement and differs from this one in case, if there is one.
 pub fn name_in_lower_case(name: &str) -> Option<&'static str> {
-    let function = FUNCTIONS.iter().find(|it| it.eq_ignore_ascii_case(name));
-    let other = OTHERS.iter().find(|it| it.eq_ignore_ascii_case(name));
-    let operation = OPERATIONS
-        .iter()
-        .find(|entry| entry.0.eq_ignore_ascii_case(name));
-    function
-        .or(other)
-        .copied()
-        .or(operation.map(|entry| entry.0))
+    same_letters(&FUNCTIONS, name)
+        .or(same_letters(&OTHERS, name))
+        .or(operation_in_lower_case(name))
+}
+
+// The name of some that differs from this one in case at most.
+fn same_letters(names: &[&'static str], name: &str) -> Option<&'static str> {
+    for it in names {
+        if it.eq_ignore_ascii_case(name) {
+            return Some(*it);
+        }
+    }
+    None
+}
+
+// The same of the operations.
+fn operation_in_lower_case(name: &str) -> Option<&'static str> {
+    for (operation, _) in &OPERATIONS {
+        if operation.eq_ignore_ascii_case(name) {
+            return Some(*operation);
+        }
+    }
+    None
+}
+
+// The first name of some that is so near to a word.
+fn name_near(word: &str, names: &[&'static str], slips: u8) -> Option<&'static str> {
+    for name in names {
+        if is_near(word, *name, slips) {
+            return Some(*name);
+        }
+    }
+    None
+}
+
+// The same of the operations.
+fn operation_near(word: &str, slips: u8) -> Option<&'static str> {
+    for (operation, _) in &OPERATIONS {
+        if is_near(word, *operation, slips) {
+            return Some(*operation);
+        }
+    }
+    None
 }
 
 // The first name of an instruction that is so near to a word.
 fn instruction_near(word: &str, slips: u8) -> Option<&'static str> {
-    let function = FUNCTIONS.iter().find(|it| is_near(word, **it, slips));
-    let operation = OPERATIONS
-        .iter()
-        .find(|entry| is_near(word, entry.0, slips));
-    function.copied().or(operation.map(|entry| entry.0))
+    name_near(word, &FUNCTIONS, slips).or(operation_near(word, slips))
 }
 
 // The same of all names that begin a statement, directives before instructions.
 fn statement_near(word: &str, slips: u8) -> Option<&'static str> {
-    let other = OTHERS.iter().find(|it| is_near(word, **it, slips));
-    other.copied().or(instruction_near(word, slips))
+    name_near(word, &OTHERS, slips).or(instruction_near(word, slips))
 }
 
 /// The name of the instruction that is nearest to a word, as `nearest_name` has it.

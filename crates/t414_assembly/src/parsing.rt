@@ -120,18 +120,22 @@ impl<'a> Reader<'a> {
     }
 
     fn definition_of(&self, name: &str) -> Option<Definition<'a>> {
-        self.definitions
-            .iter()
-            .find(|definition| definition.name == name)
-            .copied()
+        for definition in &self.definitions {
+            if definition.name == name {
+                return Some(*definition);
+            }
+        }
+        None
     }
 
     // A name that is defined and differs from this one in case.
     fn name_in_other_case(&self, name: &str) -> Option<&'a str> {
-        self.definitions
-            .iter()
-            .find(|definition| definition.name.eq_ignore_ascii_case(name))
-            .map(|definition| definition.name)
+        for definition in &self.definitions {
+            if definition.name.eq_ignore_ascii_case(name) {
+                return Some(definition.name);
+            }
+        }
+        None
     }
 
     // Reads one statement, a list or definitions.
@@ -265,16 +269,19 @@ impl<'a> Reader<'a> {
     fn read_named(&self, cursor: &mut Cursor<'a>, sum: &mut Sum<'a>, is_subtracted: bool) {
         let left = cursor.left();
         let name = cursor.take_name();
-        match self.definition_of(name).map(|definition| definition.value) {
-            Some(Named::Number(number)) => sum.put_named(number, is_subtracted),
-            Some(Named::Place(place)) => {
-                sum.put_label(LabelTerm { name, place, left }, is_subtracted);
-            }
+        match self.definition_of(name) {
+            Some(definition) => match definition.value {
+                Named::Number(number) => sum.put_named(number, is_subtracted),
+                Named::Place(place) => {
+                    sum.put_label(LabelTerm { name, place, left }, is_subtracted);
+                }
+            },
             None if self.gathers => sum.put_unknown(left),
             None => {
-                let hint = self
-                    .name_in_other_case(name)
-                    .map(|other| Hint::OtherCase(other));
+                let hint = match self.name_in_other_case(name) {
+                    Some(other) => Some(Hint::OtherCase(other)),
+                    None => None,
+                };
                 cursor.refuse_with(Expected::KnownName, left, hint);
             }
         }
