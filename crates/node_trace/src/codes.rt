@@ -42,9 +42,15 @@ pub fn reject_instruction<'a>(words: &mut Words<'a>, place: WordPlace<'a>, wante
 fn instruction_hint(word: &str, wanted: Wanted) -> Option<WordHint> {
     match left_out(word) {
         Some(group) => Some(WordHint::LeftOut(group)),
-        None => WordHint::of(word, wanted).or(nearest_instruction(word).map(
-            |name| WordHint::Nearest(name),
-        )),
+        None => WordHint::of(word, wanted).or(nearest_hint(word)),
+    }
+}
+
+// The name of the instruction that is nearest to a word.
+fn nearest_hint(word: &str) -> Option<WordHint> {
+    match nearest_instruction(word) {
+        Some(name) => Some(WordHint::Nearest(name)),
+        None => None,
     }
 }
 

@@ -217,8 +217,13 @@ fn read_size(words: &mut Words) -> usize {
         WordForm::MultipleOfFour { least, most },
     );
     let place = words.place();
-    let size = decimal_number(words.take(wanted)).filter(|size| *size <= most);
-    let size = words.or_reject(place, size, least, wanted) as usize;
+    let size = match decimal_number(words.take(wanted)) {
+        Some(size) if size <= most => size as usize,
+        _ => {
+            words.reject(place, wanted);
+            least as usize
+        }
+    };
     if !is_memory_size(size) {
         words.reject(place, wanted);
     }

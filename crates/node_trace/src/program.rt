@@ -77,27 +77,37 @@ impl Program {
 
     /// Its lines.
     pub fn lines(&self, alloc: Global) -> Result<Vec<ProgramLine<'_>>, AllocError> {
+        let source = numbered_lines(alloc, self.text.as_slice())?;
         let mut lines = Vec::new(alloc);
         let mut label = None;
-        for (index, line) in numbered_lines(alloc, self.text.as_slice())?
-            .iter()
-            .enumerate()
-        {
-            let first = self.made.start_of_line(index);
-            let behind = self.made.start_of_line(index.saturating_add(1));
-            let address = self.origin.wrapping_add(first);
-            let text = line.as_str().unwrap_or("");
-            if let Some(name) = label_in(text) {
-                label = Some(PlacedLabel { name, address });
-            }
-            lines.push(ProgramLine {
-                address,
-                length: behind.wrapping_sub(first),
-                text,
-                label,
-            })?;
+        for (index, line) in source.iter().enumerate() {
+            let line = self.line_at(index, line.as_str().unwrap_or(""), label);
+            label = line.label;
+            lines.push(line)?;
         }
         Ok(lines)
+    }
+
+    // The line of this index and text, below one with this label.
+    fn line_at<'a>(
+        &self,
+        index: usize,
+        text: &'a str,
+        above: Option<PlacedLabel<'a>>,
+    ) -> ProgramLine<'a> {
+        let first = self.made.start_of_line(index);
+        let behind = self.made.start_of_line(index.saturating_add(1));
+        let address = self.origin.wrapping_add(first);
+        let label = match label_in(text) {
+            Some(name) => Some(PlacedLabel { name, address }),
+            None => above,
+        };
+        ProgramLine {
+            address,
+            length: behind.wrapping_sub(first),
+            text,
+            label,
+        }
     }
 
     /// The address of a label.
@@ -120,10 +130,20 @@ fn is_of_label(byte: u8) -> bool {
 pub fn label_in(line: &str) -> Option<&str> {
     let (name, _) = line.trim_start().split_once(':')?;
     let first = name.as_bytes().first().copied()?;
-    let is_label = first != b'.'
-        && !first.is_ascii_digit()
-        && name.as_bytes().iter().all(|byte| is_of_label(*byte));
-    if is_label { Some(name) } else { None }
+    if first != b'.' && !first.is_ascii_digit() && are_of_label(name.as_bytes()) {
+        Some(name)
+    } else {
+        None
+    }
+}
+
+fn are_of_label(name: &[u8]) -> bool {
+    for byte in name {
+        if !is_of_label(*byte) {
+            return false;
+        }
+    }
+    true
 }
 
 /// How wide the lines of a program are, but for the blanks around them: the widest, or `most` if that is less.
@@ -167,6 +187,16 @@ fn write_place(label: Option<PlacedLabel>, address: u32, text: &mut TextWriter) 
     pad(text, begin, PLACES);
 }
 
+// The first line that has the byte at an address.
+fn line_with<'a>(lines: &[ProgramLine<'a>], address: u32) -> Option<ProgramLine<'a>> {
+    for line in lines {
+        if line.has(address) {
+            return Some(*line);
+        }
+    }
+    None
+}
+
 /// Writes behind an instruction, which stands in the text from the byte `begin` on, where its address is in a program: the
 /// nearest label, and the line as it is written, in a column that is so wide at least. Nothing, and `false`, if no line has
 /// the address.
@@ -177,7 +207,7 @@ pub fn write_source(
     address: u32,
     width: usize,
 ) -> bool {
-    let Some(line) = lines.iter().find(|line| line.has(address)) else {
+    let Some(line) = line_with(lines, address) else {
         return false;
     };
     pad(text, begin, INSTRUCTIONS);

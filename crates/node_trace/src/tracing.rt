@@ -27,7 +27,10 @@ pub fn trace<'a, M: StepMeter>(
 
 /// Reads a line, and does nothing. `Wrong` with the first word that is wrong or missing, or that stands behind the end.
 pub fn read_trace_line(alloc: Global, line: &str) -> Result<(), WordFault> {
-    read_command(alloc, line).map(|_| ())
+    match read_command(alloc, line) {
+        Ok(_) => Ok(()),
+        Err(fault) => Err(fault),
+    }
 }
 
 // What each line asks for.

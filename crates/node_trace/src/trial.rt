@@ -15,18 +15,24 @@ pub fn write_trial(
     settings: &NodeSettings,
     text: &mut TextWriter,
 ) -> Result<(), AllocError> {
-    let has_flag = settings
-        .settings
-        .iter()
-        .any(|it| matches!(it, Setting::Flag(Flag::HaltOnError, true)));
     let first = outcome(alloc, settings, false)?;
     text.push(first.as_str());
-    if has_flag {
+    if sets_halt_on_error(settings) {
         return Ok(());
     }
     let second = outcome(alloc, settings, true)?;
     write_second(text, first.as_str(), second.as_str());
     Ok(())
+}
+
+// Whether a line sets HaltOnError itself.
+fn sets_halt_on_error(settings: &NodeSettings) -> bool {
+    for setting in &settings.settings {
+        if let Setting::Flag(Flag::HaltOnError, true) = setting {
+            return true;
+        }
+    }
+    false
 }
 
 // Writes what came with HaltOnError set, if it isn't what came first.
