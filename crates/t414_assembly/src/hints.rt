@@ -42,32 +42,65 @@ pub enum Hint<'a> {
     Unplaced,
 }
 
+impl<'a> Hint<'a> {
+    // What is said before its name or number, or all if it has none.
+    fn text(self) -> &'static str {
+        match self {
+            Hint::Comment => "A comment begins with --",
+            Hint::Hexadecimal(_) => "Hexadecimal digits stand behind #: #",
+            Hint::Sums => "Operands have + and - alone, and no parentheses",
+            Hint::LowerCase(_) => "It is written in lower case: ",
+            Hint::Nearest(_) => "Is it ",
+            Hint::Omitted(omission) => omission.text(),
+            Hint::Colon => "The colon of a label stands right behind its name",
+            Hint::OneLabel => "A line defines one label at most",
+            Hint::Naming => "A number gets a name by def",
+            Hint::Blanks => "Names of local stand between blanks",
+            Hint::Value(_) => "The value is ",
+            Hint::DefinedIn(_) => "Line ",
+            Hint::Address(_) => "It is a label: ldc ",
+            Hint::Unplaced => "It is a label, whose address isn't known yet",
+            Hint::NoOperand(_) | Hint::OtherCase(_) => "",
+        }
+    }
+
+    // The name in it, or nothing.
+    fn name(self) -> &'a str {
+        match self {
+            Hint::Hexadecimal(name)
+            | Hint::NoOperand(name)
+            | Hint::OtherCase(name)
+            | Hint::Address(name) => name,
+            Hint::LowerCase(name) | Hint::Nearest(name) => name,
+            _ => "",
+        }
+    }
+
+    // What is said behind its name or number.
+    fn ending(self) -> &'static str {
+        match self {
+            Hint::Nearest(_) => "?",
+            Hint::NoOperand(_) => " takes no operand",
+            Hint::DefinedIn(_) => " defines it",
+            Hint::OtherCase(_) => " is defined, and case counts",
+            Hint::Address(_) => " gives its address, and local names words of the workspace",
+            _ => "",
+        }
+    }
+}
+
 impl<'a> fmt::Display for Hint<'a> {
     fn fmt<W: fmt::Write>(&self, f: &mut fmt::Formatter<W>) -> fmt::Result {
+        f.write_str(self.text())?;
         match *self {
-            Hint::Comment => f.write_str("A comment begins with --"),
-            Hint::Hexadecimal(digits) => write!(f, "Hexadecimal digits stand behind #: #{digits}"),
-            Hint::Sums => f.write_str("Operands have + and - alone, and no parentheses"),
-            Hint::LowerCase(name) => write!(f, "It is written in lower case: {name}"),
-            Hint::Nearest(name) => write!(f, "Is it {name}?"),
-            Hint::Omitted(omission) => f.write_str(omission.text()),
-            Hint::NoOperand(name) => write!(f, "{name} takes no operand"),
-            Hint::Colon => f.write_str("The colon of a label stands right behind its name"),
-            Hint::OneLabel => f.write_str("A line defines one label at most"),
-            Hint::Naming => f.write_str("A number gets a name by def"),
-            Hint::Blanks => f.write_str("Names of local stand between blanks"),
             Hint::Value(word) => {
                 let value = word.cast_signed();
-                write!(f, "The value is {value}")
+                write!(f, "{value}")?;
             }
-            Hint::DefinedIn(line) => write!(f, "Line {line} defines it"),
-            Hint::OtherCase(name) => write!(f, "{name} is defined, and case counts"),
-            Hint::Address(name) => write!(
-                f,
-                "It is a label: ldc {name} gives its address, and local names words of the workspace"
-            ),
-            Hint::Unplaced => f.write_str("It is a label, whose address isn't known yet"),
+            Hint::DefinedIn(line) => write!(f, "{line}")?,
+            hint => f.write_str(hint.name())?,
         }
+        f.write_str(self.ending())
     }
 }
 
