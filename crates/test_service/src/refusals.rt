@@ -212,18 +212,29 @@ fn are_journals_alike(farm: &PlainFarm, other: &PlainFarm) -> bool {
     true
 }
 
+// Goes on if another farm, of which no call is refused, comes to the same.
+fn compare(alloc: Global, farm: &PlainFarm, seen: &Sight) -> Result<(), Otherwise> {
+    let (other, told) = stepped_again(alloc)?;
+    holds(told == *seen && are_journals_alike(farm, &other))
+}
+
+// Goes on if the journals that are handed out at the end are those that were shown.
+fn hand_out(farm: PlainFarm) -> Result<(), Otherwise> {
+    for domain in farm.into_domains() {
+        let shown = domain.journal().len();
+        let is_so = (shown == 17 || shown == 6) && domain.into_journal().len() == shown;
+        holds(is_so)?;
+    }
+    Ok(())
+}
+
 /// The journal grows at the first, fifth, ninth and seventeenth entry; the last of these comes with the commit. Only one of two
-/// farms meets the refusal, and the journals that are handed out at the end are those that were shown.
+/// farms meets the refusal.
 pub fn refuse_calls(alloc: Global) -> Result<(), Otherwise> {
     let (mut farm, seen) = stepped_again(alloc)?;
     holds(is_stepped(&seen) && farm.word(13).bits == 0x2ca)?;
-    let (other, told) = stepped_again(alloc)?;
-    holds(told == seen && are_journals_alike(&farm, &other))?;
-    for domain in farm.into_domains() {
-        let shown = domain.journal().len();
-        holds((shown == 17 || shown == 6) && domain.into_journal().len() == shown)?;
-    }
-    Ok(())
+    compare(alloc, &farm, &seen)?;
+    hand_out(farm)
 }
 
 /// A run of a whole farm that met a refusal is done again.

@@ -149,6 +149,39 @@ fn open_again<R: Wait>(
     }
 }
 
+// The histories that the service leaves when it is closed, done again.
+fn left_of<R: Wait>(
+    rt: &R,
+    alloc: Global,
+    ground: Ground,
+    farm: OpenedFarm,
+    passes: Vec<UserPass>,
+    said: &mut String,
+) -> Result<Histories, AllocError> {
+    let closed = close(rt, alloc, farm, passes)?;
+    histories_of(alloc, ground, &closed, said)
+}
+
+// The service opened again on what it leaves when it is closed, with new passes for its users, and what an operator may see.
+fn opened_anew<R: Wait>(
+    rt: &R,
+    alloc: Global,
+    ground: Ground,
+    workers: u8,
+    farm: OpenedFarm,
+    users: &mut [TestUser],
+    said: &mut String,
+) -> Result<(OpenedFarm, Watch), AllocError> {
+    let passes = passes_out_of(alloc, users)?;
+    let histories = left_of(rt, alloc, ground, farm, passes, said)?;
+    let watch = Watch::of(histories.plan());
+    let (farm, passes) = open_again(rt, alloc, histories, workers)?;
+    for (user, pass) in users.iter_mut().zip(passes) {
+        user.take_pass(pass);
+    }
+    Ok((farm, watch))
+}
+
 /// Closes the service and opens it again on what it left, and tells whether each user's list is what it was. The operator
 /// begins to survey anew.
 pub fn reopen<R: Wait>(
@@ -167,14 +200,7 @@ pub fn reopen<R: Wait>(
         out_of_memory,
     } = party;
     let lists = lists_of(alloc, users.as_slice())?;
-    let passes = passes_out_of(alloc, users.as_mut_slice())?;
-    let closed = close(rt, alloc, farm, passes)?;
-    let histories = histories_of(alloc, ground, &closed, said)?;
-    let watch = Watch::of(histories.plan());
-    let (farm, passes) = open_again(rt, alloc, histories, workers)?;
-    for (user, pass) in users.iter_mut().zip(passes) {
-        user.take_pass(pass);
-    }
+    let (farm, watch) = opened_anew(rt, alloc, ground, workers, farm, users.as_mut_slice(), said)?;
     tell_lists(lists.as_slice(), users.as_slice(), said)?;
     Ok(Party {
         farm,
