@@ -4,7 +4,7 @@ ghost use Rattle.std.specs.Prelude.{◌≡◌, ◌≤◌};
 ghost use Rattle.farm_service.specs.Services.{IsItsOperator};
 ghost use Rattle.token_queue.specs.Passes.{AreItsPasses};
 
-use crate::plans::{TrialDomain, plan_of};
+use crate::plans::{TrialPlan, plan_of};
 use crate::sized::{Size, sized_plan};
 use crate::watch::Watch;
 use farm_service::{Closed, NotClosed, Opened, Service, UserPass, WorkerPass};
@@ -26,8 +26,8 @@ pub struct OpenedFarm {
 /// A plan of a trial.
 #[derive(Clone, Copy)]
 pub enum Ground {
-    /// That of these domains.
-    Listed(&'static [TrialDomain]),
+    /// One that is listed.
+    Listed(TrialPlan),
     /// That of a size.
     Sized(Size),
 }
@@ -36,7 +36,7 @@ impl Ground {
     // The plan, unless memory is wanting.
     fn plan_once(self, alloc: Global) -> Option<AcceptedPlan> {
         match self {
-            Ground::Listed(domains) => plan_of(alloc, domains).ok(),
+            Ground::Listed(plan) => plan_of(alloc, plan).ok(),
             Ground::Sized(size) => sized_plan(alloc, size).ok(),
         }
     }

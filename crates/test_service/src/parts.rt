@@ -1,7 +1,7 @@
 //! The parts that a farm is made of, out of memory: a refused call changes nothing, and the second does what the first would
 //! have done. `test/service_refusals` refuses each allocation in turn.
 
-use crate::plans::{ANN_WITH_CAS, TrialDomain, plan_of};
+use crate::plans::{TrialPlan, plan_of};
 use bootstrap::{BootFault, LinkNumber, Memory, Node, Packet, boot_message};
 use crossbar::{Connection, PlainOutputs, Word};
 use domain_core::Host;
@@ -18,13 +18,13 @@ pub fn holds(is_so: bool) -> Result<(), Otherwise> {
     if is_so { Ok(()) } else { Err(Otherwise) }
 }
 
-/// The plan of these domains, which is made again after a refusal.
-pub fn plan_again(alloc: Global, domains: &[TrialDomain]) -> Result<AcceptedPlan, Otherwise> {
-    let plan = match plan_of(alloc, domains) {
-        Err(PlanFault::NoMemory) => plan_of(alloc, domains),
+/// The plan, which is made again after a refusal.
+pub fn plan_again(alloc: Global, plan: TrialPlan) -> Result<AcceptedPlan, Otherwise> {
+    let made = match plan_of(alloc, plan) {
+        Err(PlanFault::NoMemory) => plan_of(alloc, plan),
         answer => answer,
     };
-    match plan {
+    match made {
         Ok(plan) => Ok(plan),
         Err(_) => Err(Otherwise),
     }
@@ -112,7 +112,7 @@ pub fn open_host(alloc: Global) -> Result<(), Otherwise> {
 
 /// After a refusal the switch is what it was, and the same bytes are answered as if they had come once.
 pub fn feed_switch(alloc: Global) -> Result<(), Otherwise> {
-    let plan = plan_again(alloc, &ANN_WITH_CAS)?;
+    let plan = plan_again(alloc, TrialPlan::AnnWithCas)?;
     if plan.domains() == 0 {
         return Err(Otherwise);
     }

@@ -3,101 +3,112 @@
 use plan_rules::{AcceptedPlan, DomainPlan, NodePlan, Plan, PlanFault, RangePlan, UserPlan, check};
 use std::alloc::{AllocError, Global};
 
-/// A domain of a trial's plan.
+/// A plan of a trial.
 #[derive(Clone, Copy)]
-pub struct TrialDomain {
-    /// The first and the last physical port.
-    pub ports: (i64, i64),
-    /// How many events may be recorded.
-    pub limit: i64,
-    /// Each node's memory in bytes, and the virtual port of each of its links, -1 where it isn't wired.
-    pub nodes: &'static [(i64, [i64; 4])],
-    /// Each user's name, and the virtual ports of his hosts.
-    pub users: &'static [(&'static str, &'static [i64])],
+pub enum TrialPlan {
+    /// Ann has ports 0 to 7, bob ports 8 to 15.
+    AnnAndBob,
+    /// The same, but that three events of ann's are recorded at most.
+    AnnOfThreeEvents,
+    /// One domain of all ports.
+    AllPorts,
+    /// Two nodes on ports 0 and 1, host 0 on port 3 and host 1 on port 2.
+    TwoNodes,
+    /// Ann and cas share a domain: host 0 is ann's, host 1 is cas's.
+    AnnWithCas,
+    /// Node 0 with two links, on ports 0 and 1, node 1 with one on port 2, and a host for each on ports 3 and 4.
+    Echo,
 }
 
-const ANN: TrialDomain = TrialDomain {
-    ports: (0, 7),
-    limit: 1_000_000,
-    nodes: &[(4096, [0, -1, -1, -1])],
-    users: &[("ann", &[7])],
-};
+/// How many events a domain records at most, if nothing else is said.
+const LIMIT: i64 = 1_000_000;
 
-const BOB: TrialDomain = TrialDomain {
-    ports: (8, 15),
-    limit: 1_000_000,
-    nodes: &[(4096, [0, -1, -1, -1])],
-    users: &[("bob", &[7])],
-};
-
-/// Ann has ports 0 to 7, bob ports 8 to 15.
-pub const ANN_AND_BOB: [TrialDomain; 2] = [ANN, BOB];
-
-/// The same, but that three events of ann's are recorded at most.
-pub const ANN_OF_THREE_EVENTS: [TrialDomain; 2] = [TrialDomain { limit: 3, ..ANN }, BOB];
-
-/// One domain of all ports.
-pub const ALL_PORTS: [TrialDomain; 1] = [TrialDomain {
-    ports: (0, 31),
-    ..ANN
-}];
-
-/// Two nodes on ports 0 and 1, host 0 on port 3 and host 1 on port 2.
-pub const TWO_NODES: [TrialDomain; 1] = [TrialDomain {
-    ports: (0, 3),
-    limit: 1_000_000,
-    nodes: &[(2048, [0, -1, -1, -1]), (2048, [1, -1, -1, -1])],
-    users: &[("ann", &[3, 2])],
-}];
-
-/// Ann and cas share a domain: host 0 is ann's, host 1 is cas's.
-pub const ANN_WITH_CAS: [TrialDomain; 1] = [TrialDomain {
-    ports: (0, 7),
-    limit: 1_000_000,
-    nodes: &[(4096, [0, -1, -1, -1])],
-    users: &[("ann", &[7]), ("cas", &[6])],
-}];
-
-// The users of a domain.
-fn users_of(alloc: Global, listed: &[(&str, &[i64])]) -> Result<Vec<UserPlan>, AllocError> {
-    let mut users = Vec::with_capacity(alloc, listed.len())?;
-    for (name, hosts) in listed {
-        users.push(UserPlan {
-            name: String::from_str(alloc, *name)?,
-            hosts: Vec::from_slice(alloc, *hosts)?,
-        })?;
-    }
-    Ok(users)
-}
-
-// The nodes of a domain.
-fn nodes_of(alloc: Global, listed: &[(i64, [i64; 4])]) -> Result<Vec<NodePlan>, AllocError> {
-    let mut nodes = Vec::with_capacity(alloc, listed.len())?;
-    for (memory, links) in listed {
-        nodes.push(NodePlan {
-            memory: *memory,
-            links: *links,
-        })?;
-    }
-    Ok(nodes)
-}
-
-// A domain of a plan.
-fn domain_of(alloc: Global, domain: &TrialDomain) -> Result<DomainPlan, AllocError> {
-    let (first, last) = domain.ports;
-    Ok(DomainPlan {
-        users: users_of(alloc, domain.users)?,
-        ranges: vec![in alloc; RangePlan { first, last }]?,
-        limit: domain.limit,
-        nodes: nodes_of(alloc, domain.nodes)?,
+// A user with hosts at these ports.
+fn user(alloc: Global, name: &str, hosts: &[i64]) -> Result<UserPlan, AllocError> {
+    Ok(UserPlan {
+        name: String::from_str(alloc, name)?,
+        hosts: Vec::from_slice(alloc, hosts)?,
     })
 }
 
-/// The plan of these domains.
-pub fn plan_of(alloc: Global, listed: &[TrialDomain]) -> Result<AcceptedPlan, PlanFault> {
-    let mut domains = Vec::with_capacity(alloc, listed.len())?;
-    for domain in listed {
-        domains.push(domain_of(alloc, domain)?)?;
-    }
+// A node with its links at these ports.
+fn node(memory: i64, links: [i64; 4]) -> NodePlan {
+    NodePlan { memory, links }
+}
+
+// A domain of a range of ports.
+fn domain(
+    alloc: Global,
+    first: i64,
+    last: i64,
+    limit: i64,
+    users: Vec<UserPlan>,
+    nodes: Vec<NodePlan>,
+) -> Result<DomainPlan, AllocError> {
+    Ok(DomainPlan {
+        users,
+        ranges: vec![in alloc; RangePlan { first, last }]?,
+        limit,
+        nodes,
+    })
+}
+
+// A domain of one user with a host at port 7, and one node at port 0.
+fn domain_of_one(
+    alloc: Global,
+    name: &str,
+    first: i64,
+    last: i64,
+    limit: i64,
+) -> Result<DomainPlan, AllocError> {
+    let users = vec![in alloc; user(alloc, name, &[7])?]?;
+    let nodes = vec![in alloc; node(4096, [0, -1, -1, -1])]?;
+    domain(alloc, first, last, limit, users, nodes)
+}
+
+// Ann with so many events, and bob.
+fn ann_and_bob(alloc: Global, limit: i64) -> Result<Vec<DomainPlan>, AllocError> {
+    let ann = domain_of_one(alloc, "ann", 0, 7, limit)?;
+    let bob = domain_of_one(alloc, "bob", 8, 15, LIMIT)?;
+    Ok(vec![in alloc; ann, bob]?)
+}
+
+// A domain of ann's with two nodes.
+fn two_nodes(
+    alloc: Global,
+    last: i64,
+    hosts: &[i64],
+    first_links: [i64; 4],
+    second_links: [i64; 4],
+) -> Result<DomainPlan, AllocError> {
+    let users = vec![in alloc; user(alloc, "ann", hosts)?]?;
+    let nodes = vec![in alloc; node(2048, first_links), node(2048, second_links)]?;
+    domain(alloc, 0, last, LIMIT, users, nodes)
+}
+
+// A domain of ann's and cas's.
+fn ann_with_cas(alloc: Global) -> Result<DomainPlan, AllocError> {
+    let ann = user(alloc, "ann", &[7])?;
+    let users = vec![in alloc; ann, user(alloc, "cas", &[6])?]?;
+    let nodes = vec![in alloc; node(4096, [0, -1, -1, -1])]?;
+    domain(alloc, 0, 7, LIMIT, users, nodes)
+}
+
+// The domains of a plan.
+fn domains_of(alloc: Global, plan: TrialPlan) -> Result<Vec<DomainPlan>, AllocError> {
+    let domain = match plan {
+        TrialPlan::AnnAndBob => return ann_and_bob(alloc, LIMIT),
+        TrialPlan::AnnOfThreeEvents => return ann_and_bob(alloc, 3),
+        TrialPlan::AllPorts => domain_of_one(alloc, "ann", 0, 31, LIMIT),
+        TrialPlan::TwoNodes => { two_nodes(alloc, 3, &[3, 2], [0, -1, -1, -1], [1, -1, -1, -1]) }
+        TrialPlan::AnnWithCas => ann_with_cas(alloc),
+        TrialPlan::Echo => two_nodes(alloc, 4, &[3, 4], [0, 1, -1, -1], [2, -1, -1, -1]),
+    };
+    Ok(vec![in alloc; domain?]?)
+}
+
+/// The plan, as it is accepted.
+pub fn plan_of(alloc: Global, plan: TrialPlan) -> Result<AcceptedPlan, PlanFault> {
+    let domains = domains_of(alloc, plan)?;
     check(alloc, Plan { domains })
 }

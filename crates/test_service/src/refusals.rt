@@ -1,7 +1,7 @@
 //! A farm on one thread out of memory: a refused call changes nothing, and the next does what the first would have done.
 
 use crate::parts::{Otherwise, holds, plan_again};
-use crate::plans::ANN_AND_BOB;
+use crate::plans::TrialPlan;
 use bootstrap::Stepped;
 use domain_core::{By, Committed, Entry, Event, Refusal, Reply, Ticket};
 use farm_core::{PlainFarm, run};
@@ -87,7 +87,7 @@ fn shown(farm: &mut PlainFarm) -> Sight {
 
 // The farm of ann and bob, opened again after a refusal.
 fn opened_again(alloc: Global) -> Result<PlainFarm, Otherwise> {
-    let plan = plan_again(alloc, &ANN_AND_BOB)?;
+    let plan = plan_again(alloc, TrialPlan::AnnAndBob)?;
     let farm = match PlainFarm::open(alloc, &plan) {
         Err(_) => PlainFarm::open(alloc, &plan),
         opened => opened,
@@ -239,7 +239,7 @@ pub fn refuse_calls(alloc: Global) -> Result<(), Otherwise> {
 
 /// A run of a whole farm that met a refusal is done again.
 pub fn run_again(alloc: Global) -> Result<(), Otherwise> {
-    let plan = plan_again(alloc, &ANN_AND_BOB)?;
+    let plan = plan_again(alloc, TrialPlan::AnnAndBob)?;
     let told = match run(alloc, &plan, &CALLS) {
         Err(Refusal::NoMemory) => run(alloc, &plan, &CALLS),
         told => told,

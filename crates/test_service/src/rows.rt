@@ -2,13 +2,13 @@
 
 use crate::actions::Action::{self, Config, Fill, Look, Read, Reset, Write};
 use crate::actions::SETTLE;
-use crate::plans::{ALL_PORTS, ANN_AND_BOB, ANN_OF_THREE_EVENTS, TWO_NODES, TrialDomain};
+use crate::plans::TrialPlan;
 
 /// A row: its name, the plan, and which user, by his place in the plan, does what.
 #[derive(Clone, Copy)]
 pub struct WorkedRow {
     pub name: &'static str,
-    pub plan: &'static [TrialDomain],
+    pub plan: TrialPlan,
     pub actions: &'static [(usize, Action)],
 }
 
@@ -39,17 +39,17 @@ pub const SAYS_41: [u8; 9] = [0x08, 0xb5, 0x24, 0xf2, 0x24, 0x41, 0xfe, 0x21, 0x
 pub const ROWS: [WorkedRow; 15] = [
     WorkedRow {
         name: "two-way connection is enquired",
-        plan: &ANN_AND_BOB,
+        plan: TrialPlan::AnnAndBob,
         actions: &[(ANN, Config(&[1, 0, 1, 3, 2, 0, 2, 1]))],
     },
     WorkedRow {
         name: "virtual input is answered",
-        plan: &ANN_AND_BOB,
+        plan: TrialPlan::AnnAndBob,
         actions: &[(BOB, Config(&DRIVE_OUTPUT_5))],
     },
     WorkedRow {
         name: "clear leaves the neighbour",
-        plan: &ANN_AND_BOB,
+        plan: TrialPlan::AnnAndBob,
         actions: &[
             (BOB, Config(&DRIVE_OUTPUT_5)),
             (ANN, Config(&[4])),
@@ -59,7 +59,7 @@ pub const ROWS: [WorkedRow; 15] = [
     },
     WorkedRow {
         name: "port past the count",
-        plan: &ANN_AND_BOB,
+        plan: TrialPlan::AnnAndBob,
         actions: &[
             (ANN, Config(&[2, 8])),
             (ANN, Config(&[0, 1, 0, 6, 0, 8, 2, 0])),
@@ -67,12 +67,12 @@ pub const ROWS: [WorkedRow; 15] = [
     },
     WorkedRow {
         name: "byte that begins no message",
-        plan: &ANN_AND_BOB,
+        plan: TrialPlan::AnnAndBob,
         actions: &[(ANN, Config(&[7, 2, 0]))],
     },
     WorkedRow {
         name: "rest of a message is the domain's own",
-        plan: &ANN_AND_BOB,
+        plan: TrialPlan::AnnAndBob,
         actions: &[
             (BOB, Config(&DRIVE_OUTPUT_5)),
             (ANN, Config(&[2])),
@@ -82,12 +82,12 @@ pub const ROWS: [WorkedRow; 15] = [
     },
     WorkedRow {
         name: "domain of all ports",
-        plan: &ALL_PORTS,
+        plan: TrialPlan::AllPorts,
         actions: &[(ANN, Config(&[0, 0x1f, 0x1f, 3, 2, 0x1f]))],
     },
     WorkedRow {
         name: "poked word is peeked",
-        plan: &ANN_AND_BOB,
+        plan: TrialPlan::AnnAndBob,
         actions: &[
             (ANN, Config(&JOIN)),
             (ANN, Write(0, &POKE)),
@@ -98,7 +98,7 @@ pub const ROWS: [WorkedRow; 15] = [
     },
     WorkedRow {
         name: "stopped process saved its place",
-        plan: &ANN_AND_BOB,
+        plan: TrialPlan::AnnAndBob,
         actions: &[
             (BOB, Config(&JOIN)),
             (BOB, Write(0, &[2, 0x21, 0xf5])),
@@ -111,7 +111,7 @@ pub const ROWS: [WorkedRow; 15] = [
     },
     WorkedRow {
         name: "program sends a byte",
-        plan: &ANN_AND_BOB,
+        plan: TrialPlan::AnnAndBob,
         actions: &[
             (ANN, Config(&JOIN)),
             (ANN, Write(0, &SAYS_41)),
@@ -124,7 +124,7 @@ pub const ROWS: [WorkedRow; 15] = [
     },
     WorkedRow {
         name: "error flag halts",
-        plan: &ANN_AND_BOB,
+        plan: TrialPlan::AnnAndBob,
         actions: &[
             (ANN, Config(&JOIN)),
             (ANN, Write(0, &[6, 0x25, 0xf8, 0x24, 0xf2, 0x60, 0x8f])),
@@ -134,7 +134,7 @@ pub const ROWS: [WorkedRow; 15] = [
     },
     WorkedRow {
         name: "unknown operation halts",
-        plan: &ANN_AND_BOB,
+        plan: TrialPlan::AnnAndBob,
         actions: &[
             (ANN, Config(&JOIN)),
             (ANN, Write(0, &[2, 0x21, 0xf1])),
@@ -144,17 +144,17 @@ pub const ROWS: [WorkedRow; 15] = [
     },
     WorkedRow {
         name: "journal is full",
-        plan: &ANN_OF_THREE_EVENTS,
+        plan: TrialPlan::AnnOfThreeEvents,
         actions: &[(ANN, Config(&[1, 0, 7, 3])), (BOB, Config(&DRIVE_OUTPUT_5))],
     },
     WorkedRow {
         name: "host's queue is full",
-        plan: &ANN_AND_BOB,
+        plan: TrialPlan::AnnAndBob,
         actions: &[(ANN, Fill(0, 4097))],
     },
     WorkedRow {
         name: "byte of one host reaches two nodes",
-        plan: &TWO_NODES,
+        plan: TrialPlan::TwoNodes,
         actions: &[
             (ANN, Config(&[0, 3, 0, 0, 3, 1, 3])),
             (ANN, Write(0, &[5])),

@@ -4,7 +4,7 @@ use crate::actions::Action::{self, Config, Fill, Knock, Look, Read, Rounds, Writ
 use crate::actions::{QUANTUM, SETTLE};
 use crate::farm::Ground::{self, Listed, Sized};
 use crate::gates::Hold;
-use crate::plans::{ANN_AND_BOB, ANN_OF_THREE_EVENTS, ANN_WITH_CAS, TWO_NODES, TrialDomain};
+use crate::plans::TrialPlan;
 use crate::rows::{DRIVE_OUTPUT_5, JOIN, LOOPS, PEEK, POKE, SAYS_41};
 use crate::sized::Size;
 use crate::stages::Stage::{
@@ -56,14 +56,6 @@ const LOOPS_FOR_BOTH: [(usize, Action); 3] = [
     (0, Write(0, &LOOPS)),
     (0, Write(1, &LOOPS)),
 ];
-
-/// Node 0 with two links, on ports 0 and 1, node 1 with one on port 2, and a host for each on ports 3 and 4.
-const ECHO: [TrialDomain; 1] = [TrialDomain {
-    ports: (0, 4),
-    limit: 1_000_000,
-    nodes: &[(2048, [0, 1, -1, -1]), (2048, [2, -1, -1, -1])],
-    users: &[("ann", &[3, 4])],
-}];
 
 /// Again and again takes a byte from link 0, sends it by link 1, takes one from there, and sends it by link 0: ajw 5; ldlp 1,
 /// mint, adc 16, ldc 1, in; mint, adc 4, ldlp 1, lb, outbyte; ldlp 1, mint, adc 20, ldc 1, in; mint, ldlp 1, lb, outbyte; j -27.
@@ -119,7 +111,7 @@ const NINE_NODES: Size = Size {
 pub const TOGETHER: [Together; 17] = [
     Together {
         name: "bob's journal at close",
-        ground: Listed(&ANN_AND_BOB),
+        ground: Listed(TrialPlan::AnnAndBob),
         workers: 1,
         stages: &[AtOnce(&[&[], &[Config(&DRIVE_OUTPUT_5)]]), Tell(1, "bob")],
         left: ToldAtEnd::Second,
@@ -127,7 +119,7 @@ pub const TOGETHER: [Together; 17] = [
     // Bob's output 5 is physical output 13, and output 20 is no domain's.
     Together {
         name: "survey after bob's thread",
-        ground: Listed(&ANN_AND_BOB),
+        ground: Listed(TrialPlan::AnnAndBob),
         workers: 2,
         stages: &[
             AtOnce(&[]),
@@ -144,7 +136,7 @@ pub const TOGETHER: [Together; 17] = [
     },
     Together {
         name: "two domains at once",
-        ground: Listed(&ANN_AND_BOB),
+        ground: Listed(TrialPlan::AnnAndBob),
         workers: 1,
         stages: &[
             AtOnce(&[&POKE_AND_PEEK, &POKE_AND_PEEK]),
@@ -156,7 +148,7 @@ pub const TOGETHER: [Together; 17] = [
     // Cas, of the same domain, writes to ann's host.
     Together {
         name: "two users of one domain at once",
-        ground: Listed(&ANN_WITH_CAS),
+        ground: Listed(TrialPlan::AnnWithCas),
         workers: 1,
         stages: &[
             AtOnce(&[&POKE_AND_PEEK, &[Knock(0, 100)]]),
@@ -167,7 +159,7 @@ pub const TOGETHER: [Together; 17] = [
     },
     Together {
         name: "worker runs a program",
-        ground: Listed(&ANN_AND_BOB),
+        ground: Listed(TrialPlan::AnnAndBob),
         workers: 1,
         stages: &[
             AtOnce(&[&BOOT]),
@@ -181,7 +173,7 @@ pub const TOGETHER: [Together; 17] = [
     // Each of the worker's turns in ann's domain finds her journal full.
     Together {
         name: "full journal ends a turn alone",
-        ground: Listed(&ANN_OF_THREE_EVENTS),
+        ground: Listed(TrialPlan::AnnOfThreeEvents),
         workers: 1,
         stages: &[
             AtOnce(&[&[Fill(0, 3)], &BOOT]),
@@ -196,7 +188,7 @@ pub const TOGETHER: [Together; 17] = [
     // from a checkout to its commit.
     Together {
         name: "one node waits for the other",
-        ground: Listed(&TWO_NODES),
+        ground: Listed(TrialPlan::TwoNodes),
         workers: 2,
         stages: &[
             Alone(&LOOPS_FOR_BOTH),
@@ -209,7 +201,7 @@ pub const TOGETHER: [Together; 17] = [
     },
     Together {
         name: "stopped workers",
-        ground: Listed(&TWO_NODES),
+        ground: Listed(TrialPlan::TwoNodes),
         workers: 8,
         stages: &[Work(10), Say(","), Stop, Held, Work(10), Say(","), Begun],
         left: ToldAtEnd::Tokens,
@@ -228,7 +220,7 @@ pub const TOGETHER: [Together; 17] = [
     // A boot message of four bytes takes a Step each, then three rounds and three turns of each node do 256 Steps.
     Together {
         name: "each node does its quantum",
-        ground: Listed(&TWO_NODES),
+        ground: Listed(TrialPlan::TwoNodes),
         workers: 1,
         stages: &[
             Alone(&LOOPS_FOR_BOTH),
@@ -255,7 +247,7 @@ pub const TOGETHER: [Together; 17] = [
     // Four Steps boot bob's node, and then the burst does 256. Ann's has no Step to do.
     Together {
         name: "burst in the second domain",
-        ground: Listed(&ANN_AND_BOB),
+        ground: Listed(TrialPlan::AnnAndBob),
         workers: 1,
         stages: &[
             Alone(&[(1, Config(&JOIN)), (1, Write(0, &LOOPS)), (1, Rounds(1, 5))]),
@@ -267,7 +259,7 @@ pub const TOGETHER: [Together; 17] = [
     // listed but cas's second.
     Together {
         name: "restart by all users",
-        ground: Listed(&ANN_WITH_CAS),
+        ground: Listed(TrialPlan::AnnWithCas),
         workers: 1,
         stages: &[
             Alone(&[(0, Write(0, &[5])), (1, Write(1, &[6]))]),
@@ -286,7 +278,7 @@ pub const TOGETHER: [Together; 17] = [
     // 20 entries. Then each burst does 256 Steps, which are one run.
     Together {
         name: "copies of a run that grows",
-        ground: Listed(&ANN_AND_BOB),
+        ground: Listed(TrialPlan::AnnAndBob),
         workers: 1,
         stages: &[
             Alone(&[(1, Config(&JOIN)), (1, Write(0, &LOOPS)), (1, Rounds(1, 5))]),
@@ -299,7 +291,7 @@ pub const TOGETHER: [Together; 17] = [
     // connected to input 1 and ready, after its fifth change.
     Together {
         name: "closed and opened again",
-        ground: Listed(&ECHO),
+        ground: Listed(TrialPlan::Echo),
         workers: 1,
         stages: &[
             Alone(&BOOT_ECHO),
@@ -325,7 +317,7 @@ pub const TOGETHER: [Together; 17] = [
     // Ann's and bob's programs send 41 and stop, so that a lost Step or byte changes what is answered.
     Together {
         name: "planted losses",
-        ground: Listed(&ANN_AND_BOB),
+        ground: Listed(TrialPlan::AnnAndBob),
         workers: 1,
         stages: &[
             AtOnce(&[&BOOT, &BOOT]),
