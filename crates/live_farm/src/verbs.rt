@@ -20,11 +20,14 @@ impl DomainVerb {
     pub fn of(word: &[u8]) -> Option<DomainVerb>
         ensures { MatchOption result ((v : SpecDomainVerb) → word.now ≢ domain_verb_name v) (λ v. word.now ≡ domain_verb_name v) }
     {
-        match word {
-            b"rest" => Some(DomainVerb::Rest),
-            b"restart" => Some(DomainVerb::Restart),
-            b"why" => Some(DomainVerb::Why),
-            _ => None,
+        if word == b"rest".as_slice() {
+            Some(DomainVerb::Rest)
+        } else if word == b"restart".as_slice() {
+            Some(DomainVerb::Restart)
+        } else if word == b"why".as_slice() {
+            Some(DomainVerb::Why)
+        } else {
+            None
         }
     }
 }
@@ -47,12 +50,16 @@ impl OperatorVerb {
     pub fn of(word: &[u8]) -> Option<OperatorVerb>
         ensures { MatchOption result ((v : SpecOperatorVerb) → word.now ≢ operator_verb_name v) (λ v. word.now ≡ operator_verb_name v) }
     {
-        match word {
-            b"!words" => Some(OperatorVerb::Words),
-            b"!users" => Some(OperatorVerb::Users),
-            b"!restart" => Some(OperatorVerb::Restart),
-            b"!stop" => Some(OperatorVerb::Stop),
-            _ => None,
+        if word == b"!words".as_slice() {
+            Some(OperatorVerb::Words)
+        } else if word == b"!users".as_slice() {
+            Some(OperatorVerb::Users)
+        } else if word == b"!restart".as_slice() {
+            Some(OperatorVerb::Restart)
+        } else if word == b"!stop".as_slice() {
+            Some(OperatorVerb::Stop)
+        } else {
+            None
         }
     }
 }
