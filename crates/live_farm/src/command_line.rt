@@ -122,16 +122,31 @@ fn record_option<'a>(alloc: Global) -> Arg<'a> {
     )
 }
 
+// The same command with one more option of records, which goes with `--record` alone.
+fn with_flag<'a>(
+    alloc: Global,
+    command: Command<'a>,
+    name: &'a str,
+    help: &'a str,
+) -> Result<Command<'a>, AllocError> {
+    command.arg(record_flag(alloc, name, help)?)
+}
+
 // The same command with the options of records.
 fn with_records<'a>(alloc: Global, command: Command<'a>) -> Result<Command<'a>, AllocError> {
-    command
-        .arg(record_option(alloc))?
-        .arg(record_flag(alloc, "resume", "Goes on with the records that are there")?)?
-        .arg(record_flag(
-            alloc,
-            "sync",
-            "Each answer waits until its record is on the disk",
-        )?)
+    let recorded = command.arg(record_option(alloc))?;
+    let resumed = with_flag(
+        alloc,
+        recorded,
+        "resume",
+        "Goes on with the records that are there",
+    )?;
+    with_flag(
+        alloc,
+        resumed,
+        "sync",
+        "Each answer waits until its record is on the disk",
+    )
 }
 
 fn live_command<'a>(alloc: Global) -> Result<Command<'a>, AllocError> {
