@@ -84,7 +84,31 @@ fn add_stations<'a>(
     crew: &mut Crew<'a>,
 ) -> Result<(), NoMemory> {
     for group in groups {
-        crew.stations.push(Station::new(alloc, group)?)?;
+        add_station(alloc, group, crew)?;
+    }
+    Ok(())
+}
+
+// Gives a group a station.
+fn add_station<'a>(
+    alloc: Global,
+    group: DomainUsers<'a>,
+    crew: &mut Crew<'a>,
+) -> Result<(), NoMemory> {
+    let station = Station::new(alloc, group)?;
+    crew.stations.push(station)?;
+    Ok(())
+}
+
+// Lets all users join the groups of their domains.
+fn join_all<'a>(
+    service: &'a Service,
+    groups: &mut Vec<DomainUsers<'a>>,
+    crew: &mut Crew<'a>,
+    users: Vec<UserPass>,
+) -> Result<(), NoMemory> {
+    for pass in users {
+        join(service, groups, crew, pass)?;
     }
     Ok(())
 }
@@ -97,15 +121,13 @@ impl<'a> Crew<'a> {
         users: Vec<UserPass>,
         quantum: Quantum,
     ) -> Result<Crew<'a>, NoMemory> {
+        let mut groups = groups_of(alloc, service, quantum)?;
         let mut crew = Crew {
             names: Vec::new(alloc),
             numbers: Vec::new(alloc),
             stations: Vec::new(alloc),
         };
-        let mut groups = groups_of(alloc, service, quantum)?;
-        for pass in users {
-            join(service, &mut groups, &mut crew, pass)?;
-        }
+        join_all(service, &mut groups, &mut crew, users)?;
         add_stations(alloc, groups, &mut crew)?;
         Ok(crew)
     }
