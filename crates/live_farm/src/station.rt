@@ -30,10 +30,7 @@ pub struct Station<'a> {
 impl<'a> Station<'a> {
     /// The station of a domain's users.
     pub fn new(alloc: Global, group: DomainUsers<'a>) -> Result<Station<'a>, NoMemory> {
-        let mut answered = Vec::with_capacity(alloc, group.users())?;
-        for _user in 0..group.users() {
-            answered.push(AtomicU64::new(0))?;
-        }
+        let answered = counts_of(alloc, group.users())?;
         Ok(Station {
             mailbox: Mailbox::new(alloc),
             group: Mutex::new(group),
@@ -69,6 +66,15 @@ impl<'a> Station<'a> {
             count.fetch_add(1, Ordering::SeqCst);
         }
     }
+}
+
+// How many lines of each user were answered: none yet.
+fn counts_of(alloc: Global, users: usize) -> Result<Vec<AtomicU64>, NoMemory> {
+    let mut answered = Vec::with_capacity(alloc, users)?;
+    for _user in 0..users {
+        answered.push(AtomicU64::new(0))?;
+    }
+    Ok(answered)
 }
 
 // That a letter can't be recorded.
