@@ -17,14 +17,8 @@ pub enum Action {
     Config(&'static [u8]),
     /// Writes bytes to a host.
     Write(u8, &'static [u8]),
-    /// Writes a byte to a host so many times.
-    Fill(u8, usize),
-    /// The same, but that only what is refused is counted.
-    Knock(u8, usize),
     /// Reads a host so many times.
     Read(u8, usize),
-    /// Resets a node.
-    Reset(u8),
     /// Looks at a node.
     Look(u8),
     /// Settles by so many Steps, for so many rounds at most.
@@ -40,24 +34,10 @@ impl Action {
         match self {
             Action::Config(bytes) => Some(Event::Config(*bytes.get(place)?)),
             Action::Write(host, bytes) => Some(Event::Write(host, *bytes.get(place)?)),
-            Action::Fill(host, count) | Action::Knock(host, count) if place < count => {
-                Some(Event::Write(host, 0))
-            }
             Action::Read(host, count) if place < count => Some(Event::Read(host)),
-            Action::Reset(node) if place == 0 => Some(Event::Reset(node)),
             Action::Look(node) if place == 0 => Some(Event::Look(node)),
             _ => None,
         }
-    }
-}
-
-// Tells what a configuration byte was answered.
-fn tell_config(said: &mut String, reply: ConfigReply) -> Result<(), AllocError> {
-    match reply {
-        ConfigReply::Nothing => Ok(()),
-        ConfigReply::Answer(answer) => write!(said, " {answer:02x}"),
-        ConfigReply::BadCommand => said.push_str(" badcommand"),
-        ConfigReply::BadPort => said.push_str(" badport"),
     }
 }
 
@@ -67,7 +47,7 @@ fn tell_seen(said: &mut String, seen: Seen) -> Result<(), AllocError> {
         Activity::Booting => said.push_str(" booting")?,
         Activity::Running => said.push_str(" running")?,
         Activity::Idle => said.push_str(" idle")?,
-        Activity::Halted(fault) => write!(said, " halted {}", fault.number())?,
+        Activity::Halted(_) => said.push_str(" halted")?,
     }
     for overruns in seen.overruns {
         write!(said, " {overruns}")?;
@@ -78,12 +58,14 @@ fn tell_seen(said: &mut String, seen: Seen) -> Result<(), AllocError> {
 // Tells what a command was answered, where that says more than that it was done.
 fn tell(said: &mut String, told: Result<Reply, Refusal>) -> Result<(), AllocError> {
     match told {
-        Ok(Reply::Config(reply)) => tell_config(said, reply),
-        Ok(Reply::Read(Some(byte))) => write!(said, " {byte:02x}"),
+        Ok(Reply::Config(ConfigReply::Answer(byte)) | Reply::Read(Some(byte))) => {
+            write!(said, " {byte:02x}")
+        }
+        Ok(Reply::Config(ConfigReply::BadCommand | ConfigReply::BadPort)) => said.push_str(" bad"),
         Ok(Reply::Read(None)) => said.push_str(" none"),
         Ok(Reply::Full) => said.push_str(" full"),
         Ok(Reply::Look(seen)) => tell_seen(said, seen),
-        Ok(Reply::Written | Reply::Reset | Reply::Stepped(_) | Reply::Moved(_)) => Ok(()),
+        Ok(_) => Ok(()),
         Err(refusal) => write!(said, " {refusal}"),
     }
 }
@@ -141,20 +123,11 @@ pub fn perform<R: Wait>(
     if let Action::Rounds(quantum, rounds) = act {
         return tell_settled(said, settle(rt, session, quantum, rounds));
     }
-    let mut refused = 0_u16;
     for place in 0..usize::MAX {
         let Some(event) = act.event(place) else {
             break;
         };
-        let told = ask(rt, session, event);
-        if !matches!(act, Action::Knock(..)) {
-            tell(said, told)?;
-        } else if told == Err(Refusal::NoSuch) {
-            refused = refused.saturating_add(1);
-        }
-    }
-    if refused > 0 {
-        write!(said, " {refused} refused")?;
+        tell(said, ask(rt, session, event))?;
     }
     Ok(())
 }

@@ -6,7 +6,6 @@
 #![tactic(auto)]
 
 mod actions;
-mod calls;
 mod chance;
 mod comparison;
 mod draws;
@@ -17,22 +16,19 @@ mod meeting;
 mod parts;
 mod plans;
 mod refusals;
-mod reopening;
 mod rows;
 mod sized;
 mod soak;
 mod stages;
 mod telling;
-mod together;
 mod users;
 mod watch;
 
 use crate::farm::Ground;
-use crate::rows::ROWS;
+use crate::rows::{ROWS, WorkedRow};
 use crate::soak::{short_soak, soak};
 use crate::stages::{Stage, StageEnd, Trial, run};
 use crate::telling::{ToldAtEnd, tell_left};
-use crate::together::{TOGETHER, Together};
 use std::alloc::{AllocError, Global};
 use std::sync::Wait;
 use std::thread::Threads;
@@ -103,16 +99,7 @@ fn tell_parts(rt: &impl Print, alloc: Global) -> io::Result<()> {
 fn tell_rows<R: Threads + Wait + Sync + Print>(rt: &R, alloc: Global) -> io::Result<()> {
     tell_parts(rt, alloc)?;
     for row in &ROWS {
-        let stages = [Stage::Alone(row.actions)];
-        let ground = Ground::Listed(row.plan);
-        show(
-            rt,
-            row.name,
-            told(rt, alloc, ground, 1, &stages, ToldAtEnd::Nothing),
-        )?;
-    }
-    for row in &TOGETHER {
-        let Together {
+        let WorkedRow {
             name,
             ground,
             workers,

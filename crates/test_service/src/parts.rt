@@ -112,7 +112,7 @@ pub fn open_host(alloc: Global) -> Result<(), Otherwise> {
 
 /// After a refusal the switch is what it was, and the same bytes are answered as if they had come once.
 pub fn feed_switch(alloc: Global) -> Result<(), Otherwise> {
-    let plan = plan_again(alloc, TrialPlan::AnnWithCas)?;
+    let plan = plan_again(alloc, TrialPlan::AnnAndBob)?;
     if plan.domains() == 0 {
         return Err(Otherwise);
     }

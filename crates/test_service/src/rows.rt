@@ -1,167 +1,201 @@
-//! Rows of users who act one after another.
+//! The rows: what users, workers and an operator do with a service, one after another or in threads of their own.
 
-use crate::actions::Action::{self, Config, Fill, Look, Read, Reset, Write};
-use crate::actions::SETTLE;
+use crate::actions::Action::{self, Config, Look, Read, Rounds, Write};
+use crate::actions::{QUANTUM, SETTLE};
+use crate::farm::Ground::{self, Listed, Sized};
+use crate::gates::Hold;
 use crate::plans::TrialPlan;
+use crate::sized::Size;
+use crate::stages::Stage::{
+    self, Alone, AtOnce, Begun, Burst, Committed, Count, Held, Meet, Say, Stop, Tell, Word, Work,
+    Workers,
+};
+use crate::telling::ToldAtEnd;
+use crate::users::Doing;
 
-/// A row: its name, the plan, and which user, by his place in the plan, does what.
+/// A row: its name, the plan, how many workers there are, what is done, and what is told of what is left.
 #[derive(Clone, Copy)]
 pub struct WorkedRow {
     pub name: &'static str,
-    pub plan: TrialPlan,
-    pub actions: &'static [(usize, Action)],
+    pub ground: Ground,
+    pub workers: u8,
+    pub stages: &'static [Stage],
+    pub left: ToldAtEnd,
 }
 
-/// Ann, or who is first in the plan.
-const ANN: usize = 0;
-
-const BOB: usize = 1;
-
 /// Connects input 2 to output 5, makes it ready, and asks what drives it.
-pub const DRIVE_OUTPUT_5: [u8; 6] = [0, 2, 5, 3, 2, 5];
+const DRIVE_OUTPUT_5: [u8; 6] = [0, 2, 5, 3, 2, 5];
 
 /// Joins port 0, the node's, to port 7, the host's.
-pub const JOIN: [u8; 4] = [1, 0, 7, 3];
-
-/// Writes 12345678 at 80000048.
-pub const POKE: [u8; 9] = [0, 0x48, 0, 0, 0x80, 0x78, 0x56, 0x34, 0x12];
-
-/// Asks for the word at 80000048.
-pub const PEEK: [u8; 5] = [1, 0x48, 0, 0, 0x80];
+const JOIN: [u8; 4] = [1, 0, 7, 3];
 
 /// A program that loops for ever.
-pub const LOOPS: [u8; 4] = [0x03, 0xb4, 0x60, 0x0e];
+const LOOPS: [u8; 4] = [0x03, 0xb4, 0x60, 0x0e];
 
 /// A program that sends 41 to its host, and stops.
 pub const SAYS_41: [u8; 9] = [0x08, 0xb5, 0x24, 0xf2, 0x24, 0x41, 0xfe, 0x21, 0xf5];
 
+/// Boots the node with a program that sends 41.
+const BOOT: [Action; 2] = [Config(&JOIN), Write(0, &SAYS_41)];
+
+/// The same, of a domain of one node, and reads what the program sent.
+const BOOT_AND_READ: [Action; 4] = [
+    Config(&[1, 0, 1, 3]),
+    Write(0, &SAYS_41),
+    SETTLE,
+    Read(0, 2),
+];
+
+/// Boots the node of such a domain with a program that loops for ever. The boot message takes four Steps.
+const LOOP_ALONE: [Action; 3] = [Config(&[1, 0, 1, 3]), Write(0, &LOOPS), Rounds(1, 5)];
+
+/// Reads what the program sent, and looks at its node.
+const LOOK: [Action; 2] = [Read(0, 2), Look(0)];
+
+/// Joins two nodes to a host each, and writes both a program that loops for ever.
+const LOOPS_FOR_BOTH: [(usize, Action); 3] = [
+    (0, Config(&[1, 0, 3, 1, 1, 2, 3])),
+    (0, Write(0, &LOOPS)),
+    (0, Write(1, &LOOPS)),
+];
+
+/// Sixteen domains, each of a node, a host and a user.
+const SIXTEEN: Size = Size {
+    domains: 16,
+    nodes: 1,
+    users: 1,
+    limit: 1_000_000,
+};
+
+/// The same for eight users.
+const EIGHT_LOOPS: [&[Action]; 8] = [&LOOP_ALONE; 8];
+
+/// Eight domains, each of a node, a host and a user.
+const EIGHT: Size = Size {
+    domains: 8,
+    nodes: 1,
+    users: 1,
+    limit: 1_000_000,
+};
+
+/// Three domains of three nodes each.
+const NINE_NODES: Size = Size {
+    domains: 3,
+    nodes: 3,
+    users: 1,
+    limit: 1_000_000,
+};
+
 /// The rows.
-pub const ROWS: [WorkedRow; 15] = [
+pub const ROWS: [WorkedRow; 10] = [
     WorkedRow {
-        name: "two-way connection is enquired",
-        plan: TrialPlan::AnnAndBob,
-        actions: &[(ANN, Config(&[1, 0, 1, 3, 2, 0, 2, 1]))],
+        name: "bob's journal at close",
+        ground: Listed(TrialPlan::AnnAndBob),
+        workers: 1,
+        stages: &[AtOnce(&[&[], &[Config(&DRIVE_OUTPUT_5)]]), Tell(1, "bob")],
+        left: ToldAtEnd::Second,
     },
+    // Bob's output 5 is physical output 13, and output 20 is no domain's.
     WorkedRow {
-        name: "virtual input is answered",
-        plan: TrialPlan::AnnAndBob,
-        actions: &[(BOB, Config(&DRIVE_OUTPUT_5))],
-    },
-    WorkedRow {
-        name: "clear leaves the neighbour",
-        plan: TrialPlan::AnnAndBob,
-        actions: &[
-            (BOB, Config(&DRIVE_OUTPUT_5)),
-            (ANN, Config(&[4])),
-            (BOB, Config(&[2, 5])),
-            (ANN, Config(&[2, 0])),
+        name: "survey after bob's thread",
+        ground: Listed(TrialPlan::AnnAndBob),
+        workers: 2,
+        stages: &[
+            AtOnce(&[]),
+            Word(13),
+            AtOnce(&[&[], &[Config(&DRIVE_OUTPUT_5)]]),
+            Word(13),
+            AtOnce(&[&[], &[Config(&[4])]]),
+            Word(13),
+            Say(", free"),
+            Word(20),
+            Say(";"),
         ],
+        left: ToldAtEnd::Second,
     },
+    // Each of the worker's turns in ann's domain finds her journal full.
     WorkedRow {
-        name: "port past the count",
-        plan: TrialPlan::AnnAndBob,
-        actions: &[
-            (ANN, Config(&[2, 8])),
-            (ANN, Config(&[0, 1, 0, 6, 0, 8, 2, 0])),
+        name: "full journal ends a turn alone",
+        ground: Listed(TrialPlan::AnnOfThreeEvents),
+        workers: 1,
+        stages: &[
+            AtOnce(&[&[Write(0, &[0, 0, 0])], &BOOT]),
+            Workers(1000),
+            AtOnce(&[&LOOK, &LOOK]),
+            Tell(0, "ann"),
+            Tell(1, "bob"),
         ],
+        left: ToldAtEnd::Nothing,
     },
+    // While a worker holds the ticket of node 0, which loops, another checks node 1 out and commits it: no lock is held
+    // from a checkout to its commit.
     WorkedRow {
-        name: "byte that begins no message",
-        plan: TrialPlan::AnnAndBob,
-        actions: &[(ANN, Config(&[7, 2, 0]))],
-    },
-    WorkedRow {
-        name: "rest of a message is the domain's own",
-        plan: TrialPlan::AnnAndBob,
-        actions: &[
-            (BOB, Config(&DRIVE_OUTPUT_5)),
-            (ANN, Config(&[2])),
-            (BOB, Config(&[2, 5])),
-            (ANN, Config(&[0])),
+        name: "one node waits for the other",
+        ground: Listed(TrialPlan::TwoNodes),
+        workers: 2,
+        stages: &[
+            Alone(&LOOPS_FOR_BOTH),
+            AtOnce(&[&[Rounds(QUANTUM, 20), Look(0), Look(1)]]),
+            Tell(0, "ann"),
+            Held,
+            Committed,
         ],
+        left: ToldAtEnd::Tokens,
     },
     WorkedRow {
-        name: "domain of all ports",
-        plan: TrialPlan::AllPorts,
-        actions: &[(ANN, Config(&[0, 0x1f, 0x1f, 3, 2, 0x1f]))],
+        name: "stopped workers",
+        ground: Listed(TrialPlan::TwoNodes),
+        workers: 8,
+        stages: &[Work(10), Say(","), Stop, Held, Work(10), Say(","), Begun],
+        left: ToldAtEnd::Tokens,
     },
     WorkedRow {
-        name: "poked word is peeked",
-        plan: TrialPlan::AnnAndBob,
-        actions: &[
-            (ANN, Config(&JOIN)),
-            (ANN, Write(0, &POKE)),
-            (ANN, Write(0, &PEEK)),
-            (ANN, SETTLE),
-            (ANN, Read(0, 5)),
+        name: "sixteen users and eight workers",
+        ground: Sized(SIXTEEN),
+        workers: 8,
+        stages: &[
+            Meet(Doing::Same(&BOOT_AND_READ), Hold::Nothing),
+            Count(" 41 none"),
+            Say(" read 41;"),
         ],
+        left: ToldAtEnd::Again,
+    },
+    // Eight workers have ten turns each, and in each turn one of the eight nodes does 256 Steps, whichever it is.
+    WorkedRow {
+        name: "each worker does its turns",
+        ground: Sized(EIGHT),
+        workers: 8,
+        stages: &[AtOnce(&EIGHT_LOOPS), Workers(10)],
+        left: ToldAtEnd::AllSteps,
     },
     WorkedRow {
-        name: "stopped process saved its place",
-        plan: TrialPlan::AnnAndBob,
-        actions: &[
-            (BOB, Config(&JOIN)),
-            (BOB, Write(0, &[2, 0x21, 0xf5])),
-            (BOB, SETTLE),
-            (BOB, Reset(0)),
-            (BOB, Write(0, &PEEK)),
-            (BOB, SETTLE),
-            (BOB, Read(0, 5)),
+        name: "tokens wait in plan order",
+        ground: Sized(NINE_NODES),
+        workers: 8,
+        stages: &[],
+        left: ToldAtEnd::Order,
+    },
+    // Four Steps boot bob's node, and then the burst does 256. Ann's has no Step to do.
+    WorkedRow {
+        name: "burst in the second domain",
+        ground: Listed(TrialPlan::AnnAndBob),
+        workers: 1,
+        stages: &[
+            Alone(&[(1, Config(&JOIN)), (1, Write(0, &LOOPS)), (1, Rounds(1, 5))]),
+            Burst(1, 0),
         ],
+        left: ToldAtEnd::Steps,
     },
+    // Ann's and bob's programs send 41 and stop, so that a lost Step or byte changes what is answered.
     WorkedRow {
-        name: "program sends a byte",
-        plan: TrialPlan::AnnAndBob,
-        actions: &[
-            (ANN, Config(&JOIN)),
-            (ANN, Write(0, &SAYS_41)),
-            (ANN, SETTLE),
-            (ANN, Read(0, 2)),
-            (ANN, Look(0)),
-            (BOB, Look(0)),
-            (BOB, Look(1)),
+        name: "planted losses",
+        ground: Listed(TrialPlan::AnnAndBob),
+        workers: 1,
+        stages: &[
+            AtOnce(&[&BOOT, &BOOT]),
+            Workers(1000),
+            AtOnce(&[&LOOK, &LOOK]),
         ],
-    },
-    WorkedRow {
-        name: "error flag halts",
-        plan: TrialPlan::AnnAndBob,
-        actions: &[
-            (ANN, Config(&JOIN)),
-            (ANN, Write(0, &[6, 0x25, 0xf8, 0x24, 0xf2, 0x60, 0x8f])),
-            (ANN, SETTLE),
-            (ANN, Look(0)),
-        ],
-    },
-    WorkedRow {
-        name: "unknown operation halts",
-        plan: TrialPlan::AnnAndBob,
-        actions: &[
-            (ANN, Config(&JOIN)),
-            (ANN, Write(0, &[2, 0x21, 0xf1])),
-            (ANN, SETTLE),
-            (ANN, Look(0)),
-        ],
-    },
-    WorkedRow {
-        name: "journal is full",
-        plan: TrialPlan::AnnOfThreeEvents,
-        actions: &[(ANN, Config(&[1, 0, 7, 3])), (BOB, Config(&DRIVE_OUTPUT_5))],
-    },
-    WorkedRow {
-        name: "host's queue is full",
-        plan: TrialPlan::AnnAndBob,
-        actions: &[(ANN, Fill(0, 4097))],
-    },
-    WorkedRow {
-        name: "byte of one host reaches two nodes",
-        plan: TrialPlan::TwoNodes,
-        actions: &[
-            (ANN, Config(&[0, 3, 0, 0, 3, 1, 3])),
-            (ANN, Write(0, &[5])),
-            (ANN, SETTLE),
-            (ANN, Look(0)),
-            (ANN, Look(1)),
-            (ANN, Look(2)),
-        ],
+        left: ToldAtEnd::Losses,
     },
 ];

@@ -1,11 +1,9 @@
 //! What is done with a service, stage by stage.
 
 use crate::actions::Action;
-use crate::calls::{tell_copies, tell_restart, tell_status};
-use crate::farm::{Ground, close, open};
+use crate::farm::{Ground, OpenedFarm, close, open};
 use crate::gates::{Hold, TurnsSeen, burst};
 use crate::meeting::{Meeting, Party, run_meeting, work_here};
-use crate::reopening::reopen;
 use crate::users::{Doing, TestUser, passes_of, users_of};
 use crate::watch::Watch;
 use domain_core::Committed;
@@ -41,14 +39,6 @@ pub enum Stage {
     Work(u64),
     /// Somebody does a burst of a node of a domain; what became of it follows.
     Burst(u8, u8),
-    /// The domain of the users in these places is restarted, with their sessions in this order; what came of it follows.
-    Restart(&'static [usize]),
-    /// How it is with a domain follows.
-    Status(u8),
-    /// What a domain's journal has, and what it gains by two bursts of a node, is copied; how much it was follows.
-    Copies(u8, u8),
-    /// The service is closed, and opened again on what it left; whether the users' lists are what they were follows.
-    Reopen,
     /// Whether a burst of node 1 was committed in the last meeting, while node 0's burst was held, follows.
     Committed,
     /// How many bursts began in the last meeting follows.
@@ -159,7 +149,6 @@ fn tell_seen(seen: TurnsSeen, said: &mut String) -> Result<(), AllocError> {
 // A stage in which nobody meets.
 fn tell<R: Wait>(
     rt: &R,
-    alloc: Global,
     party: &mut Party,
     stage: Stage,
     said: &mut String,
@@ -181,15 +170,6 @@ fn tell<R: Wait>(
             Ok(())
         }
         Stage::Burst(domain, node) => tell_burst(rt, party, domain, node, said),
-        Stage::Restart(places) => {
-            let farm = &party.farm;
-            let users = party.users.as_mut_slice();
-            tell_restart(rt, alloc, &farm.service, users, places, said)
-        }
-        Stage::Status(domain) => tell_status(rt, &party.farm.service, domain, said),
-        Stage::Copies(domain, node) => {
-            tell_copies(rt, alloc, &party.farm.service, domain, node, said)
-        }
         Stage::Committed => tell_seen(party.seen, said),
         Stage::Begun => write!(said, " {} begun;", party.seen.begun),
         _ => Ok(()),
@@ -212,7 +192,6 @@ impl Stage {
 // A stage.
 fn perform<R: Threads + Wait + Sync>(
     rt: &R,
-    alloc: Global,
     mut party: Party,
     stage: Stage,
     said: &mut String,
@@ -225,34 +204,37 @@ fn perform<R: Threads + Wait + Sync>(
         party.out_of_memory |= said.push_str(name_of(worked)).is_err();
         return party;
     }
-    party.out_of_memory |= tell(rt, alloc, &mut party, stage, said).is_err();
+    party.out_of_memory |= tell(rt, &mut party, stage, said).is_err();
     party
 }
 
-// A stage, or the service closed and opened again.
-fn go_through<R: Threads + Wait + Sync>(
-    rt: &R,
-    alloc: Global,
-    trial: &Trial<'_>,
-    party: Party,
-    stage: Stage,
-    said: &mut String,
-) -> Result<Party, AllocError> {
-    if let Stage::Reopen = stage {
-        return reopen(rt, alloc, trial.ground, trial.workers, party, said);
-    }
-    Ok(perform(rt, alloc, party, stage, said))
-}
-
-// How many commands by chance were answered, and whether memory was wanting.
-fn sum_of(users: &[TestUser]) -> (u64, bool) {
+// How many commands by chance were answered.
+fn answered_by(users: &[TestUser]) -> u64 {
     let mut answered = 0_u64;
-    let mut out_of_memory = false;
     for user in users {
         answered = answered.saturating_add(user.answered);
-        out_of_memory |= user.out_of_memory;
     }
-    (answered, out_of_memory)
+    answered
+}
+
+// Whether memory was wanting.
+fn was_out_of_memory(party: &Party) -> bool {
+    let mut wants = party.out_of_memory;
+    for user in party.users.iter() {
+        wants |= user.out_of_memory;
+    }
+    wants
+}
+
+// What is left when the users have given up their passes and the service is closed.
+fn closed<R: Wait>(
+    rt: &R,
+    alloc: Global,
+    farm: OpenedFarm,
+    users: Vec<TestUser>,
+) -> Result<Closed, AllocError> {
+    let passes = passes_of(alloc, users)?;
+    close(rt, alloc, farm, passes)
 }
 
 // Closes the service.
@@ -262,21 +244,28 @@ fn end<R: Wait>(rt: &R, alloc: Global, party: Party, said: String) -> Result<Sta
         users,
         watch,
         seen: _,
-        out_of_memory,
+        out_of_memory: _,
     } = party;
-    let (answered, wants) = sum_of(users.as_slice());
-    if out_of_memory || wants {
-        return Err(AllocError);
-    }
-    let closed = match passes_of(alloc, users) {
-        Ok(passes) => close(rt, alloc, farm, passes)?,
-        Err(_) => return Err(AllocError),
-    };
+    let answered = answered_by(users.as_slice());
     Ok(StageEnd {
+        closed: closed(rt, alloc, farm, users)?,
         said,
         answered,
         watch,
-        closed,
+    })
+}
+
+// All who go through a trial.
+fn party_of<R: Wait>(rt: &R, alloc: Global, trial: &Trial<'_>) -> Result<Party, AllocError> {
+    let Some((farm, passes, watch)) = open(rt, alloc, trial.ground, trial.workers) else {
+        return Err(AllocError);
+    };
+    Ok(Party {
+        farm,
+        users: users_of(alloc, passes, trial.seed)?,
+        watch,
+        seen: TurnsSeen::NOTHING,
+        out_of_memory: false,
     })
 }
 
@@ -290,21 +279,15 @@ pub fn run<R: Threads + Wait + Sync>(
     alloc: Global,
     trial: Trial<'_>,
 ) -> Result<StageEnd, AllocError> {
-    let Some((farm, passes, watch)) = open(rt, alloc, trial.ground, trial.workers) else {
-        return Err(AllocError);
-    };
+    let mut party = party_of(rt, alloc, &trial)?;
     let mut said = String::new(alloc);
-    let mut party = Party {
-        farm,
-        users: users_of(alloc, passes, trial.seed)?,
-        watch,
-        seen: TurnsSeen::NOTHING,
-        out_of_memory: false,
-    };
     for stage in trial.stages {
-        party = go_through(rt, alloc, &trial, party, *stage, &mut said)?;
+        party = perform(rt, party, *stage, &mut said);
     }
     // The operator surveys once more.
-    party = perform(rt, alloc, party, Stage::AtOnce(&[]), &mut said);
+    party = perform(rt, party, Stage::AtOnce(&[]), &mut said);
+    if was_out_of_memory(&party) {
+        return Err(AllocError);
+    }
     end(rt, alloc, party, said)
 }

@@ -4,7 +4,7 @@ use crate::actions::{Action, perform};
 use crate::chance::ask_anything;
 use crate::draws::Draws;
 use crate::sized::Size;
-use farm_service::{Service, Session, Told, UserPass};
+use farm_service::{Service, Session, UserPass};
 use std::alloc::{AllocError, Global};
 use std::sync::Wait;
 
@@ -78,42 +78,14 @@ impl TestUser {
         }
     }
 
-    /// What he asked and was answered, none while he is in a session.
-    pub fn told(&self) -> &[Told] {
-        match &self.pass {
-            Some(pass) => pass.told(),
-            None => &[],
-        }
-    }
-
-    /// Gives his pass up.
-    pub fn give_up_pass(&mut self) -> Option<UserPass> {
-        self.pass.take()
-    }
-
-    /// Takes a pass in place of the one that he gave up.
-    pub fn take_pass(&mut self, pass: UserPass) {
-        self.pass = Some(pass);
-    }
-
-    /// Begins a session of his own, unless he is in one.
-    pub fn begin<'a>(&mut self, service: &'a Service) -> Option<Session<'a>> {
-        let pass = self.pass.take()?;
-        Some(service.session(pass))
-    }
-
-    /// Ends his session.
-    pub fn end(&mut self, session: Session<'_>) {
-        self.pass = Some(session.end());
-    }
-
     /// Does what he is to do, in a session of his own.
     pub fn act<R: Wait>(&mut self, rt: &R, service: &Service, place: usize, doing: Doing) {
-        if let Some(mut session) = self.begin(service) {
+        if let Some(pass) = self.pass.take() {
+            let mut session = service.session(pass);
             if !self.act_in(rt, &mut session, place, doing) {
                 self.out_of_memory = true;
             }
-            self.end(session);
+            self.pass = Some(session.end());
         }
     }
 }
