@@ -81,11 +81,6 @@ const SIZES: [(Size, &[&[Action]]); 4] = [
     ),
 ];
 
-// Want of memory as an error of the program.
-fn failed(_: AllocError) -> io::Error {
-    io::Error::from(io::ErrorKind::OutOfMemory)
-}
-
 // The number that a word of the command line spells, or else this one.
 fn number(words: &[String], place: usize, usual: u64) -> u64 {
     words
@@ -165,6 +160,36 @@ fn soaked<R: Threads + Wait + Sync>(
     run_trial(rt, alloc, trial)
 }
 
+// What was compared of a service, and how much was wrong.
+#[derive(Clone, Copy)]
+struct SoakCounts {
+    wrong: u64,
+    answered: u64,
+    changes: u64,
+    events: u64,
+    words: u64,
+}
+
+// A service of a size whose rounds end, and what it left compared.
+fn compared<R: Threads + Wait + Sync>(
+    rt: &R,
+    alloc: Global,
+    (size, first): (Size, &'static [&'static [Action]]),
+    rounds: Rounds,
+    seed: u64,
+    plants: bool,
+) -> Result<SoakCounts, AllocError> {
+    let ended = soaked(rt, alloc, size, first, rounds, seed)?;
+    let (events, words) = count_of(&ended.closed);
+    Ok(SoakCounts {
+        wrong: wrong_of(alloc, size, seed, &ended, plants)?,
+        answered: ended.answered,
+        changes: ended.watch.changes(),
+        events,
+        words,
+    })
+}
+
 // Runs the rounds, each of which opens a service of each size, and tells what was compared if that is wanted; how much was
 // wrong. In the first round losses are planted.
 fn run<R: Threads + Wait + Sync + Print>(
@@ -173,16 +198,22 @@ fn run<R: Threads + Wait + Sync + Print>(
     rounds: Rounds,
     is_told: bool,
 ) -> io::Result<u64> {
-    let mut wrong = 0u64;
+    let mut wrong = 0_u64;
     for count in 0..rounds.count {
-        for (size, first) in SIZES {
-            let seed = rounds.seed.wrapping_add(count);
-            let ended = soaked(rt, alloc, size, first, rounds, seed).map_err(failed)?;
-            let found = wrong_of(alloc, size, seed, &ended, count == 0).map_err(failed)?;
-            wrong = wrong.saturating_add(found);
+        let seed = rounds.seed.wrapping_add(count);
+        for sized in SIZES {
+            let Ok(counts) = compared(rt, alloc, sized, rounds, seed, count == 0) else {
+                return Err(io::Error::from(io::ErrorKind::OutOfMemory));
+            };
+            wrong = wrong.saturating_add(counts.wrong);
             if is_told {
-                let (answered, changes) = (ended.answered, ended.watch.changes());
-                let (events, words) = count_of(&ended.closed);
+                let SoakCounts {
+                    answered,
+                    changes,
+                    events,
+                    words,
+                    ..
+                } = counts;
                 println!(rt;
                     "{answered} commands, {changes} changes, {events} events, {words} words"
                 )?;
