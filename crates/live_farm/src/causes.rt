@@ -77,7 +77,7 @@ impl Shadow {
     }
 
     // Follows the journal until so many events are recorded, or as far as is done again at once.
-    fn follow<R: Wait>(
+    fn follow_journal<R: Wait>(
         &mut self,
         rt: &R,
         service: &Service,
@@ -95,25 +95,22 @@ impl Shadow {
         }
         Ok(())
     }
-}
 
-// The domain of this number of a service's plan, led from its opening up to so many events, or as far as is done again at once.
-fn follow_journal<R: Wait>(
-    rt: &R,
-    alloc: Global,
-    service: &Service,
-    domain: u8,
-    end: u64,
-) -> Result<Follower, FollowFault>
-    ensures { IfOk result (λ f. IsReached service.now.plan domain f) }
-{
-    if domain >= service.plan().domains() {
-        return Err(FollowFault::NoSuch);
+    // Follows the journal up to so many events, or as far as is done again at once, and says what is told of that moment.
+    fn tell_of_journal<R: Wait>(
+        &mut self,
+        rt: &R,
+        alloc: Global,
+        service: &Service,
+        domain: u8,
+        recorded: u64,
+        node: Option<u8>,
+    ) -> Result<String, FollowFault>
+        requires { IsReached service.now.plan domain self.old.follower }
+    {
+        self.follow_journal(rt, service, domain, recorded)?;
+        Ok(tell(alloc, &self.follower, recorded, node)?)
     }
-    let mut shadow = Shadow::open(alloc, service.plan(), domain)?;
-    shadow.follow(rt, service, domain, end)?;
-    let Shadow { follower, .. } = shadow;
-    Ok(follower)
 }
 
 // What is told of a moment up to which so many events were recorded, when so many were.
@@ -150,6 +147,6 @@ pub(crate) fn told_of<R: Wait>(
     let Ok(status) = service.status(rt, domain) else {
         return Err(FollowFault::NoSuch);
     };
-    let follower = follow_journal(rt, alloc, service, domain, status.recorded)?;
-    Ok(tell(alloc, &follower, status.recorded, node)?)
+    let mut shadow = Shadow::open(alloc, service.plan(), domain)?;
+    shadow.tell_of_journal(rt, alloc, service, domain, status.recorded, node)
 }

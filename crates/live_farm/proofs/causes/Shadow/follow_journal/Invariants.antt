@@ -1,5 +1,5 @@
 use Rattle.farm_causes.specs.Following.{IsReached}
-use Rattle.live_farm.proofs.causes.Shadow.follow.Given as goal
+use Rattle.live_farm.proofs.causes.Shadow.follow_journal.Given as goal
 
 -- the follower is at some moment of the domain
 abbrev pub invariant-loop-piece : goal.invariant-loop-piece
