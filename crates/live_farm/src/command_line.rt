@@ -122,41 +122,30 @@ fn record_option<'a>(alloc: Global) -> Arg<'a> {
     )
 }
 
-// The same command with one more option of records, which goes with `--record` alone.
-fn with_flag<'a>(
-    alloc: Global,
-    command: Command<'a>,
-    name: &'a str,
-    help: &'a str,
-) -> Result<Command<'a>, AllocError> {
-    command.arg(record_flag(alloc, name, help)?)
-}
-
-// The same command with the options of records.
-fn with_records<'a>(alloc: Global, command: Command<'a>) -> Result<Command<'a>, AllocError> {
-    let recorded = command.arg(record_option(alloc))?;
-    let resumed = with_flag(
+// The arguments, in the order in which the help tells of them.
+fn live_arguments<'a>(alloc: Global) -> Result<Vec<Arg<'a>>, AllocError> {
+    let resume = record_flag(alloc, "resume", "Goes on with the records that are there")?;
+    let sync = record_flag(
         alloc,
-        recorded,
-        "resume",
-        "Goes on with the records that are there",
-    )?;
-    with_flag(
-        alloc,
-        resumed,
         "sync",
         "Each answer waits until its record is on the disk",
-    )
+    )?;
+    Ok(vec![in alloc;
+        plan_argument(alloc),
+        workers_option(alloc),
+        quantum_option(alloc),
+        record_option(alloc),
+        resume,
+        sync,
+    ]?)
 }
 
 fn live_command<'a>(alloc: Global) -> Result<Command<'a>, AllocError> {
-    let command = Command::new(alloc, "live")
+    let arguments = live_arguments(alloc)?;
+    Command::new(alloc, "live")
         .about("Answers lines on a farm of T414 processors as they come")
         .after_help(AFTER_HELP)
-        .arg(plan_argument(alloc))?
-        .arg(workers_option(alloc))?
-        .arg(quantum_option(alloc))?;
-    with_records(alloc, command)
+        .args(arguments)
 }
 
 /// Reads the words of the command line, of which the first is the program's name: the plan's path; `--workers N`, 1 to 8,
