@@ -150,9 +150,12 @@ impl<'a> Crew<'a> {
 
     /// Whether the thread of a domain met want of memory.
     pub fn is_out_of_memory(&self) -> bool {
-        self.stations
-            .iter()
-            .any(|station| station.is_out_of_memory())
+        for station in &self.stations {
+            if station.is_out_of_memory() {
+                return true;
+            }
+        }
+        false
     }
 
     /// Ends all sessions, and gives their passes back.
