@@ -123,20 +123,28 @@ impl Desk<'_, '_> {
             Ok(LiveLine::Operator(request)) => {
                 return self.serve_operator(rt, outlet, operator, number, request);
             }
-            Err(LiveFault::User { user, fault }) => {
-                self.send(rt, outlet, user, number, Matter::Wrong(Why::Fault(fault)))?;
-            }
-            Err(LiveFault::Operator(fault)) => self.tell(
-                rt,
-                outlet,
-                "!",
-                number,
-                Why::Fault(fault),
-            )?,
-            Err(LiveFault::UnknownUser) => tell_unknown_user(self.alloc, errors, number)?,
-            Err(LiveFault::NoMemory) => return Err(Trouble::Memory),
+            Err(fault) => self.refuse(rt, outlet, errors, number, fault)?,
         }
         Ok(Goes::On)
+    }
+
+    // Tells what is wrong with a line.
+    fn refuse<R: Wait, O: SharedOutlet, E: Write>(
+        &self,
+        rt: &R,
+        outlet: &O,
+        errors: &mut E,
+        number: u64,
+        fault: LiveFault,
+    ) -> Result<(), Trouble> {
+        match fault {
+            LiveFault::User { user, fault } => {
+                self.send(rt, outlet, user, number, Matter::Wrong(Why::Fault(fault)))
+            }
+            LiveFault::Operator(fault) => self.tell(rt, outlet, "!", number, Why::Fault(fault)),
+            LiveFault::UnknownUser => tell_unknown_user(self.alloc, errors, number),
+            LiveFault::NoMemory => Err(Trouble::Memory),
+        }
     }
 
     // Tells whose line is too long, by its beginning.
@@ -182,7 +190,10 @@ impl Desk<'_, '_> {
         errors: &mut E,
         number: u64,
     ) -> Result<Goes, Trouble> {
-        let read = next_line(self.alloc, input).map_err(|error| Trouble::of_input(&error))?;
+        let read = match next_line(self.alloc, input) {
+            Ok(read) => read,
+            Err(error) => return Err(Trouble::of_input(&error)),
+        };
         self.look(rt, outlet)?;
         match read {
             InputLine::End => Ok(Goes::Stopped),
