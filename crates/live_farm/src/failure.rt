@@ -80,17 +80,23 @@ impl LiveFailure {
 
     /// A call of the system on a file failed.
     pub fn of_file(alloc: Global, path: &str, error: io::Error) -> LiveFailure {
-        match (error.kind(), String::from_str(alloc, path)) {
-            (io::ErrorKind::OutOfMemory, _) | (_, Err(_)) => LiveFailure::Memory,
-            (_, Ok(path)) => LiveFailure::File { path, error },
+        if error.kind() == io::ErrorKind::OutOfMemory {
+            return LiveFailure::Memory;
+        }
+        match String::from_str(alloc, path) {
+            Ok(path) => LiveFailure::File { path, error },
+            Err(_) => LiveFailure::Memory,
         }
     }
 
     /// A record, or the folder of records, can't be used.
     pub fn of_record(alloc: Global, path: &str, why: &str) -> LiveFailure {
-        match (String::from_str(alloc, path), String::from_str(alloc, why)) {
-            (Ok(path), Ok(why)) => LiveFailure::Record { path, why },
-            _ => LiveFailure::Memory,
+        let Ok(path) = String::from_str(alloc, path) else {
+            return LiveFailure::Memory;
+        };
+        match String::from_str(alloc, why) {
+            Ok(why) => LiveFailure::Record { path, why },
+            Err(_) => LiveFailure::Memory,
         }
     }
 
