@@ -15,8 +15,7 @@ use crate::record::SharedRecord;
 use crate::threads::run_crew;
 use domain_core::Refusal;
 use farm_service::{
-    Closed, Histories, NoGate, NoMemory, Opened, Service, UserPass, WorkerPass,
-    run_users_and_workers,
+    Closed, Histories, NoGate, Opened, Service, UserPass, WorkerPass, run_users_and_workers,
 };
 use line_answers::Quantum;
 use record_keeping::NotKept;
@@ -36,7 +35,7 @@ struct LiveReader<'a, 'b, 'c, I: BufRead, E: Write> {
     ended: Result<(), Trouble>,
 }
 
-// Reads lines to their end, with a thread for each domain and the workers beside them.
+// Reads lines to their end, with a thread for each domain and the workers beside them, and then records what isn't recorded yet.
 fn run_all<
     R: Threads + Wait + Sync,
     K: SharedRecord + Sync,
@@ -53,7 +52,7 @@ fn run_all<
     records: &[K],
     outlet: &O,
     reader: &mut LiveReader<'_, '_, '_, I, E>,
-) -> Result<(), NoMemory>
+) -> Result<(), LiveFailure>
     requires steps { (1 ≤ steps) × (steps ≤ 4096) }
     requires passes { AreItsPasses service.now.plan service.now.queue passes.old.items }
     ensures passes { AreItsPasses service.now.plan service.now.queue passes.new.items }
@@ -78,7 +77,10 @@ fn run_all<
         steps,
         &act,
         slice::from_mut(reader),
-    )
+    )?;
+    let kept = keep_rest(rt, alloc, service, records);
+    reader.ended?;
+    kept
 }
 
 // Answers all lines, and gives the users' passes back.
@@ -115,9 +117,6 @@ fn serve_all<
         outlet,
         reader,
     )?;
-    let kept = keep_rest(rt, alloc, service, records);
-    reader.ended?;
-    kept?;
     Ok(crew.end(alloc)?)
 }
 
