@@ -340,7 +340,10 @@ impl<'a, F: Files<File = File>> RecordFolder<'a, F> {
         errors: &mut E,
     ) -> Result<DomainRecord<RecordFile<'a, F>>, LiveFailure> {
         let PlannedRecord { stem, head, found } = planned;
-        let is_empty = found.as_ref().is_none_or(|found| found.whole == 0);
+        let is_empty = match &found {
+            Some(found) => found.whole == 0,
+            None => true,
+        };
         let mut file = self.next_file(stem, found, errors)?;
         if is_empty {
             self.begin(&mut file, head.as_str())?;
