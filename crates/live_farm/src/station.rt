@@ -140,6 +140,24 @@ fn serve_letter<R: Wait, K: SharedRecord, O: SharedOutlet>(
     Ok(())
 }
 
+// Takes the next letter and answers it; whether more may come. Once a write has failed nothing more is asked.
+fn serve_next<R: Wait, K: SharedRecord, O: SharedOutlet>(
+    rt: &R,
+    alloc: Global,
+    station: &Station<'_>,
+    group: &mut DomainUsers<'_>,
+    record: &K,
+    outlet: &O,
+) -> Result<bool, NoMemory> {
+    let Some(letter) = station.mailbox.take(rt) else {
+        return Ok(false);
+    };
+    if usize::from(letter.user) < group.users() && !outlet.has_failed(rt) {
+        serve_letter(rt, alloc, station, group, &letter, record, outlet)?;
+    }
+    Ok(true)
+}
+
 /// Answers letters, in their order, until the mailbox is closed and empty. Once a write has failed nothing more is asked. If
 /// there is no memory the thread says so and ends.
 pub fn serve<R: Wait, K: SharedRecord, O: SharedOutlet>(
@@ -149,18 +167,15 @@ pub fn serve<R: Wait, K: SharedRecord, O: SharedOutlet>(
     record: &K,
     outlet: &O,
 ) {
-    let mut guard = station.group.lock(rt);
-    let group = &mut *guard;
+    let mut group = station.group.lock(rt);
     for _ in rt.forever() {
-        let Some(letter) = station.mailbox.take(rt) else {
-            break;
-        };
-        if usize::from(letter.user) >= group.users() || outlet.has_failed(rt) {
-            continue;
-        }
-        if serve_letter(rt, alloc, station, group, &letter, record, outlet).is_err() {
-            station.out_of_memory.store(true, Ordering::SeqCst);
-            break;
+        match serve_next(rt, alloc, station, &mut group, record, outlet) {
+            Ok(true) => {}
+            Ok(false) => break,
+            Err(NoMemory) => {
+                station.out_of_memory.store(true, Ordering::SeqCst);
+                break;
+            }
         }
     }
 }
