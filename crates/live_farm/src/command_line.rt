@@ -66,7 +66,12 @@ fn settings_in(alloc: Global, matches: &ArgMatches) -> Result<LiveSettings, Allo
 }
 
 // An option that takes a value.
-fn value_option<'a>(alloc: Global, name: &'a str, value: &'a str, help: &'a str) -> Arg<'a> {
+fn value_option(
+    alloc: Global,
+    name: &'static str,
+    value: &'static str,
+    help: &'static str,
+) -> Arg<'static> {
     Arg::new(alloc, name)
         .long(name)
         .value_name(value)
@@ -75,7 +80,11 @@ fn value_option<'a>(alloc: Global, name: &'a str, value: &'a str, help: &'a str)
 }
 
 // An option of records, which goes with `--record` alone.
-fn record_flag<'a>(alloc: Global, name: &'a str, help: &'a str) -> Result<Arg<'a>, AllocError> {
+fn record_flag(
+    alloc: Global,
+    name: &'static str,
+    help: &'static str,
+) -> Result<Arg<'static>, AllocError> {
     Arg::new(alloc, name)
         .long(name)
         .help(help)
@@ -83,7 +92,7 @@ fn record_flag<'a>(alloc: Global, name: &'a str, help: &'a str) -> Result<Arg<'a
         .requires_arg("record")
 }
 
-fn plan_argument<'a>(alloc: Global) -> Arg<'a> {
+fn plan_argument(alloc: Global) -> Arg<'static> {
     Arg::new(alloc, "plan")
         .value_name("PLAN")
         .help("The file of the plan")
@@ -91,7 +100,7 @@ fn plan_argument<'a>(alloc: Global) -> Arg<'a> {
         .action(ArgAction::Set)
 }
 
-fn workers_option<'a>(alloc: Global) -> Arg<'a> {
+fn workers_option(alloc: Global) -> Arg<'static> {
     value_option(
         alloc,
         "workers",
@@ -102,7 +111,7 @@ fn workers_option<'a>(alloc: Global) -> Arg<'a> {
     .value_parser(value_parser!(u8).range(1..=8))
 }
 
-fn quantum_option<'a>(alloc: Global) -> Arg<'a> {
+fn quantum_option(alloc: Global) -> Arg<'static> {
     value_option(
         alloc,
         "quantum",
@@ -113,7 +122,7 @@ fn quantum_option<'a>(alloc: Global) -> Arg<'a> {
     .value_parser(value_parser!(u16).range(1..=4096))
 }
 
-fn record_option<'a>(alloc: Global) -> Arg<'a> {
+fn record_option(alloc: Global) -> Arg<'static> {
     value_option(
         alloc,
         "record",
@@ -123,7 +132,7 @@ fn record_option<'a>(alloc: Global) -> Arg<'a> {
 }
 
 // The arguments, in the order in which the help tells of them.
-fn live_arguments<'a>(alloc: Global) -> Result<Vec<Arg<'a>>, AllocError> {
+fn live_arguments(alloc: Global) -> Result<Vec<Arg<'static>>, AllocError> {
     let resume = record_flag(alloc, "resume", "Goes on with the records that are there")?;
     let sync = record_flag(
         alloc,
