@@ -54,7 +54,7 @@ fn records_in(alloc: Global, matches: &ArgMatches) -> Result<Option<RecordSettin
 }
 
 // What was matched.
-fn settings_in(alloc: Global, matches: &ArgMatches) -> Result<LiveSettings, AllocError>
+fn settings_in(alloc: Global, matches: &ArgMatches) -> Result<LiveSettings, clap::Error>
     ensures { IfOk result IsInRange }
 {
     Ok(LiveSettings {
@@ -163,7 +163,7 @@ pub fn live_settings<S: AsStr>(alloc: Global, words: &[S]) -> Result<LiveSetting
     ensures { IfOk result IsInRange }
 {
     let matches = live_command(alloc)?.try_get_matches_from(words)?;
-    Ok(settings_in(alloc, &matches)?)
+    settings_in(alloc, &matches)
 }
 
 // The parser gives a number in its range, or the default.
