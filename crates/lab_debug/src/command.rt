@@ -93,13 +93,6 @@ enum FirstWord {
     Quit,
 }
 
-/// What is said of a command: how it is written, and what it does.
-#[derive(Clone, Copy)]
-struct Usage {
-    written: &'static str,
-    does: &'static str,
-}
-
 const FIRST_WORDS: [(&str, FirstWord); 18] = [
     ("events", FirstWord::Events),
     ("go", FirstWord::Go),
@@ -139,100 +132,125 @@ const SOUGHT_WORDS: [(&str, SoughtWord); 5] = [
     ("lost", SoughtWord::Lost),
 ];
 
-/// Why a line is no command: what is wrong with a word of it, and how the command is written.
+/// What is wrong with a word of a command.
 #[derive(Clone, Copy)]
-pub struct CommandFault<'a> {
-    // Empty if a word is missing.
-    word: &'a str,
-    wrong: &'static str,
-    // What it may be meant for.
-    nearest: Option<&'static str>,
-    written: &'static str,
+enum Mistake {
+    /// It is missing.
+    Missing,
+    NoCommand,
+    /// It is not what is looked for behind `until`.
+    NoSought,
+    NoNumber,
+    Unexpected,
 }
 
-const NO_COMMAND: &str = " is no command";
+impl Mistake {
+    // What is said of the word.
+    fn text(self) -> &'static str {
+        match self {
+            Mistake::Missing => "a word is missing",
+            Mistake::NoCommand => " is no command",
+            Mistake::NoNumber => " is no number that fits there",
+            Mistake::NoSought | Mistake::Unexpected => " can't stand there",
+        }
+    }
 
-const NO_NUMBER: &str = " is no number that fits there";
+    // What the word may be meant for.
+    fn nearest(self, word: &str) -> Option<&'static str> {
+        match self {
+            Mistake::NoCommand => nearest_entry(word, &FIRST_WORDS),
+            Mistake::NoSought => nearest_entry(word, &SOUGHT_WORDS),
+            Mistake::Missing | Mistake::NoNumber | Mistake::Unexpected => None,
+        }
+    }
+}
 
-const UNEXPECTED: &str = " can't stand there";
+/// Why a line is no command: what is wrong with a word of it, and which command that is. It is `help` if the first word is wrong.
+#[derive(Clone, Copy)]
+pub struct CommandFault<'a> {
+    // Empty if it is missing.
+    word: &'a str,
+    mistake: Mistake,
+    verb: FirstWord,
+}
 
 impl CommandFault<'_> {
     /// Writes which word is wrong, and what to try.
     pub fn write(self, text: &mut TextWriter) {
-        if self.word.is_empty() {
-            text.push("a word is missing");
-        } else {
+        if !self.word.is_empty() {
             text.push("`");
             text.push(self.word);
             text.push("`");
-            text.push(self.wrong);
         }
-        if let Some(name) = self.nearest {
+        text.push(self.mistake.text());
+        if let Some(name) = self.mistake.nearest(self.word) {
             text.push(" (is it ");
             text.push(name);
             text.push("?)");
         }
         text.push(": try ");
-        text.push(self.written);
+        text.push(self.verb.written());
         text.push("\n");
     }
 }
 
 impl FirstWord {
-    // How the command is written, and what it does.
-    fn usage(self) -> Usage {
-        let (written, does) = match self {
-            FirstWord::Events => (
-                "events [FROM [COUNT]]",
-                "the lines of the record from an event on",
-            ),
-            FirstWord::Go => ("go N", "to the moment after the first N events"),
-            FirstWord::Next => ("next [N]", "N events on"),
-            FirstWord::Trace => (
-                "trace [N [K]]",
-                "N events on, and shows what each does, or those of node K",
-            ),
-            FirstWord::Back => (
-                "back [N], or back until ..",
-                "N events back, or to the last moment that is so",
-            ),
-            FirstWord::Until => (
+    // How the command is written.
+    fn written(self) -> &'static str {
+        match self {
+            FirstWord::Events => "events [FROM [COUNT]]",
+            FirstWord::Go => "go N",
+            FirstWord::Next => "next [N]",
+            FirstWord::Trace => "trace [N [K]]",
+            FirstWord::Back => "back [N], or back until ..",
+            FirstWord::Until =>
                 "until node K at ADDR, until fault, until byte PORT, until write ADDR of node K, or until lost",
-                "to the next moment that is so",
-            ),
-            FirstWord::Look => ("look", "what each node does"),
-            FirstWord::Registers => ("registers K", "the registers of node K"),
-            FirstWord::Memory => ("memory K ADDR [COUNT]", "words of its memory"),
-            FirstWord::Code => (
-                "code K [ADDR]",
-                "its instructions, with > at the one that it does next",
-            ),
-            FirstWord::Queue => (
-                "queue K",
-                "its process, and those that wait for the processor",
-            ),
-            FirstWord::Links => ("links K", "its four links"),
-            FirstWord::Hosts => ("hosts", "what the hosts send and have received"),
-            FirstWord::Switch => ("switch", "what drives each output"),
-            FirstWord::Why => ("why [K]", "why the nodes do no more than they do"),
-            FirstWord::Program => (
-                "program K FILE",
-                "takes labels and lines from the program of node K",
-            ),
-            FirstWord::Help => ("help", "this list"),
-            FirstWord::Quit => ("quit", "ends"),
-        };
-        Usage { written, does }
+            FirstWord::Look => "look",
+            FirstWord::Registers => "registers K",
+            FirstWord::Memory => "memory K ADDR [COUNT]",
+            FirstWord::Code => "code K [ADDR]",
+            FirstWord::Queue => "queue K",
+            FirstWord::Links => "links K",
+            FirstWord::Hosts => "hosts",
+            FirstWord::Switch => "switch",
+            FirstWord::Why => "why [K]",
+            FirstWord::Program => "program K FILE",
+            FirstWord::Help => "help",
+            FirstWord::Quit => "quit",
+        }
+    }
+
+    // What the command does.
+    fn does(self) -> &'static str {
+        match self {
+            FirstWord::Events => "the lines of the record from an event on",
+            FirstWord::Go => "to the moment after the first N events",
+            FirstWord::Next => "N events on",
+            FirstWord::Trace => "N events on, and shows what each does, or those of node K",
+            FirstWord::Back => "N events back, or to the last moment that is so",
+            FirstWord::Until => "to the next moment that is so",
+            FirstWord::Look => "what each node does",
+            FirstWord::Registers => "the registers of node K",
+            FirstWord::Memory => "words of its memory",
+            FirstWord::Code => "its instructions, with > at the one that it does next",
+            FirstWord::Queue => "its process, and those that wait for the processor",
+            FirstWord::Links => "its four links",
+            FirstWord::Hosts => "what the hosts send and have received",
+            FirstWord::Switch => "what drives each output",
+            FirstWord::Why => "why the nodes do no more than they do",
+            FirstWord::Program => "takes labels and lines from the program of node K",
+            FirstWord::Help => "this list",
+            FirstWord::Quit => "ends",
+        }
     }
 }
 
 /// Writes how each command is written, and what it does.
 pub fn write_help(text: &mut TextWriter) {
     for (_, verb) in &FIRST_WORDS {
-        let Usage { written, does } = verb.usage();
-        text.push(written);
+        text.push(verb.written());
         text.push(": ");
-        text.push(does);
+        text.push(verb.does());
         text.push("\n");
     }
     text.push("An address has hexadecimal digits, of which the first is 0 to 9, or is a label.\n");
@@ -242,7 +260,10 @@ pub fn write_help(text: &mut TextWriter) {
 #[derive(Clone, Copy)]
 struct CommandWords<'a> {
     rest: &'a str,
-    written: &'static str,
+    // The last that was read, or an empty one if there was none.
+    last: &'a str,
+    // The command.
+    verb: FirstWord,
 }
 
 impl<'a> CommandWords<'a> {
@@ -251,48 +272,23 @@ impl<'a> CommandWords<'a> {
         let rest = self.rest.trim_start();
         let (word, behind) = rest.split_once(' ').unwrap_or((rest, ""));
         self.rest = behind;
+        self.last = word;
         if word.is_empty() { None } else { Some(word) }
     }
 
-    // What is wrong with a word.
-    fn fault(&self, word: &'a str, wrong: &'static str) -> CommandFault<'a> {
-        CommandFault {
-            word,
-            wrong,
-            nearest: None,
-            written: self.written,
-        }
-    }
-
-    // The same of a word in place of those of a table, with the one that is nearest to it.
-    fn fault_among<T: Copy>(
-        &self,
-        word: &'a str,
-        wrong: &'static str,
-        table: &[(&'static str, T)],
-    ) -> CommandFault<'a> {
-        CommandFault {
-            word,
-            wrong,
-            nearest: nearest_entry(word, table),
-            written: self.written,
-        }
-    }
-
-    fn word(&mut self) -> Result<&'a str, CommandFault<'a>> {
+    fn word(&mut self) -> Result<&'a str, Mistake> {
         match self.next_word() {
             Some(word) => Ok(word),
-            None => Err(self.fault("", "")),
+            None => Err(Mistake::Missing),
         }
     }
 
     // The next word has to be this one.
-    fn expect(&mut self, expected: &str) -> Result<(), CommandFault<'a>> {
-        let word = self.word()?;
-        if word == expected {
+    fn expect(&mut self, expected: &str) -> Result<(), Mistake> {
+        if self.word()? == expected {
             Ok(())
         } else {
-            Err(self.fault(word, UNEXPECTED))
+            Err(Mistake::Unexpected)
         }
     }
 
@@ -302,18 +298,17 @@ impl<'a> CommandWords<'a> {
     }
 
     // A decimal number, at most so great.
-    fn number(&mut self, most: u64) -> Result<u64, CommandFault<'a>>
+    fn number(&mut self, most: u64) -> Result<u64, Mistake>
         ensures { IfOk result (λ number. number ≤ most) }
     {
-        let word = self.word()?;
-        match decimal_number(word) {
+        match decimal_number(self.word()?) {
             Some(number) if number <= most => Ok(number),
-            _ => Err(self.fault(word, NO_NUMBER)),
+            _ => Err(Mistake::NoNumber),
         }
     }
 
     // A decimal number, or this one if no word is left.
-    fn number_or(&mut self, usual: u64) -> Result<u64, CommandFault<'a>> {
+    fn number_or(&mut self, usual: u64) -> Result<u64, Mistake> {
         if self.is_empty() {
             return Ok(usual);
         }
@@ -321,41 +316,36 @@ impl<'a> CommandWords<'a> {
     }
 
     // A decimal number below 256.
-    fn small(&mut self) -> Result<u8, CommandFault<'a>> {
+    fn small(&mut self) -> Result<u8, Mistake> {
         Ok(self.number(255)? as u8)
     }
 
-    fn address(&mut self) -> Result<Address<'a>, CommandFault<'a>> {
+    fn address(&mut self) -> Result<Address<'a>, Mistake> {
         let word = self.word()?;
-        if !word
-            .as_bytes()
-            .first()
-            .is_some_and(|first| first.is_ascii_digit())
-        {
-            return Ok(Address::Label(word));
-        }
-        match hexadecimal_word(word) {
-            Some(number) => Ok(Address::Number(number)),
-            None => Err(self.fault(word, NO_NUMBER)),
+        match word.as_bytes() {
+            [b'0'..=b'9', ..] => match hexadecimal_word(word) {
+                Some(number) => Ok(Address::Number(number)),
+                None => Err(Mistake::NoNumber),
+            },
+            _ => Ok(Address::Label(word)),
         }
     }
 
     // What stands behind `until`.
-    fn sought(&mut self) -> Result<Sought<'a>, CommandFault<'a>> {
-        self.written = FirstWord::Until.usage().written;
-        let word = self.word()?;
-        match value_named(&SOUGHT_WORDS, word) {
+    fn sought(&mut self) -> Result<Sought<'a>, Mistake> {
+        self.verb = FirstWord::Until;
+        match value_named(&SOUGHT_WORDS, self.word()?) {
             Some(SoughtWord::Fault) => Ok(Sought::Fault),
             Some(SoughtWord::Lost) => Ok(Sought::Lost),
             Some(SoughtWord::Byte) => Ok(Sought::Byte(self.small()?)),
             Some(SoughtWord::Node) => self.sought_at(),
             Some(SoughtWord::Write) => self.sought_write(),
-            None => Err(self.fault_among(word, UNEXPECTED, &SOUGHT_WORDS)),
+            None => Err(Mistake::NoSought),
         }
     }
 
     // What stands behind `until node`.
-    fn sought_at(&mut self) -> Result<Sought<'a>, CommandFault<'a>> {
+    fn sought_at(&mut self) -> Result<Sought<'a>, Mistake> {
         let node = self.small()?;
         self.expect("at")?;
         let address = self.address()?;
@@ -363,7 +353,7 @@ impl<'a> CommandWords<'a> {
     }
 
     // What stands behind `until write`.
-    fn sought_write(&mut self) -> Result<Sought<'a>, CommandFault<'a>> {
+    fn sought_write(&mut self) -> Result<Sought<'a>, Mistake> {
         let address = self.address()?;
         self.expect("of")?;
         self.expect("node")?;
@@ -372,7 +362,7 @@ impl<'a> CommandWords<'a> {
     }
 
     // What stands behind `back`.
-    fn back(&mut self) -> Result<DebugCommand<'a>, CommandFault<'a>> {
+    fn back(&mut self) -> Result<DebugCommand<'a>, Mistake> {
         let mut ahead = *self;
         if ahead.next_word() == Some("until") {
             self.rest = ahead.rest;
@@ -382,7 +372,7 @@ impl<'a> CommandWords<'a> {
     }
 
     // What stands behind `trace`.
-    fn trace(&mut self) -> Result<DebugCommand<'a>, CommandFault<'a>> {
+    fn trace(&mut self) -> Result<DebugCommand<'a>, Mistake> {
         let count = self.number_or(10)?;
         let node = if self.is_empty() {
             None
@@ -392,7 +382,7 @@ impl<'a> CommandWords<'a> {
         Ok(DebugCommand::Trace { count, node })
     }
 
-    fn memory(&mut self) -> Result<DebugCommand<'a>, CommandFault<'a>> {
+    fn memory(&mut self) -> Result<DebugCommand<'a>, Mistake> {
         Ok(DebugCommand::Memory {
             node: self.small()?,
             address: self.address()?,
@@ -400,7 +390,7 @@ impl<'a> CommandWords<'a> {
         })
     }
 
-    fn events(&mut self) -> Result<DebugCommand<'a>, CommandFault<'a>> {
+    fn events(&mut self) -> Result<DebugCommand<'a>, Mistake> {
         let from = if self.is_empty() {
             None
         } else {
@@ -410,20 +400,20 @@ impl<'a> CommandWords<'a> {
         Ok(DebugCommand::Events { from, count })
     }
 
-    fn go(&mut self) -> Result<DebugCommand<'a>, CommandFault<'a>> {
+    fn go(&mut self) -> Result<DebugCommand<'a>, Mistake> {
         Ok(DebugCommand::Go(self.number(u64::MAX)?))
     }
 
     // What stands behind `next`.
-    fn forwards(&mut self) -> Result<DebugCommand<'a>, CommandFault<'a>> {
+    fn forwards(&mut self) -> Result<DebugCommand<'a>, Mistake> {
         Ok(DebugCommand::Next(self.number_or(1)?))
     }
 
-    fn until(&mut self) -> Result<DebugCommand<'a>, CommandFault<'a>> {
+    fn until(&mut self) -> Result<DebugCommand<'a>, Mistake> {
         Ok(DebugCommand::Until(self.sought()?))
     }
 
-    fn code(&mut self) -> Result<DebugCommand<'a>, CommandFault<'a>> {
+    fn code(&mut self) -> Result<DebugCommand<'a>, Mistake> {
         let node = self.small()?;
         let address = if self.is_empty() {
             None
@@ -433,33 +423,33 @@ impl<'a> CommandWords<'a> {
         Ok(DebugCommand::Code { node, address })
     }
 
-    fn registers(&mut self) -> Result<DebugCommand<'a>, CommandFault<'a>> {
+    fn registers(&mut self) -> Result<DebugCommand<'a>, Mistake> {
         Ok(DebugCommand::Registers(self.small()?))
     }
 
-    fn queue(&mut self) -> Result<DebugCommand<'a>, CommandFault<'a>> {
+    fn queue(&mut self) -> Result<DebugCommand<'a>, Mistake> {
         Ok(DebugCommand::Queue(self.small()?))
     }
 
-    fn links(&mut self) -> Result<DebugCommand<'a>, CommandFault<'a>> {
+    fn links(&mut self) -> Result<DebugCommand<'a>, Mistake> {
         Ok(DebugCommand::Links(self.small()?))
     }
 
-    fn why(&mut self) -> Result<DebugCommand<'a>, CommandFault<'a>> {
+    fn why(&mut self) -> Result<DebugCommand<'a>, Mistake> {
         if self.is_empty() {
             return Ok(DebugCommand::Why(None));
         }
         Ok(DebugCommand::Why(Some(self.small()?)))
     }
 
-    fn program(&mut self) -> Result<DebugCommand<'a>, CommandFault<'a>> {
+    fn program(&mut self) -> Result<DebugCommand<'a>, Mistake> {
         let node = self.small()?;
         let file = self.word()?;
         Ok(DebugCommand::Program { node, file })
     }
 
     // What stands behind the first word.
-    fn command(&mut self, verb: FirstWord) -> Result<DebugCommand<'a>, CommandFault<'a>> {
+    fn command(&mut self, verb: FirstWord) -> Result<DebugCommand<'a>, Mistake> {
         match verb {
             FirstWord::Events => self.events(),
             FirstWord::Go => self.go(),
@@ -481,24 +471,37 @@ impl<'a> CommandWords<'a> {
             FirstWord::Quit => Ok(DebugCommand::Quit),
         }
     }
+
+    // The command that this word begins, with all words behind it.
+    fn whole_command(&mut self, name: &str) -> Result<DebugCommand<'a>, Mistake> {
+        let Some(verb) = value_named(&FIRST_WORDS, name) else {
+            return Err(Mistake::NoCommand);
+        };
+        self.verb = verb;
+        let command = self.command(verb)?;
+        match self.next_word() {
+            Some(_) => Err(Mistake::Unexpected),
+            None => Ok(command),
+        }
+    }
 }
 
 /// The command of a line.
 pub fn read_command(line: &str) -> Result<DebugCommand<'_>, CommandFault<'_>> {
     let mut words = CommandWords {
         rest: line.trim(),
-        written: "help",
+        last: "",
+        verb: FirstWord::Help,
     };
     let Some(name) = words.next_word() else {
         return Ok(DebugCommand::Nothing);
     };
-    let Some(first) = value_named(&FIRST_WORDS, name) else {
-        return Err(words.fault_among(name, NO_COMMAND, &FIRST_WORDS));
-    };
-    words.written = first.usage().written;
-    let command = words.command(first)?;
-    match words.next_word() {
-        Some(word) => Err(words.fault(word, UNEXPECTED)),
-        None => Ok(command),
+    match words.whole_command(name) {
+        Ok(command) => Ok(command),
+        Err(mistake) => Err(CommandFault {
+            word: words.last,
+            mistake,
+            verb: words.verb,
+        }),
     }
 }
