@@ -22,21 +22,29 @@ const COLUMN: usize = 4;
 
 /// The address of the byte that a node does next, if its next Step does one.
 pub fn next_address(node: &Node) -> Result<Option<u32>, AllocError> {
-    Ok(match node.registers() {
-        Some(cpu) if cpu.running => Some(cpu.instruction),
-        Some(_) if node.quiet() => None,
-        Some(_) => next_registers(node)?.map(|cpu| cpu.instruction),
+    let registers = match node.registers() {
+        Some(cpu) if cpu.running => Some(cpu),
+        Some(_) if !node.quiet() => next_registers(node)?,
+        _ => None,
+    };
+    Ok(match registers {
+        Some(cpu) => Some(cpu.instruction),
         None => None,
     })
+}
+
+// Whether a node has done prefixes of its next instruction.
+fn has_prefixes(node: &Node) -> bool {
+    match node.registers() {
+        Some(cpu) => cpu.running && cpu.operand != 0,
+        None => false,
+    }
 }
 
 // The first byte of the instruction of which this address has a byte, if prefixes before it were done.
 fn begin_of(node: &Node, address: u32) -> u32 {
     let mut begin = address;
-    if node
-        .registers()
-        .is_some_and(|cpu| cpu.running && cpu.operand != 0)
-    {
+    if has_prefixes(node) {
         for _ in 0..7u8 {
             let before = begin.wrapping_sub(1);
             match node.memory().byte(before) {
@@ -85,6 +93,17 @@ fn write_labels(lines: &[ProgramLine], address: u32, text: &mut TextWriter) {
     }
 }
 
+// Writes the bytes of an instruction in their column.
+fn write_bytes(bytes: &[u8], text: &mut TextWriter) {
+    for byte in bytes {
+        text.push_byte(*byte);
+        text.push(" ");
+    }
+    for _ in bytes.len()..COLUMN {
+        text.push("   ");
+    }
+}
+
 // Writes an instruction, its place and its line.
 fn write_row(
     lines: &[ProgramLine],
@@ -95,13 +114,7 @@ fn write_row(
 ) {
     text.push_word(address);
     text.push("  ");
-    for byte in bytes {
-        text.push_byte(*byte);
-        text.push(" ");
-    }
-    for _ in bytes.len()..COLUMN {
-        text.push("   ");
-    }
+    write_bytes(bytes, text);
     text.push(" ");
     let begin = text.as_mut_string().len();
     write_instruction(text, instruction);
@@ -145,18 +158,42 @@ fn write_rows(
     bytes: &[u8],
     text: &mut TextWriter,
 ) -> Result<(), AllocError> {
+    let instructions = disassemble(alloc, bytes)?;
+    write_instructions(instructions.as_slice(), from, next, lines, bytes, text);
+    Ok(())
+}
+
+// Writes the first of these instructions, which bytes at an address are.
+fn write_instructions(
+    instructions: &[Instruction],
+    from: u32,
+    next: Option<u32>,
+    lines: &[ProgramLine],
+    bytes: &[u8],
+    text: &mut TextWriter,
+) {
     let mut address = from;
     let mut rest = bytes;
-    for instruction in disassemble(alloc, bytes)?.iter().take(SHOWN) {
+    for instruction in instructions.iter().take(SHOWN) {
         let spelling = spell(instruction.function, instruction.operand);
         let length = usize::from(spelling.count()).min(rest.len());
         let (own, behind) = rest.split_at(length);
         write_labels(lines, address, text);
-        let is_next = next.is_some_and(|next| next.wrapping_sub(address) < length as u32);
-        text.push(if is_next { "> " } else { "  " });
+        text.push(if is_among(address, length as u32, next) {
+            "> "
+        } else {
+            "  "
+        });
         write_row(lines, address, *instruction, own, text);
         address = address.wrapping_add(length as u32);
         rest = behind;
     }
-    Ok(())
+}
+
+// Whether the next byte is among so many from an address on.
+fn is_among(address: u32, length: u32, next: Option<u32>) -> bool {
+    match next {
+        Some(next) => next.wrapping_sub(address) < length,
+        None => false,
+    }
 }

@@ -13,7 +13,7 @@ use crate::showing::{
 use crate::tracing::{concerns, write_next_move, write_next_step};
 use crate::until::{Goal, seek, seek_back};
 use bootstrap::Node;
-use domain_core::Event;
+use domain_core::{Event, NoMemory};
 use farm_causes::{FollowFault, RecordedLine, WhyFault, explain_moment};
 use lab_timeline::Timeline;
 use node_trace::{Program, ProgramLine, write_stopped};
@@ -118,9 +118,9 @@ impl<'a> Debugger<'a> {
     }
 
     // The lines of a node's program.
-    fn lines(&self, node: u8) -> Result<Vec<ProgramLine<'_>>, DebugFault> {
+    fn lines(&self, node: u8) -> Result<Vec<ProgramLine<'_>>, NoMemory> {
         match self.program(node) {
-            Some(program) => Ok(program.lines(self.alloc)?),
+            Some(program) => program.lines(self.alloc),
             None => Ok(Vec::new(self.alloc)),
         }
     }
@@ -131,7 +131,7 @@ impl<'a> Debugger<'a> {
         node: u8,
         address: Address,
         text: &mut TextWriter,
-    ) -> Result<Option<u32>, DebugFault> {
+    ) -> Result<Option<u32>, NoMemory> {
         let label = match address {
             Address::Number(number) => return Ok(Some(number)),
             Address::Label(label) => label,
@@ -185,7 +185,7 @@ impl<'a> Debugger<'a> {
         line: &RecordedLine,
         only: Option<u8>,
         text: &mut TextWriter,
-    ) -> Result<(), DebugFault> {
+    ) -> Result<(), NoMemory> {
         let event = line.call.event;
         if let Some(number) = only
             && !concerns(&mut self.timeline, event, number)
@@ -193,7 +193,7 @@ impl<'a> Debugger<'a> {
             return Ok(());
         }
         match event {
-            Event::Step(number) => self.show_step(number, text)?,
+            Event::Step(number) => return self.show_step(number, text),
             Event::Move(port) => write_next_move(&mut self.timeline, port, text),
             _ => write_said(line, text),
         }
@@ -201,12 +201,22 @@ impl<'a> Debugger<'a> {
     }
 
     // Shows what the next Step of a node does.
-    fn show_step(&self, number: u8, text: &mut TextWriter) -> Result<(), DebugFault> {
-        let lines = self.lines(number)?;
-        if let Some(node) = self.timeline.here().node(number) {
-            write_next_step(node, number, lines.as_slice(), text)?;
+    fn show_step(&self, number: u8, text: &mut TextWriter) -> Result<(), NoMemory> {
+        match self.timeline.here().node(number) {
+            Some(node) => write_next_step(node, number, self.lines(number)?.as_slice(), text),
+            None => Ok(()),
         }
-        Ok(())
+    }
+
+    // Shows what the next event does, as `show_next` does it, and goes one event on.
+    fn show_and_go(
+        &mut self,
+        line: &RecordedLine,
+        only: Option<u8>,
+        text: &mut TextWriter,
+    ) -> Result<(), DebugFault> {
+        self.show_next(line, only, text)?;
+        self.go(self.recorded().saturating_add(1))
     }
 
     // Goes so many events on, and shows what each does, or those alone that concern a node.
@@ -225,8 +235,7 @@ impl<'a> Debugger<'a> {
             let Some(line) = self.timeline.upcoming() else {
                 break;
             };
-            self.show_next(&line, only, text)?;
-            self.go(self.recorded().saturating_add(1))?;
+            self.show_and_go(&line, only, text)?;
         }
         write_place(&self.timeline, text);
         Ok(())
@@ -251,27 +260,28 @@ impl<'a> Debugger<'a> {
                 }
                 steps = steps.saturating_add(1);
             }
-            self.show_next(&line, None, text)?;
-            self.go(self.recorded().saturating_add(1))?;
+            self.show_and_go(&line, None, text)?;
         }
         Ok(())
     }
 
     // What is looked for, with its address as a number.
-    fn goal(&self, sought: Sought, text: &mut TextWriter) -> Result<Option<Goal>, DebugFault> {
+    fn goal(&self, sought: Sought, text: &mut TextWriter) -> Result<Option<Goal>, NoMemory> {
         Ok(match sought {
             Sought::Fault => Some(Goal::Fault),
             Sought::Lost => Some(Goal::Lost),
             Sought::Byte(port) => Some(Goal::Byte(port)),
-            Sought::At { node, address } => self
-                .address_at(node, address, text)?
-                .map(|address| Goal::At { node, address }),
-            Sought::Write { node, address } => self
-                .address_at(node, address, text)?
-                .map(|address| Goal::Write {
+            Sought::At { node, address } => match self.address_at(node, address, text)? {
+                Some(address) => Some(Goal::At { node, address }),
+                None => None,
+            },
+            Sought::Write { node, address } => match self.address_at(node, address, text)? {
+                Some(address) => Some(Goal::Write {
                     node,
                     address: address - address % 4,
                 }),
+                None => None,
+            },
         })
     }
 
@@ -281,14 +291,27 @@ impl<'a> Debugger<'a> {
         node: u8,
         address: Address,
         text: &mut TextWriter,
-    ) -> Result<Option<u32>, DebugFault> {
+    ) -> Result<Option<u32>, NoMemory> {
         if self.node(node, text).is_none() {
             return Ok(None);
         }
         self.address(node, address, text)
     }
 
-    // Goes to the next or the last moment that is looked for, or stays if there is none.
+    // Goes to the next or the last moment that is looked for, or stays if there is none. Whether there is one.
+    fn seek(&mut self, goal: Goal, direction: Direction) -> Result<bool, FollowFault> {
+        let recorded = self.recorded();
+        let is_found = match direction {
+            Direction::On => seek(&mut self.timeline, goal)?,
+            Direction::Back => seek_back(&mut self.timeline, goal)?,
+        };
+        if !is_found {
+            self.timeline.go(recorded)?;
+        }
+        Ok(is_found)
+    }
+
+    // Goes to the next or the last moment that is looked for, or says that there is none.
     fn go_until(
         &mut self,
         sought: Sought,
@@ -298,17 +321,9 @@ impl<'a> Debugger<'a> {
         let Some(goal) = self.goal(sought, text)? else {
             return Ok(());
         };
-        let recorded = self.recorded();
-        let is_found = match direction {
-            Direction::On => seek(&mut self.timeline, goal),
-            Direction::Back => seek_back(&mut self.timeline, goal),
-        };
-        match is_found {
+        match self.seek(goal, direction) {
             Ok(true) => {}
-            Ok(false) => {
-                self.go(recorded)?;
-                text.push("there is no such event: ");
-            }
+            Ok(false) => text.push("there is no such event: "),
             Err(fault) => return Err(self.fault_of(fault)),
         }
         write_place(&self.timeline, text);
@@ -322,7 +337,7 @@ impl<'a> Debugger<'a> {
         address: Address,
         count: u64,
         text: &mut TextWriter,
-    ) -> Result<(), DebugFault> {
+    ) -> Result<(), NoMemory> {
         if let Some(address) = self.address_at(node, address, text)?
             && let Some(node) = self.timeline.here().node(node)
         {
@@ -337,7 +352,7 @@ impl<'a> Debugger<'a> {
         number: u8,
         address: Option<Address>,
         text: &mut TextWriter,
-    ) -> Result<(), DebugFault> {
+    ) -> Result<(), NoMemory> {
         let Some(node) = self.node(number, text) else {
             return Ok(());
         };
@@ -349,7 +364,7 @@ impl<'a> Debugger<'a> {
             },
         };
         let lines = self.lines(number)?;
-        Ok(write_code(self.alloc, node, from, lines.as_slice(), text)?)
+        write_code(self.alloc, node, from, lines.as_slice(), text)
     }
 
     // Writes something of a node that is there.
@@ -364,7 +379,7 @@ impl<'a> Debugger<'a> {
     }
 
     // Says why the nodes, or one of them, do no more than they do.
-    fn show_causes(&self, number: Option<u8>, text: &mut TextWriter) -> Result<(), DebugFault> {
+    fn show_causes(&self, number: Option<u8>, text: &mut TextWriter) -> Result<(), NoMemory> {
         if let Some(number) = number
             && self.node(number, text).is_none()
         {
@@ -375,8 +390,31 @@ impl<'a> Debugger<'a> {
         Ok(())
     }
 
-    // Does a command that goes to a moment.
-    fn travel(&mut self, command: DebugCommand, text: &mut TextWriter) -> Result<(), DebugFault> {
+    // Does a command that stays at the moment.
+    fn show(&self, command: DebugCommand, text: &mut TextWriter) -> Result<(), NoMemory> {
+        match command {
+            DebugCommand::Memory {
+                node,
+                address,
+                count,
+            } => return self.show_memory(node, address, count, text),
+            DebugCommand::Code { node, address } => return self.show_code(node, address, text),
+            DebugCommand::Hosts => return write_hosts(&self.timeline, text),
+            DebugCommand::Switch => return write_switch(&self.timeline, text),
+            DebugCommand::Why(node) => return self.show_causes(node, text),
+            DebugCommand::Events { from, count } => write_events(&self.timeline, from, count, text),
+            DebugCommand::Look => write_look(&self.timeline, text),
+            DebugCommand::Registers(node) => self.show_node(node, NodeView::Registers, text),
+            DebugCommand::Queue(node) => self.show_node(node, NodeView::Queue, text),
+            DebugCommand::Links(node) => self.show_node(node, NodeView::Links, text),
+            DebugCommand::Help => write_help(text),
+            _ => {}
+        }
+        Ok(())
+    }
+
+    /// Does a command, and writes what it shows.
+    pub fn obey(&mut self, command: DebugCommand, text: &mut TextWriter) -> Result<(), DebugFault> {
         let recorded = self.recorded();
         match command {
             DebugCommand::Go(event) => self.go_to(event, text),
@@ -385,31 +423,8 @@ impl<'a> Debugger<'a> {
             DebugCommand::Back(count) => self.go_to(recorded.saturating_sub(count), text),
             DebugCommand::Until(sought) => self.go_until(sought, Direction::On, text),
             DebugCommand::BackUntil(sought) => self.go_until(sought, Direction::Back, text),
-            _ => Ok(()),
+            command => Ok(self.show(command, text)?),
         }
-    }
-
-    /// Does a command, and writes what it shows.
-    pub fn obey(&mut self, command: DebugCommand, text: &mut TextWriter) -> Result<(), DebugFault> {
-        match command {
-            DebugCommand::Events { from, count } => write_events(&self.timeline, from, count, text),
-            DebugCommand::Look => write_look(&self.timeline, text),
-            DebugCommand::Registers(node) => self.show_node(node, NodeView::Registers, text),
-            DebugCommand::Queue(node) => self.show_node(node, NodeView::Queue, text),
-            DebugCommand::Links(node) => self.show_node(node, NodeView::Links, text),
-            DebugCommand::Memory {
-                node,
-                address,
-                count,
-            } => self.show_memory(node, address, count, text)?,
-            DebugCommand::Code { node, address } => self.show_code(node, address, text)?,
-            DebugCommand::Hosts => write_hosts(&self.timeline, text)?,
-            DebugCommand::Switch => write_switch(&self.timeline, text)?,
-            DebugCommand::Why(node) => self.show_causes(node, text)?,
-            DebugCommand::Help => write_help(text),
-            command => self.travel(command, text)?,
-        }
-        Ok(())
     }
 }
 

@@ -342,27 +342,39 @@ fn write_port(timeline: &Timeline, moment: &Moment, port: u8, text: &mut TextWri
     text.push(")");
 }
 
+// Writes what drives an output, if it is driven, and tells whether it is.
+fn write_drive(
+    timeline: &Timeline,
+    moment: &mut Moment,
+    output: u8,
+    text: &mut TextWriter,
+) -> bool {
+    let Some(is_ready) = readiness(moment, output) else {
+        return false;
+    };
+    let Some(input) = input_of(moment, output) else {
+        return false;
+    };
+    text.push("output ");
+    write_port(timeline, moment, output, text);
+    text.push(": input ");
+    write_port(timeline, moment, input, text);
+    text.push(if is_ready {
+        ", ready\n"
+    } else {
+        ", not ready\n"
+    });
+    true
+}
+
 /// Writes what drives each output that is driven.
 pub fn write_switch(timeline: &Timeline, text: &mut TextWriter) -> Result<(), NoMemory> {
     let mut moment = timeline.here().moment()?;
     let mut is_any = false;
     for output in 0..moment.part().count() {
-        let Some(is_ready) = readiness(&mut moment, output) else {
-            continue;
-        };
-        let Some(input) = input_of(&mut moment, output) else {
-            continue;
-        };
-        is_any = true;
-        text.push("output ");
-        write_port(timeline, &moment, output, text);
-        text.push(": input ");
-        write_port(timeline, &moment, input, text);
-        text.push(if is_ready {
-            ", ready\n"
-        } else {
-            ", not ready\n"
-        });
+        if write_drive(timeline, &mut moment, output, text) {
+            is_any = true;
+        }
     }
     if !is_any {
         text.push("no output is driven\n");

@@ -39,6 +39,21 @@ fn take_program<T: ProgramTexts>(
     }
 }
 
+// Does a command.
+fn obey<T: ProgramTexts>(
+    debugger: &mut Debugger,
+    texts: &T,
+    command: DebugCommand,
+    text: &mut TextWriter,
+) -> Result<(), DebugFault> {
+    match command {
+        DebugCommand::Program { node, file } => {
+            take_program(debugger, texts, ProgramOf { node, file }, text)
+        }
+        command => debugger.obey(command, text),
+    }
+}
+
 // Does what a line says, and tells whether more commands are read.
 fn answer_line<T: ProgramTexts>(
     debugger: &mut Debugger,
@@ -48,11 +63,26 @@ fn answer_line<T: ProgramTexts>(
 ) -> Result<bool, DebugFault> {
     match read_command(line) {
         Ok(DebugCommand::Quit) => return Ok(false),
-        Ok(DebugCommand::Program { node, file }) => {
-            take_program(debugger, texts, ProgramOf { node, file }, text)?;
-        }
-        Ok(command) => debugger.obey(command, text)?,
+        Ok(command) => obey(debugger, texts, command, text)?,
         Err(fault) => fault.write(text),
+    }
+    Ok(true)
+}
+
+// Does what was read says, and tells whether more commands are read.
+fn answer_read<T: ProgramTexts>(
+    debugger: &mut Debugger,
+    texts: &T,
+    read: &TypedLine,
+    text: &mut TextWriter,
+) -> Result<bool, DebugFault> {
+    match read {
+        TypedLine::End => return Ok(false),
+        TypedLine::Long => text.push("a command has at most 4096 bytes\n"),
+        TypedLine::Whole(bytes) => match std::str::from_utf8(bytes.as_slice()) {
+            Ok(line) => return answer_line(debugger, texts, line, text),
+            Err(_) => text.push("a command is a text in UTF-8\n"),
+        },
     }
     Ok(true)
 }
@@ -62,24 +92,11 @@ fn answer<T: ProgramTexts, W: Write>(
     alloc: Global,
     debugger: &mut Debugger,
     texts: &T,
-    read: TypedLine,
+    read: &TypedLine,
     output: &mut W,
 ) -> Result<bool, DebugFault> {
     let mut text = TextWriter::new(alloc);
-    let goes_on = match read {
-        TypedLine::End => false,
-        TypedLine::Long => {
-            text.push("a command has at most 4096 bytes\n");
-            true
-        }
-        TypedLine::Whole(bytes) => match std::str::from_utf8(bytes.as_slice()) {
-            Ok(line) => answer_line(debugger, texts, line, &mut text)?,
-            Err(_) => {
-                text.push("a command is a text in UTF-8\n");
-                true
-            }
-        },
-    };
+    let goes_on = answer_read(debugger, texts, read, &mut text)?;
     write_text(text, output)?;
     Ok(goes_on)
 }
@@ -139,7 +156,7 @@ fn answer_next<R: BufRead, W: Write, T: ProgramTexts>(
         prompt(alloc, debugger, output)?;
     }
     let read = next_line(alloc, input)?;
-    answer(alloc, debugger, texts, read, output)
+    answer(alloc, debugger, texts, &read, output)
 }
 
 /// Reads commands to the end of the input or to `quit`, and shows what they ask of a record that was opened. On a terminal a

@@ -22,6 +22,16 @@ fn is_among(outputs: u32, output: u8) -> bool {
     output < 32 && outputs >> output & 1 == 1
 }
 
+// Whether one of the outputs of a mask is that of a link of a node.
+fn is_any_of_node(timeline: &Timeline, outputs: u32, number: u8) -> bool {
+    for output in 0..32u8 {
+        if is_among(outputs, output) && is_of_node(timeline, output, number) {
+            return true;
+        }
+    }
+    false
+}
+
 /// Whether the next event, which is this one, is a Step of a node, or moves a packet from a link of it or to one.
 pub fn concerns(timeline: &mut Timeline, event: Event, number: u8) -> bool {
     match event {
@@ -31,10 +41,7 @@ pub fn concerns(timeline: &mut Timeline, event: Event, number: u8) -> bool {
                 Some(state) => state.drives,
                 None => 0,
             };
-            is_of_node(timeline, port, number)
-                || (0..32u8).any(|output| {
-                    is_among(outputs, output) && is_of_node(timeline, output, number)
-                })
+            is_of_node(timeline, port, number) || is_any_of_node(timeline, outputs, number)
         }
         _ => false,
     }

@@ -3,7 +3,7 @@
 use crate::code::next_address;
 use bootstrap::{Node, Packet};
 use domain_core::{Event, Moved};
-use farm_causes::{FollowFault, SaidCall};
+use farm_causes::{FollowFault, Past, SaidCall};
 use lab_timeline::Timeline;
 use std::alloc::AllocError;
 
@@ -89,16 +89,33 @@ fn moves_byte(timeline: &mut Timeline, goal: Goal, event: Event) -> bool {
 fn was_noted(timeline: &Timeline, goal: Goal) -> bool {
     let (past, event) = (timeline.here().past(), timeline.here().recorded());
     match goal {
-        Goal::Fault => (0..8u8).any(|node| past
-            .node(node)
-            .fault
-            .is_some_and(|it| it.event == event)),
-        Goal::Lost => (0..32u8).any(|port| {
-            let lost = past.port(port);
-            lost.byte == Some(event) || lost.acknowledge == Some(event)
-        }),
+        Goal::Fault => is_fault(past, event),
+        Goal::Lost => is_loss(past, event),
         Goal::At { .. } | Goal::Byte(_) | Goal::Write { .. } => false,
     }
+}
+
+// Whether a node met its fault in an event.
+fn is_fault(past: &Past, event: u64) -> bool {
+    for node in 0..8u8 {
+        if let Some(fault) = past.node(node).fault
+            && fault.event == event
+        {
+            return true;
+        }
+    }
+    false
+}
+
+// Whether a packet was lost in an event.
+fn is_loss(past: &Past, event: u64) -> bool {
+    for port in 0..32u8 {
+        let lost = past.port(port);
+        if lost.byte == Some(event) || lost.acknowledge == Some(event) {
+            return true;
+        }
+    }
+    false
 }
 
 // Behind how many of so many Steps of a node, all of which run, a goal is met.
@@ -152,7 +169,10 @@ fn pass_steps(
         _ => times,
     };
     timeline.go(recorded.saturating_add(done))?;
-    Ok(found.map(|found| recorded.saturating_add(found)))
+    Ok(match found {
+        Some(found) => Some(recorded.saturating_add(found)),
+        None => None,
+    })
 }
 
 // Does a call, at most so many events of it. The event that is looked for, if it is among them.
