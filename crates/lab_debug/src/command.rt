@@ -400,19 +400,6 @@ impl<'a> CommandWords<'a> {
         Ok(DebugCommand::Events { from, count })
     }
 
-    fn go(&mut self) -> Result<DebugCommand<'a>, Mistake> {
-        Ok(DebugCommand::Go(self.number(u64::MAX)?))
-    }
-
-    // What stands behind `next`.
-    fn forwards(&mut self) -> Result<DebugCommand<'a>, Mistake> {
-        Ok(DebugCommand::Next(self.number_or(1)?))
-    }
-
-    fn until(&mut self) -> Result<DebugCommand<'a>, Mistake> {
-        Ok(DebugCommand::Until(self.sought()?))
-    }
-
     fn code(&mut self) -> Result<DebugCommand<'a>, Mistake> {
         let node = self.small()?;
         let address = if self.is_empty() {
@@ -421,18 +408,6 @@ impl<'a> CommandWords<'a> {
             Some(self.address()?)
         };
         Ok(DebugCommand::Code { node, address })
-    }
-
-    fn registers(&mut self) -> Result<DebugCommand<'a>, Mistake> {
-        Ok(DebugCommand::Registers(self.small()?))
-    }
-
-    fn queue(&mut self) -> Result<DebugCommand<'a>, Mistake> {
-        Ok(DebugCommand::Queue(self.small()?))
-    }
-
-    fn links(&mut self) -> Result<DebugCommand<'a>, Mistake> {
-        Ok(DebugCommand::Links(self.small()?))
     }
 
     fn why(&mut self) -> Result<DebugCommand<'a>, Mistake> {
@@ -452,17 +427,17 @@ impl<'a> CommandWords<'a> {
     fn command(&mut self, verb: FirstWord) -> Result<DebugCommand<'a>, Mistake> {
         match verb {
             FirstWord::Events => self.events(),
-            FirstWord::Go => self.go(),
-            FirstWord::Next => self.forwards(),
+            FirstWord::Go => Ok(DebugCommand::Go(self.number(u64::MAX)?)),
+            FirstWord::Next => Ok(DebugCommand::Next(self.number_or(1)?)),
             FirstWord::Trace => self.trace(),
             FirstWord::Back => self.back(),
-            FirstWord::Until => self.until(),
+            FirstWord::Until => Ok(DebugCommand::Until(self.sought()?)),
             FirstWord::Look => Ok(DebugCommand::Look),
-            FirstWord::Registers => self.registers(),
+            FirstWord::Registers => Ok(DebugCommand::Registers(self.small()?)),
             FirstWord::Memory => self.memory(),
             FirstWord::Code => self.code(),
-            FirstWord::Queue => self.queue(),
-            FirstWord::Links => self.links(),
+            FirstWord::Queue => Ok(DebugCommand::Queue(self.small()?)),
+            FirstWord::Links => Ok(DebugCommand::Links(self.small()?)),
             FirstWord::Hosts => Ok(DebugCommand::Hosts),
             FirstWord::Switch => Ok(DebugCommand::Switch),
             FirstWord::Why => self.why(),

@@ -151,30 +151,23 @@ impl<'a> Debugger<'a> {
         Ok(found)
     }
 
-    // Why a record can't be done again.
-    fn fault_of(&self, fault: FollowFault) -> DebugFault {
+    // What became of it, with the line at which it failed.
+    fn at_line(&self, done: Result<(), FollowFault>) -> Result<(), DebugFault> {
+        let Err(fault) = done else {
+            return Ok(());
+        };
         let number = match self.timeline.upcoming() {
             Some(line) => line.number,
             None => 0,
         };
-        DebugFault::from(WhyFault::of_line(number, fault))
+        Err(DebugFault::from(WhyFault::of_line(number, fault)))
     }
 
-    // Goes to the moment after so many events.
-    fn go(&mut self, event: u64) -> Result<(), DebugFault>
+    // Goes to the moment after so many events, and says where that is.
+    fn go_to(&mut self, event: u64, text: &mut TextWriter) -> Result<(), FollowFault>
         ensures { OnOk result (IsMomentAt self.new.timeline.plan self.new.timeline.lines event self.new.timeline.here) }
     {
-        match self.timeline.go(event) {
-            Ok(()) => Ok(()),
-            Err(fault) => Err(self.fault_of(fault)),
-        }
-    }
-
-    // Goes there, and says where that is.
-    fn go_to(&mut self, event: u64, text: &mut TextWriter) -> Result<(), DebugFault>
-        ensures { OnOk result (IsMomentAt self.new.timeline.plan self.new.timeline.lines event self.new.timeline.here) }
-    {
-        self.go(event)?;
+        self.timeline.go(event)?;
         write_place(&self.timeline, text);
         Ok(())
     }
@@ -214,9 +207,10 @@ impl<'a> Debugger<'a> {
         line: &RecordedLine,
         only: Option<u8>,
         text: &mut TextWriter,
-    ) -> Result<(), DebugFault> {
+    ) -> Result<(), FollowFault> {
         self.show_next(line, only, text)?;
-        self.go(self.recorded().saturating_add(1))
+        let next = self.recorded().saturating_add(1);
+        self.timeline.go(next)
     }
 
     // Goes so many events on, and shows what each does, or those alone that concern a node.
@@ -225,7 +219,7 @@ impl<'a> Debugger<'a> {
         count: u64,
         only: Option<u8>,
         text: &mut TextWriter,
-    ) -> Result<(), DebugFault> {
+    ) -> Result<(), FollowFault> {
         if let Some(number) = only
             && self.node(number, text).is_none()
         {
@@ -247,7 +241,13 @@ impl<'a> Debugger<'a> {
         most: u64,
         text: &mut TextWriter,
     ) -> Result<(), DebugFault> {
-        self.go(0)?;
+        let done = self.trace_steps(most, text);
+        self.at_line(done)
+    }
+
+    // Does the same, if the record can be done again.
+    fn trace_steps(&mut self, most: u64, text: &mut TextWriter) -> Result<(), FollowFault> {
+        self.timeline.go(0)?;
         let mut steps: u64 = 0;
         for _ in 0..u64::MAX {
             let Some(line) = self.timeline.upcoming() else {
@@ -301,14 +301,15 @@ impl<'a> Debugger<'a> {
     // Goes to the next or the last moment that is looked for, or stays if there is none. Whether there is one.
     fn seek(&mut self, goal: Goal, direction: Direction) -> Result<bool, FollowFault> {
         let recorded = self.recorded();
-        let is_found = match direction {
-            Direction::On => seek(&mut self.timeline, goal)?,
-            Direction::Back => seek_back(&mut self.timeline, goal)?,
+        let found = match direction {
+            Direction::On => seek(&mut self.timeline, goal),
+            Direction::Back => seek_back(&mut self.timeline, goal),
         };
-        if !is_found {
-            self.timeline.go(recorded)?;
+        if found? {
+            return Ok(true);
         }
-        Ok(is_found)
+        self.timeline.go(recorded)?;
+        Ok(false)
     }
 
     // Goes to the next or the last moment that is looked for, or says that there is none.
@@ -317,14 +318,12 @@ impl<'a> Debugger<'a> {
         sought: Sought,
         direction: Direction,
         text: &mut TextWriter,
-    ) -> Result<(), DebugFault> {
+    ) -> Result<(), FollowFault> {
         let Some(goal) = self.goal(sought, text)? else {
             return Ok(());
         };
-        match self.seek(goal, direction) {
-            Ok(true) => {}
-            Ok(false) => text.push("there is no such event: "),
-            Err(fault) => return Err(self.fault_of(fault)),
+        if !self.seek(goal, direction)? {
+            text.push("there is no such event: ");
         }
         write_place(&self.timeline, text);
         Ok(())
@@ -399,7 +398,6 @@ impl<'a> Debugger<'a> {
                 count,
             } => return self.show_memory(node, address, count, text),
             DebugCommand::Code { node, address } => return self.show_code(node, address, text),
-            DebugCommand::Hosts => return write_hosts(&self.timeline, text),
             DebugCommand::Switch => return write_switch(&self.timeline, text),
             DebugCommand::Why(node) => return self.show_causes(node, text),
             DebugCommand::Events { from, count } => write_events(&self.timeline, from, count, text),
@@ -407,14 +405,15 @@ impl<'a> Debugger<'a> {
             DebugCommand::Registers(node) => self.show_node(node, NodeView::Registers, text),
             DebugCommand::Queue(node) => self.show_node(node, NodeView::Queue, text),
             DebugCommand::Links(node) => self.show_node(node, NodeView::Links, text),
+            DebugCommand::Hosts => write_hosts(&self.timeline, text),
             DebugCommand::Help => write_help(text),
             _ => {}
         }
         Ok(())
     }
 
-    /// Does a command, and writes what it shows.
-    pub fn obey(&mut self, command: DebugCommand, text: &mut TextWriter) -> Result<(), DebugFault> {
+    // Does a command that goes to a moment, or one that stays.
+    fn travel(&mut self, command: DebugCommand, text: &mut TextWriter) -> Result<(), FollowFault> {
         let recorded = self.recorded();
         match command {
             DebugCommand::Go(event) => self.go_to(event, text),
@@ -425,6 +424,12 @@ impl<'a> Debugger<'a> {
             DebugCommand::BackUntil(sought) => self.go_until(sought, Direction::Back, text),
             command => Ok(self.show(command, text)?),
         }
+    }
+
+    /// Does a command, and writes what it shows.
+    pub fn obey(&mut self, command: DebugCommand, text: &mut TextWriter) -> Result<(), DebugFault> {
+        let done = self.travel(command, text);
+        self.at_line(done)
     }
 }
 

@@ -297,15 +297,13 @@ fn write_host(host: &Host, text: &mut TextWriter) {
 }
 
 /// Writes what the hosts are to send and have received.
-pub fn write_hosts(timeline: &Timeline, text: &mut TextWriter) -> Result<(), NoMemory> {
-    let moment = timeline.here().moment()?;
+pub fn write_hosts(timeline: &Timeline, text: &mut TextWriter) {
     for number in 0..4u8 {
-        if let Some(host) = moment.host(number) {
+        if let Some(host) = timeline.here().host(number) {
             write_device(text, timeline.plan(), 0, Some(Device::Host(number)));
             write_host(host, text);
         }
     }
-    Ok(())
 }
 
 // Whether an input drives an output.
@@ -333,11 +331,11 @@ fn readiness(moment: &mut Moment, output: u8) -> Option<bool> {
     Some(moment.word(output).connection()?.ready)
 }
 
-// Writes a port with the device that is joined there.
-fn write_port(timeline: &Timeline, moment: &Moment, port: u8, text: &mut TextWriter) {
+/// Writes a port with the device that is joined there.
+pub fn write_port(timeline: &Timeline, port: u8, text: &mut TextWriter) {
     text.push_decimal(u64::from(port));
     text.push(" (");
-    let device = device_at(moment.part(), port);
+    let device = device_at(timeline.here().part(), port);
     write_device(text, timeline.plan(), 0, device);
     text.push(")");
 }
@@ -356,9 +354,9 @@ fn write_drive(
         return false;
     };
     text.push("output ");
-    write_port(timeline, moment, output, text);
+    write_port(timeline, output, text);
     text.push(": input ");
-    write_port(timeline, moment, input, text);
+    write_port(timeline, input, text);
     text.push(if is_ready {
         ", ready\n"
     } else {

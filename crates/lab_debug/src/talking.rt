@@ -69,24 +69,6 @@ fn answer_line<T: ProgramTexts>(
     Ok(true)
 }
 
-// Does what was read says, and tells whether more commands are read.
-fn answer_read<T: ProgramTexts>(
-    debugger: &mut Debugger,
-    texts: &T,
-    read: &TypedLine,
-    text: &mut TextWriter,
-) -> Result<bool, DebugFault> {
-    match read {
-        TypedLine::End => return Ok(false),
-        TypedLine::Long => text.push("a command has at most 4096 bytes\n"),
-        TypedLine::Whole(bytes) => match std::str::from_utf8(bytes.as_slice()) {
-            Ok(line) => return answer_line(debugger, texts, line, text),
-            Err(_) => text.push("a command is a text in UTF-8\n"),
-        },
-    }
-    Ok(true)
-}
-
 // Does what was read says, writes the answer, and tells whether more commands are read.
 fn answer<T: ProgramTexts, W: Write>(
     alloc: Global,
@@ -96,7 +78,20 @@ fn answer<T: ProgramTexts, W: Write>(
     output: &mut W,
 ) -> Result<bool, DebugFault> {
     let mut text = TextWriter::new(alloc);
-    let goes_on = answer_read(debugger, texts, read, &mut text)?;
+    let goes_on = match read {
+        TypedLine::End => false,
+        TypedLine::Long => {
+            text.push("a command has at most 4096 bytes\n");
+            true
+        }
+        TypedLine::Whole(bytes) => match std::str::from_utf8(bytes.as_slice()) {
+            Ok(line) => answer_line(debugger, texts, line, &mut text)?,
+            Err(_) => {
+                text.push("a command is a text in UTF-8\n");
+                true
+            }
+        },
+    };
     write_text(text, output)?;
     Ok(goes_on)
 }
@@ -125,22 +120,11 @@ fn greet<T: ProgramTexts, W: Write>(
     output: &mut W,
 ) -> Result<(), DebugFault> {
     let mut text = TextWriter::new(alloc);
-    take_programs(debugger, programs, texts, &mut text)?;
+    for of in programs {
+        take_program(debugger, texts, *of, &mut text)?;
+    }
     debugger.greet(&mut text);
     write_text(text, output)
-}
-
-// Takes the programs of nodes from files.
-fn take_programs<T: ProgramTexts>(
-    debugger: &mut Debugger,
-    programs: &[ProgramOf],
-    texts: &T,
-    text: &mut TextWriter,
-) -> Result<(), DebugFault> {
-    for of in programs {
-        take_program(debugger, texts, *of, text)?;
-    }
-    Ok(())
 }
 
 // Reads a command and answers it, and tells whether more commands are read. On a terminal a prompt stands before it.

@@ -1,20 +1,18 @@
 //! What the next event of a record does: a Step, or a packet that moves.
 
+use crate::showing::write_port;
 use bootstrap::Node;
 use domain_core::{Device, Event, Moved, NoMemory, device_at};
 use lab_timeline::Timeline;
 use node_trace::{ProgramLine, trace_step, write_packet};
-use plan_views::write_device;
 use script_text::TextWriter;
-
-// The device that is joined to a virtual port.
-fn device(timeline: &Timeline, port: u8) -> Option<Device> {
-    device_at(timeline.here().part(), port)
-}
 
 // Whether a port is that of a link of a node.
 fn is_of_node(timeline: &Timeline, port: u8, number: u8) -> bool {
-    matches!(device(timeline, port), Some(Device::Link { node, .. }) if node == number)
+    match device_at(timeline.here().part(), port) {
+        Some(Device::Link { node, .. }) => node == number,
+        _ => false,
+    }
 }
 
 // Whether an output is among those of a mask.
@@ -60,14 +58,6 @@ pub fn write_next_step(
     text.push(" ");
     let _ = trace_step(&mut copy, lines, text)?;
     Ok(())
-}
-
-// Writes a port, and the device that is joined there.
-fn write_port(timeline: &Timeline, port: u8, text: &mut TextWriter) {
-    text.push_decimal(u64::from(port));
-    text.push(" (");
-    write_device(text, timeline.plan(), 0, device(timeline, port));
-    text.push(")");
 }
 
 /// Writes which packet the next Move of a port takes, and where it goes.

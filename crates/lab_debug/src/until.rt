@@ -137,8 +137,8 @@ fn steps_to(goal: Goal, node: &Node, most: u64, taken: Taken) -> Result<Option<u
     Ok(found)
 }
 
-// Does one event, and tells whether it is looked for.
-fn pass_one(timeline: &mut Timeline, goal: Goal, event: Event) -> Result<bool, FollowFault> {
+// Does one event. Which one it is, if it is looked for.
+fn pass_one(timeline: &mut Timeline, goal: Goal, event: Event) -> Result<Option<u64>, FollowFault> {
     let before = seen(timeline, goal)?;
     let is_byte = moves_byte(timeline, goal, event);
     let next = timeline.here().recorded().saturating_add(1);
@@ -148,7 +148,10 @@ fn pass_one(timeline: &mut Timeline, goal: Goal, event: Event) -> Result<bool, F
         Event::Step(node) => goal.node() == Some(node),
         _ => false,
     };
-    Ok(is_byte || goal.is_met(before, after, is_step) || was_noted(timeline, goal))
+    if is_byte || goal.is_met(before, after, is_step) || was_noted(timeline, goal) {
+        return Ok(Some(timeline.here().recorded()));
+    }
+    Ok(None)
 }
 
 // Does Steps that stand together, up to the first that is looked for, if that is the one that is taken. Which one it is.
@@ -187,11 +190,7 @@ fn pass(
         Event::Step(node) if call.times > 1 => {
             pass_steps(timeline, goal, node, call.times.min(most), taken)
         }
-        event => {
-            let is_met = pass_one(timeline, goal, event)?;
-            let recorded = timeline.here().recorded();
-            Ok(if is_met { Some(recorded) } else { None })
-        }
+        event => pass_one(timeline, goal, event),
     }
 }
 
