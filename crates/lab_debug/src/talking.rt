@@ -39,21 +39,6 @@ fn take_program<T: ProgramTexts>(
     }
 }
 
-// Does a command.
-fn obey<T: ProgramTexts>(
-    debugger: &mut Debugger,
-    texts: &T,
-    command: DebugCommand,
-    text: &mut TextWriter,
-) -> Result<(), DebugFault> {
-    match command {
-        DebugCommand::Program { node, file } => {
-            take_program(debugger, texts, ProgramOf { node, file }, text)
-        }
-        command => debugger.obey(command, text),
-    }
-}
-
 // Does what a line says, and tells whether more commands are read.
 fn answer_line<T: ProgramTexts>(
     debugger: &mut Debugger,
@@ -63,7 +48,10 @@ fn answer_line<T: ProgramTexts>(
 ) -> Result<bool, DebugFault> {
     match read_command(line) {
         Ok(DebugCommand::Quit) => return Ok(false),
-        Ok(command) => obey(debugger, texts, command, text)?,
+        Ok(DebugCommand::Program { node, file }) => {
+            take_program(debugger, texts, ProgramOf { node, file }, text)?;
+        }
+        Ok(command) => debugger.obey(command, text)?,
         Err(fault) => fault.write(text),
     }
     Ok(true)
