@@ -44,7 +44,7 @@ struct ChangedNode {
 }
 
 /// The registers that changed, under the handbook's names.
-#[derive(Clone, Copy, PartialEq, Eq, Drop, Serialize)]
+#[derive(Drop, Serialize)]
 struct ChangedRegisters {
     #[serde(rename = "Iptr", skip_serializing_if = "Option::is_none")]
     instruction: Option<u32>,
@@ -80,34 +80,51 @@ struct ChangedQueue {
 }
 
 // A value if it isn't the old one.
-fn if_new<T: Copy + PartialEq>(old: Option<T>, new: T) -> Option<T> {
-    if old == Some(new) { None } else { Some(new) }
+fn if_new<T: Copy + PartialEq>(old: T, new: T) -> Option<T> {
+    if old == new { None } else { Some(new) }
 }
 
-fn register_change(old: Option<Cpu>, new: Cpu) -> Option<ChangedRegisters> {
-    let change = ChangedRegisters {
-        instruction: if_new(old.map(|it| it.instruction), new.instruction),
-        workspace: if_new(old.map(|it| it.workspace), new.workspace),
-        a: if_new(old.map(|it| it.a), new.a),
-        b: if_new(old.map(|it| it.b), new.b),
-        c: if_new(old.map(|it| it.c), new.c),
-        operand: if_new(old.map(|it| it.operand), new.operand),
-        error: if_new(old.map(|it| it.error), new.error),
-    };
-    let nothing = ChangedRegisters {
-        instruction: None,
-        workspace: None,
-        a: None,
-        b: None,
-        c: None,
-        operand: None,
-        error: None,
-    };
-    if change == nothing {
-        None
-    } else {
-        Some(change)
+// Whether a film tells the same of these registers.
+fn is_same(old: Cpu, new: Cpu) -> bool {
+    old.instruction == new.instruction
+        && old.workspace == new.workspace
+        && old.a == new.a
+        && old.b == new.b
+        && old.c == new.c
+        && old.operand == new.operand
+        && old.error == new.error
+}
+
+// All registers.
+fn all_registers(new: Cpu) -> ChangedRegisters {
+    ChangedRegisters {
+        instruction: Some(new.instruction),
+        workspace: Some(new.workspace),
+        a: Some(new.a),
+        b: Some(new.b),
+        c: Some(new.c),
+        operand: Some(new.operand),
+        error: Some(new.error),
     }
+}
+
+// What changed of the registers, if anything did. All are new to a node that didn't run.
+fn register_change(old: Option<Cpu>, new: Cpu) -> Option<ChangedRegisters> {
+    let Some(old) = old else {
+        return Some(all_registers(new));
+    };
+    if is_same(old, new) {
+        return None;
+    }
+    Some(ChangedRegisters {
+        instruction: if_new(old.instruction, new.instruction),
+        workspace: if_new(old.workspace, new.workspace),
+        a: if_new(old.a, new.a),
+        b: if_new(old.b, new.b),
+        c: if_new(old.c, new.c),
+        operand: if_new(old.operand, new.operand),
+        error: if_new(old.error, new.error),
+    })
 }
 
 // The registers of a node that runs.
@@ -141,6 +158,22 @@ fn look_change(
     }
 }
 
+// What is told of the code of a node that runs.
+fn code_change(
+    alloc: Global,
+    known: &mut KnownCode,
+    follower: &Follower,
+    number: u8,
+    running: Option<Cpu>,
+) -> Result<Option<CodeBytes>, NoMemory> {
+    match (running, follower.node(number)) {
+        (Some(registers), Some(node)) => {
+            known.tell(alloc, number, node.memory(), registers.instruction)
+        }
+        _ => Ok(None),
+    }
+}
+
 // What changed of a node, if anything did.
 fn node_change(
     alloc: Global,
@@ -151,24 +184,21 @@ fn node_change(
     new: NodeFrame,
 ) -> Result<Option<ChangedNode>, NoMemory> {
     let running = registers_of(Some(new));
-    let change = ChangedNode {
-        node: number,
-        look: look_change(alloc, old, new)?,
-        registers: match running {
-            Some(registers) => register_change(registers_of(old), registers),
-            None => None,
-        },
-        code: match (running, follower.node(number)) {
-            (Some(registers), Some(node)) => {
-                known.tell(alloc, number, node.memory(), registers.instruction)?
-            }
-            _ => None,
-        },
+    let registers = match running {
+        Some(registers) => register_change(registers_of(old), registers),
+        None => None,
     };
-    if change.look.is_none() && change.registers.is_none() && change.code.is_none() {
+    let look = look_change(alloc, old, new)?;
+    let code = code_change(alloc, known, follower, number, running)?;
+    if look.is_none() && registers.is_none() && code.is_none() {
         return Ok(None);
     }
-    Ok(Some(change))
+    Ok(Some(ChangedNode {
+        node: number,
+        look,
+        registers,
+        code,
+    }))
 }
 
 fn hexadecimal(alloc: Global, bytes: &[u8]) -> Result<String, NoMemory> {
@@ -207,33 +237,60 @@ fn host_change(
         Some(old) => (old.sending.as_slice(), old.received.as_slice()),
         None => (&[], &[]),
     };
-    let change = ChangedHost {
-        host: number,
-        sending: queue_change(alloc, sending, new.sending.as_slice())?,
-        received: queue_change(alloc, received, new.received.as_slice())?,
-    };
-    if change.sending.is_none() && change.received.is_none() {
+    let sending = queue_change(alloc, sending, new.sending.as_slice())?;
+    let received = queue_change(alloc, received, new.received.as_slice())?;
+    if sending.is_none() && received.is_none() {
         return Ok(None);
     }
-    Ok(Some(change))
+    Ok(Some(ChangedHost {
+        host: number,
+        sending,
+        received,
+    }))
+}
+
+// The new word of an output.
+fn changed_word(alloc: Global, output: u8, word: Word) -> Result<ChangedWord, NoMemory> {
+    let mut text = TextWriter::new(alloc);
+    text.push_hexadecimal(word.bits);
+    Ok(ChangedWord {
+        output,
+        word: text.finish()?,
+    })
 }
 
 // The words that changed. An output of which nothing was told had the word 0.
 fn word_changes(alloc: Global, old: &[Word], new: &[Word]) -> Result<Vec<ChangedWord>, NoMemory> {
     let mut changes = Vec::new(alloc);
-    for (output, word) in (0u8..32).zip(new.iter()) {
+    for output in 0u8..32 {
+        let Some(word) = new.get(usize::from(output)) else {
+            break;
+        };
         let before = old
             .get(usize::from(output))
             .copied()
             .unwrap_or(Word::UNUSED);
         if before != *word {
-            let mut text = TextWriter::new(alloc);
-            text.push_hexadecimal(word.bits);
-            let word = text.finish()?;
-            changes.push(ChangedWord { output, word })?;
+            changes.push(changed_word(alloc, output, *word)?)?;
         }
     }
     Ok(changes)
+}
+
+// Adds what changed of a node that is there, if anything did.
+fn add_node_change(
+    alloc: Global,
+    known: &mut KnownCode,
+    follower: &Follower,
+    number: u8,
+    old: Option<NodeFrame>,
+    new: NodeFrame,
+    changes: &mut Vec<ChangedNode>,
+) -> Result<(), NoMemory> {
+    if let Some(change) = node_change(alloc, known, follower, number, old, new)? {
+        changes.push(change)?;
+    }
+    Ok(())
 }
 
 fn node_changes(
@@ -245,11 +302,12 @@ fn node_changes(
 ) -> Result<Vec<ChangedNode>, NoMemory> {
     let mut changes = Vec::new(alloc);
     for number in 0u8..8 {
-        let before = old.and_then(|it| it.nodes[usize::from(number)]);
+        let before = match old {
+            Some(old) => old.nodes[usize::from(number)],
+            None => None,
+        };
         if let Some(node) = new.nodes[usize::from(number)] {
-            if let Some(change) = node_change(alloc, known, follower, number, before, node)? {
-                changes.push(change)?;
-            }
+            add_node_change(alloc, known, follower, number, before, node, &mut changes)?;
         }
     }
     Ok(changes)

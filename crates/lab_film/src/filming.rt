@@ -101,16 +101,28 @@ impl Filming {
             reply: None,
             then: Vec::new(self.alloc),
         };
+        let is_whole = self.show_parts(line, times, &mut frames, meter)?;
+        Ok((frames, is_whole))
+    }
+
+    // Does so many events of a line, or as many as may follow, and tells whether all are done.
+    fn show_parts<M: StepMeter>(
+        &mut self,
+        line: &RecordedLine,
+        times: u64,
+        frames: &mut LineFrames,
+        meter: &mut M,
+    ) -> Result<bool, LineStop> {
         let mut shown: u64 = 0;
         for _ in 0..self.left {
             if shown >= times {
                 break;
             }
             let steps = next_steps(shown, times);
-            self.show_part(line, steps, &mut frames, meter)?;
+            self.show_part(line, steps, frames, meter)?;
             shown += steps;
         }
-        Ok((frames, shown >= times))
+        Ok(shown >= times)
     }
 
     // Writes the frames of a line, and tells whether all of it is shown.
@@ -121,12 +133,23 @@ impl Filming {
         text: &mut TextWriter,
         meter: &mut M,
     ) -> Result<bool, LineStop> {
-        let alloc = self.alloc;
         let (frames, is_whole) = self.frames_of(line, done, meter)?;
-        let told = line_told(alloc, line, done, frames)?;
-        text.push(json_text(serde_json::to_string(alloc, &told))?.as_str());
+        write_line(self.alloc, line, done, frames, text)?;
         Ok(is_whole)
     }
+}
+
+// Writes a line with its frames.
+fn write_line(
+    alloc: Global,
+    line: &RecordedLine,
+    done: u64,
+    frames: LineFrames,
+    text: &mut TextWriter,
+) -> Result<(), NoMemory> {
+    let told = line_told(alloc, line, done, frames)?;
+    text.push(json_text(serde_json::to_string(alloc, &told))?.as_str());
+    Ok(())
 }
 
 // Where the film begins that is to begin behind so many events.
@@ -158,18 +181,30 @@ fn follow_to<M: StepMeter>(
     requires { length plan.now ≡ 1 }
 {
     let mut follower = Follower::open(alloc, plan, 0)?;
+    follow_lines(alloc, &mut follower, lines, start, meter)?;
+    Ok(follower)
+}
+
+// Does the lines before the film, and the events before it of the next line.
+fn follow_lines<M: StepMeter>(
+    alloc: Global,
+    follower: &mut Follower,
+    lines: &[RecordedLine],
+    start: Beginning,
+    meter: &mut M,
+) -> Result<(), RecordStop> {
     for line in lines.iter().take(start.lines) {
         at_line(line, follower.follow(line, meter))?;
     }
-    if let Some(line) = lines.get(start.lines)
-        && start.events > 0
-    {
-        at_line(
-            line,
-            follow_part(alloc, &mut follower, line, start.events, meter),
-        )?;
+    match lines.get(start.lines) {
+        Some(line) if start.events > 0 => {
+            at_line(
+                line,
+                follow_part(alloc, follower, line, start.events, meter),
+            )
+        }
+        _ => Ok(()),
     }
-    Ok(follower)
 }
 
 // Does so many of the Steps of a line.
@@ -192,6 +227,31 @@ fn at_line<T>(line: &RecordedLine, done: Result<T, LineStop>) -> Result<T, Recor
     }
 }
 
+// Writes the first frame, by what changed since nothing was told.
+fn write_first(
+    alloc: Global,
+    known: &mut KnownCode,
+    follower: &Follower,
+    first: &Frame,
+    text: &mut TextWriter,
+) -> Result<(), NoMemory> {
+    let changes = changes_of(alloc, known, follower, None, first)?;
+    text.push(json_text(serde_json::to_string(alloc, &changes))?.as_str());
+    Ok(())
+}
+
+// Writes the first frame. What is known of the memories then, and the frame.
+fn first_told(
+    alloc: Global,
+    follower: &mut Follower,
+    text: &mut TextWriter,
+) -> Result<(KnownCode, Frame), NoMemory> {
+    let mut known = KnownCode::none(alloc, follower.part().nodes().len())?;
+    let first = frame_of(alloc, follower)?;
+    write_first(alloc, &mut known, follower, &first, text)?;
+    Ok((known, first))
+}
+
 // Writes the first frame.
 fn begin(
     alloc: Global,
@@ -200,10 +260,7 @@ fn begin(
     text: &mut TextWriter,
 ) -> Result<Filming, RecordStop> {
     let mut follower = follower;
-    let mut known = KnownCode::none(alloc, follower.part().nodes().len())?;
-    let last = frame_of(alloc, &mut follower)?;
-    let first = changes_of(alloc, &mut known, &follower, None, &last)?;
-    text.push(json_text(serde_json::to_string(alloc, &first))?.as_str());
+    let (known, last) = first_told(alloc, &mut follower, text)?;
     Ok(Filming {
         alloc,
         follower,
@@ -222,11 +279,12 @@ fn show_lines<M: StepMeter>(
     meter: &mut M,
 ) -> Result<bool, RecordStop> {
     let mut done = start.events;
-    for (place, line) in lines.iter().skip(start.lines).enumerate() {
+    for place in start.lines..lines.len() {
+        let line = &lines[place];
         if filming.left == 0 {
             return Ok(true);
         }
-        text.push(if place == 0 { "\n" } else { ",\n" });
+        text.push(if place == start.lines { "\n" } else { ",\n" });
         if !at_line(line, filming.show_line(line, done, text, meter))? {
             return Ok(true);
         }
@@ -250,8 +308,19 @@ fn show_span<M: StepMeter>(
     let follower = follow_to(alloc, plan, lines, start, meter)?;
     text.push(",\"first\":");
     let mut filming = begin(alloc, follower, span.count, text)?;
+    show_rest(&mut filming, lines, start, text, meter)
+}
+
+// Writes the lines of a span with their frames, and whether more follows.
+fn show_rest<M: StepMeter>(
+    filming: &mut Filming,
+    lines: &[RecordedLine],
+    start: Beginning,
+    text: &mut TextWriter,
+    meter: &mut M,
+) -> Result<(), RecordStop> {
     text.push(",\"lines\":[");
-    let goes_on = show_lines(&mut filming, lines, start, text, meter)?;
+    let goes_on = show_lines(filming, lines, start, text, meter)?;
     text.push(if goes_on {
         "\n],\"goes_on\":true}"
     } else {

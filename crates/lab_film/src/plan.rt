@@ -89,13 +89,18 @@ fn instruction_text(alloc: Global, function: Function, operand: u32) -> Result<S
     text.finish()
 }
 
+// The name of the function of a nibble.
+fn function_name(alloc: Global, nibble: u8) -> Result<String, NoMemory> {
+    let text = instruction_text(alloc, decode(nibble << 4).0, NO_OPERATION)?;
+    let (name, _) = text.split_once(" ").unwrap_or((text.as_str(), ""));
+    String::from_str(alloc, name)
+}
+
 // The names of the functions, by their nibbles.
 fn functions(alloc: Global) -> Result<Vec<String>, NoMemory> {
     let mut names = Vec::new(alloc);
     for nibble in 0u8..16 {
-        let text = instruction_text(alloc, decode(nibble << 4).0, NO_OPERATION)?;
-        let (name, _) = text.split_once(" ").unwrap_or((text.as_str(), ""));
-        names.push(String::from_str(alloc, name)?)?;
+        names.push(function_name(alloc, nibble)?)?;
     }
     Ok(names)
 }

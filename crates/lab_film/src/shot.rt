@@ -38,10 +38,13 @@ fn packet_at(follower: &mut Follower, event: Event) -> Option<FoundPacket>
         return None;
     }
     let state = follower.port_state(port);
-    state.packet.map(|packet| FoundPacket {
-        packet,
-        drives: state.drives,
-    })
+    match state.packet {
+        Some(packet) => Some(FoundPacket {
+            packet,
+            drives: state.drives,
+        }),
+        None => None,
+    }
 }
 
 /// Does what a line says, as `Follower::answer` does it, and shows the domain after it.

@@ -54,14 +54,15 @@ fn if_more(number: u64, usual: u64) -> Option<u64> {
     if number > usual { Some(number) } else { None }
 }
 
-fn packet_told(found: FoundPacket) -> PacketTold {
-    PacketTold {
+fn packet_told(found: Option<FoundPacket>) -> Option<PacketTold> {
+    let found = found?;
+    Some(PacketTold {
         byte: match found.packet {
             Packet::Byte(byte) => Some(byte),
             Packet::Ack => None,
         },
         drives: found.drives,
-    }
+    })
 }
 
 fn event_text(alloc: Global, event: Event) -> Result<String, NoMemory> {
@@ -96,12 +97,15 @@ pub fn line_told(
         },
         asks: event_text(alloc, line.call.event)?,
         answer: reply_text(alloc, reply)?,
-        packet: found.map(|found| packet_told(found)),
+        packet: packet_told(found),
         then,
     })
 }
 
 /// What was written in JSON. All that is written are numbers and texts, for which a writer lacks nothing but memory.
 pub fn json_text(written: Result<String, serde_json::Error>) -> Result<String, NoMemory> {
-    written.map_err(|_error| AllocError)
+    match written {
+        Ok(text) => Ok(text),
+        Err(_) => Err(AllocError),
+    }
 }
