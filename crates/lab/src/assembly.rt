@@ -1,6 +1,6 @@
 //! Texts as code, and code as text.
 
-use crate::failure::LabFailure;
+use crate::failure::{LabFailure, WRONG_TEXT};
 use script_text::TextWriter;
 use std::alloc::{AllocError, Global};
 use t414_assembly::{
@@ -19,7 +19,7 @@ pub struct AssemblyOptions<'a> {
 
 /// The code of a text: a line of digits, a listing or the lines of a script.
 ///
-/// `Length` if a boot can't take the code and neither a listing nor a script is asked for.
+/// A boot can't take all code, if neither a listing nor a script is asked for.
 pub fn print_assembled(
     alloc: Global,
     options: AssemblyOptions,
@@ -30,11 +30,25 @@ pub fn print_assembled(
     } else {
         BOOTED
     };
-    let made = assemble(alloc, origin, text)?;
-    if options.listing {
-        return Ok(listing(alloc, origin, &made, text)?);
+    match assemble(alloc, origin, text) {
+        Ok(made) if options.listing => print_listing(alloc, origin, &made, text),
+        Ok(made) => print_code(alloc, options, made.image.bytes.as_slice()),
+        Err(fault) => Err(LabFailure::of_program(alloc, &fault)),
     }
-    let code = made.image.bytes.as_slice();
+}
+
+// Code beside its text.
+fn print_listing(
+    alloc: Global,
+    origin: u32,
+    made: &Assembly,
+    text: &[u8],
+) -> Result<String, LabFailure> {
+    Ok(listing(alloc, origin, made, text)?)
+}
+
+// Code as a line of digits, or as lines of a script.
+fn print_code(alloc: Global, options: AssemblyOptions, code: &[u8]) -> Result<String, LabFailure> {
     match options.pokes {
         Some((host, user)) => print_pokes(alloc, host, user, code),
         None => print_boot(alloc, code),
@@ -43,10 +57,14 @@ pub fn print_assembled(
 
 // The lines of a script that load code.
 fn print_pokes(alloc: Global, host: &str, user: &str, code: &[u8]) -> Result<String, LabFailure> {
-    if code.is_empty() || code.len() > (MOST_CODE - (LOADED - BOOTED)) as usize {
-        return Err(LabFailure::Poked(code.len()));
+    let count = code.len();
+    if count == 0 || count > (MOST_CODE - (LOADED - BOOTED)) as usize {
+        return Err(LabFailure::of_text(
+            format!(in alloc; "the code has {count} bytes, and 1 to 65456 can be poked\n"),
+            WRONG_TEXT,
+        ));
     }
-    match loader(alloc, code.len() as u32) {
+    match loader(alloc, count as u32) {
         Ok(boot) => Ok(pokes(alloc, host, user, boot.as_slice(), code)?),
         Err(_) => Err(LabFailure::Memory),
     }
@@ -54,8 +72,8 @@ fn print_pokes(alloc: Global, host: &str, user: &str, code: &[u8]) -> Result<Str
 
 // The line of digits by which a boot takes code.
 fn print_boot(alloc: Global, code: &[u8]) -> Result<String, LabFailure> {
-    if !(2..=255).contains(&code.len()) {
-        return Err(LabFailure::Length(code.len()));
+    if code.len() < 2 || code.len() > 255 {
+        return Err(LabFailure::of_length(alloc, code.len()));
     }
     let mut line = TextWriter::new(alloc);
     line.push_bytes(code);
@@ -64,7 +82,14 @@ fn print_boot(alloc: Global, code: &[u8]) -> Result<String, LabFailure> {
 }
 
 /// The instructions that hexadecimal digits spell, one a line.
-pub fn print_disassembled(alloc: Global, text: &[u8]) -> Result<String, TextFault> {
+pub fn print_disassembled(alloc: Global, text: &[u8]) -> Result<String, LabFailure> {
+    match disassembled(alloc, text) {
+        Ok(text) => Ok(text),
+        Err(fault) => Err(LabFailure::of_program(alloc, &fault)),
+    }
+}
+
+fn disassembled(alloc: Global, text: &[u8]) -> Result<String, TextFault> {
     let bytes = bytes_of_digits(alloc, text)?;
     code_as_text(alloc, bytes.as_slice())
 }
@@ -74,7 +99,7 @@ pub fn print_disassembled(alloc: Global, text: &[u8]) -> Result<String, TextFaul
 /// disassembled and assembled again.
 pub fn answer_row(alloc: Global, row: &str) -> Result<String, AllocError> {
     let answered = match row.strip_prefix("hex ") {
-        Some(digits) => print_disassembled(alloc, digits.as_bytes()),
+        Some(digits) => disassembled(alloc, digits.as_bytes()),
         None => answer_program(alloc, row),
     };
     without_end(alloc, answered)

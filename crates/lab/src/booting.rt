@@ -4,27 +4,22 @@ use crate::command_line::{BootOptions, BootedCode};
 use crate::failure::{ArgumentFault, LabFailure};
 use crate::files::read_file;
 use crate::meter::TerminalMeter;
-use crate::reports::Report;
 use node_trace::{BootTrace, Program, ProgramLine, trace_boot};
 use script_text::hexadecimal_word;
 use std::alloc::Global;
 
 /// Traces a node that is booted with the code of the words, or with that of the program in a file.
-pub fn report_booted(rt: &HostRuntime, options: &BootOptions) -> Result<Report, LabFailure> {
-    let text = trace_booted(rt, options)?;
-    Ok(Report { text, status: 0 })
-}
-
-fn trace_booted(rt: &HostRuntime, options: &BootOptions) -> Result<String, LabFailure> {
-    match &options.code {
-        BootedCode::Bytes(code) => {
-            let until = address_of(options.until)?;
-            trace_code(rt, options, code.as_slice(), until, &[])
-        }
+pub fn print_booted(rt: &HostRuntime, options: &BootOptions) -> Result<String, LabFailure> {
+    let traced = match &options.code {
+        BootedCode::Bytes(code) => trace_bytes(rt, options, code.as_slice()),
         BootedCode::Program(file) => {
             let program = read_program(rt, file)?;
             trace_program(rt, options, &program)
         }
+    };
+    match traced {
+        Ok(text) => Ok(text),
+        Err(fault) => Err(LabFailure::of_argument(rt.alloc(), fault)),
     }
 }
 
@@ -39,35 +34,52 @@ fn read_program(rt: &HostRuntime, file: &str) -> Result<Program, LabFailure> {
 
 // The program of a text, if a boot takes its code.
 fn booted_program(alloc: Global, text: Vec<u8>) -> Result<Program, LabFailure> {
-    let program = Program::read(alloc, text)?;
+    let program = match Program::read(alloc, text) {
+        Ok(program) => program,
+        Err(fault) => return Err(LabFailure::of_program(alloc, &fault)),
+    };
     match program.code().len() {
         2..=255 => Ok(program),
-        length => Err(LabFailure::Length(length)),
+        length => Err(LabFailure::of_length(alloc, length)),
     }
+}
+
+fn trace_bytes(
+    rt: &HostRuntime,
+    options: &BootOptions,
+    code: &[u8],
+) -> Result<String, ArgumentFault> {
+    let until = match options.until {
+        Some(word) => Some(address_of(word)?),
+        None => None,
+    };
+    trace_code(rt, options, code, until, &[])
 }
 
 fn trace_program(
     rt: &HostRuntime,
     options: &BootOptions,
     program: &Program,
-) -> Result<String, LabFailure> {
-    let until = address_in(rt.alloc(), program, options.until)?;
+) -> Result<String, ArgumentFault> {
+    let until = match options.until {
+        Some(word) => Some(address_in(rt.alloc(), program, word)?),
+        None => None,
+    };
     let lines = program.lines(rt.alloc())?;
     trace_code(rt, options, program.code(), until, lines.as_slice())
 }
 
-// The address that a word says, if there is a word: that of a label of the program, or its own.
-fn address_in(
-    alloc: Global,
-    program: &Program,
-    word: Option<&str>,
-) -> Result<Option<u32>, LabFailure> {
-    if let Some(label) = word
-        && let Some(address) = program.address_of(alloc, label)?
-    {
-        return Ok(Some(address));
+// The address that a word says: that of a label of the program, or its own.
+fn address_in(alloc: Global, program: &Program, word: &str) -> Result<u32, ArgumentFault> {
+    match program.address_of(alloc, word)? {
+        Some(address) => Ok(address),
+        None => address_of(word),
     }
-    Ok(address_of(word)?)
+}
+
+// The address that a word says.
+fn address_of(word: &str) -> Result<u32, ArgumentFault> {
+    hexadecimal_word(word).ok_or(ArgumentFault::Address)
 }
 
 fn trace_code(
@@ -76,7 +88,7 @@ fn trace_code(
     code: &[u8],
     until: Option<u32>,
     lines: &[ProgramLine],
-) -> Result<String, LabFailure> {
+) -> Result<String, ArgumentFault> {
     let trace = BootTrace {
         code,
         steps: options.steps,
@@ -88,15 +100,4 @@ fn trace_code(
     let traced = trace_boot(rt.alloc(), &trace, &mut meter);
     meter.wipe();
     Ok(traced?)
-}
-
-// The address that a word says, if there is a word.
-fn address_of(word: Option<&str>) -> Result<Option<u32>, ArgumentFault> {
-    match word {
-        Some(word) => match hexadecimal_word(word) {
-            Some(address) => Ok(Some(address)),
-            None => Err(ArgumentFault::Address),
-        },
-        None => Ok(None),
-    }
 }

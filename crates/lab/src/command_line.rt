@@ -3,7 +3,7 @@
 use crate::arguments::{Argument, arg_of};
 use crate::assembly::AssemblyOptions;
 use crate::debugging::Debugging;
-use crate::failure::{ArgumentFault, LabFailure};
+use crate::failure::{ArgumentFault, LabFailure, WRONG_WORDS};
 use crate::film::Showing;
 use crate::rows::RowFiles;
 use crate::scripts::{ScriptUse, USUAL_STEPS};
@@ -13,9 +13,8 @@ use clap::{ArgMatches, Command};
 use lab_debug::ProgramOf;
 use lab_film::{Span, USUAL_COUNT};
 use node_trace::{LinkInput, LinkNumber, link_of};
-use script_text::{HexFault, bytes_of, decimal_number, value_named};
+use script_text::{HexFault, bytes_of, decimal_number};
 use std::alloc::{AllocError, Global};
-use std::convert::AsStr;
 
 /// What stands below the help.
 const AFTER_HELP: &str = "\
@@ -27,8 +26,6 @@ Each subcommand tells by --help what it reads. docs/LAB.md has them all.";
 /// What the words ask.
 #[derive(Drop)]
 pub enum LabRequest<'a> {
-    /// The text of `--help`.
-    Help(String),
     /// To compare files of rows with what they expect.
     Rows(RowFiles<'a>),
     /// To say why the nodes of a record wait.
@@ -46,7 +43,7 @@ pub enum LabRequest<'a> {
 }
 
 /// What is made of standard input.
-#[derive(Drop)]
+#[derive(Clone, Copy)]
 pub enum Reading<'a> {
     /// It is replayed on farms, if that takes no more Steps than these.
     Replay(Option<u64>),
@@ -110,6 +107,33 @@ enum Subcommand {
 }
 
 impl Subcommand {
+    // The one of this name.
+    fn named(name: &str) -> Option<Subcommand> {
+        for subcommand in &SUBCOMMANDS {
+            if subcommand.name() == name {
+                return Some(*subcommand);
+            }
+        }
+        None
+    }
+
+    fn name(self) -> &'static str {
+        match self {
+            Subcommand::Replay => "replay",
+            Subcommand::Plan => "plan",
+            Subcommand::Draw => "draw",
+            Subcommand::Trace => "trace",
+            Subcommand::Assemble => "assemble",
+            Subcommand::Disassemble => "disassemble",
+            Subcommand::Rows => "rows",
+            Subcommand::Why => "why",
+            Subcommand::Film => "film",
+            Subcommand::Expand => "expand",
+            Subcommand::Run => "run",
+            Subcommand::Debug => "debug",
+        }
+    }
+
     // Whether it reads standard input, and no file.
     fn reads_input(self) -> bool {
         !matches!(
@@ -196,79 +220,96 @@ impl Subcommand {
     }
 }
 
-const SUBCOMMANDS: [(&str, Subcommand); 12] = [
-    ("replay", Subcommand::Replay),
-    ("plan", Subcommand::Plan),
-    ("draw", Subcommand::Draw),
-    ("trace", Subcommand::Trace),
-    ("assemble", Subcommand::Assemble),
-    ("disassemble", Subcommand::Disassemble),
-    ("rows", Subcommand::Rows),
-    ("why", Subcommand::Why),
-    ("film", Subcommand::Film),
-    ("expand", Subcommand::Expand),
-    ("run", Subcommand::Run),
-    ("debug", Subcommand::Debug),
+/// All of them, in the order of the help.
+const SUBCOMMANDS: [Subcommand; 12] = [
+    Subcommand::Replay,
+    Subcommand::Plan,
+    Subcommand::Draw,
+    Subcommand::Trace,
+    Subcommand::Assemble,
+    Subcommand::Disassemble,
+    Subcommand::Rows,
+    Subcommand::Why,
+    Subcommand::Film,
+    Subcommand::Expand,
+    Subcommand::Run,
+    Subcommand::Debug,
 ];
 
-/// Reads the words of the command line, of which the first is the program's name.
-pub fn read_words<'a, S: AsStr>(
-    alloc: Global,
-    words: &'a [S],
-) -> Result<LabRequest<'a>, LabFailure> {
-    let command = lab_command(alloc)?;
-    match command.try_get_matches_from(words) {
-        Ok(matches) => read_matches(alloc, &matches),
-        Err(error) => read_error(alloc, words, error),
+/// What the parser finds in the words of the command line, of which the first is the program's name.
+pub fn matches_of<'a>(alloc: Global, words: &'a [String]) -> Result<ArgMatches<'a>, clap::Error> {
+    let lab = lab_command(alloc)?;
+    lab.try_get_matches_from(words)
+}
+
+/// The text of `--help`, if that is asked for, and else what is wrong with the words.
+pub fn help_of(alloc: Global, words: &[String], error: &clap::Error) -> Result<String, LabFailure> {
+    match error.kind() {
+        ErrorKind::OutOfMemory => Err(LabFailure::Memory),
+        ErrorKind::DisplayHelp => Ok(format!(in alloc; "{error}")?),
+        ErrorKind::UnknownArgument => Err(unknown_word(alloc, words, error)),
+        _ => Err(LabFailure::of_words(alloc, error)),
     }
 }
 
-// Help that is asked for, or what is wrong with the words.
-fn read_error<'a, S: AsStr>(
-    alloc: Global,
-    words: &[S],
-    error: clap::Error,
-) -> Result<LabRequest<'a>, LabFailure> {
-    match error.kind() {
-        ErrorKind::OutOfMemory => Err(LabFailure::Memory),
-        ErrorKind::DisplayHelp => Ok(LabRequest::Help(format!(in alloc; "{error}")?)),
-        ErrorKind::UnknownArgument => match file_named(words) {
-            Some((subcommand, file)) => Err(LabFailure::FileName {
-                subcommand,
-                file: String::from_str(alloc, file)?,
-            }),
-            None => Err(LabFailure::Words(error)),
-        },
-        _ => Err(LabFailure::Words(error)),
+// The parser doesn't know a word. It may be a file, where only standard input is read.
+fn unknown_word(alloc: Global, words: &[String], error: &clap::Error) -> LabFailure {
+    match file_named(words) {
+        Some((subcommand, file)) => unread_file(alloc, subcommand, file),
+        None => LabFailure::of_words(alloc, error),
     }
+}
+
+// The words name a file, and this subcommand reads standard input.
+fn unread_file(alloc: Global, subcommand: Subcommand, file: &str) -> LabFailure {
+    let name = subcommand.name();
+    let others = match subcommand {
+        Subcommand::Trace => {
+            ", or --program before the file of a program, or --plan before that of a script"
+        }
+        _ => "",
+    };
+    LabFailure::of_text(
+        format!(in alloc; "error: lab {name} reads standard input: lab {name} < {file}{others}\n"),
+        WRONG_WORDS,
+    )
 }
 
 // The subcommand, and the file that stands last behind it, where only standard input is read.
-fn file_named<S: AsStr>(words: &[S]) -> Option<(&'static str, &str)> {
+fn file_named(words: &[String]) -> Option<(Subcommand, &str)> {
     let [_, name, behind @ ..] = words else {
         return None;
     };
-    let name = name.as_str();
-    let (name, subcommand) = SUBCOMMANDS.iter().find(|entry| entry.0 == name)?;
-    let file = file_behind(*subcommand, behind)?;
-    Some((*name, file))
+    let subcommand = Subcommand::named(name.as_str())?;
+    let file = file_behind(subcommand, behind)?;
+    Some((subcommand, file))
 }
 
 // The last of the words behind a subcommand, if it is no option, and each of them that is one may stand there.
-fn file_behind<S: AsStr>(subcommand: Subcommand, behind: &[S]) -> Option<&str> {
+fn file_behind(subcommand: Subcommand, behind: &[String]) -> Option<&str> {
     let last = behind.last()?.as_str();
-    let is_known = behind
-        .iter()
-        .all(|word| is_known(subcommand, word.as_str()));
-    (subcommand.reads_input() && is_known && !last.starts_with("-")).then_some(last)
+    if !subcommand.reads_input() || last.starts_with("-") {
+        return None;
+    }
+    for word in behind {
+        if !is_known(subcommand, word.as_str()) {
+            return None;
+        }
+    }
+    Some(last)
 }
 
 // Whether a word is an option of a subcommand, or none at all.
 fn is_known(subcommand: Subcommand, word: &str) -> bool {
-    match word.strip_prefix("--") {
-        Some(name) => subcommand.arguments().iter().any(|it| it.is(name)),
-        None => !word.starts_with("-"),
+    let Some(name) = word.strip_prefix("--") else {
+        return !word.starts_with("-");
+    };
+    for argument in subcommand.arguments() {
+        if argument.is(name) {
+            return true;
+        }
     }
+    false
 }
 
 fn lab_command<'a>(alloc: Global) -> Result<Command<'a>, AllocError> {
@@ -276,11 +317,22 @@ fn lab_command<'a>(alloc: Global) -> Result<Command<'a>, AllocError> {
         .about("A laboratory for the farm of T414 processors")
         .after_help(AFTER_HELP)
         .subcommand_required(true);
-    for (name, subcommand) in &SUBCOMMANDS {
-        let subcommand = subcommand_of(alloc, name, *subcommand)?;
-        lab = lab.subcommand(subcommand)?;
+    for subcommand in &SUBCOMMANDS {
+        lab = with_subcommand(alloc, lab, *subcommand)?;
     }
     Ok(lab)
+}
+
+// The command with one more subcommand.
+fn with_subcommand<'a>(
+    alloc: Global,
+    lab: Command<'a>,
+    subcommand: Subcommand,
+) -> Result<Command<'a>, AllocError> {
+    match subcommand_of(alloc, subcommand.name(), subcommand) {
+        Ok(subcommand) => lab.subcommand(subcommand),
+        Err(error) => Err(error),
+    }
 }
 
 // A subcommand with its arguments.
@@ -296,11 +348,26 @@ fn subcommand_of<'a>(
     Ok(command)
 }
 
-fn read_matches<'a>(alloc: Global, matches: &ArgMatches<'a>) -> Result<LabRequest<'a>, LabFailure> {
+/// What is asked by the words in which the parser finds this.
+pub fn read_matches<'a>(
+    alloc: Global,
+    matches: &ArgMatches<'a>,
+) -> Result<LabRequest<'a>, ArgumentFault> {
     let Some((name, matches)) = matches.subcommand() else {
-        return Err(LabFailure::Argument(ArgumentFault::Subcommand));
+        return Err(ArgumentFault::Subcommand);
     };
-    let subcommand = value_named(&SUBCOMMANDS, name).ok_or(ArgumentFault::Subcommand)?;
+    match Subcommand::named(name) {
+        Some(subcommand) => read_subcommand(alloc, subcommand, matches),
+        None => Err(ArgumentFault::Subcommand),
+    }
+}
+
+// What is asked by what stands behind a subcommand.
+fn read_subcommand<'a>(
+    alloc: Global,
+    subcommand: Subcommand,
+    matches: &ArgMatches<'a>,
+) -> Result<LabRequest<'a>, ArgumentFault> {
     match subcommand {
         Subcommand::Replay => Ok(LabRequest::Read(Reading::Replay(steps_of(matches)))),
         Subcommand::Plan => Ok(LabRequest::Read(Reading::Plan)),
@@ -324,7 +391,7 @@ fn drawing_of(matches: &ArgMatches) -> Drawing {
     }
 }
 
-fn read_rows<'a>(alloc: Global, matches: &ArgMatches<'a>) -> Result<LabRequest<'a>, LabFailure> {
+fn read_rows<'a>(alloc: Global, matches: &ArgMatches<'a>) -> Result<LabRequest<'a>, ArgumentFault> {
     let files = Vec::from_slice(alloc, matches.get_strs("file").unwrap_or(&[]))?;
     Ok(LabRequest::Rows(RowFiles {
         files,
@@ -364,7 +431,7 @@ fn record_of<'a>(matches: &ArgMatches<'a>) -> Result<&'a str, ArgumentFault> {
     }
 }
 
-fn read_why<'a>(matches: &ArgMatches<'a>) -> Result<LabRequest<'a>, LabFailure> {
+fn read_why<'a>(matches: &ArgMatches<'a>) -> Result<LabRequest<'a>, ArgumentFault> {
     let record = record_of(matches)?;
     Ok(LabRequest::Why(Explaining {
         record,
@@ -373,7 +440,7 @@ fn read_why<'a>(matches: &ArgMatches<'a>) -> Result<LabRequest<'a>, LabFailure> 
     }))
 }
 
-fn read_film<'a>(matches: &ArgMatches<'a>) -> Result<LabRequest<'a>, LabFailure> {
+fn read_film<'a>(matches: &ArgMatches<'a>) -> Result<LabRequest<'a>, ArgumentFault> {
     let record = record_of(matches)?;
     Ok(LabRequest::Film(Showing {
         record,
@@ -388,7 +455,7 @@ fn read_film<'a>(matches: &ArgMatches<'a>) -> Result<LabRequest<'a>, LabFailure>
 fn read_debugging<'a>(
     alloc: Global,
     matches: &ArgMatches<'a>,
-) -> Result<LabRequest<'a>, LabFailure> {
+) -> Result<LabRequest<'a>, ArgumentFault> {
     let record = record_of(matches)?;
     let programs = read_programs(alloc, matches)?;
     Ok(LabRequest::Debug(Debugging {
@@ -401,33 +468,25 @@ fn read_debugging<'a>(
 fn read_programs<'a>(
     alloc: Global,
     matches: &ArgMatches<'a>,
-) -> Result<Vec<ProgramOf<'a>>, LabFailure> {
+) -> Result<Vec<ProgramOf<'a>>, ArgumentFault> {
     let mut programs = Vec::new(alloc);
     for words in matches.get_strs("program").unwrap_or(&[]).chunks(2) {
-        add_program(&mut programs, words)?;
+        programs.push(program_of(words)?)?;
     }
     Ok(programs)
 }
 
-fn add_program<'a>(programs: &mut Vec<ProgramOf<'a>>, words: &[&'a str]) -> Result<(), LabFailure> {
-    let Some(program) = program_of(words) else {
-        return Err(LabFailure::Argument(ArgumentFault::Program));
-    };
-    programs.push(program)?;
-    Ok(())
-}
-
 // The program of a node, by the number of the node and the file.
-fn program_of<'a>(words: &[&'a str]) -> Option<ProgramOf<'a>> {
+fn program_of<'a>(words: &[&'a str]) -> Result<ProgramOf<'a>, ArgumentFault> {
     let [node, file] = words else {
-        return None;
+        return Err(ArgumentFault::Program);
     };
     match decimal_number(node) {
-        Some(number) if number < 256 => Some(ProgramOf {
+        Some(number) if number < 256 => Ok(ProgramOf {
             node: number as u8,
             file: *file,
         }),
-        _ => None,
+        _ => Err(ArgumentFault::Program),
     }
 }
 
@@ -451,7 +510,10 @@ fn check_trace(matches: &ArgMatches) -> Result<(), ArgumentFault> {
     Ok(())
 }
 
-fn read_trace<'a>(alloc: Global, matches: &ArgMatches<'a>) -> Result<LabRequest<'a>, LabFailure> {
+fn read_trace<'a>(
+    alloc: Global,
+    matches: &ArgMatches<'a>,
+) -> Result<LabRequest<'a>, ArgumentFault> {
     check_trace(matches)?;
     if is_booted(matches) {
         return read_boot(alloc, matches);
@@ -469,7 +531,7 @@ fn read_trace<'a>(alloc: Global, matches: &ArgMatches<'a>) -> Result<LabRequest<
     })
 }
 
-fn read_boot<'a>(alloc: Global, matches: &ArgMatches<'a>) -> Result<LabRequest<'a>, LabFailure> {
+fn read_boot<'a>(alloc: Global, matches: &ArgMatches<'a>) -> Result<LabRequest<'a>, ArgumentFault> {
     let code = booted_code(alloc, matches)?;
     let inputs = read_inputs(alloc, matches)?;
     Ok(LabRequest::Boot(BootOptions {
@@ -480,7 +542,10 @@ fn read_boot<'a>(alloc: Global, matches: &ArgMatches<'a>) -> Result<LabRequest<'
     }))
 }
 
-fn booted_code<'a>(alloc: Global, matches: &ArgMatches<'a>) -> Result<BootedCode<'a>, LabFailure> {
+fn booted_code<'a>(
+    alloc: Global,
+    matches: &ArgMatches<'a>,
+) -> Result<BootedCode<'a>, ArgumentFault> {
     if let Some(file) = matches.get_str("program") {
         return Ok(BootedCode::Program(file));
     }
@@ -488,16 +553,28 @@ fn booted_code<'a>(alloc: Global, matches: &ArgMatches<'a>) -> Result<BootedCode
     Ok(BootedCode::Bytes(read_code(alloc, digits)?))
 }
 
-fn read_code(alloc: Global, digits: &str) -> Result<Vec<u8>, LabFailure> {
-    match bytes_of(alloc, digits) {
-        Ok(code) if (2..=255).contains(&code.len()) => Ok(code),
-        Ok(code) => Err(LabFailure::Booted(code.len())),
-        Err(HexFault::NoMemory) => Err(LabFailure::Memory),
-        Err(HexFault::NotHex) => Err(LabFailure::Argument(ArgumentFault::Code)),
+fn read_code(alloc: Global, digits: &str) -> Result<Vec<u8>, ArgumentFault> {
+    let code = read_bytes(alloc, digits, ArgumentFault::Code)?;
+    match code.len() {
+        2..=255 => Ok(code),
+        length => Err(ArgumentFault::Length(length)),
     }
 }
 
-fn read_inputs(alloc: Global, matches: &ArgMatches) -> Result<Vec<LinkInput>, LabFailure> {
+// The bytes of hexadecimal digits. If they are none, that is this fault.
+fn read_bytes(
+    alloc: Global,
+    digits: &str,
+    otherwise: ArgumentFault,
+) -> Result<Vec<u8>, ArgumentFault> {
+    match bytes_of(alloc, digits) {
+        Ok(bytes) => Ok(bytes),
+        Err(HexFault::NoMemory) => Err(ArgumentFault::Memory(AllocError)),
+        Err(HexFault::NotHex) => Err(otherwise),
+    }
+}
+
+fn read_inputs(alloc: Global, matches: &ArgMatches) -> Result<Vec<LinkInput>, ArgumentFault> {
     let mut inputs = Vec::new(alloc);
     for word in matches.get_strs("input").unwrap_or(&[]) {
         inputs.push(read_input(alloc, word)?)?;
@@ -506,14 +583,11 @@ fn read_inputs(alloc: Global, matches: &ArgMatches) -> Result<Vec<LinkInput>, La
 }
 
 // A link and bytes, `1:0a0b`.
-fn read_input(alloc: Global, word: &str) -> Result<LinkInput, LabFailure> {
+fn read_input(alloc: Global, word: &str) -> Result<LinkInput, ArgumentFault> {
     let (link, digits) = word.split_once(':').ok_or(ArgumentFault::Input)?;
     let link = read_link(link).ok_or(ArgumentFault::Input)?;
-    match bytes_of(alloc, digits) {
-        Ok(bytes) => Ok(LinkInput { link, bytes }),
-        Err(HexFault::NoMemory) => Err(LabFailure::Memory),
-        Err(HexFault::NotHex) => Err(LabFailure::Argument(ArgumentFault::Input)),
-    }
+    let bytes = read_bytes(alloc, digits, ArgumentFault::Input)?;
+    Ok(LinkInput { link, bytes })
 }
 
 fn read_link(word: &str) -> Option<LinkNumber> {

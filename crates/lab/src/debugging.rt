@@ -3,7 +3,6 @@
 use crate::failure::LabFailure;
 use crate::files::{read_file, readable_bytes};
 use crate::meter::TerminalMeter;
-use crate::reports::Report;
 use lab_debug::{DebugFault, Debugger, ProgramOf, ProgramTexts, debug};
 use std::alloc::AllocError;
 use std::io::{BufReader, IsTerminal};
@@ -27,14 +26,13 @@ impl ProgramTexts for Files<'_> {
     }
 }
 
-/// Reads commands from standard input to its end, and shows what they ask of the record in a file.
-pub fn report_debugging(rt: &HostRuntime, asked: &Debugging) -> Result<Report, LabFailure> {
+/// Reads commands from standard input to its end, and shows what they ask of the record in a file. Nothing is left to print.
+pub fn print_debugging(rt: &HostRuntime, asked: &Debugging) -> Result<String, LabFailure> {
     let record = read_file(rt, asked.record)?;
-    look_through(rt, asked, record.as_slice())?;
-    Ok(Report {
-        text: String::new(rt.alloc()),
-        status: 0,
-    })
+    match look_through(rt, asked, record.as_slice()) {
+        Ok(()) => Ok(String::new(rt.alloc())),
+        Err(fault) => Err(LabFailure::of_debug(rt.alloc(), fault)),
+    }
 }
 
 fn look_through(rt: &HostRuntime, asked: &Debugging, record: &[u8]) -> Result<(), DebugFault> {

@@ -2,17 +2,30 @@
 
 use farm_causes::{RecordStop, WhyFault};
 use lab_debug::DebugFault;
-use line_words::{NumberedLineFault, WrongLine};
+use line_words::NumberedLineFault;
 use node_trace::{BootFault, TraceFault};
 use plan_faults::PlanRefusal;
 use script_replay::{ReplayFault, RunFault};
 use script_text::{ReadFault, write_whole};
 use std::alloc::{AllocError, AllocFailed, Global};
 use std::fmt;
-use std::io::{self, Write};
+use std::io::Write;
 use step_meter::StepsEnd;
 use t414_assembly::TextFault;
 use thiserror::Error;
+
+/// The status if the words of the command line are wrong.
+pub const WRONG_WORDS: u8 = 2;
+/// The status if a plan is refused.
+pub const REFUSED_PLAN: u8 = 3;
+/// The status if a text has a mistake, or asks for what isn't there.
+pub const WRONG_TEXT: u8 = 4;
+
+const NO_MEMORY: u8 = 5;
+/// The status if a file can't be read, or a stream fails.
+pub const NOT_READ: u8 = 6;
+
+const MOST_STEPS: u8 = 7;
 
 /// What is wrong with words that the parser takes.
 #[derive(Clone, Copy, Debug, Error)]
@@ -25,6 +38,9 @@ pub enum ArgumentFault {
     /// The code of `--boot` isn't hexadecimal digits.
     #[error("the code is not hexadecimal digits, two for each byte and no 0x before them (`lab assemble` prints them of a program)")]
     Code,
+    /// The code has so many bytes, which no boot takes.
+    #[error("the code has {0} bytes, and a boot takes 2 to 255{hint}", hint = hint_of_length(*.0))]
+    Length(usize),
     /// What stands behind `--program` is no node and file.
     #[error("--program takes the number of a node, and a file")]
     Program,
@@ -40,212 +56,201 @@ pub enum ArgumentFault {
     /// `--input` is no link with bytes.
     #[error("--input takes a link, 0 to 3, a colon and bytes in hexadecimal digits: --input 1:0a0b")]
     Input,
+    #[error("memory")]
+    Memory(#[from(alloc)] AllocError),
+}
+
+// What loads code of so many bytes, if there are too many for a boot.
+fn hint_of_length(count: usize) -> &'static str {
+    if count > 255 {
+        " (`lab assemble --pokes HOST USER` prints the lines of a script that load more)"
+    } else {
+        ""
+    }
+}
+
+impl From<BootFault> for ArgumentFault {
+    fn from(fault: BootFault) -> ArgumentFault {
+        match fault {
+            BootFault::TooShort | BootFault::TooLong => ArgumentFault::Code,
+            BootFault::NoMemory => ArgumentFault::Memory(AllocError),
+        }
+    }
 }
 
 /// Why the lab ends without its output.
 #[derive(Drop)]
 pub enum LabFailure {
-    /// `clap` refuses the words.
-    Words(clap::Error),
-    /// Words that the parser takes are wrong.
-    Argument(ArgumentFault),
-    /// The words name a file, and this subcommand reads standard input.
-    FileName {
-        subcommand: &'static str,
-        file: String,
-    },
-    /// The code of `--boot` has so many bytes.
-    Booted(usize),
-    /// A plan of a text for replay is refused.
-    ReplayedPlan(ReplayFault),
-    /// A plan is refused, with the place and the reason.
-    RefusedPlan(PlanRefusal),
-    /// The same, and no line divides it from what stands behind it.
-    UnmarkedPlan(PlanRefusal),
-    /// A plan is refused at a line of this number that begins like one of a script.
-    MissingMark {
-        refusal: PlanRefusal,
-        line: u64,
-    },
-    /// No line divides a plan from a script.
-    NoMark,
-    /// A line has a mistake.
-    Line(WrongLine),
-    /// A text is no record, or can't be followed.
-    Record(WhyFault),
-    /// A text is no program, or no digits.
-    Text(TextFault),
-    /// Lines of users are wrong, with what is told of them.
-    Script(String),
-    /// The last farm of a text has no domain of this number.
-    Domain(u8),
-    /// The head of a record doesn't read as its plan, which never happens.
-    Head,
-    /// A boot can't take so many bytes of code.
-    Length(usize),
-    /// So many bytes of code can't be poked.
-    Poked(usize),
-    /// As many Steps were done as may be.
-    Steps(StepsEnd),
-    /// A file can't be read.
-    Unread,
-    /// What is told of a file, with its name, and the status.
-    OfFile {
-        text: String,
-        status: u8,
-    },
+    /// This is told, and the process has this status.
+    Told { text: String, status: u8 },
     Memory,
+    /// Standard input can't be read, or standard output can't be written.
     Io,
 }
 
-// What is said of code that a boot can't take.
-fn write_length<W: fmt::Write>(f: &mut fmt::Formatter<W>, count: usize) -> fmt::Result {
-    write!(f, "the code has {count} bytes, and a boot takes 2 to 255")?;
-    if count > 255 {
-        f.write_str(
-            " (`lab assemble --pokes HOST USER` prints the lines of a script that load more)",
-        )?;
-    }
-    f.write_str("\n")
-}
-
-// What is said of a file that is named where standard input is read.
-fn write_file_name<W: fmt::Write>(
-    f: &mut fmt::Formatter<W>,
-    subcommand: &str,
-    file: &str,
-) -> fmt::Result {
-    write!(
-        f,
-        "error: lab {subcommand} reads standard input: lab {subcommand} < {file}"
-    )?;
-    if subcommand == "trace" {
-        f.write_str(
-            ", or --program before the file of a program, or --plan before that of a script",
-        )?;
-    }
-    f.write_str("\n")
-}
-
-// A line that says this.
-fn write_line<W: fmt::Write, T: fmt::Display>(f: &mut fmt::Formatter<W>, told: &T) -> fmt::Result {
-    write!(f, "{told}\n")
-}
-
-/// The text for standard error.
-impl fmt::Display for LabFailure {
-    fn fmt<W: fmt::Write>(&self, f: &mut fmt::Formatter<W>) -> fmt::Result {
-        match self {
-            LabFailure::Words(error) => write!(f, "{error}"),
-            LabFailure::Argument(fault) => write!(f, "error: {fault}\n"),
-            LabFailure::FileName { subcommand, file } => write_file_name(
-                f,
-                subcommand,
-                file.as_str(),
-            ),
-            LabFailure::Booted(count) => {
-                f.write_str("error: ")?;
-                write_length(f, *count)
-            }
-            LabFailure::ReplayedPlan(fault) => write_line(f, fault),
-            LabFailure::RefusedPlan(refusal) => write_line(f, refusal),
-            LabFailure::UnmarkedPlan(refusal) => write!(
-                f,
-                "{refusal} (no line behind it is just ---, so all was read as the plan)\n"
-            ),
-            LabFailure::MissingMark { refusal, line } => write!(
-                f,
-                "{refusal} (line {line} begins like one of a script, and no line before it is just ---)\n"
-            ),
-            LabFailure::NoMark => {
-                f.write_str("no line is just ---: it stands between a plan and its script\n")
-            }
-            LabFailure::Line(wrong) => write_line(f, wrong),
-            LabFailure::Record(fault) => write_line(f, fault),
-            LabFailure::Text(fault) => write_line(f, fault),
-            LabFailure::Script(told) => f.write_str(told.as_str()),
-            LabFailure::Domain(domain) => write!(f, "the farm has no domain {domain}\n"),
-            LabFailure::Length(count) => write_length(f, *count),
-            LabFailure::Poked(count) => write!(
-                f,
-                "the code has {count} bytes, and 1 to 65456 can be poked\n"
-            ),
-            LabFailure::Steps(end) => write_line(f, end),
-            LabFailure::OfFile { text, .. } => f.write_str(text.as_str()),
-            LabFailure::Head => f.write_str("the head of the record doesn't read as its plan\n"),
-            LabFailure::Unread => f.write_str("it can't be read\n"),
-            LabFailure::Memory => f.write_str("memory\n"),
-            LabFailure::Io => f.write_str("io\n"),
-        }
-    }
-}
-
 impl LabFailure {
-    /// The arguments of the process couldn't be read.
-    pub fn of_arguments(error: &io::Error) -> LabFailure {
-        match error.kind() {
-            io::ErrorKind::OutOfMemory => LabFailure::Memory,
-            _ => LabFailure::Argument(ArgumentFault::Arguments),
+    /// This text is told, if there was memory for it.
+    pub fn of_text(text: Result<String, AllocError>, status: u8) -> LabFailure {
+        match text {
+            Ok(text) => LabFailure::Told { text, status },
+            Err(_) => LabFailure::Memory,
         }
     }
 
-    /// A file couldn't be read.
-    pub fn of_input(error: &io::Error) -> LabFailure {
-        match error.kind() {
-            io::ErrorKind::OutOfMemory => LabFailure::Memory,
-            _ => LabFailure::Unread,
+    // A line says this.
+    fn of_line<T: fmt::Display>(alloc: Global, told: &T, status: u8) -> LabFailure {
+        LabFailure::of_text(format!(in alloc; "{told}\n"), status)
+    }
+
+    /// `clap` refuses the words.
+    pub fn of_words(alloc: Global, error: &clap::Error) -> LabFailure {
+        LabFailure::of_text(format!(in alloc; "{error}"), WRONG_WORDS)
+    }
+
+    /// Words that the parser takes are wrong.
+    pub fn of_argument(alloc: Global, fault: ArgumentFault) -> LabFailure {
+        match fault {
+            ArgumentFault::Memory(_) => LabFailure::Memory,
+            fault => LabFailure::of_text(format!(in alloc; "error: {fault}\n"), WRONG_WORDS),
+        }
+    }
+
+    /// A boot can't take so many bytes of code.
+    pub fn of_length(alloc: Global, count: usize) -> LabFailure {
+        LabFailure::of_line(alloc, &ArgumentFault::Length(count), WRONG_TEXT)
+    }
+
+    /// A text is no program, or no digits.
+    pub fn of_program(alloc: Global, fault: &TextFault) -> LabFailure {
+        match fault {
+            TextFault::Memory(_) => LabFailure::Memory,
+            fault => LabFailure::of_line(alloc, fault, WRONG_TEXT),
+        }
+    }
+
+    /// A plan is refused, with the place and the reason.
+    pub fn of_plan(alloc: Global, refusal: &PlanRefusal) -> LabFailure {
+        match refusal {
+            PlanRefusal::NoMemory => LabFailure::Memory,
+            refusal => LabFailure::of_line(alloc, refusal, REFUSED_PLAN),
+        }
+    }
+
+    /// A line of a text has a mistake.
+    pub fn of_numbered(alloc: Global, fault: NumberedLineFault) -> LabFailure {
+        match fault {
+            NumberedLineFault::Wrong(wrong) => LabFailure::of_line(alloc, &wrong, WRONG_TEXT),
+            NumberedLineFault::Memory(_) => LabFailure::Memory,
+        }
+    }
+
+    // As many Steps were done as may be.
+    fn of_steps(alloc: Global, end: StepsEnd) -> LabFailure {
+        LabFailure::of_line(alloc, &end, MOST_STEPS)
+    }
+
+    /// The lines of a node aren't answered.
+    pub fn of_trace(alloc: Global, fault: TraceFault) -> LabFailure {
+        match fault {
+            TraceFault::Line(wrong) => LabFailure::of_line(alloc, &wrong, WRONG_TEXT),
+            TraceFault::Steps(end) => LabFailure::of_steps(alloc, end),
+            TraceFault::Memory(_) => LabFailure::Memory,
+        }
+    }
+
+    /// A text isn't replayed.
+    pub fn of_replay(alloc: Global, fault: ReplayFault) -> LabFailure {
+        match fault {
+            ReplayFault::OfUser(text) => LabFailure::Told {
+                text,
+                status: WRONG_TEXT,
+            },
+            ReplayFault::Line(wrong) => LabFailure::of_line(alloc, &wrong, WRONG_TEXT),
+            ReplayFault::Steps(end) => LabFailure::of_steps(alloc, end),
+            ReplayFault::Memory(_) => LabFailure::Memory,
+            fault => LabFailure::of_line(alloc, &fault, REFUSED_PLAN),
+        }
+    }
+
+    /// A script isn't run.
+    pub fn of_run(alloc: Global, fault: RunFault) -> LabFailure {
+        match fault {
+            RunFault::Lines(text) => LabFailure::Told {
+                text,
+                status: WRONG_TEXT,
+            },
+            RunFault::Domain(domain) => LabFailure::of_domain(alloc, domain),
+            RunFault::Head(_) => LabFailure::of_text(
+                String::from_str(alloc, "the head of the record doesn't read as its plan\n"),
+                WRONG_TEXT,
+            ),
+            RunFault::Steps(end) => LabFailure::of_steps(alloc, end),
+            RunFault::Memory(_) => LabFailure::Memory,
+            fault => LabFailure::of_line(alloc, &fault, REFUSED_PLAN),
+        }
+    }
+
+    /// A farm has no domain of this number.
+    pub fn of_domain(alloc: Global, domain: u8) -> LabFailure {
+        LabFailure::of_line(alloc, &RunFault::Domain(domain), WRONG_TEXT)
+    }
+
+    // A text is no record, or can't be followed.
+    fn of_record(alloc: Global, fault: WhyFault) -> LabFailure {
+        let status = match fault {
+            WhyFault::Plan(_) | WhyFault::Domains(_) => REFUSED_PLAN,
+            WhyFault::Memory(_) => NO_MEMORY,
+            _ => WRONG_TEXT,
+        };
+        LabFailure::of_line(alloc, &fault, status)
+    }
+
+    /// A record isn't followed to the moment that is asked for.
+    pub fn of_stop(alloc: Global, stop: RecordStop) -> LabFailure {
+        match stop {
+            RecordStop::Record(fault) => LabFailure::of_record(alloc, fault),
+            RecordStop::Steps(end) => LabFailure::of_steps(alloc, end),
+        }
+    }
+
+    /// A record isn't looked through.
+    pub fn of_debug(alloc: Global, fault: DebugFault) -> LabFailure {
+        match fault {
+            DebugFault::Record(fault) => LabFailure::of_record(alloc, fault),
+            DebugFault::Steps(end) => LabFailure::of_steps(alloc, end),
+            DebugFault::Memory(_) => LabFailure::Memory,
+            DebugFault::Io => LabFailure::Io,
         }
     }
 
     /// The same, with the name of the file of which it is told.
     pub fn in_file(self, alloc: Global, file: &str) -> LabFailure {
         let status = self.status();
-        match format!(in alloc; "{file}: {self}") {
-            Ok(text) => LabFailure::OfFile { text, status },
-            Err(_) => LabFailure::Memory,
+        LabFailure::of_text(format!(in alloc; "{file}: {}", self.text()), status)
+    }
+
+    // The text for standard error.
+    fn text(&self) -> &str {
+        match self {
+            LabFailure::Told { text, .. } => text.as_str(),
+            LabFailure::Memory => "memory\n",
+            LabFailure::Io => "io\n",
         }
     }
 
     // The status of the process.
     fn status(&self) -> u8 {
         match self {
-            LabFailure::Words(_)
-            | LabFailure::Argument(_)
-            | LabFailure::FileName { .. }
-            | LabFailure::Booted(_) => 2,
-            LabFailure::ReplayedPlan(_)
-            | LabFailure::RefusedPlan(_)
-            | LabFailure::UnmarkedPlan(_)
-            | LabFailure::MissingMark { .. } => 3,
-            LabFailure::Record(WhyFault::Plan(_) | WhyFault::Domains(_)) => 3,
-            LabFailure::Record(_)
-            | LabFailure::NoMark
-            | LabFailure::Line(_)
-            | LabFailure::Text(_)
-            | LabFailure::Script(_)
-            | LabFailure::Domain(_)
-            | LabFailure::Head
-            | LabFailure::Length(_)
-            | LabFailure::Poked(_) => 4,
-            LabFailure::OfFile { status, .. } => *status,
-            LabFailure::Memory => 5,
-            LabFailure::Unread | LabFailure::Io => 6,
-            LabFailure::Steps(_) => 7,
+            LabFailure::Told { status, .. } => *status,
+            LabFailure::Memory => NO_MEMORY,
+            LabFailure::Io => NOT_READ,
         }
     }
 
     /// Writes the text, and gives the status. If the text can't be written, the status stays.
-    pub fn tell<E: Write>(&self, alloc: Global, errors: &mut E) -> u8 {
-        match format!(in alloc; "{self}") {
-            Ok(text) => {
-                let _ = write_whole(errors, text.as_bytes());
-                self.status()
-            }
-            Err(_) => {
-                let _ = write_whole(errors, b"memory\n");
-                5
-            }
-        }
+    pub fn tell<E: Write>(&self, errors: &mut E) -> u8 {
+        let _ = write_whole(errors, self.text().as_bytes());
+        self.status()
     }
 }
 
@@ -267,106 +272,5 @@ impl From<ReadFault> for LabFailure {
             ReadFault::Failed => LabFailure::Io,
             ReadFault::NoMemory => LabFailure::Memory,
         }
-    }
-}
-
-impl From<NumberedLineFault> for LabFailure {
-    fn from(fault: NumberedLineFault) -> LabFailure {
-        match fault {
-            NumberedLineFault::Wrong(wrong) => LabFailure::Line(wrong),
-            NumberedLineFault::Memory(_) => LabFailure::Memory,
-        }
-    }
-}
-
-impl From<ReplayFault> for LabFailure {
-    fn from(fault: ReplayFault) -> LabFailure {
-        match fault {
-            ReplayFault::Line(wrong) => LabFailure::Line(wrong),
-            ReplayFault::OfUser(told) => LabFailure::Script(told),
-            ReplayFault::Steps(end) => LabFailure::Steps(end),
-            ReplayFault::Memory(_) => LabFailure::Memory,
-            fault => LabFailure::ReplayedPlan(fault),
-        }
-    }
-}
-
-impl From<TraceFault> for LabFailure {
-    fn from(fault: TraceFault) -> LabFailure {
-        match fault {
-            TraceFault::Line(wrong) => LabFailure::Line(wrong),
-            TraceFault::Steps(end) => LabFailure::Steps(end),
-            TraceFault::Memory(_) => LabFailure::Memory,
-        }
-    }
-}
-
-impl From<RunFault> for LabFailure {
-    fn from(fault: RunFault) -> LabFailure {
-        match fault {
-            RunFault::Plan(refusal) => LabFailure::RefusedPlan(refusal),
-            RunFault::NoMark(refusal) => LabFailure::UnmarkedPlan(refusal),
-            RunFault::Lines(told) => LabFailure::Script(told),
-            RunFault::Steps(end) => LabFailure::Steps(end),
-            RunFault::Domain(domain) => LabFailure::Domain(domain),
-            RunFault::Head(_) => LabFailure::Head,
-            RunFault::Memory(_) => LabFailure::Memory,
-        }
-    }
-}
-
-impl From<RecordStop> for LabFailure {
-    fn from(stop: RecordStop) -> LabFailure {
-        match stop {
-            RecordStop::Record(WhyFault::Memory(_)) => LabFailure::Memory,
-            RecordStop::Record(fault) => LabFailure::Record(fault),
-            RecordStop::Steps(end) => LabFailure::Steps(end),
-        }
-    }
-}
-
-impl From<DebugFault> for LabFailure {
-    fn from(fault: DebugFault) -> LabFailure {
-        match fault {
-            DebugFault::Record(fault) => LabFailure::Record(fault),
-            DebugFault::Steps(end) => LabFailure::Steps(end),
-            DebugFault::Memory(_) => LabFailure::Memory,
-            DebugFault::Io => LabFailure::Io,
-        }
-    }
-}
-
-impl From<PlanRefusal> for LabFailure {
-    fn from(refusal: PlanRefusal) -> LabFailure {
-        match refusal {
-            PlanRefusal::NoMemory => LabFailure::Memory,
-            refusal => LabFailure::RefusedPlan(refusal),
-        }
-    }
-}
-
-impl From<BootFault> for LabFailure {
-    fn from(fault: BootFault) -> LabFailure {
-        match fault {
-            BootFault::TooShort | BootFault::TooLong => {
-                LabFailure::Argument(ArgumentFault::Code)
-            }
-            BootFault::NoMemory => LabFailure::Memory,
-        }
-    }
-}
-
-impl From<TextFault> for LabFailure {
-    fn from(fault: TextFault) -> LabFailure {
-        match fault {
-            TextFault::Memory(_) => LabFailure::Memory,
-            fault => LabFailure::Text(fault),
-        }
-    }
-}
-
-impl From<ArgumentFault> for LabFailure {
-    fn from(fault: ArgumentFault) -> LabFailure {
-        LabFailure::Argument(fault)
     }
 }

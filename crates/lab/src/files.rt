@@ -1,14 +1,18 @@
 //! Files that the words of the command line name.
 
-use crate::failure::LabFailure;
+use crate::failure::{LabFailure, NOT_READ};
 use std::alloc::AllocError;
 use std::{fs, io};
 
 /// What stands in a file. A failure names it.
 pub fn read_file(rt: &HostRuntime, path: &str) -> Result<Vec<u8>, LabFailure> {
-    match fs::read(rt, path) {
-        Ok(bytes) => Ok(bytes),
-        Err(error) => Err(LabFailure::of_input(&error).in_file(rt.alloc(), path)),
+    match readable_bytes(rt, path) {
+        Ok(Some(bytes)) => Ok(bytes),
+        Ok(None) => Err(LabFailure::of_text(
+            format!(in rt.alloc(); "{path}: it can't be read\n"),
+            NOT_READ,
+        )),
+        Err(_) => Err(LabFailure::Memory.in_file(rt.alloc(), path)),
     }
 }
 

@@ -3,7 +3,6 @@
 use crate::failure::LabFailure;
 use crate::files::read_file;
 use crate::meter::TerminalMeter;
-use crate::reports::Report;
 use farm_causes::RecordStop;
 use lab_film::{Span, film_of, page_of};
 
@@ -19,12 +18,12 @@ pub struct Showing<'a> {
 }
 
 /// The page that shows a span of a record.
-pub fn report_film(rt: &HostRuntime, asked: Showing) -> Result<Report, LabFailure> {
+pub fn print_film(rt: &HostRuntime, asked: Showing) -> Result<String, LabFailure> {
     let record = read_file(rt, asked.record)?;
-    Ok(Report {
-        text: show(rt, record.as_slice(), asked)?,
-        status: 0,
-    })
+    match show(rt, record.as_slice(), asked) {
+        Ok(page) => Ok(page),
+        Err(stop) => Err(LabFailure::of_stop(rt.alloc(), stop)),
+    }
 }
 
 fn show(rt: &HostRuntime, record: &[u8], asked: Showing) -> Result<String, RecordStop> {

@@ -12,11 +12,21 @@ use std::alloc::Global;
 ///
 /// `Wrong` if the row begins otherwise.
 pub fn tell_mistake(alloc: Global, row: &Question) -> Result<String, NumberedLineFault> {
-    let read = match row.text.split_once(" ") {
-        Some(("replay", line)) => read_request(alloc, line).map(|_| ()),
-        Some(("trace", line)) => read_trace_line(alloc, line),
-        _ => return Err(NumberedLineFault::Wrong(no_row(row))),
-    };
+    match row.text.split_once(" ") {
+        Some(("replay", line)) => tell_read(alloc, read_replayed(alloc, line)),
+        Some(("trace", line)) => tell_read(alloc, read_trace_line(alloc, line)),
+        _ => Err(NumberedLineFault::Wrong(no_row(row))),
+    }
+}
+
+// Reads a line as `replay` does.
+fn read_replayed(alloc: Global, line: &str) -> Result<(), WordFault> {
+    read_request(alloc, line)?;
+    Ok(())
+}
+
+// What is told of a line that is read.
+fn tell_read(alloc: Global, read: Result<(), WordFault>) -> Result<String, NumberedLineFault> {
     match read {
         Ok(()) => Ok(String::from_str(alloc, "right")?),
         Err(WordFault::Wrong(mistake)) => Ok(format!(in alloc; "{mistake}")?),

@@ -2,7 +2,7 @@
 
 use crate::assembly::{print_assembled, print_disassembled};
 use crate::command_line::{Drawing, Reading};
-use crate::failure::LabFailure;
+use crate::failure::{LabFailure, REFUSED_PLAN};
 use crate::meter::TerminalMeter;
 use crate::scripts::read_files;
 use line_faults::has_verb;
@@ -10,8 +10,8 @@ use line_words::Answered;
 use node_trace::trace;
 use plan_faults::{PlanRefusal, accepted, line_unread};
 use plan_views::{draw, draw_network, table_of};
-use script_replay::{Replayed, ReplayedFarm, files_loaded, replay};
-use script_text::{TextWriter, divide};
+use script_replay::{ReplayFault, Replayed, ReplayedFarm, files_loaded, replay};
+use script_text::{TextWriter, divide, read_whole};
 use std::alloc::{AllocError, Global};
 
 /// A text for standard output, and the status of the process.
@@ -21,21 +21,30 @@ pub struct Report {
     pub status: u8,
 }
 
-/// What standard input comes to.
-pub fn report_of(rt: &HostRuntime, reading: &Reading, text: &[u8]) -> Result<Report, LabFailure> {
-    let text = print_reading(rt, reading, text)?;
-    Ok(Report { text, status: 0 })
+impl Report {
+    /// A text, if there is one, and the status 0.
+    pub fn of(text: Result<String, LabFailure>) -> Result<Report, LabFailure> {
+        match text {
+            Ok(text) => Ok(Report { text, status: 0 }),
+            Err(failure) => Err(failure),
+        }
+    }
 }
 
-fn print_reading(rt: &HostRuntime, reading: &Reading, text: &[u8]) -> Result<String, LabFailure> {
-    let alloc = rt.alloc();
+/// What standard input comes to.
+pub fn print_input(rt: &HostRuntime, reading: Reading) -> Result<String, LabFailure> {
+    let text = read_whole(rt.alloc(), &mut rt.reader())?;
+    print_reading(rt, reading, text.as_slice())
+}
+
+fn print_reading(rt: &HostRuntime, reading: Reading, text: &[u8]) -> Result<String, LabFailure> {
     match reading {
-        Reading::Replay(most) => print_replayed(rt, *most, text),
-        Reading::Plan => print_plan(alloc, text),
-        Reading::Draw(drawing) => print_drawing(rt, *drawing, text),
-        Reading::Trace(most) => print_traced(rt, *most, text),
-        Reading::Assemble(options) => print_assembled(alloc, *options, text),
-        Reading::Disassemble => Ok(print_disassembled(alloc, text)?),
+        Reading::Replay(most) => print_replayed(rt, most, text),
+        Reading::Plan => print_plan(rt.alloc(), text),
+        Reading::Draw(drawing) => print_drawing(rt, drawing, text),
+        Reading::Trace(most) => print_traced(rt, most, text),
+        Reading::Assemble(options) => print_assembled(rt.alloc(), options, text),
+        Reading::Disassemble => print_disassembled(rt.alloc(), text),
     }
 }
 
@@ -45,10 +54,10 @@ pub fn replayed<'a>(
     folder: Option<&str>,
     text: &'a [u8],
     meter: &mut TerminalMeter,
-) -> Result<Replayed<'a>, LabFailure> {
+) -> Result<Replayed<'a>, ReplayFault> {
     let names = files_loaded(rt.alloc(), text)?;
     let files = read_files(rt, folder, names.as_slice())?;
-    Ok(replay(rt.alloc(), text, files.as_slice(), meter)?)
+    replay(rt.alloc(), text, files.as_slice(), meter)
 }
 
 // The same of standard input, if it needs no more Steps than these.
@@ -56,7 +65,7 @@ fn replayed_input<'a>(
     rt: &HostRuntime,
     most: Option<u64>,
     text: &'a [u8],
-) -> Result<Replayed<'a>, LabFailure> {
+) -> Result<Replayed<'a>, ReplayFault> {
     let mut meter = TerminalMeter::begin(rt, most);
     let replayed = replayed(rt, None, text, &mut meter);
     meter.wipe();
@@ -64,8 +73,10 @@ fn replayed_input<'a>(
 }
 
 fn print_replayed(rt: &HostRuntime, most: Option<u64>, text: &[u8]) -> Result<String, LabFailure> {
-    let Replayed { answers, last: _ } = replayed_input(rt, most, text)?;
-    Ok(print_answers(rt.alloc(), answers.as_slice())?)
+    match replayed_input(rt, most, text) {
+        Ok(replayed) => print_answers(rt.alloc(), replayed.answers.as_slice()),
+        Err(fault) => Err(LabFailure::of_replay(rt.alloc(), fault)),
+    }
 }
 
 // What lines ask of a node, if it needs no more Steps for that than it may do.
@@ -73,7 +84,10 @@ fn print_traced(rt: &HostRuntime, most: Option<u64>, text: &[u8]) -> Result<Stri
     let mut meter = TerminalMeter::begin(rt, most);
     let traced = trace(rt.alloc(), text, &mut meter);
     meter.wipe();
-    Ok(print_answers(rt.alloc(), traced?.as_slice())?)
+    match traced {
+        Ok(answers) => print_answers(rt.alloc(), answers.as_slice()),
+        Err(fault) => Err(LabFailure::of_trace(rt.alloc(), fault)),
+    }
 }
 
 // The plan of a text as a table.
@@ -81,15 +95,20 @@ fn print_plan(alloc: Global, text: &[u8]) -> Result<String, LabFailure> {
     let (plan, _) = divide(text, b"---");
     match accepted(alloc, plan) {
         Ok(plan) => Ok(table_of(alloc, &plan)?),
-        Err(refusal) => Err(refused_plan(alloc, plan, refusal)),
+        Err(refusal) => Err(refused_plan(alloc, plan, &refusal)),
     }
 }
 
 // What is told of a plan that is refused. If what can't be read of it is a line of a script, the mark before that is missing.
-fn refused_plan(alloc: Global, plan: &[u8], refusal: PlanRefusal) -> LabFailure {
+fn refused_plan(alloc: Global, plan: &[u8], refusal: &PlanRefusal) -> LabFailure {
     match script_line(alloc, plan) {
-        Ok(Some(line)) => LabFailure::MissingMark { refusal, line },
-        Ok(None) => LabFailure::from(refusal),
+        Ok(Some(line)) => LabFailure::of_text(
+            format!(in alloc;
+                "{refusal} (line {line} begins like one of a script, and no line before it is just ---)\n"
+            ),
+            REFUSED_PLAN,
+        ),
+        Ok(None) => LabFailure::of_plan(alloc, refusal),
         Err(_) => LabFailure::Memory,
     }
 }
@@ -104,31 +123,37 @@ fn script_line(alloc: Global, plan: &[u8]) -> Result<Option<u64>, AllocError> {
 
 // The switch of the last farm of a text, or the network of one of its domains.
 fn print_drawing(rt: &HostRuntime, drawing: Drawing, text: &[u8]) -> Result<String, LabFailure> {
-    let replayed = replayed_input(rt, drawing.most, text)?;
-    match &replayed.last {
-        Some(farm) => draw_farm(rt.alloc(), farm, drawing.domain),
-        None => Ok(String::new(rt.alloc())),
+    match replayed_input(rt, drawing.most, text) {
+        Ok(replayed) => draw_last(rt.alloc(), replayed.last.as_ref(), drawing.domain),
+        Err(fault) => Err(LabFailure::of_replay(rt.alloc(), fault)),
     }
 }
 
-// The switch of a farm, or the network of this domain.
-fn draw_farm(alloc: Global, farm: &ReplayedFarm, domain: Option<u8>) -> Result<String, LabFailure> {
+// The switch of a farm, or the network of this domain. Nothing is drawn of no farm.
+fn draw_last(
+    alloc: Global,
+    farm: Option<&ReplayedFarm>,
+    domain: Option<u8>,
+) -> Result<String, LabFailure> {
+    let Some(farm) = farm else {
+        return Ok(String::new(alloc));
+    };
     let words = farm.words.as_slice();
     match domain {
         None => Ok(draw(alloc, &farm.plan, words)?),
         Some(domain) if domain < farm.plan.domains() => {
             Ok(draw_network(alloc, &farm.plan, domain, words)?)
         }
-        Some(domain) => Err(LabFailure::Domain(domain)),
+        Some(domain) => Err(LabFailure::of_domain(alloc, domain)),
     }
 }
 
 // What lines are answered, each answer on lines of its own.
-fn print_answers(alloc: Global, answers: &[Answered]) -> Result<String, AllocError> {
+fn print_answers(alloc: Global, answers: &[Answered]) -> Result<String, LabFailure> {
     let mut text = TextWriter::new(alloc);
     for answered in answers {
         text.push(answered.answer.as_str());
         text.push("\n");
     }
-    text.finish()
+    Ok(text.finish()?)
 }

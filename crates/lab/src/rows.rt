@@ -9,7 +9,7 @@ use crate::plans::try_plans;
 use crate::reports::{Report, replayed};
 use crate::scripts::folder_of;
 use line_words::{Answered, NumberedLineFault, Question, read_questions};
-use node_trace::trace;
+use node_trace::{TraceFault, trace};
 use script_replay::Replayed;
 use script_text::TextWriter;
 use std::alloc::Global;
@@ -69,17 +69,12 @@ fn answer_rows<'a>(
     text: &'a [u8],
     meter: &mut TerminalMeter,
 ) -> Result<Vec<Answered<'a>>, LabFailure> {
-    let alloc = rt.alloc();
     if file.ends_with(".replay") {
-        answer_replayed(rt, file, text, meter)
-    } else if file.ends_with(".plans") {
-        Ok(try_plans(alloc, text)?)
-    } else if file.ends_with(".assembly") {
-        Ok(answer_each(alloc, RowKind::Program, text)?)
-    } else if file.ends_with(".mistakes") {
-        Ok(answer_each(alloc, RowKind::Line, text)?)
-    } else {
-        Ok(trace(alloc, text, meter)?)
+        return answer_replayed(rt, file, text, meter);
+    }
+    match answer_lines(rt.alloc(), file, text, meter) {
+        Ok(answers) => Ok(answers),
+        Err(fault) => Err(LabFailure::of_trace(rt.alloc(), fault)),
     }
 }
 
@@ -89,8 +84,28 @@ fn answer_replayed<'a>(
     text: &'a [u8],
     meter: &mut TerminalMeter,
 ) -> Result<Vec<Answered<'a>>, LabFailure> {
-    let Replayed { answers, last: _ } = replayed(rt, folder_of(file), text, meter)?;
-    Ok(answers)
+    match replayed(rt, folder_of(file), text, meter) {
+        Ok(Replayed { answers, last: _ }) => Ok(answers),
+        Err(fault) => Err(LabFailure::of_replay(rt.alloc(), fault)),
+    }
+}
+
+// The answers to rows that load no files.
+fn answer_lines<'a>(
+    alloc: Global,
+    file: &str,
+    text: &'a [u8],
+    meter: &mut TerminalMeter,
+) -> Result<Vec<Answered<'a>>, TraceFault> {
+    if file.ends_with(".plans") {
+        Ok(try_plans(alloc, text)?)
+    } else if file.ends_with(".assembly") {
+        Ok(answer_each(alloc, RowKind::Program, text)?)
+    } else if file.ends_with(".mistakes") {
+        Ok(answer_each(alloc, RowKind::Line, text)?)
+    } else {
+        trace(alloc, text, meter)
+    }
 }
 
 // What stands in rows that are answered one by one.

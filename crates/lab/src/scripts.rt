@@ -1,10 +1,9 @@
 //! Scripts with lines that help: spelled out, run, or traced.
 
 use crate::debugging::opened;
-use crate::failure::LabFailure;
+use crate::failure::{LabFailure, WRONG_TEXT};
 use crate::files::{read_file, readable_bytes};
 use crate::meter::TerminalMeter;
-use crate::reports::Report;
 use lab_debug::{DebugFault, Debugger};
 use lab_script::{Expanded, LoadedFile, expand, files_named};
 use line_words::NumberedLineFault;
@@ -30,19 +29,19 @@ pub enum ScriptUse {
 
 /// Does this with the script in a file, or with the one on standard input. The files that it loads have their names from the
 /// folder of that file, or from the one in which the program runs.
-pub fn report_script(
+pub fn print_script(
     rt: &HostRuntime,
     script: Option<&str>,
     what: ScriptUse,
-) -> Result<Report, LabFailure> {
+) -> Result<String, LabFailure> {
     match script {
         Some(path) => {
             let text = read_file(rt, path)?;
-            report_text(rt, folder_of(path), text.as_slice(), what)
+            print_text(rt, folder_of(path), text.as_slice(), what)
         }
         None => {
             let text = read_whole(rt.alloc(), &mut rt.reader())?;
-            report_text(rt, None, text.as_slice(), what)
+            print_text(rt, None, text.as_slice(), what)
         }
     }
 }
@@ -55,14 +54,16 @@ pub fn folder_of(path: &str) -> Option<&str> {
     }
 }
 
-fn report_text(
+fn print_text(
     rt: &HostRuntime,
     folder: Option<&str>,
     text: &[u8],
     what: ScriptUse,
-) -> Result<Report, LabFailure> {
-    let files = loaded_files(rt, folder, text)?;
-    use_script(rt, text, files.as_slice(), what)
+) -> Result<String, LabFailure> {
+    match loaded_files(rt, folder, text) {
+        Ok(files) => use_script(rt, text, files.as_slice(), what),
+        Err(fault) => Err(LabFailure::of_numbered(rt.alloc(), fault)),
+    }
 }
 
 // The files that the lines of a script load, as far as they can be read.
@@ -81,35 +82,32 @@ fn use_script(
     text: &[u8],
     files: &[LoadedFile],
     what: ScriptUse,
-) -> Result<Report, LabFailure> {
+) -> Result<String, LabFailure> {
     match what {
-        ScriptUse::Expand => report_expansion(rt.alloc(), text, files),
-        ScriptUse::Run(most) => report_run(rt, text, files, most),
-        ScriptUse::Record { domain, most } => Ok(Report {
-            text: record_of(rt, text, files, domain, most)?,
-            status: 0,
-        }),
-        ScriptUse::Trace { domain, most } => report_trace(rt, text, files, domain, most),
+        ScriptUse::Expand => print_expansion(rt.alloc(), text, files),
+        ScriptUse::Run(most) => print_run(rt, text, files, most),
+        ScriptUse::Record { domain, most } => print_record(rt, text, files, domain, most),
+        ScriptUse::Trace { domain, most } => print_trace(rt, text, files, domain, most),
     }
 }
 
-fn report_run(
+fn print_run(
     rt: &HostRuntime,
     text: &[u8],
     files: &[LoadedFile],
     most: Option<u64>,
-) -> Result<Report, LabFailure> {
+) -> Result<String, LabFailure> {
     let mut meter = TerminalMeter::begin(rt, most);
     let answers = run_script(rt.alloc(), text, files, &mut meter);
     meter.wipe();
-    Ok(Report {
-        text: answers?,
-        status: 0,
-    })
+    match answers {
+        Ok(answers) => Ok(answers),
+        Err(fault) => Err(LabFailure::of_run(rt.alloc(), fault)),
+    }
 }
 
 // The record of a domain after a script.
-fn record_of(
+fn print_record(
     rt: &HostRuntime,
     text: &[u8],
     files: &[LoadedFile],
@@ -119,23 +117,25 @@ fn record_of(
     let mut meter = TerminalMeter::begin(rt, most);
     let record = record_script(rt.alloc(), text, files, domain, &mut meter);
     meter.wipe();
-    Ok(record?)
+    match record {
+        Ok(record) => Ok(record),
+        Err(fault) => Err(LabFailure::of_run(rt.alloc(), fault)),
+    }
 }
 
 // What each Step of a domain's nodes does while a script runs, and each packet.
-fn report_trace(
+fn print_trace(
     rt: &HostRuntime,
     text: &[u8],
     files: &[LoadedFile],
     domain: u8,
     most: Option<u64>,
-) -> Result<Report, LabFailure> {
-    let record = record_of(rt, text, files, domain, most)?;
-    let steps = most.unwrap_or(USUAL_STEPS);
-    Ok(Report {
-        text: traced_record(rt, record.as_bytes(), steps)?,
-        status: 0,
-    })
+) -> Result<String, LabFailure> {
+    let record = print_record(rt, text, files, domain, most)?;
+    match traced_record(rt, record.as_bytes(), most.unwrap_or(USUAL_STEPS)) {
+        Ok(text) => Ok(text),
+        Err(fault) => Err(LabFailure::of_debug(rt.alloc(), fault)),
+    }
 }
 
 // What the events of a record do, up to so many Steps.
@@ -150,19 +150,32 @@ fn trace_of(alloc: Global, debugger: &mut Debugger, steps: u64) -> Result<String
     Ok(traced.finish()?)
 }
 
-fn report_expansion(
-    alloc: Global,
-    text: &[u8],
-    files: &[LoadedFile],
-) -> Result<Report, LabFailure> {
+fn print_expansion(alloc: Global, text: &[u8], files: &[LoadedFile]) -> Result<String, LabFailure> {
     if divide(text, b"---").0.len() == text.len() {
-        return Err(LabFailure::NoMark);
+        return Err(LabFailure::of_text(
+            String::from_str(
+                alloc,
+                "no line is just ---: it stands between a plan and its script\n",
+            ),
+            WRONG_TEXT,
+        ));
     }
-    let Expanded { text, wrong } = expand(alloc, text, files)?;
+    match expand(alloc, text, files) {
+        Ok(expanded) => right_lines(expanded),
+        Err(fault) => Err(LabFailure::of_numbered(alloc, fault)),
+    }
+}
+
+// The lines of a script as they are spelled out, if none is wrong.
+fn right_lines(expanded: Expanded) -> Result<String, LabFailure> {
+    let Expanded { text, wrong } = expanded;
     if wrong.is_empty() {
-        Ok(Report { text, status: 0 })
+        Ok(text)
     } else {
-        Err(LabFailure::Script(wrong))
+        Err(LabFailure::Told {
+            text: wrong,
+            status: WRONG_TEXT,
+        })
     }
 }
 

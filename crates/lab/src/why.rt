@@ -3,7 +3,6 @@
 use crate::failure::LabFailure;
 use crate::files::read_file;
 use crate::meter::TerminalMeter;
-use crate::reports::Report;
 use farm_causes::{RecordStop, explain_record};
 
 /// What is explained of a record.
@@ -18,12 +17,12 @@ pub struct Explaining<'a> {
 }
 
 /// Says why each node waits, halted or runs on, at this moment of a record.
-pub fn report_why(rt: &HostRuntime, asked: Explaining) -> Result<Report, LabFailure> {
+pub fn print_why(rt: &HostRuntime, asked: Explaining) -> Result<String, LabFailure> {
     let record = read_file(rt, asked.record)?;
-    Ok(Report {
-        text: explain(rt, record.as_slice(), asked)?,
-        status: 0,
-    })
+    match explain(rt, record.as_slice(), asked) {
+        Ok(text) => Ok(text),
+        Err(stop) => Err(LabFailure::of_stop(rt.alloc(), stop)),
+    }
 }
 
 fn explain(rt: &HostRuntime, text: &[u8], asked: Explaining) -> Result<String, RecordStop> {
