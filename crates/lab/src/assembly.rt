@@ -19,7 +19,7 @@ pub struct AssemblyOptions<'a> {
 
 /// The code of a text: a line of digits, a listing or the lines of a script.
 ///
-/// A boot can't take all code, if neither a listing nor a script is asked for.
+/// A failure too if a boot can't take the code, and neither a listing nor a script is asked for.
 pub fn print_assembled(
     alloc: Global,
     options: AssemblyOptions,

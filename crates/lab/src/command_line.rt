@@ -318,29 +318,14 @@ fn lab_command<'a>(alloc: Global) -> Result<Command<'a>, AllocError> {
         .after_help(AFTER_HELP)
         .subcommand_required(true);
     for subcommand in &SUBCOMMANDS {
-        lab = with_subcommand(alloc, lab, *subcommand)?;
+        lab = lab.subcommand(subcommand_of(alloc, *subcommand)?)?;
     }
     Ok(lab)
 }
 
-// The command with one more subcommand.
-fn with_subcommand<'a>(
-    alloc: Global,
-    lab: Command<'a>,
-    subcommand: Subcommand,
-) -> Result<Command<'a>, AllocError> {
-    match subcommand_of(alloc, subcommand.name(), subcommand) {
-        Ok(subcommand) => lab.subcommand(subcommand),
-        Err(error) => Err(error),
-    }
-}
-
 // A subcommand with its arguments.
-fn subcommand_of<'a>(
-    alloc: Global,
-    name: &'static str,
-    subcommand: Subcommand,
-) -> Result<Command<'a>, AllocError> {
+fn subcommand_of<'a>(alloc: Global, subcommand: Subcommand) -> Result<Command<'a>, AllocError> {
+    let name: &'a str = subcommand.name();
     let mut command = Command::new(alloc, name).about(subcommand.about());
     for argument in subcommand.arguments() {
         command = command.arg(arg_of(alloc, *argument))?;
