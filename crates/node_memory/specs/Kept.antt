@@ -1,10 +1,20 @@
 -- What is kept of memory: its bytes up to a word, behind which all are 0.
-use Rattle.std.specs.Prelude.{◌≡◌, ℕ, ◌-◌, ◌%◌, ◌≤◌, List, ◌++◌, length, replicate}
+use Rattle.std.specs.Prelude.{◌≡◌, ℕ, ◌-◌, ◌%◌, ◌≤◌, List, ◌++◌, length, replicate, Result, Ok, Err}
 use Rattle.node_memory.specs.Bytes.{IsMemorySize}
+use Rattle.node_memory.specs.declared.fault.Fault.{Fault}
+use Rattle.node_memory.specs.declared.fault.Fault.TheVariants.{OutsideMemory}
+use Rattle.node_memory.specs.declared.memory.Fetched.{Fetched}
+use Rattle.node_memory.specs.declared.memory.Fetched.TheVariants as fetched
 
 -- memory of so many bytes, of which these are kept
 abbrev pub memory_of : List ℕ → ℕ → List ℕ
 memory_of kept size = kept ++ replicate (size - length kept) 0
+
+-- the byte that is fetched: one behind those that are kept is 0
+abbrev pub fetched_byte : Fetched → Result ℕ Fault
+fetched_byte (fetched.Kept byte) = Ok byte
+fetched_byte fetched.Behind = Ok 0
+fetched_byte fetched.Outside = Err OutsideMemory
 
 -- bytes that may be kept of memory of so many bytes, in a vector that has room for so many
 pub record AreKept (kept : List ℕ) (size room : ℕ) : Type 0 where

@@ -12,7 +12,7 @@ mod words;
 
 pub use fault::Fault;
 pub use laws::{copies_stop_at_the_edge, written_bytes_are_read, written_words_are_read};
-pub use memory::{MEMORY_START, Memory, is_memory_size};
+pub use memory::{Fetched, MEMORY_START, Memory, is_memory_size};
 pub use std::alloc::AllocError as NoMemory;
 pub use words::{
     add_checked, double, high, low, mul_checked, normal_places, overflows, shift_left, shift_right,

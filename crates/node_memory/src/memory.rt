@@ -2,7 +2,7 @@
 
 ghost use Rattle.std.specs.Prelude.{◌≡◌, ◌+◌, ◌-◌, ◌<◌, ◌≤◌, ◌↔◌, IfOk, IsTrue, OnErr, length, nat_lt, replicate, true, vec_capacity};
 ghost use Rattle.node_memory.specs.Bytes.{IsMemorySize, first_address, is_inside, byte_at, word_at, with_byte, with_word, with_word_from, stored, copied, copied_within};
-ghost use Rattle.node_memory.specs.Kept.{AreKept, memory_of};
+ghost use Rattle.node_memory.specs.Kept.{AreKept, fetched_byte, memory_of};
 
 use crate::fault::Fault;
 use std::alloc::{AllocError as NoMemory, Global};
@@ -93,6 +93,17 @@ fn are_same(bytes: &[u8], others: &[u8]) -> bool
     bytes == others
 }
 
+/// What is found at an address of which a byte is fetched.
+#[derive(Clone, Copy)]
+pub enum Fetched {
+    /// A byte that is kept.
+    Kept(u8),
+    /// A byte behind those that are kept, which is 0.
+    Behind,
+    /// No byte of memory.
+    Outside,
+}
+
 /// A node's memory: its bytes from `MEMORY_START` upwards.
 ///
 /// Only the bytes up to the last word that was ever written are kept, since all behind it are 0. So a
@@ -142,6 +153,25 @@ impl Memory {
             Ok(0)
         } else {
             Err(Fault::OutsideMemory)
+        }
+    }
+
+    /// The byte at an address, as `byte` reads it. That a byte isn't kept is told apart, so that a loop which seldom meets one
+    /// needs no value for it.
+    ///
+    /// Source: Transputer instruction set handbook, the fetch of an instruction byte.
+    #[inline]
+    #[tactic(auto, unfolding(crate::specs::Bytes::byte_at))]
+    pub fn fetch(&self, address: u32) -> Fetched
+        ensures { fetched_byte result ≡ byte_at self.now address }
+    {
+        let offset = offset_of(address);
+        if offset < self.kept.len() {
+            Fetched::Kept(self.kept[offset])
+        } else if offset < self.size {
+            Fetched::Behind
+        } else {
+            Fetched::Outside
         }
     }
 

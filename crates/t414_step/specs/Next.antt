@@ -1,7 +1,7 @@
 -- What an instruction byte came to, by what the loop of bytes has done of it.
 use Rattle.std.specs.Prelude.{◌≡◌, ℕ, List, Option, Some, None, Result, Ok, Err}
 use Rattle.node_memory.specs.Effect.{Gave, Halted, ◌>>=◌, store}
-use Rattle.node_memory.specs.Words.{◌⊖◌}
+use Rattle.node_memory.specs.Words.{◌⊕◌, ◌⊖◌}
 use Rattle.node_memory.specs.declared.fault.Fault.{Fault}
 use Rattle.link_channels.specs.declared.link.FourLinks.{FourLinks}
 use Rattle.t414_decode.specs.declared.instruction.Function.TheVariants.{StoreLocal, StoreNonLocal, Call}
@@ -33,6 +33,10 @@ abbrev pub counted_down : Result (Option ℕ) Fault → Cpu → FourLinks → Li
 counted_down (Ok (Some index)) s ls m = back_after index s ls m
 counted_down (Ok None) s ls m = Gave s ls m
 counted_down (Err fault) s ls m = Halted fault ls m
+
+-- the registers behind an instruction byte that was counted: Iptr is next, O is 0
+abbrev pub behind_byte : Cpu → Cpu
+behind_byte s = record s { instruction = s.instruction ⊕ 1; operand = 0 }
 
 -- whether there is a current process, and its count of bytes, stay
 abbrev pub KeepsTurn : Cpu → Cpu → Type 0

@@ -1,11 +1,11 @@
 //! The dispatch on an instruction byte.
 
-ghost use Rattle.std.specs.Prelude.{◌≡◌, ◌+◌, min};
+ghost use Rattle.std.specs.Prelude.{◌≡◌, ◌+◌, List, ℕ, min};
 
 use crate::cpu::Cpu;
 use crate::next::Next;
 use link_channels::{Links, TransferDirection};
-use node_memory::{Fault, Memory};
+use node_memory::{Fault, Fetched, Memory};
 use t414_decode::{ChannelOperation, Function, Operation, PlainOperation, decode, operation};
 
 // A row that can't fault.
@@ -27,7 +27,8 @@ macro_rules! next {
 impl Cpu {
     ghost use Rattle.t414_decode.specs.Codes.{operation_of};
     ghost use Rattle.t414_step.specs.ChannelRows.{channel_row};
-    ghost use Rattle.t414_step.specs.Next.{KeepsTurn, completed};
+    ghost use Rattle.t414_step.specs.Next.{KeepsTurn, behind_byte, completed};
+    ghost use Rattle.t414_decode.specs.declared.instruction.Function.TheVariants as function;
     ghost use Rattle.t414_step.specs.Answers.{finished};
     ghost use Rattle.link_channels.specs.declared.link.FourLinks.{FourLinks};
     ghost use Rattle.t414_step.specs.Rows.{row, operate, direct};
@@ -245,6 +246,28 @@ impl Cpu {
         }
     }
 
+    // Goes behind an instruction byte.
+    #[inline(always)]
+    fn pass_byte(&mut self)
+        ensures { self.new ≡ behind_byte self.old }
+    {
+        self.instruction = self.instruction.wrapping_add(1);
+        self.operand = 0;
+    }
+
+    // The byte 0, j, which goes as far as the prefixes before it say.
+    #[inline(always)]
+    #[tactic(auto, unfolding(crate::specs::Rows::direct))]
+    fn jump_by_prefixes(&mut self) -> Next
+        ensures answer { (ls : FourLinks) (m : List ℕ) → completed result self.new ls m ≡ direct function.Jump self.old.operand (behind_byte self.old) ls m }
+        ensures kept { KeepsTurn self.old self.new }
+    {
+        let operand = self.operand;
+        self.pass_byte();
+        self.jump(operand);
+        Next::Jumped
+    }
+
     // One instruction byte, as far as registers and memory do it. It stands in the loop of bytes, so that its address is
     // nowhere taken.
     #[inline(always)]
@@ -256,14 +279,14 @@ impl Cpu {
     {
         // After a fault the registers are given up, so the byte may be counted before it is read.
         self.bytes = self.bytes.min(1023) + 1;
-        let byte = match memory.byte(self.instruction) {
-            Ok(byte) => byte,
-            Err(fault) => return Next::Fault(fault),
+        let byte = match memory.fetch(self.instruction) {
+            Fetched::Kept(byte) => byte,
+            Fetched::Behind => return self.jump_by_prefixes(),
+            Fetched::Outside => return Next::Fault(Fault::OutsideMemory),
         };
         let (function, nibble) = decode(byte);
         let operand = self.operand | u32::from(nibble);
-        self.instruction = self.instruction.wrapping_add(1);
-        self.operand = 0;
+        self.pass_byte();
         self.apply(memory, function, operand)
     }
 
