@@ -72,6 +72,16 @@ def crates_wanted(names, below):
     return set(names).union(*(stood_on(it, below) for it in names))
 
 
+def jobs_for(name, ahead, ready, running, idle):
+    """The jobs of a crate that is begun beside those that run: many if the longest chain waits for it or if cores would
+    idle, and else one, since more jobs of a crate end sooner and cost more."""
+    others = [*ready, *(it for it, _ in running.values())]
+    if all(ahead[name] >= ahead[it] for it in others):
+        return min(MOST_JOBS_OF_A_CRATE, cores(), idle)
+    spare = cores() - sum(jobs for _, jobs in running.values()) - len(ready) + 1
+    return max(1, min(MOST_JOBS_OF_A_CRATE, spare))
+
+
 def prove_all(wanted, most, below, prove):
     """Proves the crates, the longest chain first, by so many jobs, and tells whether all are proved. `prove` takes a crate,
     its jobs, and how far the system may put it back; it gives whether that went well, what was printed, and seconds."""
@@ -79,14 +89,12 @@ def prove_all(wanted, most, below, prove):
     left, running, done = sorted(wanted, key=lambda it: (-ahead[it], it)), {}, set()
     with ThreadPoolExecutor(most) as pool:
         while left or running:
-            for name in [it for it in left if done.issuperset(below[it])]:
-                idle = most - sum(jobs for _, jobs in running.values())
-                if idle < 1:
-                    break
-                left.remove(name)
-                jobs = min(MOST_JOBS_OF_A_CRATE, cores(), idle)
-                rank = 3 * sum(ahead[it] > ahead[name] for it, _ in running.values())
-                running[pool.submit(prove, name, jobs, min(rank, LAST_RANK))] = name, jobs
+            ready = [it for it in left if done.issuperset(below[it])]
+            while ready and (idle := most - sum(jobs for _, jobs in running.values())) > 0:
+                jobs = jobs_for(ready[0], ahead, ready, running, idle)
+                rank = 3 * sum(ahead[it] > ahead[ready[0]] for it, _ in running.values())
+                running[pool.submit(prove, ready[0], jobs, min(rank, LAST_RANK))] = ready[0], jobs
+                left.remove(ready.pop(0))
             for it in wait(running, return_when=FIRST_COMPLETED).done:
                 name, _ = running.pop(it)
                 is_well, text, seconds = it.result()
