@@ -13,6 +13,8 @@ MOST_JOBS_OF_A_CRATE = 4
 LAST_RANK = 10
 # Where the toolchain's commands are.
 KIT = os.path.dirname(os.path.realpath(shutil.which("rt") or "rt"))
+# The prover is to keep the memory that it has: to give pages back and to ask for them anew costs a twentieth of its time.
+os.environ.setdefault("MIMALLOC_PURGE_DELAY", "-1")
 
 
 def kit_crates(libraries):
