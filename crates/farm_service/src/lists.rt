@@ -7,8 +7,10 @@ ghost use Rattle.farm_service.specs.Closed.{IsListed, AreListed};
 use crate::closed::ClosedDomain;
 use crate::pass::UserPass;
 use crate::told::{Told, command_from};
+use crate::waiting::block_forever;
 use domain_core::laws::journals_add_up;
 use domain_core::{Entry, Journal};
+use std::sync::Wait;
 
 // Whether a listed command is this one, with this reply.
 fn is_same(told: &Told, command: &Told) -> bool
@@ -64,8 +66,8 @@ fn is_listed(closed: &[ClosedDomain], pass: &UserPass) -> bool
     }
 }
 
-/// Whether each pass lists what its domain's journal has of its user.
-pub(crate) fn are_listed(closed: &[ClosedDomain], users: &[UserPass]) -> bool
+// Whether each pass lists what its domain's journal has of its user.
+fn are_listed(closed: &[ClosedDomain], users: &[UserPass]) -> bool
     ensures { result ≡ true → AreListed closed.now users.now }
 {
     for pass in users {
@@ -74,4 +76,13 @@ pub(crate) fn are_listed(closed: &[ClosedDomain], users: &[UserPass]) -> bool
         }
     }
     true
+}
+
+/// Sees that each pass lists what its domain's journal has of its user. Where one doesn't, waits for ever.
+pub(crate) fn await_listed<R: Wait>(rt: &R, closed: &[ClosedDomain], users: &[UserPass])
+    ensures { AreListed closed.now users.now }
+{
+    if !are_listed(closed, users) {
+        block_forever(rt)
+    }
 }

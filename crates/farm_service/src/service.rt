@@ -4,6 +4,7 @@ ghost use Rattle.std.specs.Prelude.{◌≡◌, ◌≢◌, ◌<◌, ◌≤◌, �
 ghost use Rattle.crossbar.specs.Word.{IsAtLeastAsNew};
 ghost use Rattle.domain_core.specs.declared.domain.Committed.TheVariants.{Stale};
 ghost use Rattle.domain_core.specs.declared.event.Refusal.TheVariants.{NoSuch, JournalFull};
+ghost use Rattle.domain_core.specs.declared.event.Refusal.TheVariants as refusal_of;
 ghost use Rattle.domain_core.specs.Domain.{Fits, UnlessNoMemory};
 ghost use Rattle.domain_core.specs.Ticket.{fresh_ticket};
 ghost use Rattle.farm_core.specs.Places.{places_of};
@@ -23,7 +24,7 @@ use crate::NoMemory;
 use crate::closed::{Closed, NotClosed};
 use crate::closing::{ClosingMemory, close_domains};
 use crate::histories::Histories;
-use crate::lists::are_listed;
+use crate::lists::await_listed;
 use crate::locking::take;
 use crate::opening::{Opened, lock_each};
 use crate::pass::UserPass;
@@ -90,16 +91,43 @@ fn ask(
     domain.apply(by, event)
 }
 
+// Domains, each under a lock of its own, which bursts are to be done next, and the tokens of a plan with the passes of workers.
+fn open_parts<R: Wait>(
+    rt: &R,
+    alloc: Global,
+    plan: &AcceptedPlan,
+    domains: Vec<SeatedDomain>,
+    workers: u8,
+) -> Result<
+    (
+        Vec<Mutex<SeatedDomain>>,
+        Schedule,
+        TokenQueue,
+        Vec<WorkerPass>,
+    ),
+    NoMemory,
+>
+    requires { (1 ≤ workers) × (workers ≤ 8) }
+    ensures locks { IfOk result (λ o. vec_len o.0 ≡ vec_len domains) }
+    ensures workers { IfOk result (λ o. length o.3.items ≡ workers) }
+    ensures passes { IfOk result (λ o. AreItsPasses plan.now o.2 o.3.items) }
+{
+    let locks = lock_each(alloc, domains)?;
+    let schedule = Schedule::empty(alloc)?;
+    let (tokens, passes) = TokenQueue::open(rt, alloc, plan, workers)?;
+    Ok((locks, schedule, tokens, passes))
+}
+
 impl Service {
     /// A service on the domains of a plan, which are put under locks, with the passes of its users.
-    // Seven clauses: two of what is handed in, and one for each thing that is opened.
+    // Eight clauses: two of what is handed in, one for each thing that is opened, and when there is none.
     pub(crate) fn of<R: Wait>(
         rt: &R,
         alloc: Global,
         histories: Histories,
         workers: u8,
         users: Vec<UserPass>,
-    ) -> Result<Opened, NoMemory>
+    ) -> Result<Opened, Refusal>
         requires workers { (1 ≤ workers) × (workers ≤ 8) }
         requires count { vec_len histories.domains ≡ length histories.plan }
         ensures plan { IfOk result (λ o. o.service.plan ≡ histories.plan) }
@@ -107,6 +135,7 @@ impl Service {
         ensures workers { IfOk result (λ o. length o.passes.items ≡ workers) }
         ensures passes { IfOk result (λ o. AreItsPasses histories.plan o.service.queue o.passes.items) }
         ensures operator { IfOk result (λ o. IsItsOperator o.service o.operator × (seen_words o.operator ≡ replicate 32 0)) }
+        ensures err { IfErr result (λ refusal. refusal ≡ refusal_of.NoMemory) }
     {
         let Histories {
             plan,
@@ -114,9 +143,7 @@ impl Service {
             table,
             operator,
         } = histories;
-        let domains = lock_each(alloc, domains)?;
-        let schedule = Schedule::empty(alloc)?;
-        let (tokens, passes) = TokenQueue::open(rt, alloc, &plan, workers)?;
+        let (domains, schedule, tokens, passes) = open_parts(rt, alloc, &plan, domains, workers)?;
         Ok(Opened {
             service: Service {
                 plan,
@@ -337,9 +364,7 @@ impl Service {
             tokens: mut left,
         } = room;
         let closed = close_domains(rt, &plan, domains, closed, words);
-        if !are_listed(closed.as_slice(), users.as_slice()) {
-            return block_forever(rt);
-        }
+        await_listed(rt, closed.as_slice(), users.as_slice());
         tokens.end(rt, &plan, passes, &mut left);
         Ok(Closed {
             domains: closed,

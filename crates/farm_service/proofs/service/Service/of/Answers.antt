@@ -8,7 +8,7 @@ pub returns-clause-users : goal.returns-clause-users
 returns-clause-users g c = refl
 
 pub returns-clause-workers : goal.returns-clause-workers
-returns-clause-workers g c = c.in_ok-tokens.ensures.workers
+returns-clause-workers g c = c.in_ok-domains.ensures.workers
 
 pub returns-clause-passes : goal.returns-clause-passes
-returns-clause-passes g c = c.in_ok-tokens.ensures.passes
+returns-clause-passes g c = c.in_ok-domains.ensures.passes
