@@ -6,8 +6,8 @@ ghost use Rattle.farm_service.specs.Endings.{IsEndOf};
 
 use crate::NoMemory;
 use crate::closed::ClosedDomain;
+use crate::locking::await_fitting;
 use crate::service::SeatedDomain;
-use crate::waiting::block_forever;
 use crossbar::Word;
 use farm_core::laws::{
     each_merge_is_a_run, each_word_is_of_its_output, numbered_domains_are_separate,
@@ -82,9 +82,7 @@ fn close_domain<R: Wait>(
 ) -> ClosedDomain
     ensures { IsEndOf plan.now number domain result }
 {
-    if !domain.fits(plan, number) {
-        return block_forever(rt);
-    }
+    await_fitting(rt, &domain, plan, number);
     // A domain is what its journal says.
     domain.meant_law();
     let words = words_of(&mut domain, room);

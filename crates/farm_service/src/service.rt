@@ -25,11 +25,10 @@ use crate::closed::{Closed, NotClosed};
 use crate::closing::{ClosingMemory, close_domains};
 use crate::histories::Histories;
 use crate::lists::await_listed;
-use crate::locking::take;
+use crate::locking::{await_fitting, take};
 use crate::opening::{Opened, lock_each};
 use crate::pass::UserPass;
 use crate::schedule::Schedule;
-use crate::waiting::block_forever;
 use crossbar::Word;
 use domain_core::laws::histories_grow;
 use domain_core::{By, Committed, Domain, Event, Refusal, Reply, Ticket};
@@ -229,9 +228,7 @@ impl Service {
         ensures none { (result ≡ None) ↔ (length self.now.plan ≤ domain) }
     {
         let seated = self.hold(rt, domain)?;
-        if !seated.fits(&self.plan, domain) {
-            return block_forever(rt);
-        }
+        await_fitting(rt, &seated, &self.plan, domain);
         // A domain is what its journal says.
         seated.meant_law();
         Some(seated)

@@ -75,7 +75,11 @@ impl Service {
         let done = if checked_out { burst(slot, steps) } else { 0 };
         self.schedule().note_steps(token, done);
         let ended = self.end(rt, token, checked_out, slot);
-        gate.ended(rt, token, &ended.map(|ended| ended.turned));
+        let turned = match ended {
+            Ok(ended) => Ok(ended.turned),
+            Err(refusal) => Err(refusal),
+        };
+        gate.ended(rt, token, &turned);
         ended
     }
 
@@ -266,10 +270,11 @@ impl Service {
     {
         let nodes = self.nodes(domain);
         self.bursts(rt, domain, nodes, slot, quantum, quanta)?;
-        let MovesEnd { moved, is_quiet } = match self.hold(rt, domain) {
-            Some(mut seated) => end_round(&mut seated)?,
-            None => return Err(Refusal::NoSuch),
+        let ended = match self.hold(rt, domain) {
+            Some(mut seated) => end_round(&mut seated),
+            None => Err(Refusal::NoSuch),
         };
+        let MovesEnd { moved, is_quiet } = ended?;
         Ok(RoundEnd {
             moved,
             is_quiet,
@@ -295,12 +300,27 @@ impl Service {
             return Ok(Settled::Quiet);
         }
         let mut slot = None;
+        self.settle_by(rt, domain, &mut slot, quantum, rounds)
+    }
+
+    // The same of a domain that isn't quiet, by bursts of the ticket in a slot.
+    fn settle_by<R: Wait>(
+        &self,
+        rt: &R,
+        domain: u8,
+        slot: &mut Option<Ticket>,
+        quantum: u64,
+        rounds: u64,
+    ) -> Result<Settled, Refusal>
+        requires quantum { 1 ≤ quantum }
+        ensures there { domain < length self.now.plan → result ≢ Err NoSuch }
+    {
         let mut pace = Pace::of(rounds, self.schedule().rest().changes(domain));
         for _round in 0..rounds {
             if pace.is_over() {
                 break;
             }
-            let ended = self.round(rt, domain, &mut slot, quantum, pace.quanta())?;
+            let ended = self.round(rt, domain, slot, quantum, pace.quanta())?;
             if ended.is_quiet {
                 return Ok(Settled::Quiet);
             }

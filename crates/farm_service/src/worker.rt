@@ -87,19 +87,24 @@ fn take_turns<R: Wait, G: Gate>(
         quantum,
         may_grow: may_sleep,
     };
+    let mut worked = Worked::Turns;
     for _turn in 0..turns {
         if service.is_stopped() {
-            return Worked::Stopped;
+            worked = Worked::Stopped;
+            break;
         }
         service
             .schedule()
             .make_way(rt, workers_before, &mut idleness, may_sleep);
         match turn(rt, service, pass, gate, &mut slot, length) {
-            Err(Refusal::NoMemory) => return Worked::NoMemory,
+            Err(Refusal::NoMemory) => {
+                worked = Worked::NoMemory;
+                break;
+            }
             done => idleness.note(done == Ok(true)),
         }
     }
-    Worked::Turns
+    worked
 }
 
 /// Works for so many turns. In each a token is taken, its node does up to `quantum` Steps, 1 to 4,096,
