@@ -1,6 +1,7 @@
 //! What a worker does.
 
 ghost use Rattle.std.specs.Prelude.{◌≡◌, ◌≤◌, []};
+ghost use Rattle.token_queue.specs.Tokens.{HasToken, without};
 
 use crate::halves::Turned;
 use crate::pace::BurstLength;
@@ -45,6 +46,15 @@ pub enum Worked {
     NoMemory,
 }
 
+// Gives the token of a turn back, once.
+fn give_back<R: Wait>(rt: &R, service: &Service, pass: &mut WorkerPass, token: Token)
+    requires queue { pass.old.queue ≡ service.now.queue }
+    requires held { HasToken pass.old.held token }
+    ensures { pass.new ≡ record pass.old { held = without token pass.old.held } }
+{
+    service.tokens().give_back(rt, pass, token);
+}
+
 // One turn; whether there was anything to do. The token goes back in every case.
 fn turn<R: Wait, G: Gate>(
     rt: &R,
@@ -61,7 +71,7 @@ fn turn<R: Wait, G: Gate>(
         None => Ok(false),
         Some(token) => {
             let done = service.turn(rt, token, gate, slot, length);
-            service.tokens().give_back(rt, pass, token);
+            give_back(rt, service, pass, token);
             done
         }
     }
