@@ -1,5 +1,5 @@
--- Domains that are closed one after another, and what their journals come to: the clause `runs` of `close_domains`.
--- At the end the words of one domain: the clause `words` of `words_of`.
+-- Domains that are closed one after another, and what their journals come to: the clauses `domains` and `runs` of
+-- `close_domains`. At the end the words of one domain: the clause `words` of `words_of`.
 use Rattle.std.proofs.Common.{◌≡◌, ℕ, zero, suc, ◌+◌, List, [], ◌∷◌, ◌++◌, length, take, map, Option}
 use Rattle.std.proofs.Common.{Some, None, slice_get, All, refl, sym, ap, ◌∙◌, subst, arith, option_map}
 use Rattle.std.proofs.lemmas.List.{take_more, map-append, length-append, take_all}

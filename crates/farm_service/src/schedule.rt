@@ -152,40 +152,27 @@ impl NodeMarks {
     }
 }
 
-// The marks of all nodes that a plan can have.
-fn fresh_nodes(alloc: Global) -> Result<Vec<CachePadded<NodeMarks>>, NoMemory> {
-    let mut nodes = Vec::with_capacity(alloc, MOST_NODES)?;
-    for _node in 0..MOST_NODES {
-        nodes.push(CachePadded::new(NodeMarks::none()))?;
-    }
-    Ok(nodes)
-}
-
-// The marks of all domains that a plan can have.
-fn fresh_domains(alloc: Global) -> Result<Vec<CachePadded<DomainMarks>>, NoMemory> {
-    let mut domains = Vec::with_capacity(alloc, MOST_DOMAINS)?;
-    for _domain in 0..MOST_DOMAINS {
-        domains.push(CachePadded::new(DomainMarks {
-            settlers: AtomicUsize::new(0),
-            quanta: AtomicU64::new(1),
-        }))?;
-    }
-    Ok(domains)
-}
-
 impl Schedule {
     /// No node is checked out or due, and nobody settles or works.
     pub fn empty(alloc: Global) -> Result<Schedule, NoMemory> {
-        let nodes = fresh_nodes(alloc)?;
-        let domains = fresh_domains(alloc)?;
-        let rest = Rest::empty(alloc)?;
+        let mut nodes = Vec::with_capacity(alloc, MOST_NODES)?;
+        for _node in 0..MOST_NODES {
+            nodes.push(CachePadded::new(NodeMarks::none()))?;
+        }
+        let mut domains = Vec::with_capacity(alloc, MOST_DOMAINS)?;
+        for _domain in 0..MOST_DOMAINS {
+            domains.push(CachePadded::new(DomainMarks {
+                settlers: AtomicUsize::new(0),
+                quanta: AtomicU64::new(1),
+            }))?;
+        }
         Ok(Schedule {
             nodes,
             domains,
             settling: CachePadded::new(AtomicUsize::new(0)),
             cores: AtomicUsize::new(usize::MAX),
             nap: AtomicU64::new(0),
-            rest,
+            rest: Rest::empty(alloc)?,
         })
     }
 

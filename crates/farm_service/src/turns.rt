@@ -270,11 +270,10 @@ impl Service {
     {
         let nodes = self.nodes(domain);
         self.bursts(rt, domain, nodes, slot, quantum, quanta)?;
-        let ended = match self.hold(rt, domain) {
-            Some(mut seated) => end_round(&mut seated),
-            None => Err(Refusal::NoSuch),
+        let MovesEnd { moved, is_quiet } = match self.hold(rt, domain) {
+            Some(mut seated) => end_round(&mut seated)?,
+            None => return Err(Refusal::NoSuch),
         };
-        let MovesEnd { moved, is_quiet } = ended?;
         Ok(RoundEnd {
             moved,
             is_quiet,

@@ -1,4 +1,4 @@
-use Rattle.std.proofs.Common.{◌≡◌, ◌≤◌, ◌++◌, ◌∙◌, List, length, sym, subst, arith}
+use Rattle.std.proofs.Common.{◌≡◌, ◌≤◌, ◌++◌, ◌∙◌, ℕ, List, length, sym, subst}
 use Rattle.std.proofs.lemmas.List.{take_all}
 use Rattle.domain_core.specs.declared.journal.Entry.{Entry}
 use Rattle.domain_core.specs.Journal.{expanded}
@@ -14,8 +14,8 @@ loop-index-preserved c =
 
 pub returns : goal.returns
 returns c =
-    let count = c.len-index-end.ensures in
-    let all : length c.args.journal.now ≤ c.loop-index.index = omega arith in
+    let all : length c.args.journal.now ≤ c.loop-index.index =
+    subst (λ (n : ℕ). n ≤ c.loop-index.index) c.len-index-end.ensures c.loop-index-test.false in
     subst
     (λ (j : List Entry). c.loop-index.told.items ≡ c.args.told.now.items ++ commands_of c.args.user (expanded j))
     (take_all c.loop-index.index c.args.journal.now all) c.loop-index.invariant
