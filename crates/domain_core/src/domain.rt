@@ -47,11 +47,21 @@ pub enum Committed {
 /// A domain: a switch over its outputs, its nodes and its hosts, and the journal of the events that
 /// it answered. At every moment it is what its journal says: the state to which a farm that holds the
 /// domain alone comes by the same events, which it answers alike.
-#[derive(Drop)]
 pub struct Domain<O: Outputs> {
     machine: RunningMachine<O>,
     journal: Journal,
     recorded: u64,
+}
+
+// One call wherever one is dropped, where a derived drop would be those of all its parts.
+impl<O: Outputs + Drop> Drop for Domain<O> {
+    fn drop(self) {
+        let Domain {
+            machine: _,
+            journal: _,
+            recorded: _,
+        } = self;
+    }
 }
 
 impl<O: Outputs> Model for Domain<O> {
@@ -304,11 +314,11 @@ impl<O: Outputs + Drop> Domain<O> {
         ensures { result ≡ self.journal }
     {
         let Domain {
-            journal,
+            journal: answered,
             machine: _,
             recorded: _,
         } = self;
-        journal
+        answered
     }
 
     /// A node, if it is there.

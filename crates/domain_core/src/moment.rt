@@ -22,10 +22,19 @@ use std::alloc::Global;
 use std::marker::Model;
 
 /// A domain at a moment of its history: its machine without the journal, and how many events were recorded till then.
-#[derive(Drop)]
 pub struct Moment {
     machine: RunningMachine<PlainOutputs>,
     recorded: u64,
+}
+
+// One call wherever one is dropped, where a derived drop would be those of all its parts.
+impl Drop for Moment {
+    fn drop(self) {
+        let Moment {
+            machine: _,
+            recorded: _,
+        } = self;
+    }
 }
 
 impl Model for Moment {

@@ -49,7 +49,6 @@ pub type SeatedDomain = Domain<DomainSeat>;
 /// What a lock holds is known by its type alone. So a user's command asks under the lock whether the
 /// domain is the plan's, and `close` asks it of each; where it isn't, which no run comes to, the call
 /// waits for ever.
-#[derive(Drop)]
 pub struct Service {
     plan: AcceptedPlan,
     domains: Vec<Mutex<SeatedDomain>>,
@@ -58,6 +57,20 @@ pub struct Service {
     stopped: AtomicBool,
     // Which bursts are to be done next. Nobody relies on it: it spares bursts that would be stale, or too many.
     schedule: Schedule,
+}
+
+// One call wherever one is dropped, where a derived drop would be those of all its parts.
+impl Drop for Service {
+    fn drop(self) {
+        let Service {
+            plan: _,
+            domains: _,
+            table: _,
+            tokens: _,
+            stopped: _,
+            schedule: _,
+        } = self;
+    }
 }
 
 impl Model for Service {

@@ -10,9 +10,13 @@ use farm_causes::Follower;
 use script_text::TextWriter;
 use serde::Serialize;
 use std::alloc::Global;
+use std::collections::BTreeMap;
+
+/// The handbook's names of the registers that a film shows.
+const REGISTERS: [&str; 7] = ["Iptr", "W", "A", "B", "C", "O", "Error"];
 
 /// What changed of a domain.
-#[derive(Drop, Serialize)]
+#[derive(Serialize)]
 pub struct FrameChanges {
     recorded: u64,
     #[serde(skip_serializing_if = "Vec::is_empty")]
@@ -21,6 +25,18 @@ pub struct FrameChanges {
     nodes: Vec<ChangedNode>,
     #[serde(skip_serializing_if = "Vec::is_empty")]
     hosts: Vec<ChangedHost>,
+}
+
+// One call wherever one is dropped, where a derived drop would be those of all its parts.
+impl Drop for FrameChanges {
+    fn drop(self) {
+        let FrameChanges {
+            recorded: _,
+            words: _,
+            nodes: _,
+            hosts: _,
+        } = self;
+    }
 }
 
 /// The new switch word of a virtual output, in hexadecimal digits.
@@ -37,29 +53,11 @@ struct ChangedNode {
     /// What a look shows.
     #[serde(skip_serializing_if = "Option::is_none")]
     look: Option<String>,
-    #[serde(skip_serializing_if = "Option::is_none")]
-    registers: Option<ChangedRegisters>,
+    /// The registers that changed, under the handbook's names. Error is 0 or 1.
+    #[serde(skip_serializing_if = "BTreeMap::is_empty")]
+    registers: BTreeMap<&'static str, u32>,
     #[serde(skip_serializing_if = "Option::is_none")]
     code: Option<CodeBytes>,
-}
-
-/// The registers that changed, under the handbook's names.
-#[derive(Drop, Serialize)]
-struct ChangedRegisters {
-    #[serde(rename = "Iptr", skip_serializing_if = "Option::is_none")]
-    instruction: Option<u32>,
-    #[serde(rename = "W", skip_serializing_if = "Option::is_none")]
-    workspace: Option<u32>,
-    #[serde(rename = "A", skip_serializing_if = "Option::is_none")]
-    a: Option<u32>,
-    #[serde(rename = "B", skip_serializing_if = "Option::is_none")]
-    b: Option<u32>,
-    #[serde(rename = "C", skip_serializing_if = "Option::is_none")]
-    c: Option<u32>,
-    #[serde(rename = "O", skip_serializing_if = "Option::is_none")]
-    operand: Option<u32>,
-    #[serde(rename = "Error", skip_serializing_if = "Option::is_none")]
-    error: Option<bool>,
 }
 
 /// What changed of a host's queues.
@@ -79,52 +77,46 @@ struct ChangedQueue {
     came: String,
 }
 
-// A value if it isn't the old one.
-fn if_new<T: Copy + PartialEq>(old: T, new: T) -> Option<T> {
-    if old == new { None } else { Some(new) }
+// The registers that a film shows, in the order of their names. Error is 0 or 1.
+fn register_words(cpu: Cpu) -> [u32; 7] {
+    [
+        cpu.instruction,
+        cpu.workspace,
+        cpu.a,
+        cpu.b,
+        cpu.c,
+        cpu.operand,
+        u32::from(cpu.error),
+    ]
 }
 
-// Whether a film tells the same of these registers.
-fn is_same(old: Cpu, new: Cpu) -> bool {
-    old.instruction == new.instruction
-        && old.workspace == new.workspace
-        && old.a == new.a
-        && old.b == new.b
-        && old.c == new.c
-        && old.operand == new.operand
-        && old.error == new.error
-}
-
-// All registers.
-fn all_registers(new: Cpu) -> ChangedRegisters {
-    ChangedRegisters {
-        instruction: Some(new.instruction),
-        workspace: Some(new.workspace),
-        a: Some(new.a),
-        b: Some(new.b),
-        c: Some(new.c),
-        operand: Some(new.operand),
-        error: Some(new.error),
+// Whether a register had another word before, or none.
+fn is_changed(before: Option<[u32; 7]>, place: usize, word: u32) -> bool {
+    match before {
+        Some(before) => before.get(place).copied() != Some(word),
+        None => true,
     }
 }
 
-// What changed of the registers, if anything did. All are new to a node that didn't run.
-fn register_change(old: Option<Cpu>, new: Cpu) -> Option<ChangedRegisters> {
-    let Some(old) = old else {
-        return Some(all_registers(new));
+// What changed of the registers. All are new to a node that didn't run.
+fn register_changes(
+    alloc: Global,
+    old: Option<Cpu>,
+    new: Cpu,
+) -> Result<BTreeMap<&'static str, u32>, NoMemory> {
+    let before = match old {
+        Some(old) => Some(register_words(old)),
+        None => None,
     };
-    if is_same(old, new) {
-        return None;
+    let after = register_words(new);
+    let mut changes = BTreeMap::new(alloc);
+    for place in 0..7usize {
+        let word = after[place];
+        if is_changed(before, place, word) {
+            changes.insert(REGISTERS[place], word)?;
+        }
     }
-    Some(ChangedRegisters {
-        instruction: if_new(old.instruction, new.instruction),
-        workspace: if_new(old.workspace, new.workspace),
-        a: if_new(old.a, new.a),
-        b: if_new(old.b, new.b),
-        c: if_new(old.c, new.c),
-        operand: if_new(old.operand, new.operand),
-        error: if_new(old.error, new.error),
-    })
+    Ok(changes)
 }
 
 // The registers of a node that runs.
@@ -185,12 +177,12 @@ fn node_change(
 ) -> Result<Option<ChangedNode>, NoMemory> {
     let running = registers_of(Some(new));
     let registers = match running {
-        Some(registers) => register_change(registers_of(old), registers),
-        None => None,
+        Some(registers) => register_changes(alloc, registers_of(old), registers)?,
+        None => BTreeMap::new(alloc),
     };
     let look = look_change(alloc, old, new)?;
     let code = code_change(alloc, known, follower, number, running)?;
-    if look.is_none() && registers.is_none() && code.is_none() {
+    if look.is_none() && registers.is_empty() && code.is_none() {
         return Ok(None);
     }
     Ok(Some(ChangedNode {

@@ -30,7 +30,6 @@ pub struct HostFrame {
 }
 
 /// A domain as a film shows it at a moment.
-#[derive(Drop)]
 pub struct Frame {
     /// How many events were recorded till then.
     pub recorded: u64,
@@ -40,6 +39,18 @@ pub struct Frame {
     pub nodes: [Option<NodeFrame>; 8],
     /// The hosts that are there, by number.
     pub hosts: [Option<HostFrame>; 4],
+}
+
+// One call wherever one is dropped, where a derived drop would be those of all its parts.
+impl Drop for Frame {
+    fn drop(self) {
+        let Frame {
+            recorded: _,
+            words: _,
+            nodes: _,
+            hosts: _,
+        } = self;
+    }
 }
 
 // The bytes of a queue, front first.

@@ -14,7 +14,7 @@ use t414_decode::{Function, decode};
 const NO_OPERATION: u32 = 255;
 
 /// What the plan says of the domain, and the names of the processor's functions and operations.
-#[derive(Drop, Serialize)]
+#[derive(Serialize)]
 pub struct PlanTold {
     limit: u64,
     users: Vec<String>,
@@ -25,6 +25,21 @@ pub struct PlanTold {
     ports: Vec<PortTold>,
     functions: Vec<String>,
     operations: Vec<OperationTold>,
+}
+
+// One call wherever one is dropped, where a derived drop would be those of all its parts.
+impl Drop for PlanTold {
+    fn drop(self) {
+        let PlanTold {
+            limit: _,
+            users: _,
+            nodes: _,
+            hosts: _,
+            ports: _,
+            functions: _,
+            operations: _,
+        } = self;
+    }
 }
 
 /// A virtual port, with the device that is joined there.

@@ -12,13 +12,23 @@ use plan_checker::AcceptedPlan;
 use std::alloc::Global;
 
 /// The domain after the events of a record that were done, and what comes next of it.
-#[derive(Drop)]
 pub struct Progress {
     pub follower: Follower,
     /// What is left of the line that was begun last.
     pub rest: SaidCall,
     /// How many lines were begun.
     pub next: usize,
+}
+
+// One call wherever one is dropped, where a derived drop would be those of all its parts.
+impl Drop for Progress {
+    fn drop(self) {
+        let Progress {
+            follower: _,
+            rest: _,
+            next: _,
+        } = self;
+    }
 }
 
 impl Progress {

@@ -25,7 +25,6 @@ const MOST_KEPT: u64 = 128;
 const STEPS_AS_ONE: u64 = 128;
 
 /// A record, and its domain at one of its moments. Moments are kept on the way, so that each is found again soon.
-#[derive(Drop)]
 pub struct Timeline<'a> {
     plan: AcceptedPlan,
     lines: Vec<RecordedLine<'a>>,
@@ -36,6 +35,22 @@ pub struct Timeline<'a> {
     here: Progress,
     // Whether `here` is a moment of the record. After an error it may be none.
     is_led: bool,
+}
+
+// One call wherever one is dropped, where a derived drop would be those of all its parts.
+impl Drop for Timeline<'_> {
+    fn drop(self) {
+        let Timeline {
+            plan: _,
+            lines: _,
+            is_cut: _,
+            events: _,
+            opening: _,
+            kept: _,
+            here: _,
+            is_led: _,
+        } = self;
+    }
 }
 
 impl<'a> Model for Timeline<'a> {

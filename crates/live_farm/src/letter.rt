@@ -15,7 +15,6 @@ pub enum Matter {
 }
 
 /// A line for a domain's thread.
-#[derive(Drop)]
 pub struct Letter {
     /// Whose it is, by his number in the domain.
     pub user: u8,
@@ -23,4 +22,15 @@ pub struct Letter {
     pub number: u64,
     /// What is to be answered.
     pub matter: Matter,
+}
+
+// One call wherever one is dropped, where a derived drop would be those of all its parts.
+impl Drop for Letter {
+    fn drop(self) {
+        let Letter {
+            user: _,
+            number: _,
+            matter: _,
+        } = self;
+    }
 }

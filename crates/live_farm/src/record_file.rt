@@ -29,7 +29,6 @@ pub struct RecordFolder<'a, F: Files<File = File>> {
 }
 
 /// The newest record of a domain.
-#[derive(Drop)]
 pub struct RecordFile<'a, F: Files<File = File>> {
     files: &'a F,
     alloc: Global,
@@ -39,6 +38,21 @@ pub struct RecordFile<'a, F: Files<File = File>> {
     number: u64,
     syncs: bool,
     file: File,
+}
+
+// One call wherever one is dropped, where a derived drop would be those of all its parts.
+impl<F: Files<File = File>> Drop for RecordFile<'_, F> {
+    fn drop(self) {
+        let RecordFile {
+            files: _,
+            alloc: _,
+            folder: _,
+            stem: _,
+            number: _,
+            syncs: _,
+            file: _,
+        } = self;
+    }
 }
 
 // A record that was there, with how much of it is whole.

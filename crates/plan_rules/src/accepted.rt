@@ -15,11 +15,21 @@ use std::alloc::Global;
 use std::marker::Model;
 
 /// A plan whose domains are separate. Contracts see the data of the plan.
-#[derive(Drop)]
 pub struct AcceptedPlan {
     domains: Vec<DomainPlan>,
     parts: Vec<Part>,
     ports: Vec<Numbering>,
+}
+
+// One call wherever one is dropped, where a derived drop would be those of all its parts.
+impl Drop for AcceptedPlan {
+    fn drop(self) {
+        let AcceptedPlan {
+            domains: _,
+            parts: _,
+            ports: _,
+        } = self;
+    }
 }
 
 impl Model for AcceptedPlan {

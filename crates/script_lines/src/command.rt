@@ -5,7 +5,6 @@ ghost use Rattle.script_lines.specs.Verbs.{verb_of, place_asked};
 use crate::verb::Verb;
 
 /// What a script line asks.
-#[derive(Drop)]
 pub enum Command {
     /// Configuration bytes for the switch of the user's domain.
     Config(Vec<u8>),
@@ -23,6 +22,29 @@ pub enum Command {
     Reset { node: u8 },
     /// A look at a node.
     Look { node: u8 },
+}
+
+// One call wherever one is dropped, where a derived drop would be those of all its parts.
+impl Drop for Command {
+    fn drop(self) {
+        match self {
+            Command::Config(_)
+            | Command::Write { host: _, bytes: _ }
+            | Command::Boot { host: _, code: _ }
+            | Command::Poke {
+                host: _,
+                address: _,
+                word: _,
+            }
+            | Command::Peek {
+                host: _,
+                address: _,
+            }
+            | Command::Collect { host: _ }
+            | Command::Reset { node: _ }
+            | Command::Look { node: _ } => {}
+        }
+    }
 }
 
 impl Command {
