@@ -24,10 +24,16 @@ use std::marker::Model;
 use t414_step::Stepped;
 
 /// The nodes and hosts of a domain, by their numbers.
-#[derive(Drop)]
 pub(crate) struct Devices {
     nodes: Vec<Node>,
     hosts: Vec<Host>,
+}
+
+// It is dropped by one call.
+impl Drop for Devices {
+    fn drop(self) {
+        let Devices { nodes: _, hosts: _ } = self;
+    }
 }
 
 impl Model for Devices {

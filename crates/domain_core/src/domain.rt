@@ -53,7 +53,7 @@ pub struct Domain<O: Outputs> {
     recorded: u64,
 }
 
-// One call wherever one is dropped, where a derived drop would be those of all its parts.
+// It is dropped by one call.
 impl<O: Outputs + Drop> Drop for Domain<O> {
     fn drop(self) {
         let Domain {

@@ -114,10 +114,16 @@ impl SmallEntry {
 }
 
 /// The entries of a journal. What looks saw, which is large and seldom, is kept apart in the order of the looks.
-#[derive(Drop)]
 pub(crate) struct Entries {
     small: Vec<SmallEntry>,
     seen: Vec<Seen>,
+}
+
+// It is dropped by one call.
+impl Drop for Entries {
+    fn drop(self) {
+        let Entries { small: _, seen: _ } = self;
+    }
 }
 
 impl Model for Entries {

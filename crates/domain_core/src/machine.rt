@@ -44,12 +44,23 @@ pub(crate) struct Acted {
 }
 
 /// A domain's switch, nodes and hosts, with its part and the device of each port.
-#[derive(Drop)]
 pub(crate) struct RunningMachine<O: Outputs> {
     part: Part,
     switch: VirtualSwitch<O>,
     devices: Devices,
     table: DeviceTable,
+}
+
+// It is dropped by one call.
+impl<O: Outputs + Drop> Drop for RunningMachine<O> {
+    fn drop(self) {
+        let RunningMachine {
+            part: _,
+            switch: _,
+            devices: _,
+            table: _,
+        } = self;
+    }
 }
 
 impl<O: Outputs> Model for RunningMachine<O> {

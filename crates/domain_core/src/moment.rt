@@ -27,7 +27,7 @@ pub struct Moment {
     recorded: u64,
 }
 
-// One call wherever one is dropped, where a derived drop would be those of all its parts.
+// It is dropped by one call.
 impl Drop for Moment {
     fn drop(self) {
         let Moment {

@@ -14,7 +14,6 @@ pub const MOST_STEPS: u64 = 1 << 40;
 
 /// A copy of a node, and the Steps that it has done since it was copied. The home node may change
 /// meanwhile: then the ticket is stale.
-#[derive(Drop)]
 pub struct Ticket {
     domain: u8,
     number: u8,
@@ -22,6 +21,20 @@ pub struct Ticket {
     node: Node,
     steps: u64,
     last: Option<Stepped>,
+}
+
+// It is dropped by one call.
+impl Drop for Ticket {
+    fn drop(self) {
+        let Ticket {
+            domain: _,
+            number: _,
+            start: _,
+            node: _,
+            steps: _,
+            last: _,
+        } = self;
+    }
 }
 
 impl Model for Ticket {

@@ -29,11 +29,21 @@ use step_meter::StepMeter;
 use t414_step::Stepped;
 
 /// A domain at the moment to which its record leads, and what was noted on the way.
-#[derive(Drop)]
 pub struct Follower {
     alloc: Global,
     moment: Moment,
     past: Past,
+}
+
+// It is dropped by one call.
+impl Drop for Follower {
+    fn drop(self) {
+        let Follower {
+            alloc: _,
+            moment: _,
+            past: _,
+        } = self;
+    }
 }
 
 impl Model for Follower {

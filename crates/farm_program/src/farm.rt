@@ -63,14 +63,8 @@ fn end_all(alloc: Global, users: Vec<User<'_>>) -> Result<UsersEnd, NoMemory>
     let mut passes = Vec::with_capacity(alloc, users.len())?;
     let mut screens = Vec::with_capacity(alloc, users.len())?;
     for user in users {
-        let User {
-            session,
-            screen,
-            ended,
-            ..
-        } = user;
-        ended?;
-        passes.push(session.end())?;
+        let (pass, screen) = user.end()?;
+        passes.push(pass)?;
         screens.push(screen)?;
     }
     Ok(UsersEnd { passes, screens })

@@ -1,5 +1,5 @@
 //! Users at a service, each in a session of his own, and what they are shown.
-ghost use Rattle.std.specs.Prelude.{◌≡◌, ◌<◌, ◌++◌, length, map, slice_get, All, IfOk, IfSome, OnOk};
+ghost use Rattle.std.specs.Prelude.{◌≡◌, ◌<◌, ◌++◌, length, map, slice_get, All, IfOk, IfSome, IsOk, OnOk};
 ghost use Rattle.farm_service.specs.Passes.{fresh_passes};
 ghost use Rattle.farm_program.specs.Users.{AreUsersOf, HasAnswered, as_opened, commands_at, all_names, session_of};
 
@@ -11,7 +11,6 @@ use std::alloc::Global;
 use std::sync::Wait;
 
 /// A user at a service.
-#[derive(Drop)]
 pub struct User<'a> {
     /// His name in the plan.
     pub name: &'a str,
@@ -25,6 +24,20 @@ pub struct User<'a> {
     pub screen: String,
     /// Whether there was memory for all that he did. Where there was none he stopped.
     pub ended: Result<(), NoMemory>,
+}
+
+// It is dropped by one call.
+impl Drop for User<'_> {
+    fn drop(self) {
+        let User {
+            name: _,
+            session: _,
+            commands: _,
+            quantum: _,
+            screen: _,
+            ended: _,
+        } = self;
+    }
 }
 
 // Adds the names of a domain's users.
@@ -96,6 +109,27 @@ pub fn users_of<'a>(
 }
 
 impl User<'_> {
+    /// Ends his session: his pass, and his output lines.
+    ///
+    /// # Errors
+    ///
+    /// `NoMemory` if there was no memory for all that he did.
+    pub fn end(self) -> Result<(UserPass, String), NoMemory>
+        ensures left { IfOk result (λ left. (left.0 ≡ self.entry.session.pass) × (left.1 ≡ self.entry.screen)) }
+        ensures ended { IfOk result (λ _. IsOk self.entry.ended) }
+    {
+        let User {
+            name: _,
+            session,
+            commands: _,
+            quantum: _,
+            screen,
+            ended,
+        } = self;
+        ended?;
+        Ok((session.end(), screen))
+    }
+
     /// His lines of the script, in their order. What is on his screen before goes.
     #[tactic(auto, using(crate::proofs::Sessions::gains_keep))]
     pub fn run<R: Wait>(&mut self, rt: &R, alloc: Global)

@@ -15,11 +15,21 @@ use std::alloc::Global;
 use t414_step::Stepped;
 
 /// What serves one line after another: a ticket for Steps, and a text to compare with.
-#[derive(Drop)]
 pub struct Redoing {
     alloc: Global,
     ticket: Option<Ticket>,
     text: String,
+}
+
+// It is dropped by one call.
+impl Drop for Redoing {
+    fn drop(self) {
+        let Redoing {
+            alloc: _,
+            ticket: _,
+            text: _,
+        } = self;
+    }
 }
 
 impl Redoing {

@@ -8,13 +8,23 @@ use std::alloc::Global;
 use std::marker::Model;
 
 /// Answers in their order, divided by commas. Equal neighbours stand once, with their number: `3 nothing, 81`.
-#[derive(Drop)]
 pub struct AnswerList {
     // All but the last of the texts that differ from their neighbours, each with a comma behind it.
     text: String,
     // The last of them, and how often it stands at the end.
     last: String,
     count: u64,
+}
+
+// It is dropped by one call.
+impl Drop for AnswerList {
+    fn drop(self) {
+        let AnswerList {
+            text: _,
+            last: _,
+            count: _,
+        } = self;
+    }
 }
 
 impl Model for AnswerList {

@@ -25,12 +25,22 @@ use step_meter::StepMeter;
 use t414_step::Stepped;
 
 /// A farm on one thread, and the tickets that it gave, each until it is spent.
-#[derive(Drop)]
 pub struct OpenFarm {
     alloc: Global,
     /// The farm.
     pub farm: PlainFarm,
     tickets: Vec<Option<Ticket>>,
+}
+
+// It is dropped by one call.
+impl Drop for OpenFarm {
+    fn drop(self) {
+        let OpenFarm {
+            alloc: _,
+            farm: _,
+            tickets: _,
+        } = self;
+    }
 }
 
 // The place of a ticket of the domain that isn't spent.

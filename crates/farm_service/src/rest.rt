@@ -31,7 +31,6 @@ pub(crate) fn place_of(token: Token) -> usize {
 }
 
 // How often a domain was changed so that its nodes may have something to do.
-#[derive(Drop)]
 struct Changes {
     // By anybody.
     all: AtomicU64,
@@ -39,8 +38,14 @@ struct Changes {
     calls: AtomicU64,
 }
 
+// It is dropped by one call.
+impl Drop for Changes {
+    fn drop(self) {
+        let Changes { all: _, calls: _ } = self;
+    }
+}
+
 // What the last turn of a node found.
-#[derive(Drop)]
 struct LastTurn {
     // Nothing to do, after so many changes of the domain.
     nothing_after: AtomicU64,
@@ -48,8 +53,17 @@ struct LastTurn {
     is_busy: AtomicBool,
 }
 
+// It is dropped by one call.
+impl Drop for LastTurn {
+    fn drop(self) {
+        let LastTurn {
+            nothing_after: _,
+            is_busy: _,
+        } = self;
+    }
+}
+
 /// What changed, what turns found, and how many workers there are and sleep.
-#[derive(Drop)]
 pub(crate) struct Rest {
     domains: Vec<CachePadded<Changes>>,
     nodes: Vec<CachePadded<LastTurn>>,
@@ -58,6 +72,20 @@ pub(crate) struct Rest {
     sleepers: AtomicUsize,
     // What workers sleep on: it counts the calls that wake them.
     bed: AtomicU64,
+}
+
+// It is dropped by one call.
+impl Drop for Rest {
+    fn drop(self) {
+        let Rest {
+            domains: _,
+            nodes: _,
+            busy: _,
+            workers: _,
+            sleepers: _,
+            bed: _,
+        } = self;
+    }
 }
 
 impl Rest {

@@ -62,7 +62,6 @@ impl Idleness {
 }
 
 /// What is known of a node.
-#[derive(Drop)]
 struct NodeMarks {
     // How often it was taken and given back: odd as long as a thread does a burst of it.
     takes: AtomicU64,
@@ -75,8 +74,20 @@ struct NodeMarks {
     changes: AtomicU64,
 }
 
+// It is dropped by one call.
+impl Drop for NodeMarks {
+    fn drop(self) {
+        let NodeMarks {
+            takes: _,
+            is_due: _,
+            steps: _,
+            quanta: _,
+            changes: _,
+        } = self;
+    }
+}
+
 /// What is known of a domain.
-#[derive(Drop)]
 struct DomainMarks {
     // How many settle there.
     settlers: AtomicUsize,
@@ -84,8 +95,17 @@ struct DomainMarks {
     quanta: AtomicU64,
 }
 
+// It is dropped by one call.
+impl Drop for DomainMarks {
+    fn drop(self) {
+        let DomainMarks {
+            settlers: _,
+            quanta: _,
+        } = self;
+    }
+}
+
 /// The marks of each node that a plan can have, and how many threads there are for how many cores.
-#[derive(Drop)]
 pub struct Schedule {
     nodes: Vec<CachePadded<NodeMarks>>,
     domains: Vec<CachePadded<DomainMarks>>,
@@ -97,6 +117,20 @@ pub struct Schedule {
     nap: AtomicU64,
     // Which nodes rest, and which workers sleep.
     rest: Rest,
+}
+
+// It is dropped by one call.
+impl Drop for Schedule {
+    fn drop(self) {
+        let Schedule {
+            nodes: _,
+            domains: _,
+            settling: _,
+            cores: _,
+            nap: _,
+            rest: _,
+        } = self;
+    }
 }
 
 // Stores a number, unless it is there: a store takes the cache line from others.

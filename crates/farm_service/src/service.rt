@@ -59,7 +59,7 @@ pub struct Service {
     schedule: Schedule,
 }
 
-// One call wherever one is dropped, where a derived drop would be those of all its parts.
+// It is dropped by one call.
 impl Drop for Service {
     fn drop(self) {
         let Service {

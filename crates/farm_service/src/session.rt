@@ -24,10 +24,19 @@ pub enum Settled {
 }
 
 /// A user at a service, which he borrows. Contracts see the service's plan, and the user's pass.
-#[derive(Drop)]
 pub struct Session<'a> {
     service: &'a Service,
     pass: UserPass,
+}
+
+// It is dropped by one call.
+impl Drop for Session<'_> {
+    fn drop(self) {
+        let Session {
+            service: _,
+            pass: _,
+        } = self;
+    }
 }
 
 impl<'a> Model for Session<'a> {

@@ -33,11 +33,21 @@ struct NodeProgram {
 }
 
 /// A record at one of its moments, and the programs of its nodes.
-#[derive(Drop)]
 pub struct Debugger<'a> {
     alloc: Global,
     timeline: Timeline<'a>,
     programs: Vec<NodeProgram>,
+}
+
+// It is dropped by one call.
+impl Drop for Debugger<'_> {
+    fn drop(self) {
+        let Debugger {
+            alloc: _,
+            timeline: _,
+            programs: _,
+        } = self;
+    }
 }
 
 /// Where it is looked.

@@ -27,7 +27,7 @@ pub struct FrameChanges {
     hosts: Vec<ChangedHost>,
 }
 
-// One call wherever one is dropped, where a derived drop would be those of all its parts.
+// It is dropped by one call.
 impl Drop for FrameChanges {
     fn drop(self) {
         let FrameChanges {
@@ -47,7 +47,7 @@ struct ChangedWord {
 }
 
 /// What changed of a node. What isn't named is as it was, but a node that doesn't run has no registers.
-#[derive(Drop, Serialize)]
+#[derive(Serialize)]
 struct ChangedNode {
     node: u8,
     /// What a look shows.
@@ -60,14 +60,37 @@ struct ChangedNode {
     code: Option<CodeBytes>,
 }
 
+// It is dropped by one call.
+impl Drop for ChangedNode {
+    fn drop(self) {
+        let ChangedNode {
+            node: _,
+            look: _,
+            registers: _,
+            code: _,
+        } = self;
+    }
+}
+
 /// What changed of a host's queues.
-#[derive(Drop, Serialize)]
+#[derive(Serialize)]
 struct ChangedHost {
     host: u8,
     #[serde(skip_serializing_if = "Option::is_none")]
     sending: Option<ChangedQueue>,
     #[serde(skip_serializing_if = "Option::is_none")]
     received: Option<ChangedQueue>,
+}
+
+// It is dropped by one call.
+impl Drop for ChangedHost {
+    fn drop(self) {
+        let ChangedHost {
+            host: _,
+            sending: _,
+            received: _,
+        } = self;
+    }
 }
 
 /// How many bytes left the front of a queue, and which came behind its end, in hexadecimal digits.

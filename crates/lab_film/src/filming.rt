@@ -36,13 +36,25 @@ struct Beginning {
 
 // A domain that does the lines of its record, what is known of its memories, the frame that was told last, and how many frames
 // may still follow.
-#[derive(Drop)]
 struct Filming {
     alloc: Global,
     follower: Follower,
     known: KnownCode,
     last: Frame,
     left: u64,
+}
+
+// It is dropped by one call.
+impl Drop for Filming {
+    fn drop(self) {
+        let Filming {
+            alloc: _,
+            follower: _,
+            known: _,
+            last: _,
+            left: _,
+        } = self;
+    }
 }
 
 impl Filming {

@@ -21,12 +21,21 @@ pub struct NodeFrame {
 }
 
 /// The queues of a host, front first.
-#[derive(Drop)]
 pub struct HostFrame {
     /// What is to be sent, with the byte whose acknowledge hasn't come.
     pub sending: Vec<u8>,
     /// What was received and not taken yet.
     pub received: Vec<u8>,
+}
+
+// It is dropped by one call.
+impl Drop for HostFrame {
+    fn drop(self) {
+        let HostFrame {
+            sending: _,
+            received: _,
+        } = self;
+    }
 }
 
 /// A domain as a film shows it at a moment.
@@ -41,7 +50,7 @@ pub struct Frame {
     pub hosts: [Option<HostFrame>; 4],
 }
 
-// One call wherever one is dropped, where a derived drop would be those of all its parts.
+// It is dropped by one call.
 impl Drop for Frame {
     fn drop(self) {
         let Frame {

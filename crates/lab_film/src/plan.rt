@@ -27,7 +27,7 @@ pub struct PlanTold {
     operations: Vec<OperationTold>,
 }
 
-// One call wherever one is dropped, where a derived drop would be those of all its parts.
+// It is dropped by one call.
 impl Drop for PlanTold {
     fn drop(self) {
         let PlanTold {

@@ -20,7 +20,7 @@ struct PacketTold {
 }
 
 /// What is told of a line: what it asks and is answered, and what changed from frame to frame.
-#[derive(Drop, Serialize)]
+#[derive(Serialize)]
 pub struct LineTold {
     /// The number of the line in the whole text.
     line: u64,
@@ -39,6 +39,22 @@ pub struct LineTold {
     #[serde(skip_serializing_if = "Option::is_none")]
     packet: Option<PacketTold>,
     then: Vec<FrameChanges>,
+}
+
+// It is dropped by one call.
+impl Drop for LineTold {
+    fn drop(self) {
+        let LineTold {
+            line: _,
+            times: _,
+            done: _,
+            user: _,
+            asks: _,
+            answer: _,
+            packet: _,
+            then: _,
+        } = self;
+    }
 }
 
 /// The frames of a line: what a Move found, the last answer, and what changed from frame to frame.

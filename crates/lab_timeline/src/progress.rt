@@ -20,7 +20,7 @@ pub struct Progress {
     pub next: usize,
 }
 
-// One call wherever one is dropped, where a derived drop would be those of all its parts.
+// It is dropped by one call.
 impl Drop for Progress {
     fn drop(self) {
         let Progress {

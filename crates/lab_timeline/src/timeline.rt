@@ -37,7 +37,7 @@ pub struct Timeline<'a> {
     is_led: bool,
 }
 
-// One call wherever one is dropped, where a derived drop would be those of all its parts.
+// It is dropped by one call.
 impl Drop for Timeline<'_> {
     fn drop(self) {
         let Timeline {

@@ -17,7 +17,6 @@ const MOST_AGAIN: u64 = 1 << 28;
 const ENTRY_COUNTS: u64 = 64;
 
 // A domain that follows the journal of one of a service.
-#[derive(Drop)]
 struct Shadow {
     follower: Follower,
     // How far the journal was copied.
@@ -26,6 +25,18 @@ struct Shadow {
     room: Vec<Entry>,
     // What may still be done again.
     left: u64,
+}
+
+// It is dropped by one call.
+impl Drop for Shadow {
+    fn drop(self) {
+        let Shadow {
+            follower: _,
+            mark: _,
+            room: _,
+            left: _,
+        } = self;
+    }
 }
 
 impl Shadow {

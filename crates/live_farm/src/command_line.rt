@@ -29,7 +29,6 @@ pub struct RecordSettings {
 }
 
 /// The plan's file, how many workers step the nodes, and how many Steps each does at a time.
-#[derive(Drop)]
 pub struct LiveSettings {
     /// The path of the plan.
     pub path: String,
@@ -39,6 +38,18 @@ pub struct LiveSettings {
     pub quantum: u16,
     /// Where the farm is recorded, if it is.
     pub records: Option<RecordSettings>,
+}
+
+// It is dropped by one call.
+impl Drop for LiveSettings {
+    fn drop(self) {
+        let LiveSettings {
+            path: _,
+            workers: _,
+            quantum: _,
+            records: _,
+        } = self;
+    }
 }
 
 // Where the farm is recorded.

@@ -21,7 +21,6 @@ pub struct UserNumber {
 }
 
 /// All users, in the order of the plan, and a station for each domain.
-#[derive(Drop)]
 pub struct Crew<'a> {
     /// Their names.
     pub names: Vec<&'a str>,
@@ -29,6 +28,17 @@ pub struct Crew<'a> {
     pub numbers: Vec<UserNumber>,
     /// The domains.
     pub stations: Vec<Station<'a>>,
+}
+
+// It is dropped by one call.
+impl Drop for Crew<'_> {
+    fn drop(self) {
+        let Crew {
+            names: _,
+            numbers: _,
+            stations: _,
+        } = self;
+    }
 }
 
 /// The name of a user of a plan.
@@ -160,7 +170,11 @@ impl<'a> Crew<'a> {
 
     /// Ends all sessions, and gives their passes back.
     pub fn end(self, alloc: Global) -> Result<Vec<UserPass>, NoMemory> {
-        let Crew { stations, .. } = self;
+        let Crew {
+            names: _,
+            numbers: _,
+            stations,
+        } = self;
         let mut passes = Vec::new(alloc);
         for station in stations {
             station.into_group().end(&mut passes)?;

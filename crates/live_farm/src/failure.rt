@@ -47,7 +47,7 @@ impl From<Trouble> for LiveFailure {
 }
 
 /// Why a run ends early, with the text for standard error.
-#[derive(Debug, Drop, Error)]
+#[derive(Debug, Error)]
 pub enum LiveFailure {
     #[error("{0}")]
     Words(clap::Error),
@@ -67,6 +67,23 @@ pub enum LiveFailure {
     Histories,
     #[error("threads\n")]
     Threads,
+}
+
+// It is dropped by one call.
+impl Drop for LiveFailure {
+    fn drop(self) {
+        match self {
+            LiveFailure::Words(_)
+            | LiveFailure::Arguments
+            | LiveFailure::Plan { number: _ }
+            | LiveFailure::Memory
+            | LiveFailure::Io
+            | LiveFailure::File { path: _, error: _ }
+            | LiveFailure::Record { path: _, why: _ }
+            | LiveFailure::Histories
+            | LiveFailure::Threads => {}
+        }
+    }
 }
 
 impl LiveFailure {

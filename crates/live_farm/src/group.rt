@@ -7,7 +7,6 @@ use line_answers::Quantum;
 use std::alloc::Global;
 
 /// The users of a domain, by their numbers there, each in a session of his own.
-#[derive(Drop)]
 pub struct DomainUsers<'a> {
     pub(crate) service: &'a Service,
     pub(crate) domain: u8,
@@ -15,6 +14,19 @@ pub struct DomainUsers<'a> {
     pub(crate) names: Vec<&'a str>,
     pub(crate) sessions: Vec<Session<'a>>,
     ghost as_many: { vec_len names ≡ vec_len sessions },
+}
+
+// It is dropped by one call.
+impl Drop for DomainUsers<'_> {
+    fn drop(self) {
+        let DomainUsers {
+            service: _,
+            domain: _,
+            quantum: _,
+            names: _,
+            sessions: _,
+        } = self;
+    }
 }
 
 impl<'a> DomainUsers<'a> {
@@ -67,7 +79,13 @@ impl<'a> DomainUsers<'a> {
 
     /// Ends all sessions, and adds their passes.
     pub fn end(self, passes: &mut Vec<UserPass>) -> Result<(), NoMemory> {
-        let DomainUsers { sessions, .. } = self;
+        let DomainUsers {
+            service: _,
+            domain: _,
+            quantum: _,
+            names: _,
+            sessions,
+        } = self;
         for session in sessions {
             passes.push(session.end())?;
         }

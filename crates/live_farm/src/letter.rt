@@ -24,7 +24,7 @@ pub struct Letter {
     pub matter: Matter,
 }
 
-// One call wherever one is dropped, where a derived drop would be those of all its parts.
+// It is dropped by one call.
 impl Drop for Letter {
     fn drop(self) {
         let Letter {

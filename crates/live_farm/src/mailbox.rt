@@ -30,10 +30,19 @@ pub enum Sent {
 }
 
 /// The lines that wait for a thread, at most `MOST_WAITING`.
-#[derive(Drop)]
 pub struct Mailbox {
     letters: Mutex<Letters>,
     changed: Condvar,
+}
+
+// It is dropped by one call.
+impl Drop for Mailbox {
+    fn drop(self) {
+        let Mailbox {
+            letters: _,
+            changed: _,
+        } = self;
+    }
 }
 
 impl Mailbox {

@@ -18,7 +18,6 @@ use std::sync::Mutex;
 pub type FileRecords<'a, F> = Vec<Mutex<DomainRecord<RecordFile<'a, F>>>>;
 
 /// A folder of records, which no other farm has as long as it is open.
-#[derive(Drop)]
 pub struct RecordFolder<'a, F: Files<File = File>> {
     files: &'a F,
     alloc: Global,
@@ -26,6 +25,19 @@ pub struct RecordFolder<'a, F: Files<File = File>> {
     syncs: bool,
     // Held as long as this is.
     lock: File,
+}
+
+// It is dropped by one call.
+impl<F: Files<File = File>> Drop for RecordFolder<'_, F> {
+    fn drop(self) {
+        let RecordFolder {
+            files: _,
+            alloc: _,
+            path: _,
+            syncs: _,
+            lock: _,
+        } = self;
+    }
 }
 
 /// The newest record of a domain.
@@ -40,7 +52,7 @@ pub struct RecordFile<'a, F: Files<File = File>> {
     file: File,
 }
 
-// One call wherever one is dropped, where a derived drop would be those of all its parts.
+// It is dropped by one call.
 impl<F: Files<File = File>> Drop for RecordFile<'_, F> {
     fn drop(self) {
         let RecordFile {

@@ -17,7 +17,6 @@ use std::sync::atomic::{AtomicBool, AtomicU64, Ordering};
 use std::sync::{Mutex, Wait};
 
 /// A domain with what its thread needs.
-#[derive(Drop)]
 pub struct Station<'a> {
     /// The lines that wait.
     pub mailbox: Mailbox,
@@ -25,6 +24,18 @@ pub struct Station<'a> {
     group: Mutex<DomainUsers<'a>>,
     answered: Vec<AtomicU64>,
     out_of_memory: AtomicBool,
+}
+
+// It is dropped by one call.
+impl Drop for Station<'_> {
+    fn drop(self) {
+        let Station {
+            mailbox: _,
+            group: _,
+            answered: _,
+            out_of_memory: _,
+        } = self;
+    }
 }
 
 impl<'a> Station<'a> {
@@ -54,7 +65,12 @@ impl<'a> Station<'a> {
 
     /// The users, when the thread has ended.
     pub fn into_group(self) -> DomainUsers<'a> {
-        let Station { group, .. } = self;
+        let Station {
+            mailbox: _,
+            group,
+            answered: _,
+            out_of_memory: _,
+        } = self;
         group.into_inner()
     }
 

@@ -108,10 +108,16 @@ pub enum Fetched {
 ///
 /// Only the bytes up to the last word that was ever written are kept, since all behind it are 0. So a
 /// copy and a comparison cost what a program has used of memory, and not its size.
-#[derive(Drop)]
 pub struct Memory {
     kept: Vec<u8>,
     size: usize,
+}
+
+// It is dropped by one call.
+impl Drop for Memory {
+    fn drop(self) {
+        let Memory { kept: _, size: _ } = self;
+    }
 }
 
 impl Model for Memory {

@@ -15,13 +15,24 @@ pub struct LinkInput {
 }
 
 /// A host at a link: it takes what leaves the link, and sends bytes.
-#[derive(Drop)]
 pub struct LinkHost {
     link: LinkNumber,
     bytes: Vec<u8>,
     // How many of the bytes are sent, and whether the last of them isn't acknowledged yet.
     sent: usize,
     awaits: bool,
+}
+
+// It is dropped by one call.
+impl Drop for LinkHost {
+    fn drop(self) {
+        let LinkHost {
+            link: _,
+            bytes: _,
+            sent: _,
+            awaits: _,
+        } = self;
+    }
 }
 
 /// A host at each link, which sends the bytes of all inputs of that link, one after another.

@@ -45,11 +45,21 @@ impl ProgramLine<'_> {
 }
 
 /// The program of a node, where a boot or pokes put it.
-#[derive(Drop)]
 pub struct Program {
     text: Vec<u8>,
     origin: u32,
     made: Assembly,
+}
+
+// It is dropped by one call.
+impl Drop for Program {
+    fn drop(self) {
+        let Program {
+            text: _,
+            origin: _,
+            made: _,
+        } = self;
+    }
 }
 
 impl Program {

@@ -66,10 +66,19 @@ pub enum LinkFlag {
 }
 
 /// What a line puts into a node, and the code that it puts where Iptr points then.
-#[derive(Drop)]
 pub struct NodeSettings {
     pub settings: Vec<Setting>,
     pub code: Vec<u8>,
+}
+
+// It is dropped by one call.
+impl Drop for NodeSettings {
+    fn drop(self) {
+        let NodeSettings {
+            settings: _,
+            code: _,
+        } = self;
+    }
 }
 
 impl NodeSettings {

@@ -21,7 +21,7 @@ pub struct AcceptedPlan {
     ports: Vec<Numbering>,
 }
 
-// One call wherever one is dropped, where a derived drop would be those of all its parts.
+// It is dropped by one call.
 impl Drop for AcceptedPlan {
     fn drop(self) {
         let AcceptedPlan {

@@ -27,13 +27,25 @@ pub struct HostPart {
 /// The part of a domain: what its machine needs of the plan, without names and physical ports.
 ///
 /// Contracts see its number of ports, limit and number of users, and the lists of its nodes and hosts.
-#[derive(Drop)]
 pub struct Part {
     pub(crate) count: u8,
     pub(crate) limit: u64,
     pub(crate) users: u8,
     pub(crate) nodes: Vec<NodePart>,
     pub(crate) hosts: Vec<HostPart>,
+}
+
+// It is dropped by one call.
+impl Drop for Part {
+    fn drop(self) {
+        let Part {
+            count: _,
+            limit: _,
+            users: _,
+            nodes: _,
+            hosts: _,
+        } = self;
+    }
 }
 
 impl Model for Part {

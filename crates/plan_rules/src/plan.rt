@@ -22,12 +22,18 @@ pub struct RangePlan {
 }
 
 /// A user of a domain.
-#[derive(Drop)]
 pub struct UserPlan {
     /// His name.
     pub name: String,
     /// The virtual port of each of his hosts.
     pub hosts: Vec<i64>,
+}
+
+// It is dropped by one call.
+impl Drop for UserPlan {
+    fn drop(self) {
+        let UserPlan { name: _, hosts: _ } = self;
+    }
 }
 
 impl Model for UserPlan {
@@ -40,7 +46,6 @@ impl Model for UserPlan {
 }
 
 /// A domain. In version 1 of the text it has one user and one range, in version 2 one user.
-#[derive(Drop)]
 pub struct DomainPlan {
     /// The users, in the order of their numbers.
     pub users: Vec<UserPlan>,
@@ -50,6 +55,18 @@ pub struct DomainPlan {
     pub limit: i64,
     /// The nodes, in the order of their numbers.
     pub nodes: Vec<NodePlan>,
+}
+
+// It is dropped by one call.
+impl Drop for DomainPlan {
+    fn drop(self) {
+        let DomainPlan {
+            users: _,
+            ranges: _,
+            limit: _,
+            nodes: _,
+        } = self;
+    }
 }
 
 impl Model for DomainPlan {

@@ -19,7 +19,6 @@ use std::sync::Wait;
 pub const PIECE: usize = 1024;
 
 /// The record of a domain, or none if nothing is recorded.
-#[derive(Drop)]
 pub struct DomainRecord<S: RecordStore> {
     store: Option<S>,
     head: String,
@@ -29,6 +28,20 @@ pub struct DomainRecord<S: RecordStore> {
     room: Vec<Entry>,
     text: String,
     failed: bool,
+}
+
+// It is dropped by one call.
+impl<S: RecordStore> Drop for DomainRecord<S> {
+    fn drop(self) {
+        let DomainRecord {
+            store: _,
+            head: _,
+            mark: _,
+            room: _,
+            text: _,
+            failed: _,
+        } = self;
+    }
 }
 
 // The mark behind all that a journal has.

@@ -24,7 +24,7 @@ pub enum Command {
     Look { node: u8 },
 }
 
-// One call wherever one is dropped, where a derived drop would be those of all its parts.
+// It is dropped by one call.
 impl Drop for Command {
     fn drop(self) {
         match self {

@@ -10,12 +10,21 @@ use script_text::{is_passed_over, split_line};
 use std::alloc::Global;
 
 /// What a line asks, and for which user.
-#[derive(Drop)]
 pub struct ScriptLine {
     /// The place of the user's name among all names.
     pub user: usize,
     /// What the line asks.
     pub command: Command,
+}
+
+// It is dropped by one call.
+impl Drop for ScriptLine {
+    fn drop(self) {
+        let ScriptLine {
+            user: _,
+            command: _,
+        } = self;
+    }
 }
 
 /// The lines of a script that ask something, in order. Empty lines and those that begin with `#` ask nothing, but count.

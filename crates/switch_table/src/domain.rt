@@ -14,11 +14,21 @@ use std::sync::Arc;
 
 /// The outputs of one domain. Nobody else stores their words, so those that it stored last are those
 /// of the table. Contracts see its table, what it knows of it (its view), and its ports.
-#[derive(Drop)]
 pub struct DomainSeat {
     shared_words: Arc<SharedWords>,
     seat: WordsSeat,
     numbering: Numbering,
+}
+
+// It is dropped by one call.
+impl Drop for DomainSeat {
+    fn drop(self) {
+        let DomainSeat {
+            shared_words: _,
+            seat: _,
+            numbering: _,
+        } = self;
+    }
 }
 
 impl Model for DomainSeat {

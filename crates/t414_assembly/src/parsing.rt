@@ -40,7 +40,6 @@ enum Unit {
 
 /// What is read of a text. Names are gathered first, when a name in an operand may still be unknown; then the text is
 /// read once more.
-#[derive(Drop)]
 pub struct Reader<'a> {
     definitions: Vec<Definition<'a>>,
     gathers: bool,
@@ -48,6 +47,20 @@ pub struct Reader<'a> {
     next_local: u32,
     statements: Vec<Statement>,
     has_memory: bool,
+}
+
+// It is dropped by one call.
+impl Drop for Reader<'_> {
+    fn drop(self) {
+        let Reader {
+            definitions: _,
+            gathers: _,
+            line: _,
+            next_local: _,
+            statements: _,
+            has_memory: _,
+        } = self;
+    }
 }
 
 impl<'a> Reader<'a> {
@@ -76,8 +89,16 @@ impl<'a> Reader<'a> {
 
     /// The statements that have been read; an error if there was no memory for one, or for a name.
     pub fn into_statements(self) -> Result<Vec<Statement>, AllocError> {
-        if self.has_memory {
-            Ok(self.statements)
+        let Reader {
+            definitions: _,
+            gathers: _,
+            line: _,
+            next_local: _,
+            statements,
+            has_memory,
+        } = self;
+        if has_memory {
+            Ok(statements)
         } else {
             Err(AllocError)
         }

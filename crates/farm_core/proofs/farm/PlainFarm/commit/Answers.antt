@@ -53,7 +53,7 @@ pub invariant_of-self : goal.invariant_of-self
 invariant_of-self c = c.self.invariant
 
 -- there is no domain of the number
-none : (c : goal.After-drop-ticket-inside-in_default) → slice_get c.args.self.now c.args.domain ≡ None
+none : (c : goal.After-drop-ticket) → slice_get c.args.self.now c.args.domain ≡ None
 none c =
     none_at c.self.inside.domains.items c.args.self.now c.from.result c.args.domain c.self.view_is c.from.ensures
     c.in_default.ensures.item.3
