@@ -1,5 +1,5 @@
 //! Users at a service, each in a session of his own, and what they are shown.
-ghost use Rattle.std.specs.Prelude.{◌≡◌, ◌<◌, ◌++◌, length, map, slice_get, All, IfOk, IfSome, IsOk, OnOk};
+ghost use Rattle.std.specs.Prelude.{◌≡◌, ◌<◌, ◌++◌, length, map, slice_get, All, Err, IfErr, IfOk, IfSome, IsOk, OnOk};
 ghost use Rattle.farm_service.specs.Passes.{fresh_passes};
 ghost use Rattle.farm_program.specs.Users.{AreUsersOf, HasAnswered, as_opened, commands_at, all_names, session_of};
 
@@ -117,6 +117,7 @@ impl User<'_> {
     pub fn end(self) -> Result<(UserPass, String), NoMemory>
         ensures left { IfOk result (λ left. (left.0 ≡ self.entry.session.pass) × (left.1 ≡ self.entry.screen)) }
         ensures ended { IfOk result (λ _. IsOk self.entry.ended) }
+        ensures failed { IfErr result (λ fault. self.entry.ended ≡ Err fault) }
     {
         let User {
             name: _,
