@@ -3,3 +3,4 @@ pub mod Digits
 pub mod Events
 pub mod Replies
 pub mod Entries
+pub mod Results

@@ -4,6 +4,7 @@
 mod digits;
 mod events;
 mod replies;
+mod showing;
 
 pub use digits::write_byte;
 pub use events::{write_event, write_user};
@@ -11,3 +12,4 @@ pub use replies::{
     write_config_reply, write_entry, write_fault, write_refusal, write_reply, write_seen,
     write_stepped,
 };
+pub use showing::write_line;

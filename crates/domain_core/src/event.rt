@@ -71,6 +71,15 @@ pub enum Reply {
     Moved(Moved),
 }
 
+/// What a user asked, and the answer.
+#[derive(Clone, Copy, PartialEq, Eq)]
+pub struct Told {
+    /// What was asked.
+    pub event: Event,
+    /// What was answered.
+    pub reply: Reply,
+}
+
 /// Why an event isn't answered. Nothing has changed then, and nothing is recorded.
 #[derive(Clone, Copy, Debug, PartialEq, Eq, Error)]
 pub enum Refusal {

@@ -21,7 +21,7 @@ mod ticket;
 pub use copying::Mark;
 pub use device::Device;
 pub use domain::{Committed, Domain};
-pub use event::{By, Event, Moved, Refusal, Reply};
+pub use event::{By, Event, Moved, Refusal, Reply, Told};
 pub use host::{Host, QUEUE_BYTES};
 pub use journal::{Entry, Journal};
 pub use laws::peek_answers_the_word;

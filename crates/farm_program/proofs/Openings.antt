@@ -1,5 +1,4 @@
--- The names and the users of a plan, one domain and one user after another: the contracts of `add_names`, `names_of`
--- and `users_of`.
+-- The users of a plan, one after another: the contract of `users_of`.
 use Rattle.std.proofs.Common.{◌≡◌, ◌<◌, ◌+◌, ℕ, zero, suc, List, [], ◌∷◌, ◌++◌, Bor, length}
 use Rattle.std.proofs.Common.{map, take, get_or, slice_get, Option, Some, None, IfSome, All}
 use Rattle.std.proofs.Common.{refl, sym, ap, ◌∙◌, subst, arith, append_assoc, length-append}
@@ -13,76 +12,14 @@ use Rattle.plan_rules.specs.Data.{DomainData, UserData}
 use Rattle.script_lines.specs.declared.script.ScriptLine.{ScriptLine}
 use Rattle.farm_service.specs.Passes.{UserPassValue, passes_opened, passes_from, fresh_passes}
 use Rattle.farm_program.specs.declared.users.User.{User}
-use Rattle.farm_program.specs.Users.{all_names, commands_at, session_of, AreUsersOf}
+use Rattle.farm_input.specs.Names.{all_names}
+use Rattle.farm_program.specs.Users.{commands_at, session_of, AreUsersOf}
 
 -- what texts that are lent hold
 abbrev pub texts : List (Bor (List ℕ)) → List (List ℕ)
 texts names = map (λ n. n.now) names
 
--- ---- names
-
-more_of : (users : List UserData) (user : ℕ) (u : UserData) → slice_get users user ≡ Some u
-    → map (λ v. v.name) (take (user + 1) users) ≡ map (λ v. v.name) (take user users) ++ u.name ∷ []
-more_of users user u at =
-    let within = slice_get_within users user u at in
-    ap (map (λ (v : UserData). v.name)) (take_more users user u within)
-    ∙ map-append (λ (v : UserData). v.name) (take user users) (get_or users user u ∷ [])
-    ∙ ap (λ (v : UserData). map (λ (w : UserData). w.name) (take user users) ++ v.name ∷ [])
-    (get_or_from_slice_get users user u u at)
-
--- names that are those of a domain's first users, with the next user's, are those of one user more
-pub name_more : (found : Option DomainData) (names more : List (Bor (List ℕ))) (start : List (List ℕ))
-    (user : ℕ) (name : Bor (List ℕ))
-    → IfSome found (λ d. user < length d.users)
-    → IfSome found (λ d. IfSome (slice_get d.users user) (λ u. name.now ≡ u.name)) → more ≡ names ++ name ∷ []
-    → IfSome found (λ d. map (λ n. n.now) names ≡ start ++ map (λ u. u.name) (take user d.users))
-    → IfSome found (λ d. map (λ n. n.now) more ≡ start ++ map (λ u. u.name) (take (user + 1) d.users))
-name_more None names more start user name within named is before = tt
-name_more (Some d) names more start user name within named is before =
-    let at : (u : UserData) × (slice_get d.users user ≡ Some u) = there_is d.users user within in
-    let named_so : name.now ≡ at.0.name =
-    subst (λ (found : Option UserData). IfSome found (λ u. name.now ≡ u.name)) at.1 named in
-    ap (map (λ (n : Bor (List ℕ)). n.now)) is
-    ∙ map-append (λ (n : Bor (List ℕ)). n.now) names (name ∷ [])
-    ∙ (λ k. before k ++ named_so k ∷ [])
-    ∙ append_assoc start (map (λ (u : UserData). u.name) (take user d.users)) (at.0.name ∷ [])
-    ∙ ap (λ (ns : List (List ℕ)). start ++ ns) (sym (more_of d.users user at.0 at.1))
-  where
-    there_is : (us : List UserData) (i : ℕ) → i < length us → (u : UserData) × (slice_get us i ≡ Some u)
-    there_is [] i less = absurd (omega arith)
-    there_is (u ∷ us) zero less = (u, refl)
-    there_is (u ∷ us) (suc i) less = there_is us i (omega arith)
-
-names_of_more : (plan : List DomainData) (i : ℕ) (d : DomainData) → slice_get plan i ≡ Some d
-    → all_names (take (i + 1) plan) ≡ all_names (take i plan) ++ map (λ u. u.name) d.users
-names_of_more plan i d at =
-    let within = slice_get_within plan i d at in
-    ap all_names (take_more plan i d within)
-    ∙ ap (λ (e : DomainData). all_names (take i plan ++ e ∷ [])) (get_or_from_slice_get plan i d d at)
-    ∙ ap (map (λ (u : UserData). u.name)) (flat_map-append (λ (e : DomainData). e.users) (take i plan) (d ∷ []))
-    ∙ ap (λ (us : List UserData). map (λ (u : UserData). u.name)
-    (flat_map (λ (e : DomainData). e.users) (take i plan) ++ us))
-    (append-nil d.users)
-    ∙ map-append (λ (u : UserData). u.name) (flat_map (λ (e : DomainData). e.users) (take i plan)) d.users
-
--- names of the first domains, with those of the next domain, are those of one domain more
-pub domain_names : (plan : List DomainData) (i : ℕ) (names more : List (Bor (List ℕ)))
-    → i < length plan → map (λ n. n.now) names ≡ all_names (take i plan)
-    → IfSome (slice_get plan i) (λ d. map (λ n. n.now) more ≡ map (λ n. n.now) names ++ map (λ u. u.name) d.users)
-    → map (λ n. n.now) more ≡ all_names (take (i + 1) plan)
-domain_names plan i names more within before step =
-    let at = there_is plan i within in
-    let stepped =
-    subst (λ (found : Option DomainData).
-    IfSome found (λ d. map (λ n. n.now) more ≡ map (λ n. n.now) names ++ map (λ u. u.name) d.users))
-    at.1 step in
-    stepped ∙ ap (λ (ns : List (List ℕ)). ns ++ map (λ (u : UserData). u.name) at.0.users) before
-    ∙ sym (names_of_more plan i at.0 at.1)
-  where
-    there_is : (ds : List DomainData) (k : ℕ) → k < length ds → (d : DomainData) × (slice_get ds k ≡ Some d)
-    there_is [] k less = absurd (omega arith)
-    there_is (d ∷ ds) zero less = (d, refl)
-    there_is (d ∷ ds) (suc k) less = there_is ds k (omega arith)
+-- ---- passes
 
 length_in : (number count : ℕ) → length (passes_opened number count) ≡ count
 length_in number zero = refl

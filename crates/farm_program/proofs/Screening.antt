@@ -11,7 +11,7 @@ use Rattle.std.proofs.lemmas.Option.{slice_get-map, slice_get_within, slice_get-
 use Rattle.plan_rules.specs.Data.{DomainData}
 use Rattle.script_lines.specs.declared.command.Command.{Command}
 use Rattle.script_lines.specs.declared.script.ScriptLine.{ScriptLine}
-use Rattle.farm_service.specs.declared.told.Told.{Told}
+use Rattle.domain_core.specs.declared.event.Told.{Told}
 use Rattle.farm_service.specs.declared.closed.ClosedDomain.{ClosedDomain}
 use Rattle.farm_service.specs.Passes.{SessionValue, UserPassValue, fresh_pass, passes_opened, passes_from, fresh_passes}
 use Rattle.farm_service.specs.Closed.{AreListed, IsListed, history_of}
@@ -21,7 +21,8 @@ use Rattle.line_answers.specs.Sessions.{with_all}
 use Rattle.farm_program.specs.declared.farm.ScriptEnd.{ScriptEnd}
 use Rattle.farm_program.specs.declared.farm.UsersEnd.{UsersEnd}
 use Rattle.farm_program.specs.declared.users.User.{User}
-use Rattle.farm_program.specs.Users.{all_names, commands_at, session_of, AreUsersOf, HasAnswered, HaveAnswered}
+use Rattle.farm_input.specs.Names.{all_names}
+use Rattle.farm_program.specs.Users.{commands_at, session_of, AreUsersOf, HasAnswered, HaveAnswered}
 use Rattle.farm_program.specs.Screens.{IsScreen, AreScreens}
 
 -- ---- lists

@@ -10,7 +10,7 @@ use Rattle.farm_core.specs.Places.{places_of}
 use Rattle.script_lines.specs.declared.script.ScriptLine.{ScriptLine}
 use Rattle.farm_service.specs.declared.closed.ClosedDomain.{ClosedDomain}
 use Rattle.farm_service.specs.Closed.{AreDomainsOf, EachMergeRuns, history_of}
-use Rattle.farm_program.specs.Requests.{IsTextOf}
+use Rattle.farm_input.specs.Requests.{IsTextOf}
 use Rattle.farm_program.specs.Screens.{AreScreens}
 
 -- a farm that holds one domain alone answers just so from its opening

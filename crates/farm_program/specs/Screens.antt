@@ -8,7 +8,8 @@ use Rattle.farm_service.specs.Passes.{UserPassValue, fresh_passes}
 use Rattle.farm_service.specs.Closed.{history_of}
 use Rattle.farm_service.specs.Commands.{commands_of}
 use Rattle.line_answers.specs.Lines.{AreAnsweredLines}
-use Rattle.farm_program.specs.Users.{all_names, commands_at, session_of}
+use Rattle.farm_input.specs.Names.{all_names}
+use Rattle.farm_program.specs.Users.{commands_at, session_of}
 
 -- the screen of a user: the output lines of his lines, over his own commands in the history of his domain
 abbrev pub IsScreen : List DomainData → List ClosedDomain → UserPassValue → List ℕ → List Command → List ℕ → Type 0

@@ -1,16 +1,13 @@
 -- Users at a service.
 use Rattle.std.specs.Prelude.{ℕ, List, ◌≡◌, ◌==◌, ◌<◌, length, map, filter, slice_index_or, string_bytes, All, OnOk}
-use Rattle.std.specs.List.{range_with_len, flat_map}
+use Rattle.std.specs.List.{range_with_len}
 use Rattle.plan_rules.specs.Data.{DomainData}
 use Rattle.script_lines.specs.declared.command.Command.{Command}
 use Rattle.script_lines.specs.declared.script.ScriptLine.{ScriptLine}
 use Rattle.farm_service.specs.Passes.{SessionValue, UserPassValue, fresh_pass, fresh_passes}
 use Rattle.line_answers.specs.Sessions.{AreAnswered}
+use Rattle.farm_input.specs.Names.{all_names}
 use Rattle.farm_program.specs.declared.users.User.{User}
-
--- the names of all users of a plan, in its order
-abbrev pub all_names : List DomainData → List (List ℕ)
-all_names plan = map (λ u. u.name) (flat_map (λ d. d.users) plan)
 
 -- what a script's lines ask for the user of a place among all, in order
 abbrev pub commands_at : List ScriptLine → ℕ → List Command

@@ -1,52 +1,20 @@
 //! A text and its output.
-ghost use Rattle.std.specs.Prelude.{◌≡◌, ◌≢◌, ◌<◌, IfOk, IfErr, OnOk, IfSome, All, length, map, string_bytes};
+ghost use Rattle.std.specs.Prelude.{◌≡◌, ◌≢◌, IfOk, IfErr, OnOk, IfSome, map, string_bytes};
 ghost use Rattle.std.specs.List.{concat};
 ghost use Rattle.std.specs.Io.KnownBytes.{Appends, Keeps};
-ghost use Rattle.std.specs.Str.Lines.{lines};
-ghost use Rattle.script_lines.specs.Script.{IsScript};
-ghost use Rattle.farm_program.specs.declared.failure.FarmFailure.{FarmFailure as SpecFailure};
-ghost use Rattle.farm_program.specs.Failures.{EndsAs, IsFailure, IsPlanFailure, IsScriptFailure};
+ghost use Rattle.farm_input.specs.declared.failure.FarmFailure.{FarmFailure as SpecFailure};
+ghost use Rattle.farm_input.specs.Failures.{EndsAs, IsFailure};
+ghost use Rattle.farm_input.specs.Settings.{InRange};
 ghost use Rattle.farm_program.specs.Output.{IsOutput, Prints};
-ghost use Rattle.farm_program.specs.Requests.{IsAcceptedText};
-ghost use Rattle.farm_program.specs.Settings.{InRange};
-ghost use Rattle.farm_program.specs.Users.{all_names};
 
-use crate::configuration::Settings;
-use crate::explaining::end_by;
-use crate::failure::{Ending, FarmFailure};
 use crate::farm::run_script;
-use crate::users::names_of;
 use farm_core::laws::each_domain_of_a_plan_is_private;
-use plan_checker::{AcceptedPlan, check, read_plan};
-use script_lines::{ScriptLine, read_script};
-use script_text::{WriteFailed, divide, read_whole, write_whole};
+use farm_input::{Ending, FarmFailure, Settings, accepted, end_by, lines_of, text_read};
+use script_text::{WriteFailed, divide, write_whole};
 use std::alloc::Global;
 use std::io::{Read, Write};
 use std::sync::Wait;
 use std::thread::Threads;
-
-// The plan that a text gives, if the checker accepts it.
-fn accepted(alloc: Global, text: &[u8]) -> Result<AcceptedPlan, FarmFailure>
-    ensures plan { IfOk result (IsAcceptedText text.now) }
-    ensures fault { IfErr result (IsPlanFailure text.now) }
-{
-    let plan = read_plan(alloc, text)?;
-    Ok(check(alloc, plan)?)
-}
-
-/// What the lines of a script ask, for which users of the plan. The failure is the first line that is wrong, or want of memory.
-pub fn lines_of(
-    alloc: Global,
-    plan: &AcceptedPlan,
-    script: &[u8],
-) -> Result<Vec<ScriptLine>, FarmFailure>
-    ensures asked { IfOk result (λ asked. IsScript (all_names plan.now) (lines script.now) asked.items) }
-    ensures users { IfOk result (λ asked. All (λ l. l.user < length (all_names plan.now)) asked.items) }
-    ensures fault { IfErr result (IsScriptFailure (all_names plan.now) (lines script.now)) }
-{
-    let names = names_of(alloc, plan)?;
-    Ok(read_script(alloc, names.as_slice(), script)?)
-}
 
 // The output of a text, a screen for each user.
 fn screens_of<R: Threads + Wait + Sync>(
@@ -76,14 +44,6 @@ fn write_screens<W: Write>(output: &mut W, screens: &[String]) -> Result<(), Wri
         write_whole(output, screen.as_bytes())?;
     }
     Ok(())
-}
-
-// The text that is read to its end.
-fn text_read<I: Read>(alloc: Global, input: &mut I) -> Result<Vec<u8>, FarmFailure>
-    ensures text { IfOk result (λ text. IfSome (I.remaining input.old) (λ left. text.items ≡ left)) }
-    ensures failure { IfErr result (λ failure. IfSome (I.remaining input.old) (λ text. IsFailure text failure)) }
-{
-    Ok(read_whole(alloc, input)?)
 }
 
 // Runs what a text asks, as `answer` does.

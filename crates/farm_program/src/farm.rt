@@ -3,13 +3,14 @@ ghost use Rattle.std.specs.Prelude.{◌≡◌, ◌<◌, IfOk, IsOk, All, length,
 ghost use Rattle.token_queue.specs.Passes.{AreItsPasses};
 ghost use Rattle.farm_core.specs.Places.{places_of};
 ghost use Rattle.farm_service.specs.Closed.{AreDomainsOf, AreListed, EachMergeRuns};
+ghost use Rattle.farm_input.specs.Names.{all_names};
+ghost use Rattle.farm_input.specs.Settings.{InRange};
 ghost use Rattle.farm_program.specs.Closing.{AreAllListed};
-ghost use Rattle.farm_program.specs.Settings.{InRange};
 ghost use Rattle.farm_program.specs.Screens.{AreScreens};
-ghost use Rattle.farm_program.specs.Users.{AreStill, HaveAnswered, all_names};
+ghost use Rattle.farm_program.specs.Users.{AreStill, HaveAnswered};
 
-use crate::configuration::Settings;
 use crate::users::{User, users_of};
+use farm_input::Settings;
 use farm_service::{
     Closed, NoGate, NoMemory, Opened, Service, UserPass, WorkerPass, run_users_and_workers,
 };

@@ -3,17 +3,11 @@
 #![tactic(auto)]
 
 mod answering;
-mod command_line;
-mod configuration;
-mod explaining;
-mod failure;
 mod farm;
 mod program;
 mod users;
 
-pub use answering::{answer, lines_of};
-pub use command_line::settings;
-pub use configuration::Settings;
-pub use failure::{Ending, FarmFailure};
+pub use answering::answer;
 pub use farm::{ScriptEnd, run_script};
-pub use program::{refuse_arguments, run};
+pub use farm_input::refuse_arguments;
+pub use program::run;

@@ -1,11 +1,12 @@
 //! Users at a service, each in a session of his own, and what they are shown.
-ghost use Rattle.std.specs.Prelude.{◌≡◌, ◌<◌, ◌++◌, length, map, slice_get, All, Err, IfErr, IfOk, IfSome, IsOk, OnOk};
+ghost use Rattle.std.specs.Prelude.{◌≡◌, ◌<◌, length, map, All, Err, IfErr, IfOk, IsOk, OnOk};
 ghost use Rattle.farm_service.specs.Passes.{fresh_passes};
-ghost use Rattle.farm_program.specs.Users.{AreUsersOf, HasAnswered, as_opened, commands_at, all_names, session_of};
+ghost use Rattle.farm_input.specs.Names.{all_names};
+ghost use Rattle.farm_program.specs.Users.{AreUsersOf, HasAnswered, as_opened, commands_at};
 
+use farm_input::names_of;
 use farm_service::{NoMemory, Service, Session, UserPass};
 use line_answers::{Quantum, answer_lines};
-use plan_checker::AcceptedPlan;
 use script_lines::{Command, ScriptLine};
 use std::alloc::Global;
 use std::sync::Wait;
@@ -38,33 +39,6 @@ impl Drop for User<'_> {
             ended: _,
         } = self;
     }
-}
-
-// Adds the names of a domain's users.
-fn add_names<'a>(
-    names: &mut Vec<&'a str>,
-    plan: &'a AcceptedPlan,
-    domain: u8,
-) -> Result<(), NoMemory>
-    requires { domain < length plan.now }
-    ensures { IfOk result (λ _. IfSome (slice_get plan.now domain)
-        (λ d. map (λ n. n.now) names.new.items ≡ map (λ n. n.now) names.old.items ++ map (λ u. u.name) d.users)) }
-{
-    for user in 0..plan.users(domain) {
-        names.push(plan.name(domain, user))?;
-    }
-    Ok(())
-}
-
-/// The names of all users of a plan, in its order.
-pub fn names_of(alloc: Global, plan: &AcceptedPlan) -> Result<Vec<&str>, NoMemory>
-    ensures { IfOk result (λ names. map (λ n. n.now) names.items ≡ all_names plan.now) }
-{
-    let mut names = Vec::new(alloc);
-    for domain in 0..plan.domains() {
-        add_names(&mut names, plan, domain)?;
-    }
-    Ok(names)
 }
 
 // What a script's lines ask for the user of a place, in order.

@@ -10,7 +10,7 @@ use Rattle.domain_core.specs.declared.journal.Entry.{Entry}
 use Rattle.domain_core.specs.Domain.{DomainValue, Fits}
 use Rattle.domain_core.specs.Journal.{expanded}
 use Rattle.domain_core.specs.Laws.{JournalsAddUp}
-use Rattle.farm_service.specs.declared.told.Told.{Told}
+use Rattle.domain_core.specs.declared.event.Told.{Told}
 use Rattle.farm_service.specs.Commands.{command_from, commands_of}
 use Rattle.farm_service.specs.Histories.{AreInPlaces}
 

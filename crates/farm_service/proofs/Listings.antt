@@ -13,7 +13,7 @@ use Rattle.domain_core.specs.declared.journal.Entry.{Entry}
 use Rattle.domain_core.specs.declared.journal.Entry.TheVariants.{Run}
 use Rattle.domain_core.specs.Journal.{AnsweredCall, expanded, answered_step}
 use Rattle.domain_core.specs.Laws.{JournalsAddUp}
-use Rattle.farm_service.specs.declared.told.Told.{Told}
+use Rattle.domain_core.specs.declared.event.Told.{Told}
 use Rattle.farm_service.specs.Commands.{command_from, commands_of}
 
 and_none : (b : Bool) (told : Told) → cond (b && false) (Some told) None ≡ None

@@ -2,7 +2,7 @@
 use Rattle.std.specs.Prelude.{ℕ, List, Option, Some, None, cond, filter_map}
 use Rattle.domain_core.specs.Journal.{AnsweredCall}
 use Rattle.domain_core.specs.Commands.{is_own}
-use Rattle.farm_service.specs.declared.told.Told.{Told}
+use Rattle.domain_core.specs.declared.event.Told.{Told}
 
 -- an answered event, if it is a command of this user
 abbrev pub command_from : ℕ → AnsweredCall → Option Told

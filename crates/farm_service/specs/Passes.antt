@@ -5,7 +5,7 @@ use Rattle.domain_core.specs.declared.event.By.TheVariants.{User}
 use Rattle.domain_core.specs.declared.event.Event.{Event}
 use Rattle.domain_core.specs.declared.event.Reply.{Reply}
 use Rattle.domain_core.specs.PrivateFarm.{Answer, Call}
-use Rattle.farm_service.specs.declared.told.Told.{Told}
+use Rattle.domain_core.specs.declared.event.Told.{Told}
 
 -- whose it is, by the number of his domain in the plan and his number there; and what he asked and was answered, in his order
 pub record UserPassValue : Type 0 where

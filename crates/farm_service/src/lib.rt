@@ -36,5 +36,4 @@ pub use status::DomainStatus;
 pub use std::alloc::AllocError as NoMemory;
 pub use threads::{run_users_and_workers, work_all};
 pub use token_queue::{Token, WorkerPass};
-pub use told::Told;
 pub use worker::{Gate, NoGate, UNTIL_STOPPED, Worked, work};

@@ -1,19 +1,10 @@
-//! A command, with its reply.
+//! The commands of a user, with their replies, in a journal.
 ghost use Rattle.std.specs.Prelude.{◌≡◌, ◌&&◌, [], ◌∷◌, option_to_list};
 ghost use Rattle.domain_core.specs.Journal.{expanded};
 ghost use Rattle.domain_core.specs.Commands.{is_command, is_user};
 ghost use Rattle.farm_service.specs.Commands.{commands_of};
 
-use domain_core::{By, Entry, Event, Reply};
-
-/// What a user asked, and the answer.
-#[derive(Clone, Copy, PartialEq, Eq)]
-pub struct Told {
-    /// What was asked.
-    pub event: Event,
-    /// What was answered.
-    pub reply: Reply,
-}
+use domain_core::{By, Entry, Event, Told};
 
 // Whether a session can ask it.
 fn is_command(event: Event) -> bool

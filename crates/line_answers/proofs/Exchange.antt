@@ -14,10 +14,11 @@ use Rattle.domain_core.specs.declared.event.Event.{Event}
 use Rattle.domain_core.specs.declared.event.Event.TheVariants as event
 use Rattle.domain_core.specs.declared.event.Reply.{Reply}
 use Rattle.domain_core.specs.declared.event.Refusal.{Refusal}
-use Rattle.farm_service.specs.declared.told.Told.{Told}
+use Rattle.domain_core.specs.declared.event.Told.{Told}
 use Rattle.farm_service.specs.Answers.{IsTold}
 use Rattle.farm_service.specs.Passes.{SessionValue, with_told, Gains}
-use Rattle.line_answers.specs.Asks.{is_write, is_read, had_no_room, is_byte, replies_told, write_replies, read_replies}
+use Rattle.answer_text.specs.Results.{replies_told}
+use Rattle.line_answers.specs.Asks.{is_write, is_read, had_no_room, is_byte, write_replies, read_replies}
 use Rattle.line_answers.specs.Asks.{next_config, next_write, next_read, next_collect, AreAsked}
 use Rattle.line_answers.specs.Sessions.{with_all, AsksJust}
 

@@ -1,3 +1,2 @@
 pub mod Exchange
 pub mod Lines
-pub mod Shown

@@ -18,15 +18,15 @@ use Rattle.domain_core.specs.declared.event.Event.TheVariants as event
 use Rattle.domain_core.specs.declared.event.Reply.{Reply}
 use Rattle.domain_core.specs.declared.event.Refusal.{Refusal}
 use Rattle.domain_core.specs.declared.event.Refusal.TheVariants.{NoMemory}
-use Rattle.farm_service.specs.declared.told.Told.{Told}
+use Rattle.domain_core.specs.declared.event.Told.{Told}
 use Rattle.farm_service.specs.Passes.{SessionValue}
 use Rattle.script_lines.specs.declared.command.Command.{Command}
 use Rattle.script_lines.specs.declared.command.Command.TheVariants as command
-use Rattle.line_answers.specs.Asks.{is_write, is_read, had_no_room, is_byte, replies_told, write_replies, read_replies}
+use Rattle.line_answers.specs.Asks.{is_write, is_read, had_no_room, is_byte, write_replies, read_replies}
 use Rattle.line_answers.specs.Asks.{next_write, next_boot, next_read, next_event, AreAsked}
 use Rattle.line_answers.proofs.Exchange.{begun}
 use Rattle.line_answers.specs.Lines.{LineHasEnded, IsOfSettling, IsAnsweredLine, AreAnsweredLines}
-use Rattle.line_answers.specs.Results.{line_text}
+use Rattle.answer_text.specs.Results.{line_text, replies_told}
 use Rattle.line_answers.specs.Sessions.{with_all, HasEnded, AsksJust, AsksLine, GainsSome, IsAnswered, AreAnswered}
 
 -- ---- what is asked by one rule is asked by another

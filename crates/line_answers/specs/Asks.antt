@@ -7,7 +7,8 @@ use Rattle.domain_core.specs.declared.event.Event.{Event}
 use Rattle.domain_core.specs.declared.event.Event.TheVariants as event
 use Rattle.domain_core.specs.declared.event.Reply.{Reply}
 use Rattle.domain_core.specs.declared.event.Reply.TheVariants as reply
-use Rattle.farm_service.specs.declared.told.Told.{Told}
+use Rattle.domain_core.specs.declared.event.Told.{Told}
+use Rattle.answer_text.specs.Results.{replies_told}
 use Rattle.script_lines.specs.declared.command.Command.{Command}
 use Rattle.script_lines.specs.declared.command.Command.TheVariants as command
 
@@ -22,10 +23,6 @@ is_write e = false
 abbrev pub is_read : Event → Bool
 is_read (event.Read host) = true
 is_read e = false
-
--- the replies, in order
-abbrev pub replies_told : List Told → List Reply
-replies_told told = map (λ t. t.reply) told
 
 -- the replies to writes, in order
 abbrev pub write_replies : List Told → List Reply

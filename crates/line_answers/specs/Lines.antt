@@ -3,13 +3,13 @@ use Rattle.std.specs.Prelude.{◌≡◌, ◌++◌, ◌<◌, ◌≢◌, ◌⊎◌
 use Rattle.domain_core.specs.declared.event.Event.{Event}
 use Rattle.domain_core.specs.declared.event.Refusal.{Refusal}
 use Rattle.domain_core.specs.declared.event.Refusal.TheVariants.{NoSuch}
-use Rattle.farm_service.specs.declared.told.Told.{Told}
+use Rattle.domain_core.specs.declared.event.Told.{Told}
 use Rattle.farm_service.specs.Answers.{IsTold}
 use Rattle.farm_service.specs.Passes.{SessionValue}
 use Rattle.script_lines.specs.declared.command.Command.{Command}
 use Rattle.script_lines.specs.declared.command.Command.TheVariants.{Peek}
-use Rattle.line_answers.specs.Asks.{replies_told, next_event, AreAsked}
-use Rattle.line_answers.specs.Results.{line_text}
+use Rattle.answer_text.specs.Results.{line_text, replies_told}
+use Rattle.line_answers.specs.Asks.{next_event, AreAsked}
 
 -- a settling of a domain is refused by a Step or a Move, which is there
 abbrev pub IsOfSettling : SessionValue → Refusal → Type 0

@@ -4,7 +4,7 @@ ghost use Rattle.line_answers.specs.Sessions.{GainsSome, IsAnswered, AreAnswered
 
 use crate::asking::{ask_line, settle};
 use crate::quantum::Quantum;
-use crate::showing::write_line;
+use answer_text::write_line;
 use domain_core::{NoMemory, Refusal};
 use farm_service::Session;
 use script_lines::Command;

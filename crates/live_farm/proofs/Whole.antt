@@ -8,8 +8,7 @@ use Rattle.std.specs.Option.{option_map_or}
 use Rattle.std.specs.Io.KnownBytes.{Appends, Keeps}
 use Rattle.script_lines.specs.declared.command.Command.{Command}
 use Rattle.script_lines.specs.Verbs.{name_of, verb_of, place_asked}
-use Rattle.line_answers.specs.Asks.{replies_told}
-use Rattle.line_answers.specs.Results.{behind_blank, outcome_text, line_text}
+use Rattle.answer_text.specs.Results.{behind_blank, outcome_text, line_text, replies_told}
 use Rattle.live_farm.specs.declared.group.DomainUsers.{DomainUsers}
 use Rattle.live_farm.specs.Groups.{AnswersLine}
 use Rattle.live_farm.specs.WholeLines.{are_lines, is_whole}

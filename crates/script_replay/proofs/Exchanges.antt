@@ -9,7 +9,7 @@ use Rattle.domain_core.specs.declared.event.Refusal.TheVariants.{NoSuch, Journal
 use Rattle.domain_core.specs.Domain.{DomainValue, UnlessNoMemory}
 use Rattle.domain_core.specs.PrivateFarm.{Answer, Call}
 use Rattle.farm_core.specs.Laws.{RunsAddUp}
-use Rattle.farm_service.specs.declared.told.Told.{Told}
+use Rattle.domain_core.specs.declared.event.Told.{Told}
 use Rattle.farm_replay.specs.Runs.{HaveRun, HasGoneOn}
 use Rattle.script_replay.proofs.Runs.{no_calls, more_calls, gone_nowhere}
 use Rattle.line_answers.specs.Asks.{next_event, AreAsked}

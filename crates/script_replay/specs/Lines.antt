@@ -7,14 +7,14 @@ use Rattle.domain_core.specs.declared.event.Refusal.TheVariants.{NoMemory}
 use Rattle.domain_core.specs.Domain.{DomainValue}
 use Rattle.domain_core.specs.PrivateFarm.{Answer, Call}
 use Rattle.farm_core.specs.Places.{Place}
-use Rattle.farm_service.specs.declared.told.Told.{Told}
+use Rattle.domain_core.specs.declared.event.Told.{Told}
 use Rattle.farm_replay.specs.declared.request.RepeatedRequest.{RepeatedRequest}
 use Rattle.farm_replay.specs.Plain.{asked_by}
 use Rattle.farm_replay.specs.Runs.{HaveRun, HasGoneOn, IsOpenedFarm, ShowsAsked}
 use Rattle.script_lines.specs.declared.command.Command.{Command}
 use Rattle.script_lines.specs.declared.command.Command.TheVariants.{Peek}
-use Rattle.line_answers.specs.Asks.{replies_told, next_event, AreAsked}
-use Rattle.line_answers.specs.Results.{line_text}
+use Rattle.answer_text.specs.Results.{line_text, replies_told}
+use Rattle.line_answers.specs.Asks.{next_event, AreAsked}
 use Rattle.script_replay.specs.declared.asks.AskedLine.{AskedLine}
 use Rattle.script_replay.specs.declared.asks.AskedLine.TheVariants.{OfLab, OfUser}
 use Rattle.script_replay.specs.declared.asks.UserLine.{UserLine}

@@ -5,9 +5,10 @@ ghost use Rattle.script_replay.specs.Lines.{ShowsUserLine, IsSettledLine, IsLabL
 
 use crate::asking::{QUANTUM, ask_line};
 use crate::asks::{AskedLine, UserLine};
+use answer_text::write_line;
 use domain_core::Refusal;
 use farm_replay::{AskFault, FarmStop, OpenFarm, RepeatedRequest, answer_times};
-use line_answers::{ROUNDS, write_line};
+use line_answers::ROUNDS;
 use plan_checker::AcceptedPlan;
 use std::alloc::{AllocError, Global};
 use step_meter::StepMeter;

@@ -4,10 +4,9 @@ ghost use Rattle.script_replay.specs.Lines.{AsksOn, AsksWhole, HasStopped};
 
 use crate::asks::UserLine;
 use crate::next::{is_peek, is_read, next_event};
-use domain_core::{By, Refusal};
+use domain_core::{By, Refusal, Told};
 use farm_core::laws::runs_add_up;
 use farm_replay::{AskFault, OpenFarm};
-use farm_service::Told;
 use line_answers::ROUNDS;
 use step_meter::{StepMeter, StepsEnd};
 

@@ -6,8 +6,7 @@ ghost use Rattle.script_lines.specs.declared.command.Command.TheVariants.{Peek};
 ghost use Rattle.script_replay.specs.Lines.{is_peek};
 
 use bootstrap::{peek_message, poke_message};
-use domain_core::{Event, Reply};
-use farm_service::Told;
+use domain_core::{Event, Reply, Told};
 use script_lines::Command;
 
 fn is_write(event: Event) -> bool

@@ -1,5 +1,5 @@
 use Rattle.std.proofs.Common.{◌≡◌, List, [], ◌∷◌, ◌++◌, Some, sym, ap, ◌∙◌}
-use Rattle.farm_service.specs.declared.told.Told.{Told}
+use Rattle.domain_core.specs.declared.event.Told.{Told}
 use Rattle.line_answers.specs.Asks.{next_event}
 use Rattle.script_replay.proofs.Exchanges.{asks_more, told_of}
 use Rattle.script_replay.proofs.asking.ask_on.Goals as goal

@@ -1,0 +1,106 @@
+-- Why a text has no output, and what is told of it.
+use Rattle.std.specs.Prelude.{◌≡◌, ◌≢◌, ◌++◌, ◌⊎◌, ℕ, Bool, List, true, Option, Err, codes, ⊤}
+use Rattle.std.specs.Fmt.{decimal}
+use Rattle.std.specs.Io.KnownBytes.{Appends}
+use Rattle.std.specs.Str.Lines.{lines}
+use Rattle.plan_rules.specs.Data.{DomainData}
+use Rattle.plan_rules.specs.Fault.{plan_fault_number}
+use Rattle.plan_rules.specs.Separate.{IsSmallestFault}
+use Rattle.plan_rules.specs.declared.fault.PlanFault.{PlanFault}
+use Rattle.plan_rules.specs.declared.fault.PlanFault.TheVariants.{NoMemory}
+use Rattle.plan_checker.specs.Document.{IsPlan, ReadsPlan}
+use Rattle.script_text.specs.declared.reading.ReadFault.{ReadFault}
+use Rattle.script_text.specs.declared.reading.ReadFault.TheVariants as input
+use Rattle.script_lines.specs.declared.fault.LineFault.{LineFault}
+use Rattle.script_lines.specs.declared.fault.LineFault.TheVariants as fault
+use Rattle.script_lines.specs.declared.fault.ScriptFault.{ScriptFault}
+use Rattle.script_lines.specs.declared.fault.ScriptFault.TheVariants as script
+use Rattle.script_lines.specs.Script.{IsFirstFault}
+use Rattle.farm_input.specs.declared.failure.FarmFailure.{FarmFailure}
+use Rattle.farm_input.specs.declared.failure.FarmFailure.TheVariants.{Plan, Line, Memory, Io}
+use Rattle.farm_input.specs.declared.failure.Ending.{Ending}
+use Rattle.farm_input.specs.Requests.{IsAcceptedText, IsPartedText}
+use Rattle.farm_input.specs.Names.{all_names}
+
+-- a text is no plan's, for this fault; or the plan's smallest fault is this
+abbrev pub IsPlanFault : List ℕ → PlanFault → Type 0
+IsPlanFault text fault = ReadsPlan text (Err fault) ⊎ ((plan : List DomainData) × IsPlan text plan × IsSmallestFault plan fault)
+
+-- a text is refused as a plan, for this fault. Want of memory is no fault of a text
+abbrev pub IsRefusedPlan : List ℕ → PlanFault → Type 0
+IsRefusedPlan text fault = (fault ≢ NoMemory) × IsPlanFault text fault
+
+-- why a plan's text has no plan. Of want of memory nothing is said
+abbrev pub IsPlanFailure : List ℕ → FarmFailure → Type 0
+IsPlanFailure text (Plan fault) = IsRefusedPlan text fault
+IsPlanFailure text Memory = ⊤
+IsPlanFailure text failure = ⊥
+
+-- why the lines of a script aren't read
+abbrev pub IsScriptFailure : List (List ℕ) → List (List ℕ) → FarmFailure → Type 0
+IsScriptFailure names script_lines (Line number fault) = IsFirstFault names script_lines number fault
+IsScriptFailure names script_lines Memory = ⊤
+IsScriptFailure names script_lines failure = ⊥
+
+-- a script is refused: the plan's text is accepted, and this is the first line that is wrong, the first being number 1
+abbrev pub IsRefusedScript : List ℕ → List ℕ → ℕ → LineFault → Type 0
+IsRefusedScript plan_text rest number fault = (plan : List DomainData) × IsAcceptedText plan_text plan × IsFirstFault (all_names plan) (lines rest) number fault
+
+-- why a text has no output. Of memory and of streams nothing is said
+abbrev pub IsFailure : List ℕ → FarmFailure → Type 0
+IsFailure text (Plan fault) = IsPartedText text (λ plan_text rest. IsRefusedPlan plan_text fault)
+IsFailure text (Line number fault) = IsPartedText text (λ plan_text rest. IsRefusedScript plan_text rest number fault)
+IsFailure text Memory = ⊤
+IsFailure text Io = ⊤
+
+-- what an input that isn't read ends a run by
+abbrev pub failure_of_input : ReadFault → FarmFailure
+failure_of_input input.Failed = Io
+failure_of_input input.NoMemory = Memory
+
+-- what a refusal of the plan's reader or of the checker ends it by
+abbrev pub failure_of_plan : PlanFault → FarmFailure
+failure_of_plan NoMemory = Memory
+failure_of_plan fault = Plan fault
+
+-- the same of the script's reader
+abbrev pub failure_of_script : ScriptFault → FarmFailure
+failure_of_script (script.Line number fault) = Line number fault
+failure_of_script script.NoMemory = Memory
+
+-- the status of a run that ends without its output
+abbrev pub failure_status : FarmFailure → ℕ
+failure_status (Plan fault) = 3
+failure_status (Line number fault) = 4
+failure_status Memory = 5
+failure_status Io = 6
+
+-- the word for what is wrong with a line
+abbrev pub fault_word : LineFault → List ℕ
+fault_word fault.User = codes "user"
+fault_word fault.Verb = codes "verb"
+fault_word fault.Args = codes "args"
+fault_word fault.Hex = codes "hex"
+
+-- what standard error is told
+abbrev pub failure_text : FarmFailure → List ℕ
+failure_text (Plan fault) = codes "plan: " ++ decimal (plan_fault_number fault) ++ codes "\n"
+failure_text (Line number fault) = codes "line " ++ decimal number ++ codes ": " ++ fault_word fault ++ codes "\n"
+failure_text Memory = codes "memory\n"
+failure_text Io = codes "io\n"
+
+-- a run ends by a failure: by its status, and by its text on standard error, if this takes it
+pub record EndsBy (failure : FarmFailure) (ending : Ending) (errors_before errors_after : Option (List ℕ)) : Type 0 where
+  pub status_of : ending.status ≡ failure_status failure
+  pub text_of : ending.is_told ≡ true → Appends errors_before errors_after (failure_text failure)
+
+-- a run ends by a failure that is explained: so, and standard error has an explanation behind that text
+pub record EndsExplained (failure : FarmFailure) (ending : Ending) (errors_before errors_after : Option (List ℕ)) : Type 0 where
+  pub status_of : ending.status ≡ failure_status failure
+  pub text_of : ending.is_told ≡ true → (explanation : List ℕ) × Appends errors_before errors_after (failure_text failure ++ explanation)
+
+-- a run ends by a failure, which is explained if that is asked and a text is refused
+abbrev pub EndsAs : FarmFailure → Bool → Ending → Option (List ℕ) → Option (List ℕ) → Type 0
+EndsAs (Plan fault) true ending errors_before errors_after = EndsExplained (Plan fault) ending errors_before errors_after
+EndsAs (Line number fault) true ending errors_before errors_after = EndsExplained (Line number fault) ending errors_before errors_after
+EndsAs failure explain ending errors_before errors_after = EndsBy failure ending errors_before errors_after

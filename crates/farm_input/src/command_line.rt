@@ -1,0 +1,103 @@
+//! The settings that the words of the command line give.
+ghost use Rattle.std.specs.Prelude.{◌≡◌, false, IfOk, map};
+ghost use Rattle.clap.specs.Words.{FailsBy, app_of, fault_of, rule_of};
+ghost use Rattle.farm_input.specs.Settings.{AreSaid, InRange, farm_command, flag_rule, number_option};
+
+use crate::configuration::Settings;
+use clap::builder::ValueParser;
+use clap::{Arg, ArgAction, Command, value_parser};
+use std::alloc::{AllocError, Global};
+use std::convert::AsStr;
+
+const DEFAULT_WORKERS: u8 = 2;
+
+const DEFAULT_QUANTUM: u16 = 256;
+
+/// What stands below the help.
+const AFTER_HELP: &str = "\
+Example:
+  farm < examples/two-users.farm
+
+docs/guides/OPERATOR.md says how to write a plan, docs/guides/USER.md what to ask of it.";
+
+// An option `--name N` for a number, with the text that stands for it where it isn't given.
+fn number_option<'a>(
+    alloc: Global,
+    name: &'a str,
+    help: &'a str,
+    default: &'a str,
+    numbers: ValueParser<'a>,
+) -> Arg<'a>
+    ensures rule { rule_of result ≡ number_option name.entry.now default.entry.now numbers.entry }
+    ensures local { result.global ≡ false }
+{
+    Arg::new(alloc, name)
+        .long(name)
+        .value_name("N")
+        .help(help)
+        .default_value(default)
+        .action(ArgAction::Set)
+        .value_parser(numbers)
+}
+
+// A flag `--name`.
+fn flag<'a>(alloc: Global, name: &'a str, help: &'a str) -> Arg<'a>
+    ensures rule { rule_of result ≡ flag_rule name.entry.now }
+    ensures local { result.global ≡ false }
+{
+    Arg::new(alloc, name)
+        .long(name)
+        .help(help)
+        .action(ArgAction::SetTrue)
+}
+
+// The program's command line.
+fn farm_command<'a>(alloc: Global) -> Result<Command<'a>, AllocError>
+    ensures { IfOk result (λ command. app_of command ≡ farm_command) }
+{
+    let command = Command::new(alloc, "farm")
+        .about("Runs scripts on a farm of T414 processors")
+        .after_help(AFTER_HELP);
+    let workers = number_option(
+        alloc,
+        "workers",
+        "How many workers step the nodes, 1 to 8",
+        "2",
+        value_parser!(u8).range(1..=8),
+    );
+    let command = command.arg(workers)?;
+    let quantum = number_option(
+        alloc,
+        "quantum",
+        "How many Steps a node does at a time while packets move, 1 to 4096",
+        "256",
+        value_parser!(u16).range(1..=4096),
+    );
+    let command = command.arg(quantum)?;
+    let explain = flag(
+        alloc,
+        "explain",
+        "Tells who wrote each wrong line and what to write, or where the plan is wrong",
+    );
+    command.arg(explain)
+}
+
+/// Reads the words of the command line, of which the first is the program's name: `--workers N`,
+/// 1 to 8, default 2, `--quantum N`, 1 to 4,096, default 256, and the flag `--explain`. The error is
+/// `clap`'s: `--help` is one, and that memory ran out another.
+pub fn settings<S: AsStr>(alloc: Global, words: &[S]) -> Result<Settings, clap::Error>
+    ensures in_range { IfOk result InRange }
+    ensures said { IfOk result (AreSaid (map S.text words.now)) }
+    ensures refused { FailsBy (fault_of farm_command (map S.text words.now)) result }
+{
+    let matches = farm_command(alloc)?.try_get_matches_from(words)?;
+    // Each has a number, that of the words or its default's.
+    let workers = matches.get_one("workers").unwrap_or(DEFAULT_WORKERS);
+    let quantum = matches.get_one("quantum").unwrap_or(DEFAULT_QUANTUM);
+    let explain = matches.get_one("explain").unwrap_or(false);
+    Ok(Settings {
+        workers,
+        quantum,
+        explain,
+    })
+}

@@ -1,0 +1,124 @@
+//! Why a run ends without its output, and what is told of it.
+ghost use Rattle.std.specs.Prelude.{◌≡◌, OnOk};
+ghost use Rattle.std.specs.Io.KnownBytes.{Appends};
+ghost use Rattle.farm_input.specs.declared.failure.FarmFailure.TheVariants.{Memory};
+ghost use Rattle.farm_input.specs.Failures.{EndsBy, failure_of_input, failure_of_plan, failure_of_script, failure_status, failure_text, fault_word};
+
+use plan_checker::PlanFault;
+use script_lines::{LineFault, ScriptFault};
+use script_text::ReadFault;
+use std::alloc::AllocError;
+use std::io::{self, Write};
+
+/// Why a run ends without its output.
+#[derive(Clone, Copy, Debug)]
+pub enum FarmFailure {
+    /// The plan is refused.
+    Plan(PlanFault),
+    /// The script is refused: its first line that is wrong, by its number from 1.
+    Line { number: u64, fault: LineFault },
+    /// There is no memory.
+    Memory,
+    /// A stream failed.
+    Io,
+}
+
+/// How a run ends.
+#[derive(Clone, Copy)]
+pub struct Ending {
+    /// The status of the process.
+    pub status: u8,
+    /// Whether standard error took all that is told there.
+    pub is_told: bool,
+}
+
+// The word for what is wrong with a line.
+fn word_of(fault: LineFault) -> &'static str
+    ensures { result.now ≡ fault_word fault }
+{
+    match fault {
+        LineFault::User => "user",
+        LineFault::Verb => "verb",
+        LineFault::Args => "args",
+        LineFault::Hex => "hex",
+    }
+}
+
+impl FarmFailure {
+    // The status of the process.
+    fn status(self) -> u8
+        ensures { result ≡ failure_status self }
+    {
+        match self {
+            FarmFailure::Plan(_) => 3,
+            FarmFailure::Line { .. } => 4,
+            FarmFailure::Memory => 5,
+            FarmFailure::Io => 6,
+        }
+    }
+
+    // Writes what is told of it.
+    fn write<E: Write>(self, errors: &mut E) -> io::Result<()>
+        ensures { OnOk result (Appends (E.contents errors.old) (E.contents errors.new) (failure_text self)) }
+    {
+        match self {
+            FarmFailure::Plan(fault) => write!(errors, "plan: {}\n", fault.number()),
+            FarmFailure::Line { number, fault } => {
+                write!(errors, "line {number}: {}\n", word_of(fault))
+            }
+            FarmFailure::Memory => errors.write_all(b"memory\n"),
+            FarmFailure::Io => errors.write_all(b"io\n"),
+        }
+    }
+
+    /// Ends a run by this failure: tells it, and gives its status, which stays if it can't be told.
+    pub fn report<E: Write>(self, errors: &mut E) -> Ending
+        ensures { EndsBy self result (E.contents errors.old) (E.contents errors.new) }
+    {
+        Ending {
+            status: self.status(),
+            is_told: self.write(errors).is_ok(),
+        }
+    }
+}
+
+impl From<AllocError> for FarmFailure {
+    ghost from_gives = { λ _ failure. failure ≡ Memory };
+
+    fn from(_error: AllocError) -> FarmFailure {
+        FarmFailure::Memory
+    }
+}
+
+impl From<ReadFault> for FarmFailure {
+    ghost from_gives = { λ fault failure. failure ≡ failure_of_input fault };
+
+    fn from(fault: ReadFault) -> FarmFailure {
+        match fault {
+            ReadFault::Failed => FarmFailure::Io,
+            ReadFault::NoMemory => FarmFailure::Memory,
+        }
+    }
+}
+
+impl From<PlanFault> for FarmFailure {
+    ghost from_gives = { λ fault failure. failure ≡ failure_of_plan fault };
+
+    fn from(fault: PlanFault) -> FarmFailure {
+        match fault {
+            PlanFault::NoMemory => FarmFailure::Memory,
+            _ => FarmFailure::Plan(fault),
+        }
+    }
+}
+
+impl From<ScriptFault> for FarmFailure {
+    ghost from_gives = { λ fault failure. failure ≡ failure_of_script fault };
+
+    fn from(fault: ScriptFault) -> FarmFailure {
+        match fault {
+            ScriptFault::Line { number, fault } => FarmFailure::Line { number, fault },
+            ScriptFault::NoMemory => FarmFailure::Memory,
+        }
+    }
+}

@@ -1,0 +1,19 @@
+//! What the script program is given: the words of its command line, and a text of a plan and a script. And how a run ends
+//! that has no output.
+#![tactic(auto)]
+
+mod command_line;
+mod configuration;
+mod ending;
+mod explaining;
+mod failure;
+mod names;
+mod reading;
+
+pub use command_line::settings;
+pub use configuration::Settings;
+pub use ending::{end_by_error, refuse_arguments};
+pub use explaining::end_by;
+pub use failure::{Ending, FarmFailure};
+pub use names::names_of;
+pub use reading::{accepted, lines_of, text_read};

@@ -1,9 +1,0 @@
-use Rattle.std.proofs.Common.{◌≡◌, ◌++◌, take, string_bytes}
-use Rattle.std.specs.List.{flat_map}
-use Rattle.line_answers.specs.Asks.{replies_told}
-use Rattle.line_answers.specs.Results.{shown_text}
-use Rattle.line_answers.proofs.showing.write_shown.Given as goal
-
-abbrev pub invariant-loop-it : goal.invariant-loop-it
-invariant-loop-it l =
-    string_bytes l.text ≡ string_bytes l.fn.text ++ flat_map shown_text (replies_told (take l.it-index l.told))
