@@ -1,5 +1,5 @@
-//! The farm for several users in threads: a lock for each domain, over one switch table, and a queue
-//! of the right to step a node.
+//! The farm for several users in threads: a lock for each domain, over one switch table, a queue of
+//! the right to step a node, and a schedule of bursts.
 #![tactic(auto)]
 
 mod closed;
@@ -11,11 +11,8 @@ mod lists;
 mod locking;
 mod moves;
 mod opening;
-mod pace;
 mod pass;
-mod rest;
 mod restarting;
-mod schedule;
 mod service;
 mod session;
 mod status;

@@ -28,7 +28,6 @@ use crate::lists::await_listed;
 use crate::locking::{await_fitting, take};
 use crate::opening::{Opened, lock_each};
 use crate::pass::UserPass;
-use crate::schedule::Schedule;
 use crossbar::Word;
 use domain_core::laws::histories_grow;
 use domain_core::{By, Committed, Domain, Event, Refusal, Reply, Ticket};
@@ -39,6 +38,7 @@ use std::sync::atomic::{AtomicBool, Ordering};
 use std::sync::{Mutex, MutexGuard, Wait};
 use switch_table::{DomainSeat, OperatorSeat, SwitchTable};
 use token_queue::{TokenQueue, WorkerPass};
+use turn_schedule::Schedule;
 
 /// A domain over its seat at the switch table.
 pub type SeatedDomain = Domain<DomainSeat>;

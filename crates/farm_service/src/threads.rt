@@ -45,6 +45,13 @@ fn work_each<R: Threads + Wait + Sync, G: Gate + Sync>(
     );
 }
 
+// Tells the schedule for how many threads the machine has cores, if the system tells.
+fn note_cores<R: Threads>(rt: &R, service: &Service) {
+    if let Ok(cores) = thread::available_parallelism(rt) {
+        service.schedule().note_cores(cores.get());
+    }
+}
+
 // What was noted.
 fn memory_result(out_of_memory: &AtomicBool) -> Result<(), NoMemory> {
     if out_of_memory.load(Ordering::SeqCst) {
@@ -73,7 +80,7 @@ pub fn work_all<R: Threads + Wait + Sync, G: Gate + Sync>(
     ensures passes { AreItsPasses service.now.plan service.now.queue passes.new.items }
 {
     let out_of_memory = AtomicBool::new(false);
-    service.schedule().note_cores(rt);
+    note_cores(rt, service);
     work_each(
         rt,
         service,

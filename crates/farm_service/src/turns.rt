@@ -5,13 +5,13 @@ ghost use Rattle.domain_core.specs.declared.event.Refusal.TheVariants.{NoSuch};
 
 use crate::halves::{TurnEnd, Turned, begin_turn, commit_lent, end_turn};
 use crate::moves::{MovesEnd, end_round};
-use crate::pace::{BurstLength, Pace, RoundEnd};
 use crate::service::Service;
 use crate::session::Settled;
 use crate::worker::Gate;
 use domain_core::{Refusal, Ticket};
 use std::sync::Wait;
 use token_queue::Token;
+use turn_schedule::{BurstLength, Pace, RoundEnd};
 
 // Does up to so many Steps of the ticket in a slot; how many it has then.
 fn burst(slot: &mut Option<Ticket>, steps: u64) -> u64 {

@@ -4,12 +4,11 @@ ghost use Rattle.std.specs.Prelude.{◌≡◌, ◌≤◌, []};
 ghost use Rattle.token_queue.specs.Tokens.{HasToken, without};
 
 use crate::halves::Turned;
-use crate::pace::BurstLength;
-use crate::schedule::Idleness;
 use crate::service::Service;
 use domain_core::{Refusal, Ticket};
 use std::sync::Wait;
 use token_queue::{Token, WorkerPass};
+use turn_schedule::{BurstLength, Idleness};
 
 /// As a number of turns: until the service is stopped.
 pub const UNTIL_STOPPED: u64 = u64::MAX;

@@ -13,7 +13,6 @@ use std::hint::spin_loop;
 use std::sync::Wait;
 use std::sync::atomic::{AtomicBool, AtomicU64, AtomicUsize, Ordering};
 use std::thread;
-use std::thread::Threads;
 use std::time::Duration;
 use token_queue::Token;
 
@@ -106,6 +105,9 @@ impl Drop for DomainMarks {
 }
 
 /// The marks of each node that a plan can have, and how many threads there are for how many cores.
+///
+/// A domain has its number in the plan, below 16, and a node that of its token, below 8 in its domain. Of a domain of another
+/// number nothing is known, and none of its nodes is given out.
 pub struct Schedule {
     nodes: Vec<CachePadded<NodeMarks>>,
     domains: Vec<CachePadded<DomainMarks>>,
@@ -187,7 +189,7 @@ impl NodeMarks {
 }
 
 impl Schedule {
-    /// No node is checked out or due, and nobody settles or works.
+    /// No node is checked out or due, and nobody settles or works. All room is made here.
     pub fn empty(alloc: Global) -> Result<Schedule, NoMemory> {
         let mut nodes = Vec::with_capacity(alloc, MOST_NODES)?;
         for _node in 0..MOST_NODES {
@@ -252,7 +254,7 @@ impl Schedule {
         }
     }
 
-    /// How many quanta a burst of a round has, in the domain of somebody who settles.
+    /// How many quanta a burst of a round has, in the domain of somebody who settles: one before his first round.
     pub fn round_quanta(&self, domain: u8) -> u64 {
         match self.domain(domain) {
             Some(marks) => marks.quanta.load(Ordering::SeqCst),
@@ -260,8 +262,9 @@ impl Schedule {
         }
     }
 
-    /// How many quanta the turn of a node has that was taken, which began after so many changes of its domain: as many as the
-    /// round if somebody settles there, and else twice as many as the turn before, unless the domain was changed since.
+    /// How many quanta of so many Steps the turn of a node has that was taken, which began after so many changes of its domain:
+    /// as many as the round if somebody settles there, and else twice as many as the turn before, up to 256 and to 65,536
+    /// Steps, or one if the domain was changed since.
     pub fn turn_quanta(&self, token: Token, changes: u64, quantum: u64) -> u64 {
         if self.is_settled(token.domain) {
             return self.round_quanta(token.domain);
@@ -299,7 +302,7 @@ impl Schedule {
         }
     }
 
-    /// The most Steps that a node of a domain did in its last burst, of the domain's first nodes, so many.
+    /// The most Steps that a node of a domain did in its last burst that was noted, of the domain's first nodes, so many.
     pub fn most_steps(&self, domain: u8, nodes: u8) -> u64 {
         let mut most = 0_u64;
         for node in 0..nodes {
@@ -335,7 +338,7 @@ impl Schedule {
         !is_given_up && !was_due
     }
 
-    /// Somebody begins to settle in a domain.
+    /// Somebody begins to settle in a domain. Each such call is followed by one of `end_settling`.
     pub fn begin_settling(&self, domain: u8) {
         if let Some(marks) = self.domain(domain) {
             put(&marks.quanta, 1);
@@ -354,15 +357,13 @@ impl Schedule {
         }
     }
 
-    /// Notes for how many threads the machine has cores, if the system tells.
-    pub fn note_cores<R: Threads>(&self, rt: &R) {
-        if let Ok(cores) = thread::available_parallelism(rt) {
-            self.cores.store(cores.get(), Ordering::SeqCst);
-        }
+    /// Notes for how many threads the machine has cores. Until then it is taken to have one for each.
+    pub fn note_cores(&self, cores: usize) {
+        self.cores.store(cores, Ordering::SeqCst);
     }
 
     /// Which nodes rest, and which workers sleep.
-    pub(crate) fn rest(&self) -> &Rest {
+    pub fn rest(&self) -> &Rest {
         &self.rest
     }
 

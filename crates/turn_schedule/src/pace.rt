@@ -12,11 +12,11 @@ const MOST_STEPS: u64 = 65_536;
 
 /// How many Steps the bursts of a worker's turns have.
 #[derive(Clone, Copy)]
-pub(crate) struct BurstLength {
-    /// The Steps of one quantum.
-    pub(crate) quantum: u64,
+pub struct BurstLength {
+    /// The Steps of one quantum, at least one.
+    pub quantum: u64,
     /// Whether a burst may have more quanta than one.
-    pub(crate) may_grow: bool,
+    pub may_grow: bool,
 }
 
 /// How many quanta come after so many, as long as nothing moves: twice as many, unless that is too long for a burst.
@@ -31,20 +31,20 @@ pub(crate) fn longer(quanta: u64, quantum: u64) -> u64 {
 
 /// What became of a round.
 #[derive(Clone, Copy)]
-pub(crate) struct RoundEnd {
+pub struct RoundEnd {
     /// Whether a packet moved at its end.
-    pub(crate) moved: bool,
+    pub moved: bool,
     /// Whether nothing is left to be done.
-    pub(crate) is_quiet: bool,
+    pub is_quiet: bool,
     /// As how many rounds of one quantum it counts, at least one.
-    pub(crate) rounds: u64,
+    pub rounds: u64,
     /// Whether the journal had no room for a burst of several quanta.
-    pub(crate) was_shortened: bool,
+    pub was_shortened: bool,
 }
 
 /// How the rounds of a settling go on.
 #[derive(Clone, Copy)]
-pub(crate) struct Pace {
+pub struct Pace {
     // How many quanta the bursts of the next round have.
     quanta: u64,
     // How many rounds of one quantum are left.
@@ -57,7 +57,7 @@ pub(crate) struct Pace {
 
 impl Pace {
     /// The pace at the beginning of so many rounds, after so many changes of the domain by others.
-    pub(crate) fn of(rounds: u64, changes: u64) -> Pace {
+    pub fn of(rounds: u64, changes: u64) -> Pace {
         Pace {
             quanta: 1,
             left: rounds,
@@ -67,20 +67,20 @@ impl Pace {
     }
 
     /// Whether no round is left.
-    pub(crate) fn is_over(self) -> bool {
+    pub fn is_over(self) -> bool {
         self.left == 0
     }
 
-    /// How many quanta the bursts of the next round have: no more than there are rounds left, and at least one.
-    pub(crate) fn quanta(self) -> u64
+    /// How many quanta the bursts of the next round have: no more than there are rounds left, 256 at most, and at least one.
+    pub fn quanta(self) -> u64
         ensures { 1 ≤ result }
     {
         self.quanta.min(self.left).max(1)
     }
 
-    /// The pace after a round, and after so many changes of the domain by others. Bursts become no longer any more once the
-    /// journal had no room for one.
-    pub(crate) fn after(self, round: RoundEnd, changes: u64, quantum: u64) -> Pace {
+    /// The pace after a round, by quanta of so many Steps each, and after so many changes of the domain by others. Bursts
+    /// become no longer any more once the journal had no room for one.
+    pub fn after(self, round: RoundEnd, changes: u64, quantum: u64) -> Pace {
         let may_grow = self.may_grow && !round.was_shortened;
         let quanta = if round.moved || changes != self.changes || !may_grow {
             1

@@ -64,7 +64,7 @@ impl Drop for LastTurn {
 }
 
 /// What changed, what turns found, and how many workers there are and sleep.
-pub(crate) struct Rest {
+pub struct Rest {
     domains: Vec<CachePadded<Changes>>,
     nodes: Vec<CachePadded<LastTurn>>,
     busy: CachePadded<AtomicUsize>,
@@ -115,8 +115,8 @@ impl Rest {
         })
     }
 
-    /// How often a domain was changed.
-    pub(crate) fn changes(&self, domain: u8) -> u64 {
+    /// How often a domain was changed, by whomever, modulo 2^64; 0 of a domain that no plan can have.
+    pub fn changes(&self, domain: u8) -> u64 {
         match self.domains.get(usize::from(domain)) {
             Some(changes) => changes.all.load(Ordering::SeqCst),
             None => 0,
@@ -124,7 +124,7 @@ impl Rest {
     }
 
     /// Whether a node had nothing to do in its last turn, and its domain hasn't changed since.
-    pub(crate) fn is_resting(&self, token: Token) -> bool {
+    pub fn is_resting(&self, token: Token) -> bool {
         match self.nodes.get(place_of(token)) {
             Some(turn) => {
                 turn.nothing_after.load(Ordering::SeqCst) == self.changes(token.domain)
@@ -133,8 +133,8 @@ impl Rest {
         }
     }
 
-    /// Notes that a turn found nothing to do, which began after so many changes.
-    pub(crate) fn note_idle(&self, token: Token, changes: u64) {
+    /// Notes that a turn of a node found nothing to do, which began after so many changes of its domain.
+    pub fn note_idle(&self, token: Token, changes: u64) {
         if let Some(turn) = self.nodes.get(place_of(token)) {
             turn.nothing_after.store(changes, Ordering::SeqCst);
             if turn.is_busy.load(Ordering::SeqCst) && turn.is_busy.swap(false, Ordering::SeqCst) {
@@ -143,8 +143,8 @@ impl Rest {
         }
     }
 
-    /// Notes that a turn found something to do. If more nodes are busy than workers are awake, one more is woken.
-    pub(crate) fn note_busy(&self, token: Token) {
+    /// Notes that a turn of a node found something to do. If more nodes are busy than workers are awake, one more is woken.
+    pub fn note_busy(&self, token: Token) {
         if let Some(turn) = self.nodes.get(place_of(token)) {
             if !turn.is_busy.load(Ordering::SeqCst) && !turn.is_busy.swap(true, Ordering::SeqCst) {
                 let before = self.busy.fetch_add(1, Ordering::SeqCst);
@@ -156,14 +156,14 @@ impl Rest {
     }
 
     /// Notes that a worker moved a packet in a domain.
-    pub(crate) fn note_moved(&self, domain: u8) {
+    pub fn note_moved(&self, domain: u8) {
         if let Some(changes) = self.domains.get(usize::from(domain)) {
             changes.all.fetch_add(1, Ordering::SeqCst);
         }
     }
 
     /// Notes that somebody who is no worker changed a domain. If all workers sleep, one is woken.
-    pub(crate) fn note_call(&self, domain: u8) {
+    pub fn note_call(&self, domain: u8) {
         if let Some(changes) = self.domains.get(usize::from(domain)) {
             changes.all.fetch_add(1, Ordering::SeqCst);
             changes.calls.fetch_add(1, Ordering::SeqCst);
@@ -188,13 +188,13 @@ impl Rest {
         workers.saturating_sub(self.sleepers.load(Ordering::SeqCst))
     }
 
-    /// A worker begins; how many were there before it.
-    pub(crate) fn begin_work(&self) -> usize {
+    /// A worker begins; how many were there before it. It ends by `end_work`.
+    pub fn begin_work(&self) -> usize {
         self.workers.fetch_add(1, Ordering::SeqCst)
     }
 
     /// A worker ends. If all others sleep one is woken, which looks through the tokens.
-    pub(crate) fn end_work(&self) {
+    pub fn end_work(&self) {
         self.workers.fetch_sub(1, Ordering::SeqCst);
         self.note_call(0);
     }
@@ -206,7 +206,7 @@ impl Rest {
     }
 
     /// Wakes all workers.
-    pub(crate) fn wake_all(&self) {
+    pub fn wake_all(&self) {
         self.note_call(0);
         self.bed.fetch_add(1, Ordering::SeqCst);
         self.bed.wake_all();
