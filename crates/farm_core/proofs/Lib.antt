@@ -11,8 +11,3 @@ pub mod Wholes
 -- plans
 pub mod Separation
 pub mod Plans
-pub mod Opened
--- the contracts of a farm without threads, and of a run
-pub mod Plain
-pub mod Owners
-pub mod AnswersOfRuns

@@ -126,14 +126,14 @@ tidy_opening plan = record {
 -- ---- the states of all domains
 
 -- what is stored in a place stands there
-pub get-set_same : {X : Type 0} (xs : List X) (i : ℕ) (x y : X) → slice_get xs i ≡ Some y
+get-set_same : {X : Type 0} (xs : List X) (i : ℕ) (x y : X) → slice_get xs i ≡ Some y
     → slice_get (slice_set xs i x) i ≡ Some x
 get-set_same [] i x y at = absurd (none-some y at)
 get-set_same (z ∷ xs) zero x y at = refl
 get-set_same (z ∷ xs) (suc i) x y at = get-set_same xs i x y at
 
 -- storing in one place leaves the others
-pub get-set_other : {X : Type 0} (xs : List X) (i j : ℕ) (x : X) → j ≢ i
+get-set_other : {X : Type 0} (xs : List X) (i j : ℕ) (x : X) → j ≢ i
     → slice_get (slice_set xs i x) j ≡ slice_get xs j
 get-set_other [] i j x ne = refl
 get-set_other (z ∷ xs) zero zero x ne = absurd (ne refl)

@@ -166,7 +166,7 @@ made_of make None y is = absurd (none-some y is)
 made_of make (Some x) y is = (x, refl, same_Some _ _ is)
 
 -- a value that is made of each domain is made of one that stands at its number
-pub domain_of : {Y : Type 0} (make : DomainValue → Y) (domains : List DomainValue) (number : ℕ) (y : Y)
+domain_of : {Y : Type 0} (make : DomainValue → Y) (domains : List DomainValue) (number : ℕ) (y : Y)
     → slice_get (map make domains) number ≡ Some y
     → (d : DomainValue) × (slice_get domains number ≡ Some d) × (make d ≡ y)
 domain_of make domains number y at =

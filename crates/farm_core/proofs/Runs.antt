@@ -208,7 +208,7 @@ told_answers plan [] = refl
 told_answers plan (t ∷ heard) = ap (λ rest. lowered_for (slice_get plan t.0) t.1 ∷ rest) (told_answers plan heard)
 
 -- numbers and values that are taken apart and put together again are as before
-pub zip-parts : {X : Type 0} (xs : List (ℕ × X)) → zip (map (λ x. x.0) xs) (map (λ x. x.1) xs) ≡ xs
+zip-parts : {X : Type 0} (xs : List (ℕ × X)) → zip (map (λ x. x.0) xs) (map (λ x. x.1) xs) ≡ xs
 zip-parts [] = refl
 zip-parts (x ∷ xs) = ap (λ rest. x ∷ rest) (zip-parts xs)
 

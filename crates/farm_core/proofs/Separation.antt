@@ -1,5 +1,5 @@
 -- The places of a plan whose domains are numbered and share no port, for the law `numbered_domains_are_separate` and
--- the calls that need it of an accepted plan.
+-- the plans of `Plans.antt`.
 use Rattle.std.proofs.Common.{◌≡◌, inl, inr, ℕ, ◌<◌, Option, Some, None, List, slice_get, option_map, refl, sym, ◌∙◌}
 use Rattle.std.proofs.Common.{subst, get_or}
 use Rattle.std.proofs.lemmas.Bool.{cases_order}

@@ -8,5 +8,4 @@ pub mod Domains
 pub mod Laws
 pub mod Merges
 pub mod PlainFarm
-pub mod Run
 pub mod Words

@@ -10,16 +10,19 @@ use Rattle.domain_core.specs.Journal.{AnsweredCall}
 use Rattle.farm_core.specs.Places.{places_of, AreSeparatePlaces}
 use Rattle.farm_core.specs.Whole.{Farm, whole_after, whole_opening}
 use Rattle.farm_core.specs.Domains.{output_of}
-use Rattle.farm_core.specs.Merges.{own_journal, IsMerge, merged_calls, IsRun}
-use Rattle.farm_core.specs.PlainFarm.{all_places, all_states, IsMadeOfDomains, output_told}
+use Rattle.farm_core.specs.Merges.{own_journal, IsMerge, merged_calls}
+use Rattle.farm_core.specs.PlainFarm.{all_places, IsMadeOfDomains, output_told}
 
 -- its words are a row of its ports
 abbrev pub HasRow : DomainValue → Type 0
 HasRow d = IsRow (row_of d.machine.switch)
 
--- its words are all 0: disconnected, and never changed
-abbrev pub IsUnused : DomainValue → Type 0
-IsUnused d = All (λ word. word ≡ record { bits = 0 }) d.machine.switch.words
+-- if a domain has a row of words, each of them says what its output is in every whole farm that is made of the domains
+abbrev pub EachWordSaysItsOutput : Type 0
+EachWordSaysItsOutput =
+    (domains : List DomainValue) (farm : Farm) (domain number output : ℕ) (d : DomainValue) (word : Word) → AreSeparatePlaces (all_places domains) → IsMadeOfDomains farm domains
+    → slice_get domains domain ≡ Some d → HasRow d → slice_get d.machine.switch.ports number ≡ Some output → slice_get d.machine.switch.words number ≡ Some word
+    → output_of farm.switch output ≡ output_told word
 
 -- each output of these domains is driven and ready as its word says
 abbrev pub IsAsWordsSay : List DomainValue → Switch → Type 0
@@ -37,12 +40,6 @@ abbrev pub EachMergeEndsAsWordsSay : Type 0
 EachMergeEndsAsWordsSay =
     (domains : List DomainValue) (merge : List (ℕ × AnsweredCall)) → AreSeparatePlaces (all_places domains) → All IsMeant domains → All HasRow domains
     → IsMerge (map own_journal domains) merge → IsAsWordsSay domains (whole_after (all_places domains) (whole_opening (all_places domains)) (merged_calls merge)).switch
-
--- some merge of the domains' journals leads the whole farm from its opening, by the stored replies, to one that is made of the domains
-pub record HaveAWhole (domains : List DomainValue) : Type 0 where
-  pub merge : List (ℕ × AnsweredCall)
-  pub merges : IsMerge (map own_journal domains) merge
-  pub run : IsRun (all_places domains) merge (all_states domains)
 
 -- domains that fit a plan, each at its number, have its places
 abbrev pub FittingDomainsHaveItsPlaces : Type 0

@@ -4,7 +4,7 @@ ghost use Rattle.farm_core.specs.Domains.{OpeningIsMadeOfOpenings, EachCallIsPri
 ghost use Rattle.farm_core.specs.Laws.{EachDomainIsPrivate, EqualDomainsAreAnsweredAlike, EachIsToldPrivately, RunsAddUp, NumberedDomainsAreSeparate};
 ghost use Rattle.farm_core.specs.Laws.{EachDomainOfAPlanIsPrivate, EachOfAPlanIsToldPrivately, EqualDomainsOfPlansAreAnsweredAlike};
 ghost use Rattle.farm_core.specs.Merges.{EachMergeIsARun, EachMergeOfDomainsIsARun};
-ghost use Rattle.farm_core.specs.Words.{EachWholeIsAsWordsSay, EachMergeEndsAsWordsSay, FittingDomainsHaveItsPlaces};
+ghost use Rattle.farm_core.specs.Words.{EachWordSaysItsOutput, EachWholeIsAsWordsSay, EachMergeEndsAsWordsSay, FittingDomainsHaveItsPlaces};
 
 use crossbar::laws::switches_say_their_words;
 
@@ -82,8 +82,9 @@ pub fn each_domain_of_a_plan_is_private()
 }
 
 /// Each output of the whole farm is driven and ready as its domain's switch word says, in every whole farm that is made of
-/// the domains, and so at the end of every merge of their journals.
+/// the domains, and so at the end of every merge of their journals. Of one domain's words that holds if they are a row.
 pub fn each_word_is_of_its_output()
+    ensures word { EachWordSaysItsOutput }
     ensures whole { EachWholeIsAsWordsSay }
     ensures merge { EachMergeEndsAsWordsSay }
 {

@@ -22,7 +22,8 @@ use Rattle.farm_core.specs.Whole.{Farm, whole_after, whole_next}
 use Rattle.farm_core.specs.Domains.{IsMadeOf}
 use Rattle.farm_core.specs.Laws.{RunsAddUp}
 use Rattle.farm_core.specs.Places.{Place}
-use Rattle.farm_core.specs.PlainFarm.{all_places, all_states, IsCallOfEachWhole}
+use Rattle.farm_core.specs.PlainFarm.{all_places, all_states}
+use Rattle.plain_farm.specs.PlainFarm.{IsCallOfEachWhole}
 use Rattle.farm_replay.specs.Kept.{KeptList, HoldsTexts}
 use Rattle.farm_replay.specs.Listing.{IsListing}
 use Rattle.farm_replay.specs.Plain.{Asked, Calls, Looks, Opens, Else, asked_times, answer_words, event_calls}

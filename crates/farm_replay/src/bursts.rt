@@ -6,8 +6,8 @@ ghost use Rattle.farm_replay.specs.Answering.{HaveStepped, IsAtRest};
 use crate::fault::{AskFault, FarmStop};
 use bootstrap::steps_add_up;
 use domain_core::{Committed, NoMemory, Refusal, Ticket};
-use farm_core::PlainFarm;
 use farm_core::laws::each_call_is_private;
+use plain_farm::PlainFarm;
 use step_meter::{StepMeter, StepsEnd};
 use t414_step::Stepped;
 

@@ -3,7 +3,7 @@ use Rattle.std.specs.Prelude.{◌≡◌, ◌++◌, ℕ, List, [], slice_get}
 use Rattle.std.specs.Option.{unwrap_or}
 use Rattle.plan_rules.specs.Data.{DomainData}
 use Rattle.domain_core.specs.Domain.{DomainValue}
-use Rattle.farm_core.specs.PlainFarm.{journal_there}
+use Rattle.plain_farm.specs.PlainFarm.{journal_there}
 use Rattle.farm_records.specs.Heads.{IsHead}
 use Rattle.farm_records.specs.RecordText.{record_text, lines_of}
 

@@ -1,13 +1,13 @@
 //! Doing journals again on one thread, and comparing what is answered.
 ghost use Rattle.std.specs.Prelude.{◌≡◌, ◌<◌, ◌↔◌, IsTrue, IfSome, Some, length, slice_get};
-ghost use Rattle.farm_core.specs.PlainFarm.{word_there};
+ghost use Rattle.plain_farm.specs.PlainFarm.{word_there};
 
 use crate::draws::Draws;
 use crate::watch::Watch;
 use crossbar::Word;
 use domain_core::{By, Entry, Event, Journal, NoMemory, Refusal};
-use farm_core::PlainFarm;
 use farm_service::{Closed, ClosedDomain, Token};
+use plain_farm::PlainFarm;
 use plan_rules::AcceptedPlan;
 use std::alloc::Global;
 

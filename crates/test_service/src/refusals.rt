@@ -4,7 +4,7 @@ use crate::parts::{Otherwise, holds, plan_again};
 use crate::plans::TrialPlan;
 use bootstrap::Stepped;
 use domain_core::{By, Committed, Entry, Event, Refusal, Reply, Ticket};
-use farm_core::{PlainFarm, run};
+use plain_farm::{PlainFarm, run};
 use std::alloc::Global;
 use virtual_switch::ConfigReply;
 

@@ -1,9 +1,10 @@
-use Rattle.farm_core.proofs.Wholes.{each_whole_is_as_words_say, each_merge_ends_as_words_say}
+use Rattle.farm_core.proofs.Wholes.{each_word_says_its_output, each_whole_is_as_words_say, each_merge_ends_as_words_say}
 use Rattle.farm_core.proofs.laws.each_word_is_of_its_output.Goals as goal
 
 pub returns : goal.returns
 returns c =
     record {
+      word = each_word_says_its_output c.switches_say_their_words.ensures.laws;
       whole = each_whole_is_as_words_say c.switches_say_their_words.ensures.laws;
       merge = each_merge_ends_as_words_say c.switches_say_their_words.ensures.laws;
     }

@@ -1,0 +1,3 @@
+-- what must be believed
+pub mod PlainFarm
+pub mod Run
