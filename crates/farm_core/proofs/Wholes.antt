@@ -17,7 +17,7 @@ use Rattle.domain_core.specs.Domain.{DomainValue, state_of, Fits}
 use Rattle.farm_core.specs.Places.{Place, place_of, places_of}
 use Rattle.farm_core.specs.Messages.{raised}
 use Rattle.farm_core.specs.Merges.{own_place}
-use Rattle.farm_core.specs.PlainFarm.{all_places, all_states}
+use Rattle.farm_core.specs.Values.{all_places, all_states}
 use Rattle.farm_core.specs.Words.{HasRow, EachWordSaysItsOutput}
 use Rattle.farm_core.specs.Words.{EachWholeIsAsWordsSay, EachMergeEndsAsWordsSay, FittingDomainsHaveItsPlaces}
 use Rattle.farm_core.proofs.MadeOfDomains.{each_output_is_of_its_domain, raised-number}

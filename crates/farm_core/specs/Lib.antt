@@ -7,5 +7,5 @@ pub mod Projection
 pub mod Domains
 pub mod Laws
 pub mod Merges
-pub mod PlainFarm
+pub mod Values
 pub mod Words

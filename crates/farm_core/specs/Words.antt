@@ -11,7 +11,7 @@ use Rattle.farm_core.specs.Places.{places_of, AreSeparatePlaces}
 use Rattle.farm_core.specs.Whole.{Farm, whole_after, whole_opening}
 use Rattle.farm_core.specs.Domains.{output_of}
 use Rattle.farm_core.specs.Merges.{own_journal, IsMerge, merged_calls}
-use Rattle.farm_core.specs.PlainFarm.{all_places, IsMadeOfDomains, output_told}
+use Rattle.farm_core.specs.Values.{all_places, IsMadeOfDomains, output_told}
 
 -- its words are a row of its ports
 abbrev pub HasRow : DomainValue → Type 0

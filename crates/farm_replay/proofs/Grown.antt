@@ -28,7 +28,7 @@ use Rattle.farm_core.specs.Projection.{lowered_for}
 use Rattle.farm_core.specs.Domains.{IsMadeOf, EachCallIsPrivate}
 use Rattle.farm_core.specs.Laws.{caller_answers_from}
 use Rattle.farm_core.specs.Merges.{own_place}
-use Rattle.farm_core.specs.PlainFarm.{all_places, all_states}
+use Rattle.farm_core.specs.Values.{all_places, all_states}
 use Rattle.plain_farm.specs.PlainFarm.{recorded_there, OthersStay, IsCalledAt, IsCommittedAt}
 use Rattle.farm_replay.specs.Answering.{StayIfUnrecorded, step_calls, steps_answers}
 use Rattle.farm_replay.specs.Runs.{HaveRun}

@@ -6,7 +6,7 @@ use Rattle.domain_core.specs.Domain.{DomainValue}
 use Rattle.farm_core.specs.Places.{Place}
 use Rattle.farm_core.specs.Whole.{Farm, whole_opening}
 use Rattle.farm_core.specs.Domains.{IsMadeOf}
-use Rattle.farm_core.specs.PlainFarm.{all_places, all_states}
+use Rattle.farm_core.specs.Values.{all_places, all_states}
 use Rattle.farm_replay.specs.declared.request.RepeatedRequest.{RepeatedRequest}
 use Rattle.farm_replay.specs.Plain.{asked_by, IsShownIn, AreLines, Asked, Calls, Looks, Opens, Else}
 use Rattle.farm_replay.specs.Runs.{IsRunTo, IsOpenedFarm, ShowsAsked}

@@ -22,7 +22,7 @@ use Rattle.farm_core.specs.Whole.{Farm, whole_after, whole_next}
 use Rattle.farm_core.specs.Domains.{IsMadeOf}
 use Rattle.farm_core.specs.Laws.{RunsAddUp}
 use Rattle.farm_core.specs.Places.{Place}
-use Rattle.farm_core.specs.PlainFarm.{all_places, all_states}
+use Rattle.farm_core.specs.Values.{all_places, all_states}
 use Rattle.plain_farm.specs.PlainFarm.{IsCallOfEachWhole}
 use Rattle.farm_replay.specs.Kept.{KeptList, HoldsTexts}
 use Rattle.farm_replay.specs.Listing.{IsListing}

@@ -12,7 +12,7 @@ use Rattle.domain_core.specs.declared.event.Reply.TheVariants as reply
 use Rattle.domain_core.specs.PrivateFarm.{Answer, Call}
 use Rattle.domain_core.specs.Domain.{DomainValue}
 use Rattle.farm_core.specs.Places.{Place}
-use Rattle.farm_core.specs.PlainFarm.{all_states}
+use Rattle.farm_core.specs.Values.{all_states}
 use Rattle.plain_farm.specs.PlainFarm.{recorded_there, node_there}
 use Rattle.farm_replay.specs.Kept.{KeptList, HoldsTexts}
 use Rattle.farm_replay.specs.Runs.{HaveRun, IsOpenedFarm}

@@ -7,7 +7,7 @@ use Rattle.farm_core.specs.Places.{Place}
 use Rattle.farm_core.specs.Whole.{Farm, whole_after, whole_opening}
 use Rattle.farm_core.specs.Domains.{IsMadeOf}
 use Rattle.farm_core.specs.Laws.{caller_answers_from}
-use Rattle.farm_core.specs.PlainFarm.{all_places, all_states, IsMadeOfDomains}
+use Rattle.farm_core.specs.Values.{all_places, all_states, IsMadeOfDomains}
 use Rattle.farm_replay.specs.Plain.{Asked, Calls, Looks, Opens, Else, IsShownIn}
 
 -- the whole farm answers calls so, and is then made of these domains

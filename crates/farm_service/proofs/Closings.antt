@@ -12,7 +12,7 @@ use Rattle.plan_rules.specs.Part.{physical_ports}
 use Rattle.domain_core.specs.Domain.{DomainValue, IsMeant}
 use Rattle.domain_core.specs.Journal.{AnsweredCall, expanded}
 use Rattle.farm_core.specs.Places.{Place, place_of, places_of, AreSeparatePlaces}
-use Rattle.farm_core.specs.PlainFarm.{all_places}
+use Rattle.farm_core.specs.Values.{all_places}
 use Rattle.farm_core.specs.Merges.{own_place, own_journal, IsMerge, EachMergeOfDomainsIsARun}
 use Rattle.farm_core.specs.Words.{HasRow, EachMergeEndsAsWordsSay}
 use Rattle.farm_service.specs.declared.closed.ClosedDomain.{ClosedDomain}

@@ -17,7 +17,7 @@ use Rattle.farm_core.specs.Whole.{Farm, whole_next, whole_opening}
 use Rattle.farm_core.specs.Projection.{lowered_for, own}
 use Rattle.farm_core.specs.Domains.{IsMadeOf, NoDomainNoChange}
 use Rattle.farm_core.specs.Laws.{caller_answers_from, caller_answers, answers_among}
-use Rattle.farm_core.specs.PlainFarm.{all_places, all_states}
+use Rattle.farm_core.specs.Values.{all_places, all_states}
 use Rattle.plain_farm.specs.PlainFarm.{IsCallOfEachWhole}
 use Rattle.plain_farm.specs.Run.{calls_asked, NobodyElsewhere}
 use Rattle.plain_farm.proofs.Lists.{own-here, own-there}

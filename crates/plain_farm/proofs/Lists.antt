@@ -9,7 +9,7 @@ use Rattle.domain_core.specs.Domain.{DomainValue}
 use Rattle.farm_core.specs.Places.{Place}
 use Rattle.farm_core.specs.Projection.{own}
 use Rattle.farm_core.specs.Merges.{own_place}
-use Rattle.farm_core.specs.PlainFarm.{all_places}
+use Rattle.farm_core.specs.Values.{all_places}
 
 -- ---- what stands in a list
 

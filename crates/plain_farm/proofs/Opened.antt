@@ -20,7 +20,7 @@ use Rattle.farm_core.specs.Places.{Place, place_of, places_of}
 use Rattle.farm_core.specs.Whole.{whole_opening}
 use Rattle.farm_core.specs.Domains.{IsMadeOf, OpeningIsMadeOfOpenings}
 use Rattle.farm_core.specs.Merges.{own_place}
-use Rattle.farm_core.specs.PlainFarm.{all_places, all_states}
+use Rattle.farm_core.specs.Values.{all_places, all_states}
 use Rattle.plain_farm.specs.PlainFarm.{openings, IsUnused}
 use Rattle.plain_farm.proofs.Lists.{there_is}
 

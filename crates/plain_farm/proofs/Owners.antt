@@ -12,7 +12,7 @@ use Rattle.domain_core.specs.Domain.{DomainValue}
 use Rattle.farm_core.specs.Places.{Place, AreSeparatePlaces}
 use Rattle.farm_core.specs.Domains.{IsFree}
 use Rattle.farm_core.specs.Merges.{own_place}
-use Rattle.farm_core.specs.PlainFarm.{all_places, output_told}
+use Rattle.farm_core.specs.Values.{all_places, output_told}
 use Rattle.farm_core.specs.Words.{EachWordSaysItsOutput}
 use Rattle.plain_farm.specs.PlainFarm.{HasOutput, IsWordOfOwner, SaysEachWhole}
 use Rattle.plain_farm.proofs.Lists.{at_contained, contains_at, domain_of}

@@ -17,7 +17,7 @@ use Rattle.farm_core.specs.Whole.{Farm, next_in, whole_next}
 use Rattle.farm_core.specs.Projection.{lowered_for}
 use Rattle.farm_core.specs.Domains.{IsMadeOf, EachCallIsPrivate}
 use Rattle.farm_core.specs.Merges.{own_place}
-use Rattle.farm_core.specs.PlainFarm.{all_places, all_states, IsMadeOfDomains}
+use Rattle.farm_core.specs.Values.{all_places, all_states, IsMadeOfDomains}
 use Rattle.plain_farm.specs.PlainFarm.{OthersStay, IsCalledAt, IsCallOfEachWhole, IsCommitted}
 use Rattle.plain_farm.specs.PlainFarm.{IsWholeCall, IsCommittedAt, IsRestarted, IsRestartedAt}
 use Rattle.plain_farm.proofs.Lists.{get-set_same, get-set_other}

@@ -10,7 +10,7 @@ use Rattle.domain_core.specs.Journal.{AnsweredCall}
 use Rattle.farm_core.specs.Places.{AreSeparatePlaces}
 use Rattle.farm_core.specs.Projection.{own}
 use Rattle.farm_core.specs.Merges.{journal_at, IsMerge, own_journal, EachMergeOfDomainsIsARun}
-use Rattle.farm_core.specs.PlainFarm.{all_places}
+use Rattle.farm_core.specs.Values.{all_places}
 use Rattle.farm_core.specs.Words.{HasRow}
 use Rattle.plain_farm.specs.PlainFarm.{HaveAWhole}
 use Rattle.plain_farm.proofs.Lists.{own-here, own-there}

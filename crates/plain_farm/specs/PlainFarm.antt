@@ -20,7 +20,7 @@ use Rattle.farm_core.specs.Whole.{Farm, whole_next}
 use Rattle.farm_core.specs.Projection.{lowered_for}
 use Rattle.farm_core.specs.Domains.{output_of}
 use Rattle.farm_core.specs.Merges.{own_journal, IsMerge, IsRun}
-use Rattle.farm_core.specs.PlainFarm.{all_places, all_states, IsMadeOfDomains, output_told}
+use Rattle.farm_core.specs.Values.{all_places, all_states, IsMadeOfDomains, output_told}
 
 -- the state of each place as it is opened
 abbrev pub openings : List Place → List State

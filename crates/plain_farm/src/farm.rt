@@ -13,7 +13,7 @@ ghost use Rattle.farm_core.specs.Places.{place_of, places_of, AreSeparatePlaces}
 ghost use Rattle.farm_core.specs.Whole.{whole_opening};
 ghost use Rattle.farm_core.specs.Domains.{IsFree, IsMadeOf};
 ghost use Rattle.farm_core.specs.Merges.{own_place};
-ghost use Rattle.farm_core.specs.PlainFarm.{all_places, all_states};
+ghost use Rattle.farm_core.specs.Values.{all_places, all_states};
 ghost use Rattle.farm_core.specs.Words.{HasRow};
 ghost use Rattle.plain_farm.specs.PlainFarm.{openings, IsUnused, HaveAWhole, OthersStay, IsCalledAt, IsCallOfEachWhole, node_there, IsCommittedAt, word_there, journal_there, recorded_there, HasOutput, IsWordOfOwner, SaysEachWhole, IsRestartedAt, FitsAt};
 
@@ -40,7 +40,7 @@ impl Model for PlainFarm {
     ghost use Rattle.std.specs.Prelude.{List};
     ghost use Rattle.domain_core.specs.Domain.{DomainValue};
     ghost use Rattle.farm_core.specs.Places.{AreSeparatePlaces};
-    ghost use Rattle.farm_core.specs.PlainFarm.{all_places};
+    ghost use Rattle.farm_core.specs.Values.{all_places};
 
     ghost Value = { List DomainValue };
 

@@ -6,7 +6,7 @@ use Rattle.domain_core.specs.Domain.{DomainValue}
 use Rattle.farm_core.specs.Whole.{Farm, whole_after}
 use Rattle.farm_core.specs.Domains.{IsMadeOf}
 use Rattle.farm_core.specs.Laws.{RunsAddUp}
-use Rattle.farm_core.specs.PlainFarm.{all_places, all_states}
+use Rattle.farm_core.specs.Values.{all_places, all_states}
 use Rattle.farm_replay.specs.Runs.{IsRunTo, HaveRun, IsOfTheFarm, HasGoneOn}
 
 -- no call leaves the domains as they are

@@ -2,7 +2,7 @@ use Rattle.std.proofs.Common.{◌≡◌, ◌<◌, List, None, Err, length, refl,
 use Rattle.domain_core.specs.declared.event.Refusal.TheVariants.{NoSuch}
 use Rattle.domain_core.specs.Domain.{DomainValue}
 use Rattle.farm_core.specs.Places.{AreSeparatePlaces}
-use Rattle.farm_core.specs.PlainFarm.{all_places}
+use Rattle.farm_core.specs.Values.{all_places}
 use Rattle.plain_farm.specs.PlainFarm.{IsCalledAt}
 use Rattle.plain_farm.proofs.Plain.{Replaces, read_at, none_at, still_separate, called_at, others_stay, places_stay}
 use Rattle.plain_farm.proofs.Plain.{call_of_each_whole, no_call_of_each_whole, err_stays}

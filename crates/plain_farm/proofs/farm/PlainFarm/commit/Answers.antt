@@ -2,7 +2,7 @@ use Rattle.std.proofs.Common.{◌≡◌, ◌<◌, List, None, Err, length, refl,
 use Rattle.domain_core.specs.declared.event.Refusal.TheVariants.{NoSuch}
 use Rattle.domain_core.specs.Domain.{DomainValue}
 use Rattle.farm_core.specs.Places.{AreSeparatePlaces}
-use Rattle.farm_core.specs.PlainFarm.{all_places}
+use Rattle.farm_core.specs.Values.{all_places}
 use Rattle.plain_farm.specs.PlainFarm.{IsCommitted, IsCommittedAt}
 use Rattle.plain_farm.proofs.Plain.{Replaces, read_at, still_separate, committed_at, place_of_committed, others_stay}
 use Rattle.plain_farm.proofs.Plain.{none_at, places_stay, all_stay}

@@ -2,7 +2,7 @@ use Rattle.std.proofs.Common.{◌↔◌, List, Option, IfSome, IsTrue, ap, sym, 
 use Rattle.domain_core.specs.Domain.{DomainValue, IsQuiet}
 use Rattle.domain_core.specs.MachineValue.{machine_of}
 use Rattle.farm_core.specs.Places.{AreSeparatePlaces}
-use Rattle.farm_core.specs.PlainFarm.{all_places}
+use Rattle.farm_core.specs.Values.{all_places}
 use Rattle.farm_core.specs.Merges.{own_place}
 use Rattle.plain_farm.proofs.Plain.{Replaces, read_there, still_separate, all_stay}
 use Rattle.plain_farm.proofs.farm.PlainFarm.quiet.Goals as goal

@@ -1,7 +1,7 @@
 use Rattle.std.proofs.Common.{List, slice_set, subst}
 use Rattle.domain_core.specs.Domain.{DomainValue}
 use Rattle.farm_core.specs.Places.{AreSeparatePlaces}
-use Rattle.farm_core.specs.PlainFarm.{all_places}
+use Rattle.farm_core.specs.Values.{all_places}
 use Rattle.plain_farm.proofs.Plain.{Replaces, read_there, still_separate, others_stay, places_stay, restarted_at}
 use Rattle.plain_farm.proofs.farm.PlainFarm.restart.Goals as goal
 

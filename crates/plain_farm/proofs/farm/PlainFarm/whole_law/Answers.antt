@@ -1,7 +1,7 @@
 use Rattle.std.proofs.Common.{◌≤◌, List, length, refl, ◌∙◌, subst}
 use Rattle.domain_core.specs.Domain.{DomainValue}
 use Rattle.farm_core.specs.Places.{AreSeparatePlaces}
-use Rattle.farm_core.specs.PlainFarm.{all_places}
+use Rattle.farm_core.specs.Values.{all_places}
 use Rattle.plain_farm.proofs.Plain.{read_at}
 use Rattle.plain_farm.proofs.Wholes.{one_meant_more, all_meant, all_rows, have_a_whole}
 use Rattle.plain_farm.proofs.farm.PlainFarm.whole_law.Goals as goal

@@ -1,7 +1,7 @@
 use Rattle.std.proofs.Common.{◌<◌, List, length, arith, refl, sym, subst}
 use Rattle.domain_core.specs.Domain.{DomainValue}
 use Rattle.farm_core.specs.Places.{AreSeparatePlaces}
-use Rattle.farm_core.specs.PlainFarm.{all_places}
+use Rattle.farm_core.specs.Values.{all_places}
 use Rattle.plain_farm.proofs.Owners.{IsOwner, owner_read, within_farm, within_count, nobody_has, word_of_nobody}
 use Rattle.plain_farm.proofs.Owners.{word_of_owner, word_says, nothing_says, word_within}
 use Rattle.plain_farm.proofs.farm.PlainFarm.word.Goals as goal
