@@ -6,10 +6,10 @@ ghost use Rattle.farm_service.specs.Closed.{IsListed, AreListed};
 
 use crate::closed::ClosedDomain;
 use crate::pass::UserPass;
-use crate::told::{Told, command_from};
+use crate::told::command_from;
 use crate::waiting::block_forever;
 use domain_core::laws::journals_add_up;
-use domain_core::{Entry, Journal};
+use domain_core::{Entry, Journal, Told};
 use std::sync::Wait;
 
 // Whether a listed command is this one, with this reply.

@@ -9,8 +9,7 @@ ghost use Rattle.farm_service.specs.Restarts.{begun_anew};
 
 use crate::pass::UserPass;
 use crate::service::Service;
-use crate::told::Told;
-use domain_core::{By, Event, Refusal, Reply};
+use domain_core::{By, Event, Refusal, Reply, Told};
 use std::marker::Model;
 use std::sync::Wait;
 
