@@ -58,6 +58,12 @@ abbrev pub failure_of_input : ReadFault → FarmFailure
 failure_of_input input.Failed = Io
 failure_of_input input.NoMemory = Memory
 
+-- an input isn't read: it failed, or there is no memory
+abbrev pub IsInputFailure : FarmFailure → Type 0
+IsInputFailure Memory = ⊤
+IsInputFailure Io = ⊤
+IsInputFailure failure = ⊥
+
 -- what a refusal of the plan's reader or of the checker ends it by
 abbrev pub failure_of_plan : PlanFault → FarmFailure
 failure_of_plan NoMemory = Memory

@@ -2,7 +2,7 @@
 ghost use Rattle.std.specs.Prelude.{◌≡◌, ◌<◌, IfOk, IfErr, IfSome, All, length};
 ghost use Rattle.std.specs.Str.Lines.{lines};
 ghost use Rattle.script_lines.specs.Script.{IsScript};
-ghost use Rattle.farm_input.specs.Failures.{IsFailure, IsPlanFailure, IsScriptFailure};
+ghost use Rattle.farm_input.specs.Failures.{IsFailure, IsInputFailure, IsPlanFailure, IsScriptFailure};
 ghost use Rattle.farm_input.specs.Names.{all_names};
 ghost use Rattle.farm_input.specs.Requests.{IsAcceptedText};
 
@@ -18,6 +18,7 @@ use std::io::Read;
 pub fn text_read<I: Read>(alloc: Global, input: &mut I) -> Result<Vec<u8>, FarmFailure>
     ensures text { IfOk result (λ text. IfSome (I.remaining input.old) (λ left. text.items ≡ left)) }
     ensures failure { IfErr result (λ failure. IfSome (I.remaining input.old) (λ text. IsFailure text failure)) }
+    ensures fault { IfErr result IsInputFailure }
 {
     Ok(read_whole(alloc, input)?)
 }
