@@ -1,7 +1,8 @@
 //! Why nothing is said of a record.
 
 use domain_core::Refusal;
-use line_words::{NumberedLineFault, WordFault, WordMistake, WrongLine};
+use line_mistakes::{WordMistake, WrongLine};
+use line_words::{NumberedLineFault, WordFault};
 use plan_checker::PlanFault;
 use std::alloc::{AllocError, AllocFailed};
 use step_meter::StepsEnd;

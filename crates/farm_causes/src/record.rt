@@ -3,7 +3,8 @@ ghost use Rattle.std.specs.Prelude.{◌≡◌, length, IfOk};
 
 use crate::fault::WhyFault;
 use crate::line::{RecordedLine, read_line};
-use line_words::{NumberedLine, numbered_lines};
+use line_mistakes::{NumberedLine, numbered_lines};
+use line_words::line_as_str;
 use plan_checker::{AcceptedPlan, check, read_plan};
 use script_text::{divide, is_passed_over};
 use std::alloc::Global;
@@ -88,7 +89,7 @@ fn read_lines<'a>(
 
 // A line by its number in the whole text.
 fn read_numbered<'a>(alloc: Global, line: NumberedLine<'a>) -> Result<RecordedLine<'a>, WhyFault> {
-    match read_line(alloc, line.number, line.as_str()?) {
+    match read_line(alloc, line.number, line_as_str(line)?) {
         Ok(read) => Ok(read),
         Err(fault) => Err(WhyFault::of_line(line.number, fault)),
     }

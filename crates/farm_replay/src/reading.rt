@@ -2,8 +2,8 @@
 
 use crate::request::{DomainRequest, RepeatedRequest, Request};
 use domain_core::{By, Event, MOST_STEPS};
-use line_words::{Wanted, WordFault, WordForm, WordHint, WordRole, Words};
-use script_text::decimal_number;
+use line_mistakes::{Wanted, WordForm, WordHint, WordRole};
+use line_words::{WordFault, Words, decimal_number};
 use std::alloc::{AllocError, Global};
 
 /// The most times that one line is asked, unless it asks the farm for Steps.

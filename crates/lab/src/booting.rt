@@ -4,8 +4,8 @@ use crate::command_line::{BootOptions, BootedCode};
 use crate::failure::{ArgumentFault, LabFailure};
 use crate::files::read_file;
 use crate::meter::TerminalMeter;
+use line_words::hexadecimal_word;
 use node_trace::{BootTrace, Program, ProgramLine, trace_boot};
-use script_text::hexadecimal_word;
 use std::alloc::Global;
 
 /// Traces a node that is booted with the code of the words, or with that of the program in a file.

@@ -12,8 +12,8 @@ use clap::error::ErrorKind;
 use clap::{ArgMatches, Command};
 use lab_debug::ProgramOf;
 use lab_film::{Span, USUAL_COUNT};
+use line_words::{HexFault, bytes_of, decimal_number};
 use node_trace::{LinkInput, LinkNumber, link_of};
-use script_text::{HexFault, bytes_of, decimal_number};
 use std::alloc::{AllocError, Global};
 
 /// What stands below the help.

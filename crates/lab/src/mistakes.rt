@@ -1,9 +1,8 @@
 //! Lines that are read and not done, each with the mistake that is told of it.
 
 use farm_replay::read_request;
-use line_words::{
-    NumberedLineFault, Question, Wanted, WordFault, WordForm, WordMistake, WordRole, WrongLine,
-};
+use line_mistakes::{Wanted, WordForm, WordMistake, WordRole, WrongLine};
+use line_words::{NumberedLineFault, Question, WordFault};
 use node_trace::read_trace_line;
 use std::alloc::Global;
 

@@ -1,9 +1,9 @@
 //! Plans that stand in files, each with what the checker is to answer.
 
-use line_words::{
-    Answered, NumberedLine, NumberedLineFault, Question, Wanted, WordForm, WordMistake, WordRole,
-    WrongLine, numbered_lines,
+use line_mistakes::{
+    NumberedLine, Wanted, WordForm, WordMistake, WordRole, WrongLine, numbered_lines,
 };
+use line_words::{Answered, NumberedLineFault, Question, line_as_str};
 use plan_faults::{PlanRefusal, accepted};
 use script_text::TextWriter;
 use std::alloc::{AllocError, Global};
@@ -54,7 +54,7 @@ fn read_lines(alloc: Global, text: &[u8]) -> Result<Vec<&str>, NumberedLineFault
 }
 
 fn add_line<'a>(lines: &mut Vec<&'a str>, line: NumberedLine<'a>) -> Result<(), NumberedLineFault> {
-    let text = line.as_str()?;
+    let text = line_as_str(line)?;
     lines.push(text)?;
     Ok(())
 }

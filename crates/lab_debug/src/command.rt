@@ -1,8 +1,9 @@
 //! The commands of the debugger, as they are read.
 ghost use Rattle.std.specs.Prelude.{◌≤◌, IfOk};
 
-use line_words::nearest_entry;
-use script_text::{TextWriter, decimal_number, hexadecimal_word, value_named};
+use line_mistakes::nearest_entry;
+use line_words::{decimal_number, hexadecimal_word, value_named};
+use script_text::TextWriter;
 
 /// An address, as it is written.
 #[derive(Clone, Copy)]

@@ -2,7 +2,8 @@
 
 use crate::form::{HelpVerb, help_line};
 use crate::spelling::spell_out;
-use line_words::{NumberedLine, NumberedLineFault, numbered_lines};
+use line_mistakes::{NumberedLine, numbered_lines};
+use line_words::{NumberedLineFault, line_as_str};
 use script_text::{TextWriter, divide, is_passed_over};
 use std::alloc::{AllocError, Global};
 
@@ -127,7 +128,7 @@ fn copy_lines(
     plan: &[u8],
 ) -> Result<(), NumberedLineFault> {
     for line in &numbered_lines(alloc, plan)? {
-        expansion.text.push(line.as_str()?);
+        expansion.text.push(line_as_str(*line)?);
         expansion.text.push("\n");
     }
     Ok(())
@@ -140,7 +141,7 @@ fn expand_lines(
     files: &[LoadedFile<'_>],
 ) -> Result<(), NumberedLineFault> {
     for line in &numbered_lines(alloc, script)? {
-        expand_line(alloc, expansion, line.number, line.as_str()?, files);
+        expand_line(alloc, expansion, line.number, line_as_str(*line)?, files);
     }
     Ok(())
 }

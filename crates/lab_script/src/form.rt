@@ -1,6 +1,7 @@
 //! The lines that help, and their words.
 
-use script_text::{TextWriter, decimal_number, value_named};
+use line_words::{decimal_number, value_named};
+use script_text::TextWriter;
 
 /// The verb of a line that helps.
 #[derive(Clone, Copy)]

@@ -4,7 +4,7 @@ use crate::bytes::digits_of;
 use crate::expanding::{Expansion, LoadedFile};
 use crate::form::{HelpLine, HelpVerb, number_up_to};
 use crate::loading::loading_lines;
-use line_words::ShownWord;
+use line_mistakes::ShownWord;
 use script_text::TextWriter;
 use std::alloc::Global;
 

@@ -1,6 +1,6 @@
 //! The forms of script lines, as a person is told them.
 
-use line_words::{Wanted, WordForm, WordRole};
+use line_mistakes::{Wanted, WordForm, WordRole};
 use script_lines::parse_place;
 use script_text::TextWriter;
 

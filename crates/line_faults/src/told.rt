@@ -1,7 +1,7 @@
 //! The wrong lines of a script, one after another.
 
 use crate::wrong::{WrongScriptLine, write_wrong_line};
-use line_words::{NumberedLine, numbered_lines};
+use line_mistakes::{NumberedLine, numbered_lines};
 use script_lines::{LineFault, LineWords, ScriptFault, read_script};
 use script_text::TextWriter;
 use std::alloc::{AllocError, Global};

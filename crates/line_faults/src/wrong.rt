@@ -1,7 +1,7 @@
 //! A wrong line of a script, and what is told of it.
 
 use crate::form::{ScriptArgument, VERBS, VERBS_THAT_HELP, arguments_of, no_digit_of, write_form};
-use line_words::{
+use line_mistakes::{
     MetText, NumberedLine, ShownWord, Wanted, WordForm, WordHint, WordRole, nearest_name,
 };
 use script_lines::{LineFault, LineWords};

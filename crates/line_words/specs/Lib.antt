@@ -1,3 +1,5 @@
+-- what must be believed
+pub mod HexFaults
 -- what only helps contracts
-pub mod Columns
+pub mod Numbers
 pub mod Rows

@@ -1,6 +1,6 @@
 //! Why a line can't be done.
 
-use crate::mistake::{WordMistake, WrongLine};
+use line_mistakes::{WordMistake, WrongLine};
 use std::alloc::AllocError;
 use thiserror::Error;
 

@@ -1,21 +1,18 @@
-//! Lines of texts that a person writes: their numbers, their words, what is told of a wrong one, and the answers that they
-//! expect.
+//! Lines of texts that a person writes: their words, what these spell, and the answers that they expect.
 #![tactic(auto)]
 
 mod fault;
-mod hint;
-mod mistake;
-mod nearest;
-mod numbered;
+mod hexadecimal;
+mod names;
+mod numbers;
 mod questions;
-mod wanted;
+mod utf8;
 mod words;
 
 pub use fault::{NumberedLineFault, WordFault};
-pub use hint::{OperationGroup, WordHint};
-pub use mistake::{MetText, ShownWord, WordMistake, WrongLine};
-pub use nearest::{is_near, nearest_entry, nearest_name};
-pub use numbered::{NumberedLine, numbered_lines};
+pub use hexadecimal::{HexFault, bytes_of};
+pub use names::value_named;
+pub use numbers::{decimal_number, hexadecimal_word};
 pub use questions::{Answered, Question, read_questions};
-pub use wanted::{Wanted, WordForm, WordRole};
+pub use utf8::line_as_str;
 pub use words::{WordPlace, Words};

@@ -3,7 +3,8 @@ ghost use Rattle.std.specs.Prelude.{◌≡◌, ◌<◌, ◌∷◌, ◌↔◌, []
 ghost use Rattle.line_words.specs.Rows.{expected_lines};
 
 use crate::fault::NumberedLineFault;
-use crate::numbered::{NumberedLine, numbered_lines};
+use crate::utf8::line_as_str;
+use line_mistakes::{NumberedLine, numbered_lines};
 use script_text::is_passed_over;
 use std::alloc::Global;
 
@@ -104,7 +105,7 @@ fn read_question(line: NumberedLine<'_>, before: u64) -> Result<Question<'_>, Nu
         number: line.number.saturating_add(before),
         text: line.text,
     };
-    let whole = line.as_str()?;
+    let whole = line_as_str(line)?;
     let (text, expected) = match whole.split_once(" = ") {
         Some((text, expected)) => (text, Some(expected)),
         None => (whole, None),

@@ -1,7 +1,8 @@
 //! Instructions as bytes of code.
 
 use crate::left_out::left_out;
-use line_words::{Wanted, WordForm, WordHint, WordPlace, WordRole, Words};
+use line_mistakes::{Wanted, WordForm, WordHint, WordRole};
+use line_words::{WordPlace, Words};
 use std::alloc::{AllocError, Global};
 use t414_assembly::{Mnemonic, mnemonic_named, nearest_instruction, operand_of, spell};
 use t414_decode::Function;

@@ -1,6 +1,7 @@
 //! Why the lines of a text aren't answered.
 
-use line_words::{NumberedLineFault, WrongLine};
+use line_mistakes::WrongLine;
+use line_words::NumberedLineFault;
 use std::alloc::AllocError;
 use step_meter::StepsEnd;
 use thiserror::Error;

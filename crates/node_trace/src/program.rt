@@ -2,7 +2,8 @@
 ghost use Rattle.std.specs.Prelude.{◌≡◌, IfOk};
 ghost use Rattle.node_trace.specs.Placed.{IsPlaced};
 
-use line_words::numbered_lines;
+use line_mistakes::numbered_lines;
+use line_words::line_as_str;
 use script_text::TextWriter;
 use std::alloc::{AllocError, Global};
 use t414_assembly::{Assembly, BOOTED, LOADED, TextFault, assemble};
@@ -91,7 +92,7 @@ impl Program {
         let mut lines = Vec::new(alloc);
         let mut label = None;
         for (index, line) in source.iter().enumerate() {
-            let line = self.line_at(index, line.as_str().unwrap_or(""), label);
+            let line = self.line_at(index, line_as_str(*line).unwrap_or(""), label);
             label = line.label;
             lines.push(line)?;
         }

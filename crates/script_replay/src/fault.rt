@@ -2,7 +2,8 @@
 
 use farm_records::HeadFault;
 use farm_replay::FarmStop;
-use line_words::{NumberedLineFault, WrongLine};
+use line_mistakes::WrongLine;
+use line_words::NumberedLineFault;
 use plan_checker::PlanFault;
 use plan_faults::PlanRefusal;
 use std::alloc::{AllocError, AllocFailed};

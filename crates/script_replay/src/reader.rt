@@ -4,7 +4,7 @@ use crate::asks::{AskedLine, UserLine};
 use crate::users::{PlanUser, names_of, user_called};
 use lab_script::{Expanded, LoadedFile, expanded_line};
 use line_faults::tell_wrong_line;
-use line_words::{NumberedLine, numbered_lines};
+use line_mistakes::{NumberedLine, numbered_lines};
 use plan_checker::AcceptedPlan;
 use script_lines::{LineFault, LineWords, Unread, parse_request};
 use std::alloc::{AllocError, Global};

@@ -8,7 +8,7 @@ use crate::recording::record_of;
 use farm_replay::FarmStop;
 use lab_script::LoadedFile;
 use line_faults::WrongLines;
-use line_words::numbered_lines;
+use line_mistakes::numbered_lines;
 use plan_checker::AcceptedPlan;
 use plan_faults::accepted;
 use script_text::{TextWriter, divide, is_passed_over};

@@ -7,9 +7,8 @@ use crate::reader::LineReader;
 use crossbar::{PORTS, Word};
 use farm_replay::{AnsweredRequests, FarmStop, RepeatedRequest, answer_requests, read_request};
 use lab_script::{LoadedFile, file_loaded};
-use line_words::{
-    Answered, NumberedLine, NumberedLineFault, Question, numbered_lines, read_questions,
-};
+use line_mistakes::{NumberedLine, numbered_lines};
+use line_words::{Answered, NumberedLineFault, Question, read_questions};
 use plan_checker::{AcceptedPlan, PlanFault, check, read_plan};
 use script_text::{TextWriter, divide, is_passed_over};
 use std::alloc::{AllocError, Global};

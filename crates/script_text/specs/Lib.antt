@@ -1,5 +1,3 @@
 -- what must be believed
 pub mod Hexadecimal
 pub mod Lines
--- what only helps contracts
-pub mod Numbers

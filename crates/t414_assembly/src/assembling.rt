@@ -7,7 +7,8 @@ use crate::fault::{Expected, TextFault, fault_before, fault_in};
 use crate::layout::{Image, LayoutFault, lay_out};
 use crate::parsing::Reader;
 use crate::statement::Statement;
-use line_words::{NumberedLine, numbered_lines};
+use line_mistakes::{NumberedLine, numbered_lines};
+use line_words::line_as_str;
 use std::alloc::{AllocError, Global};
 
 /// A program that was read from a text, and its bytes.
@@ -78,7 +79,7 @@ fn read_lines<'a>(
     let mut lines = Vec::new(alloc);
     for line in source {
         lines.push(reader.count())?;
-        if line.as_str().is_err() {
+        if line_as_str(*line).is_err() {
             return Err(fault_before(alloc, *line, line.text.len(), Expected::Text));
         }
         if let Some(mismatch) = reader.read_line(*line) {

@@ -2,7 +2,7 @@
 
 use crate::fault::{Expected, Mismatch};
 use crate::hints::Hint;
-use script_text::{decimal_number, hexadecimal_word};
+use line_words::{decimal_number, hexadecimal_word};
 
 /// What is left of a line. Once something else is expected than what stands there nothing is left, and `mismatch` tells
 /// what was expected first: until then what is read is right, and after that it is 0 or empty.

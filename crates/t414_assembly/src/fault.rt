@@ -2,7 +2,7 @@
 
 use crate::cursor::{name_length, without_blanks};
 use crate::hints::{Hint, hint_of};
-use line_words::NumberedLine;
+use line_mistakes::NumberedLine;
 use std::alloc::{AllocError, Global};
 use std::fmt;
 use thiserror::Error;

@@ -8,7 +8,7 @@ use crate::mnemonics::{Mnemonic, mnemonic_named};
 use crate::statement::{Operand, Statement};
 use crate::sums::{LabelTerm, Sum};
 use crate::writing::MOST_CODE;
-use line_words::NumberedLine;
+use line_mistakes::NumberedLine;
 use std::alloc::{AllocError, Global};
 use t414_decode::Function;
 

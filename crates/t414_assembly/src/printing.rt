@@ -4,7 +4,8 @@ use crate::assembling::Assembly;
 use crate::disassembly::Instruction;
 use crate::loading::LOADED;
 use crate::mnemonics::{function_name, operation_name};
-use line_words::numbered_lines;
+use line_mistakes::numbered_lines;
+use line_words::line_as_str;
 use script_text::TextWriter;
 use std::alloc::{AllocError, Global};
 use t414_decode::Function;
@@ -33,7 +34,7 @@ pub fn listing(
         let code = assembly.image.bytes.as_slice();
         let bytes = code.get(first as usize..last as usize);
         let address = origin.wrapping_add(first);
-        let source = line.as_str().unwrap_or("");
+        let source = line_as_str(*line).unwrap_or("");
         list_line(&mut listed, address, bytes.unwrap_or(&[]), source);
     }
     listed.finish()

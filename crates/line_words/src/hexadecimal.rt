@@ -1,6 +1,7 @@
 //! Bytes that are spelled by hexadecimal digits.
 ghost use Rattle.std.specs.Prelude.{◌≡◌, ◌%◌, IfOk, IfErr, List, ℕ, length};
-ghost use Rattle.script_text.specs.Hexadecimal.{Spells, hex_fault_number};
+ghost use Rattle.script_text.specs.Hexadecimal.{Spells};
+ghost use Rattle.line_words.specs.HexFaults.{hex_fault_number};
 
 use hex::FromHexError;
 use std::alloc::Global;

@@ -2,9 +2,6 @@
 ghost use Rattle.std.specs.Prelude.{◌≡◌, ◌+◌, ℕ, [], IfOk, IfSome, length, slice_get};
 ghost use Rattle.script_text.specs.Lines.{from_line, IsLine};
 
-use crate::fault::NumberedLineFault;
-use crate::mistake::{MetText, WordMistake, WrongLine, column_at};
-use crate::wanted::Wanted;
 use script_text::split_line;
 use std::alloc::{AllocError, Global};
 
@@ -15,32 +12,6 @@ pub struct NumberedLine<'a> {
     pub number: u64,
     /// Its bytes.
     pub text: &'a [u8],
-}
-
-impl<'a> NumberedLine<'a> {
-    /// The line as a text; `Wrong` with the first byte that isn't UTF-8, if one isn't.
-    pub fn as_str(self) -> Result<&'a str, NumberedLineFault>
-        ensures { IfOk result (λ text. text.now ≡ self.entry.text.now) }
-    {
-        match std::str::from_utf8(self.text) {
-            Ok(text) => Ok(text),
-            Err(error) => Err(NumberedLineFault::Wrong(self.not_utf8(error.valid_up_to()))),
-        }
-    }
-
-    // The byte at this place isn't UTF-8.
-    fn not_utf8(self, place: usize) -> WrongLine {
-        let byte = self.text.get(place).copied().unwrap_or(0);
-        WrongLine {
-            line: self.number,
-            mistake: WordMistake {
-                column: column_at(self.text, place),
-                met: MetText::Byte(byte),
-                wanted: Wanted::Utf8,
-                hint: None,
-            },
-        }
-    }
 }
 
 /// All lines of a text, in their order. Behind its last line feed stands a line only if it isn't empty.

@@ -1,6 +1,6 @@
 //! Where and how a line is wrong.
 ghost use Rattle.std.specs.Prelude.{◌≡◌};
-ghost use Rattle.line_words.specs.Columns.{begins_character, column_of};
+ghost use Rattle.line_mistakes.specs.Columns.{begins_character, column_of};
 
 use crate::hint::WordHint;
 use crate::wanted::Wanted;
