@@ -2,14 +2,11 @@
 #![tactic(auto)]
 
 mod digits;
-mod events;
 mod replies;
 mod showing;
 
 pub use digits::write_byte;
-pub use events::{write_event, write_user};
 pub use replies::{
-    write_config_reply, write_entry, write_fault, write_refusal, write_reply, write_seen,
-    write_stepped,
+    write_config_reply, write_fault, write_refusal, write_reply, write_seen, write_stepped,
 };
 pub use showing::write_line;

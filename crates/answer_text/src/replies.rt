@@ -3,12 +3,10 @@ ghost use Rattle.std.specs.Prelude.{◌≡◌, ◌≢◌, ◌++◌, OnOk, string
 ghost use Rattle.std.specs.Fmt.{AppendsText};
 ghost use Rattle.domain_core.specs.declared.event.Refusal.TheVariants as why;
 ghost use Rattle.answer_text.specs.Replies.{config_reply_text, fault_text, stepped_text, activity_text, seen_text, reply_text, refusal_text};
-ghost use Rattle.answer_text.specs.Entries.{entry_text};
 
 use crate::digits::write_byte;
-use crate::events::{write_event, write_user};
 use bootstrap::{Activity, Fault, Seen, Stepped};
-use domain_core::{Entry, Moved, NoMemory, Refusal, Reply};
+use domain_core::{Moved, NoMemory, Refusal, Reply};
 use virtual_switch::ConfigReply;
 
 /// Appends the switch's reply to a byte: `nothing`, two digits of an answer, `badcommand` or `badport`.
@@ -103,31 +101,5 @@ pub fn write_refusal(text: &mut String, refusal: Refusal) -> Result<(), NoMemory
         Refusal::NoSuch => text.push_str("nosuch"),
         Refusal::JournalFull => text.push_str("journalfull"),
         Refusal::NoMemory => Err(NoMemory),
-    }
-}
-
-/// Appends an entry of a journal: who asked, what, and the answer. Steps stand together as `run`, the node, how many,
-/// and what the last of them answered.
-pub fn write_entry(text: &mut String, entry: Entry) -> Result<(), NoMemory>
-    ensures text { OnOk result (string_bytes text.new ≡ string_bytes text.old ++ entry_text entry) }
-{
-    match entry {
-        Entry::One { by, event, reply } => {
-            write_user(text, by)?;
-            text.push_str(" ")?;
-            write_event(text, event)?;
-            text.push_str(": ")?;
-            write_reply(text, reply)
-        }
-        Entry::Run {
-            by,
-            node,
-            count,
-            last,
-        } => {
-            write_user(text, by)?;
-            write!(text, " run {node} {count}: ")?;
-            write_stepped(text, last)
-        }
     }
 }

@@ -3,8 +3,9 @@ ghost use Rattle.std.specs.Prelude.{◌≡◌, ◌++◌, ◌<◌, OnOk, string_b
 ghost use Rattle.std.specs.Fmt.{decimal};
 ghost use Rattle.farm_records.specs.RecordText.{RecordLine, if_several, record_line_text, record_text, entry_lines, lines_of, ran_lines, run_lines};
 
-use answer_text::{write_event, write_reply, write_user};
+use answer_text::write_reply;
 use domain_core::{By, Entry, Event, NoMemory, Reply};
+use farm_replay::{write_event, write_user};
 use t414_step::Stepped;
 
 // Appends a number and what stands behind it, if it is more than one.

@@ -1,4 +1,6 @@
 -- what must be believed
+pub mod Events
+pub mod Entries
 pub mod Listing
 pub mod Plain
 pub mod Runs

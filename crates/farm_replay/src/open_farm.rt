@@ -11,9 +11,10 @@ ghost use Rattle.farm_replay.specs.Runs.{HasGoneOn, HaveRun, IsOpenedFarm};
 
 use crate::answer_list::AnswerList;
 use crate::bursts::{DoneSteps, burst, run_ticket, try_burst};
+use crate::events::write_entry;
 use crate::fault::{AskFault, FarmStop};
 use crate::request::{DomainRequest, Request};
-use answer_text::{write_entry, write_refusal, write_reply, write_stepped};
+use answer_text::{write_refusal, write_reply, write_stepped};
 use crossbar::{PORTS, Word};
 use domain_core::{By, Committed, Entry, Event, NoMemory, Refusal, Reply, Ticket};
 use farm_core::laws::runs_add_up;

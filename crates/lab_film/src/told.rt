@@ -3,10 +3,11 @@
 use crate::NoMemory;
 use crate::changes::FrameChanges;
 use crate::shot::FoundPacket;
-use answer_text::{write_event, write_reply};
+use answer_text::write_reply;
 use bootstrap::Packet;
 use domain_core::{By, Event, Reply};
 use farm_causes::RecordedLine;
+use farm_replay::write_event;
 use serde::Serialize;
 use std::alloc::{AllocError, Global};
 
