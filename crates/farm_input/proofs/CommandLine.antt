@@ -30,7 +30,7 @@ use Rattle.clap.specs.declared.parser.matches.ArgMatches.{ArgMatches}
 use Rattle.clap.proofs.CallerReads.{signed_reads}
 use Rattle.clap.proofs.OnLiterals.{clap_on_literals}
 use Rattle.clap.proofs.WalkLemmas.{one_text-rows}
-use Rattle.farm_input.specs.Settings.{IsSaid, ask_why, farm_command, flag_rule, number_option}
+use Rattle.farm_input.specs.Settings.{IsSaid, farm_command, number_option}
 use Rattle.farm_input.proofs.Options.{IsOption, option_reads}
 
 -- the program's command is one of which `clap` defines the matches
@@ -48,9 +48,6 @@ workers_rule = number_option (codes "workers") (codes "2") (Signed (pos 1) (pos 
 
 abbrev quantum_rule : Rule
 quantum_rule = number_option (codes "quantum") (codes "256") (Signed (pos 1) (pos 4096))
-
-abbrev explain_rule : Rule
-explain_rule = flag_rule (codes "explain")
 
 -- ---- the arguments of a command that is the program's
 
@@ -71,30 +68,25 @@ none_is : {X : Type 0} (value : Option X) → not (is_some value) ≡ true → v
 none_is None same = refl
 none_is (Some x) same = cc
 
--- a list of three, of which these are made
-record AreThree {X Y : Type 0} (f : X → Y) (first second third : Y) (xs : List X) : Type 0 where
+-- a list of two, of which these are made
+record AreTwo {X Y : Type 0} (f : X → Y) (first second : Y) (xs : List X) : Type 0 where
   one : X
   other : X
-  last : X
-  list : xs ≡ one ∷ other ∷ last ∷ []
+  list : xs ≡ one ∷ other ∷ []
   one_is : f one ≡ first
   other_is : f other ≡ second
-  last_is : f last ≡ third
 
-three_of : {X Y : Type 0} (f : X → Y) (first second third : Y) (xs : List X) → map f xs ≡ first ∷ second ∷ third ∷ []
-    → AreThree f first second third xs
-three_of f first second third [] same = cc
-three_of f first second third (x ∷ []) same = cc
-three_of f first second third (x ∷ y ∷ []) same = cc
-three_of f first second third (x ∷ y ∷ z ∷ w ∷ xs) same = cc
-three_of f first second third (x ∷ y ∷ z ∷ []) same = record {
+two_of : {X Y : Type 0} (f : X → Y) (first second : Y) (xs : List X) → map f xs ≡ first ∷ second ∷ []
+    → AreTwo f first second xs
+two_of f first second [] same = cc
+two_of f first second (x ∷ []) same = cc
+two_of f first second (x ∷ y ∷ z ∷ xs) same = cc
+two_of f first second (x ∷ y ∷ []) same = record {
   one = x;
   other = y;
-  last = z;
   list = refl;
   one_is = ap (λ ys. slice_index_or ys 0 first) same;
   other_is = ap (λ ys. slice_index_or ys 1 first) same;
-  last_is = ap (λ ys. slice_index_or ys 2 first) same;
 }
 
 not_is : (b : Bool) → not b ≡ true → b ≡ false
@@ -156,34 +148,26 @@ quantum_own = (
   λ e. let bad = ap (λ t. slice_index t 1) e in absurd (omega arith),
 )
 
--- the three ids differ, so that each stands at one place
-one_place : (arg other_arg third_arg : Arg) (k : ℕ) (fourth_arg : Arg)
-    → rule_of arg ≡ workers_rule → rule_of other_arg ≡ quantum_rule → rule_of third_arg ≡ explain_rule → k < 2
-    → (j : ℕ) (fifth_arg : Arg) → j < 3
-    → bytes_eq (slice_index_or (arg ∷ other_arg ∷ third_arg ∷ []) j fifth_arg).id.now
-    (slice_index_or (arg ∷ other_arg ∷ third_arg ∷ []) k fourth_arg).id.now ≡ true
+-- the two ids differ, so that each stands at one place
+one_place : (arg other_arg : Arg) (k : ℕ) (third_arg : Arg)
+    → rule_of arg ≡ workers_rule → rule_of other_arg ≡ quantum_rule → k < 2
+    → (j : ℕ) (fourth_arg : Arg) → j < 2
+    → bytes_eq (slice_index_or (arg ∷ other_arg ∷ []) j fourth_arg).id.now
+    (slice_index_or (arg ∷ other_arg ∷ []) k third_arg).id.now ≡ true
     → j ≡ k
-one_place arg other_arg third_arg zero fourth_arg workers quantum explain lt zero fifth_arg low same = refl
-one_place arg other_arg third_arg (suc zero) fourth_arg workers quantum explain lt (suc zero) fifth_arg low same = refl
-one_place arg other_arg third_arg zero fourth_arg workers quantum explain lt (suc zero) fifth_arg low same =
+one_place arg other_arg zero third_arg workers quantum lt zero fourth_arg low same = refl
+one_place arg other_arg (suc zero) third_arg workers quantum lt (suc zero) fourth_arg low same = refl
+one_place arg other_arg zero third_arg workers quantum lt (suc zero) fourth_arg low same =
     let ids : bytes_eq (codes "quantum") (codes "workers") ≡ true =
     rw (ap (λ (r : Rule). r.id) workers, ap (λ (r : Rule). r.id) quantum) at same in
     cc
-one_place arg other_arg third_arg zero fourth_arg workers quantum explain lt (suc (suc zero)) fifth_arg low same =
-    let ids : bytes_eq (codes "explain") (codes "workers") ≡ true =
-    rw (ap (λ (r : Rule). r.id) workers, ap (λ (r : Rule). r.id) explain) at same in
-    cc
-one_place arg other_arg third_arg (suc zero) fourth_arg workers quantum explain lt zero fifth_arg low same =
+one_place arg other_arg (suc zero) third_arg workers quantum lt zero fourth_arg low same =
     let ids : bytes_eq (codes "workers") (codes "quantum") ≡ true =
     rw (ap (λ (r : Rule). r.id) workers, ap (λ (r : Rule). r.id) quantum) at same in
     cc
-one_place arg other_arg third_arg (suc zero) fourth_arg workers quantum explain lt (suc (suc zero)) fifth_arg low same =
-    let ids : bytes_eq (codes "explain") (codes "quantum") ≡ true =
-    rw (ap (λ (r : Rule). r.id) explain, ap (λ (r : Rule). r.id) quantum) at same in
-    cc
-one_place arg other_arg third_arg k fourth_arg workers quantum explain lt (suc (suc (suc j))) fifth_arg low same =
+one_place arg other_arg k third_arg workers quantum lt (suc (suc j)) fourth_arg low same =
     absurd (omega arith)
-one_place arg other_arg third_arg (suc (suc k)) fourth_arg workers quantum explain lt j fifth_arg low same =
+one_place arg other_arg (suc (suc k)) third_arg workers quantum lt j fourth_arg low same =
     absurd (omega arith)
 
 -- what a plain command lacks
@@ -203,39 +187,17 @@ plain_parts step plain =
     plain in
     (parts.0, parts.2)
 
-all_without_groups : (arg other_arg third_arg : Arg) → arg.groups.items ≡ [] → other_arg.groups.items ≡ []
-    → third_arg.groups.items ≡ []
-    → All (λ (x : Arg). x.groups.items ≡ []) (arg ∷ other_arg ∷ third_arg ∷ [])
-all_without_groups arg other_arg third_arg first second third zero d lt = first
-all_without_groups arg other_arg third_arg first second third (suc zero) d lt = second
-all_without_groups arg other_arg third_arg first second third (suc (suc zero)) d lt = third
-all_without_groups arg other_arg third_arg first second third (suc (suc (suc k))) d lt = absurd (omega arith)
-
--- a text that isn't this one
-not_equal : (text : Text) → (text ≡ codes "true" → ⊥) → not (bytes_eq text (codes "true")) ≡ true
-not_equal text other = go (bytes_eq text (codes "true")) refl
-  where
-    go : (b : Bool) → bytes_eq text (codes "true") ≡ b → not b ≡ true
-    go false is = refl
-    go true is = absurd (other ((bytes_eq-Decides text (codes "true")).0 is))
-
--- what a getter reads of a flag's text, if it reads no text as false
-flag_of : (E : Type 0) (other_text : Option Text) (flag : Option Bool) → (other_text ≡ None → flag ≡ None)
-    → ((text : Text) → other_text ≡ Some text → ReadsOne (ParsesBool {E = E}) text flag)
-    → unwrap_or flag false ≡ option_map_or (λ text. bytes_eq text (codes "true")) other_text false
-flag_of E None flag none value = ap (λ (x : Option Bool). unwrap_or x false) (none refl)
-flag_of E (Some text) None none value =
-    sym (not_is (bytes_eq text (codes "true")) (not_equal text (value text refl).1.0))
-flag_of E (Some text) (Some true) none value = sym ((bytes_eq-Decides text (codes "true")).1 (value text refl))
-flag_of E (Some text) (Some false) none value =
-    let is : text ≡ codes "false" = value text refl in
-    rw is refl
+all_without_groups : (arg other_arg : Arg) → arg.groups.items ≡ [] → other_arg.groups.items ≡ []
+    → All (λ (x : Arg). x.groups.items ≡ []) (arg ∷ other_arg ∷ [])
+all_without_groups arg other_arg first second zero d lt = first
+all_without_groups arg other_arg first second (suc zero) d lt = second
+all_without_groups arg other_arg first second (suc (suc k)) d lt = absurd (omega arith)
 
 -- a number that was read of an option's text
 module _ (command : Command) (arg_matches : ArgMatches) (words : List Text) (is : app_of command ≡ farm_command)
     (given : IsParsedFrom command arg_matches) (matches : HasMatchesOf (app_of command) words arg_matches) where
-  options : AreThree rule_of workers_rule quantum_rule explain_rule (args_of command)
-  options = three_of rule_of workers_rule quantum_rule explain_rule (args_of command) (ap (λ (a : App). a.top.rules) is)
+  options : AreTwo rule_of workers_rule quantum_rule (args_of command)
+  options = two_of rule_of workers_rule quantum_rule (args_of command) (ap (λ (a : App). a.top.rules) is)
 
   plain : has_plain_fields (out-Command command) ≡ true
   plain = ap (λ (a : App). a.top.is_plain) is
@@ -250,9 +212,8 @@ module _ (command : Command) (arg_matches : ArgMatches) (words : List Text) (is 
   names_no_group =
       let workers = without_groups options.one workers_rule options.one_is refl in
       let quantum = without_groups options.other quantum_rule options.other_is refl in
-      let explain = without_groups options.last explain_rule options.last_is refl in
       subst (All (λ (a : Arg). a.groups.items ≡ [])) (sym options.list)
-      (all_without_groups options.one options.other options.last workers quantum explain)
+      (all_without_groups options.one options.other workers quantum)
 
   no_groups : groups_of given.built ≡ []
   no_groups =
@@ -301,7 +262,7 @@ module _ (command : Command) (arg_matches : ArgMatches) (words : List Text) (is 
       subst (λ (l : List Arg). (j : ℕ) (e : Arg) → j < length l
       → bytes_eq (slice_index_or l j e).id.now (slice_index_or l 0 d).id.now ≡ true
       → j ≡ 0)
-      (sym xs.list) (one_place xs.one xs.other xs.last 0 d xs.one_is xs.other_is xs.last_is (omega arith)) in
+      (sym xs.list) (one_place xs.one xs.other 0 d xs.one_is xs.other_is (omega arith)) in
       said_at 0 d (codes "workers") (codes "2") 8 8 E G parsed fallback lt (ap rule_of elem ∙ xs.one_is)
       workers_own unique
       (omega arith) value only n is_n
@@ -321,21 +282,7 @@ module _ (command : Command) (arg_matches : ArgMatches) (words : List Text) (is 
       subst (λ (l : List Arg). (j : ℕ) (e : Arg) → j < length l
       → bytes_eq (slice_index_or l j e).id.now (slice_index_or l 1 d).id.now ≡ true
       → j ≡ 1)
-      (sym xs.list) (one_place xs.one xs.other xs.last 1 d xs.one_is xs.other_is xs.last_is (omega arith)) in
+      (sym xs.list) (one_place xs.one xs.other 1 d xs.one_is xs.other_is (omega arith)) in
       said_at 1 d (codes "quantum") (codes "256") 4096 16 E G parsed fallback lt
       (ap rule_of elem ∙ xs.other_is) quantum_own
       unique (omega arith) value only n is_n
-
-  -- the flag `--explain` is read as set just if the words have it
-  pub explain_said : (E : Type 0) (flag : Option Bool) →
-      (one_text (found_of arg_matches) (codes "explain") ≡ None → flag ≡ None)
-      → ((text : List ℕ) → one_text (found_of arg_matches) (codes "explain") ≡ Some text
-      → ReadsOne (ParsesBool {E = E}) text flag)
-      → (b : Bool) → b ≡ unwrap_or flag false → b ≡ ask_why words
-  explain_said E flag none value b is_b =
-      let id = codes "explain" in
-      let row : one_text (found_of arg_matches) id ≡ one_of id (matches_of farm_command words) =
-      one_text-rows (found_of arg_matches) id ∙ ap (one_of id) rows in
-      is_b
-      ∙ (flag_of E (one_text (found_of arg_matches) id) flag none value
-      ∙ ap (λ o. option_map_or (λ text. bytes_eq text (codes "true")) o false) row)

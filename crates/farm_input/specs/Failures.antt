@@ -99,14 +99,3 @@ failure_text Io = codes "io\n"
 pub record EndsBy (failure : FarmFailure) (ending : Ending) (errors_before errors_after : Option (List ℕ)) : Type 0 where
   pub status_of : ending.status ≡ failure_status failure
   pub text_of : ending.is_told ≡ true → Appends errors_before errors_after (failure_text failure)
-
--- a run ends by a failure that is explained: so, and standard error has an explanation behind that text
-pub record EndsExplained (failure : FarmFailure) (ending : Ending) (errors_before errors_after : Option (List ℕ)) : Type 0 where
-  pub status_of : ending.status ≡ failure_status failure
-  pub text_of : ending.is_told ≡ true → (explanation : List ℕ) × Appends errors_before errors_after (failure_text failure ++ explanation)
-
--- a run ends by a failure, which is explained if that is asked and a text is refused
-abbrev pub EndsAs : FarmFailure → Bool → Ending → Option (List ℕ) → Option (List ℕ) → Type 0
-EndsAs (Plan fault) true ending errors_before errors_after = EndsExplained (Plan fault) ending errors_before errors_after
-EndsAs (Line number fault) true ending errors_before errors_after = EndsExplained (Line number fault) ending errors_before errors_after
-EndsAs failure explain ending errors_before errors_after = EndsBy failure ending errors_before errors_after

@@ -1,10 +1,8 @@
 -- Which settings a farm takes, and what the words of the command line say of them.
-use Rattle.std.specs.Prelude.{◌≡◌, ◌≤◌, ℕ, Bool, false, List, [], ◌∷◌, Some, codes, pos}
-use Rattle.std.specs.Option.{option_map_or}
-use Rattle.std.specs.Str.{bytes_eq}
+use Rattle.std.specs.Prelude.{◌≡◌, ◌≤◌, ℕ, List, [], ◌∷◌, Some, codes, pos}
 use Rattle.std.specs.Str.Parse.{digits_value, without_leading_plus}
 use Rattle.clap.specs.Words.{App, Rule, Text, matches_of, new_app, new_rule, one_of, with_rule}
-use Rattle.clap.specs.declared.builder.action.ArgAction.TheVariants.{Set, SetTrue}
+use Rattle.clap.specs.declared.builder.action.ArgAction.TheVariants.{Set}
 use Rattle.clap.specs.declared.builder.value_parser.ValueParser.{ValueParser}
 use Rattle.clap.specs.declared.builder.value_parser.ValueParser.TheVariants.{Signed}
 use Rattle.farm_input.specs.declared.configuration.Settings.{Settings}
@@ -21,25 +19,16 @@ abbrev pub number_option : Text → Text → ValueParser → Rule
 number_option name default numbers =
     record (new_rule name) { long = Some name; action = Some Set; value_names = 1; defaults = default ∷ []; parser = Some numbers }
 
--- a flag `--name`
-abbrev pub flag_rule : Text → Rule
-flag_rule name = record (new_rule name) { long = Some name; action = Some SetTrue }
-
--- the program's command line: `--workers N`, 1 to 8, else 2, `--quantum N`, 1 to 4096, else 256, and the flag `--explain`
+-- the program's command line: `--workers N`, 1 to 8, else 2, and `--quantum N`, 1 to 4096, else 256
 abbrev pub farm_command : App
-farm_command = with_rule (with_rule (with_rule (new_app (codes "farm")) (number_option (codes "workers") (codes "2") (Signed (pos 1) (pos 8))))
-    (number_option (codes "quantum") (codes "256") (Signed (pos 1) (pos 4096)))) (flag_rule (codes "explain"))
+farm_command = with_rule (with_rule (new_app (codes "farm")) (number_option (codes "workers") (codes "2") (Signed (pos 1) (pos 8))))
+    (number_option (codes "quantum") (codes "256") (Signed (pos 1) (pos 4096)))
 
 -- the words say this number for an option, or its default is this, as `clap` reads them
 abbrev pub IsSaid : List Text → Text → ℕ → Type 0
 IsSaid words name n = (text : Text) × (one_of name (matches_of farm_command words) ≡ Some text) × (n ≡ digits_value 10 (without_leading_plus text))
 
--- the words have the flag `--explain`, as `clap` reads them
-abbrev pub ask_why : List Text → Bool
-ask_why words = option_map_or (λ text. bytes_eq text (codes "true")) (one_of (codes "explain") (matches_of farm_command words)) false
-
 -- the settings are those that the words say
 pub record AreSaid (words : List Text) (s : Settings) : Type 0 where
   pub workers : IsSaid words (codes "workers") s.workers
   pub quantum : IsSaid words (codes "quantum") s.quantum
-  pub explain : s.explain ≡ ask_why words

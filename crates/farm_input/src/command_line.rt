@@ -1,7 +1,7 @@
 //! The settings that the words of the command line give.
 ghost use Rattle.std.specs.Prelude.{◌≡◌, false, IfOk, map};
 ghost use Rattle.clap.specs.Words.{FailsBy, app_of, fault_of, rule_of};
-ghost use Rattle.farm_input.specs.Settings.{AreSaid, InRange, farm_command, flag_rule, number_option};
+ghost use Rattle.farm_input.specs.Settings.{AreSaid, InRange, farm_command, number_option};
 
 use crate::configuration::Settings;
 use clap::builder::ValueParser;
@@ -15,6 +15,9 @@ const DEFAULT_QUANTUM: u16 = 256;
 
 /// What stands below the help.
 const AFTER_HELP: &str = "\
+./farm --explain runs a script as ./farm does. If the text is refused, it also tells who wrote each
+wrong line and what to write, or where the plan is wrong.
+
 Example:
   farm < examples/two-users.farm
 
@@ -40,17 +43,6 @@ fn number_option<'a>(
         .value_parser(numbers)
 }
 
-// A flag `--name`.
-fn flag<'a>(alloc: Global, name: &'a str, help: &'a str) -> Arg<'a>
-    ensures rule { rule_of result ≡ flag_rule name.entry.now }
-    ensures local { result.global ≡ false }
-{
-    Arg::new(alloc, name)
-        .long(name)
-        .help(help)
-        .action(ArgAction::SetTrue)
-}
-
 // The program's command line.
 fn farm_command<'a>(alloc: Global) -> Result<Command<'a>, AllocError>
     ensures { IfOk result (λ command. app_of command ≡ farm_command) }
@@ -73,18 +65,12 @@ fn farm_command<'a>(alloc: Global) -> Result<Command<'a>, AllocError>
         "256",
         value_parser!(u16).range(1..=4096),
     );
-    let command = command.arg(quantum)?;
-    let explain = flag(
-        alloc,
-        "explain",
-        "Tells who wrote each wrong line and what to write, or where the plan is wrong",
-    );
-    command.arg(explain)
+    command.arg(quantum)
 }
 
 /// Reads the words of the command line, of which the first is the program's name: `--workers N`,
-/// 1 to 8, default 2, `--quantum N`, 1 to 4,096, default 256, and the flag `--explain`. The error is
-/// `clap`'s: `--help` is one, and that memory ran out another.
+/// 1 to 8, default 2, and `--quantum N`, 1 to 4,096, default 256. The error is `clap`'s: `--help` is
+/// one, and that memory ran out another.
 pub fn settings<S: AsStr>(alloc: Global, words: &[S]) -> Result<Settings, clap::Error>
     ensures in_range { IfOk result InRange }
     ensures said { IfOk result (AreSaid (map S.text words.now)) }
@@ -94,10 +80,5 @@ pub fn settings<S: AsStr>(alloc: Global, words: &[S]) -> Result<Settings, clap::
     // Each has a number, that of the words or its default's.
     let workers = matches.get_one("workers").unwrap_or(DEFAULT_WORKERS);
     let quantum = matches.get_one("quantum").unwrap_or(DEFAULT_QUANTUM);
-    let explain = matches.get_one("explain").unwrap_or(false);
-    Ok(Settings {
-        workers,
-        quantum,
-        explain,
-    })
+    Ok(Settings { workers, quantum })
 }

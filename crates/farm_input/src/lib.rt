@@ -5,7 +5,6 @@
 mod command_line;
 mod configuration;
 mod ending;
-mod explaining;
 mod failure;
 mod names;
 mod reading;
@@ -13,7 +12,6 @@ mod reading;
 pub use command_line::settings;
 pub use configuration::Settings;
 pub use ending::{end_by_error, refuse_arguments};
-pub use explaining::end_by;
 pub use failure::{Ending, FarmFailure};
 pub use names::names_of;
 pub use reading::{accepted, lines_of, text_read};

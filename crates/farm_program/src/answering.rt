@@ -3,13 +3,13 @@ ghost use Rattle.std.specs.Prelude.{◌≡◌, ◌≢◌, IfOk, IfErr, OnOk, IfS
 ghost use Rattle.std.specs.List.{concat};
 ghost use Rattle.std.specs.Io.KnownBytes.{Appends, Keeps};
 ghost use Rattle.farm_input.specs.declared.failure.FarmFailure.{FarmFailure as SpecFailure};
-ghost use Rattle.farm_input.specs.Failures.{EndsAs, IsFailure};
+ghost use Rattle.farm_input.specs.Failures.{EndsBy, IsFailure};
 ghost use Rattle.farm_input.specs.Settings.{InRange};
 ghost use Rattle.farm_program.specs.Output.{IsOutput, Prints};
 
 use crate::farm::run_script;
 use farm_core::laws::each_domain_of_a_plan_is_private;
-use farm_input::{Ending, FarmFailure, Settings, accepted, end_by, lines_of, text_read};
+use farm_input::{Ending, FarmFailure, Settings, accepted, lines_of, text_read};
 use script_text::{WriteFailed, divide, write_whole};
 use std::alloc::Global;
 use std::io::{Read, Write};
@@ -58,7 +58,7 @@ fn answer_text<R: Threads + Wait + Sync, W: Write, E: Write>(
     requires { InRange settings }
     ensures printed { result.status ≡ 0 → Prints text.now (W.contents output.old) (W.contents output.new) }
     ensures silent { result.status ≡ 0 → Keeps (E.contents errors.old) (E.contents errors.new) }
-    ensures failure { result.status ≢ 0 → (failure : SpecFailure) × EndsAs failure settings.explain result (E.contents errors.old) (E.contents errors.new)
+    ensures failure { result.status ≢ 0 → (failure : SpecFailure) × EndsBy failure result (E.contents errors.old) (E.contents errors.new)
         × IsFailure text.now failure }
     ensures kept { result.status ≢ 0 → result.status ≢ 6 → Keeps (W.contents output.old) (W.contents output.new) }
 {
@@ -68,9 +68,9 @@ fn answer_text<R: Threads + Wait + Sync, W: Write, E: Write>(
                 status: 0,
                 is_told: true,
             },
-            Err(WriteFailed) => end_by(alloc, settings.explain, text, FarmFailure::Io, errors),
+            Err(WriteFailed) => FarmFailure::Io.report(errors),
         },
-        Err(failure) => end_by(alloc, settings.explain, text, failure, errors),
+        Err(failure) => failure.report(errors),
     }
 }
 
@@ -78,8 +78,7 @@ fn answer_text<R: Threads + Wait + Sync, W: Write, E: Write>(
 /// lines.
 ///
 /// The status is 0 if all is written, 3 if the plan is refused, 4 if a line of the script is, 5 for want of memory, and 6 if a
-/// stream failed. For 3 to 5 nothing goes to the output; for all but 0 a text goes to the errors, and for 3 and 4 an explanation
-/// behind it, if the settings ask for one.
+/// stream failed. For 3 to 5 nothing goes to the output; for all but 0 a text goes to the errors.
 pub fn answer<R: Threads + Wait + Sync, I: Read, W: Write, E: Write>(
     rt: &R,
     alloc: Global,
@@ -91,12 +90,12 @@ pub fn answer<R: Threads + Wait + Sync, I: Read, W: Write, E: Write>(
     requires { InRange settings }
     ensures printed { result.status ≡ 0 → IfSome (I.remaining input.old) (λ text. Prints text (W.contents output.old) (W.contents output.new)) }
     ensures silent { result.status ≡ 0 → Keeps (E.contents errors.old) (E.contents errors.new) }
-    ensures failure { result.status ≢ 0 → (failure : SpecFailure) × EndsAs failure settings.explain result (E.contents errors.old) (E.contents errors.new)
+    ensures failure { result.status ≢ 0 → (failure : SpecFailure) × EndsBy failure result (E.contents errors.old) (E.contents errors.new)
         × IfSome (I.remaining input.old) (λ text. IsFailure text failure) }
     ensures kept { result.status ≢ 0 → result.status ≢ 6 → Keeps (W.contents output.old) (W.contents output.new) }
 {
     match text_read(alloc, input) {
         Ok(text) => answer_text(rt, alloc, settings, text.as_slice(), output, errors),
-        Err(failure) => end_by(alloc, settings.explain, b"", failure, errors),
+        Err(unread) => unread.report(errors),
     }
 }

@@ -3,8 +3,7 @@ ghost use Rattle.std.specs.Prelude.{◌≡◌, ◌≢◌, ◌⊎◌, IfSome, map
 ghost use Rattle.std.specs.Io.KnownBytes.{Keeps};
 ghost use Rattle.farm_input.specs.declared.failure.FarmFailure.{FarmFailure as SpecFailure};
 ghost use Rattle.farm_input.specs.Endings.{EndsByWords, GiveSettings};
-ghost use Rattle.farm_input.specs.Failures.{EndsAs, IsFailure};
-ghost use Rattle.farm_input.specs.Settings.{ask_why};
+ghost use Rattle.farm_input.specs.Failures.{EndsBy, IsFailure};
 ghost use Rattle.farm_program.specs.Output.{Prints};
 
 use crate::answering::answer;
@@ -33,7 +32,7 @@ pub fn run<R: Threads + Wait + Sync, S: AsStr, I: Read, W: Write, E: Write>(
         → IfSome (I.remaining input.old) (λ text. Prints text (W.contents output.old) (W.contents output.new)) }
     ensures silent { result.status ≡ 0 → Keeps (E.contents errors.old) (E.contents errors.new) }
     ensures failure { GiveSettings (map S.text words.now) → result.status ≢ 0 → (failure : SpecFailure)
-        × EndsAs failure (ask_why (map S.text words.now)) result (E.contents errors.old) (E.contents errors.new)
+        × EndsBy failure result (E.contents errors.old) (E.contents errors.new)
         × IfSome (I.remaining input.old) (λ text. IsFailure text failure) }
     ensures words { GiveSettings (map S.text words.now) ⊎ EndsByWords (map S.text words.now) result
         (W.contents output.old) (W.contents output.new) (E.contents errors.old) (E.contents errors.new) }

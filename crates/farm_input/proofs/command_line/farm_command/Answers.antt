@@ -23,8 +23,6 @@ returns c =
     ap app_of_fields c.after_help-command.ensures ∙ (ap app_of_fields c.about.ensures ∙ c.new.ensures.app) in
     let one_is =
     c.in_ok-command.ensures.shape c.number_option-workers.ensures.local ∙ ap₂ with_rule start_is workers_is in
-    let both_is =
-    c.in_ok-command-2.ensures.shape c.number_option-quantum.ensures.local ∙ ap₂ with_rule one_is quantum_is in
-    IfOk-weaker c.arg-3.result _ _
-    (λ command added. added.shape c.flag-explain.ensures.local ∙ ap₂ with_rule both_is c.flag-explain.ensures.rule)
-    c.arg-3.ensures
+    IfOk-weaker c.arg-2.result _ _
+    (λ command added. added.shape c.number_option-quantum.ensures.local ∙ ap₂ with_rule one_is quantum_is)
+    c.arg-2.ensures

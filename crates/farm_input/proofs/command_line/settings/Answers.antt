@@ -3,7 +3,7 @@ use Rattle.std.specs.Str.Parse.{ExplainsUnsignedError, HasUnsignedDigitsIfOk, Pa
 use Rattle.clap.specs.Words.{App, app_of, fault_of}
 use Rattle.clap.specs.Faults.{is_simple_and_free}
 use Rattle.farm_input.specs.Settings.{farm_command}
-use Rattle.farm_input.proofs.CommandLine.{explain_said, farm_is_free, quantum_said, workers_said}
+use Rattle.farm_input.proofs.CommandLine.{farm_is_free, quantum_said, workers_said}
 use Rattle.farm_input.proofs.command_line.settings.Goals as goal
 
 pub returns-clause-refused : goal.returns-clause-refused
@@ -44,9 +44,4 @@ returns-clause-said g c =
     _ (λ bs r. ParsesUnsigned 16 10 bs r × ExplainsUnsignedError 10 bs r × HasUnsignedDigitsIfOk bs r)
     c.get_one-2.result 256 c.get_one-2.ensures.value (λ u x h. h.0)
     c.unwrap_or-quantum.result c.unwrap_or-quantum.ensures in
-    let explain =
-    explain_said c.in_ok-farm_command.field-0 c.in_ok-matches.matches words is c.in_ok-matches.ensures.parsed
-    c.in_ok-matches.ensures.matches
-    _ c.get_one-3.result c.get_one-3.ensures.none c.get_one-3.ensures.value
-    c.unwrap_or-explain.result c.unwrap_or-explain.ensures in
-    record { workers = workers.2; quantum = quantum.2; explain = explain }
+    record { workers = workers.2; quantum = quantum.2 }
