@@ -7,9 +7,11 @@ from concurrent.futures import FIRST_COMPLETED, ThreadPoolExecutor, wait
 from tree import TOP
 
 MEMORY_OF_A_JOB = 2 << 30
-# More jobs of one crate gain nothing.
+# The crate for which the longest chain waits has so many. More of one crate gain little, and cost those beside it more.
+JOBS_OF_THE_LONGEST = 3
 MOST_JOBS_OF_A_CRATE = 4
-# How far the system may put a crate back behind others.
+# The system puts a crate back behind others by a rank for so many seconds by which its chain is shorter, up to the last.
+SECONDS_OF_A_RANK = 60
 LAST_RANK = 10
 # Where the toolchain's commands are.
 KIT = os.path.dirname(os.path.realpath(shutil.which("rt") or "rt"))
@@ -41,19 +43,24 @@ def most_jobs():
     return max(1, min(2 * cores(), free // MEMORY_OF_A_JOB))
 
 
-def size(name):
-    """The bytes of a crate's sources, definitions and proofs, as a measure of its work."""
-    folders = [f"{TOP}/crates/{name}/{it}" for it in ("src", "specs", "proofs")]
-    return sum(os.path.getsize(f"{at}/{it}") for folder in folders for at, _, names in os.walk(folder) for it in names)
+def kilobytes(name, folder):
+    """How much stands in a folder of a crate."""
+    return sum(os.path.getsize(f"{at}/{it}") for at, _, names in os.walk(f"{TOP}/crates/{name}/{folder}") for it in names) / 1000
 
 
-def works_ahead(wanted, below):
-    """Each crate with the work of the longest chain that begins with it."""
+def seconds_of(name):
+    """About how many seconds a crate takes by one job. A program is compiled too, with all that it reaches."""
+    compiled = 75 if os.path.isfile(f"{TOP}/crates/{name}/src/main.rt") else 0
+    return 6 + 1.5 * kilobytes(name, "src") + 0.4 * kilobytes(name, "proofs") + compiled
+
+
+def seconds_ahead(wanted, below):
+    """Each crate with about how many seconds the longest chain takes that begins with it."""
     ahead = {}
 
     def of(name):
         if name not in ahead:
-            ahead[name] = size(name) + max((of(it) for it in wanted if name in below[it]), default=0)
+            ahead[name] = seconds_of(name) + max((of(it) for it in wanted if name in below[it]), default=0)
         return ahead[name]
 
     for name in wanted:
@@ -74,28 +81,27 @@ def crates_wanted(names, below):
     return set(names).union(*(stood_on(it, below) for it in names))
 
 
-def jobs_for(name, ahead, ready, running, idle):
-    """The jobs of a crate that is begun beside those that run: many if the longest chain waits for it or if cores would
-    idle, and else one, since more jobs of a crate end sooner and cost more."""
-    others = [*ready, *(it for it, _ in running.values())]
-    if all(ahead[name] >= ahead[it] for it in others):
-        return min(MOST_JOBS_OF_A_CRATE, cores(), idle)
+def jobs_for(behind, ready, running, idle):
+    """The jobs of a crate that is begun beside those that run, and whose chain is so many seconds shorter than the longest:
+    some if it is that, more if cores would idle, and else one, since more jobs of a crate end sooner and cost more."""
     spare = cores() - sum(jobs for _, jobs in running.values()) - len(ready) + 1
-    return max(1, min(MOST_JOBS_OF_A_CRATE, spare))
+    asked = max(spare, 1 if behind else JOBS_OF_THE_LONGEST)
+    return max(1, min(asked, MOST_JOBS_OF_A_CRATE, cores(), idle))
 
 
 def prove_all(wanted, most, below, prove):
     """Proves the crates, the longest chain first, by so many jobs, and tells whether all are proved. `prove` takes a crate,
     its jobs, and how far the system may put it back; it gives whether that went well, what was printed, and seconds."""
-    ahead = works_ahead(wanted, below)
+    ahead = seconds_ahead(wanted, below)
     left, running, done = sorted(wanted, key=lambda it: (-ahead[it], it)), {}, set()
     with ThreadPoolExecutor(most) as pool:
         while left or running:
             ready = [it for it in left if done.issuperset(below[it])]
             while ready and (idle := most - sum(jobs for _, jobs in running.values())) > 0:
-                jobs = jobs_for(ready[0], ahead, ready, running, idle)
-                rank = 3 * sum(ahead[it] > ahead[ready[0]] for it, _ in running.values())
-                running[pool.submit(prove, ready[0], jobs, min(rank, LAST_RANK))] = ready[0], jobs
+                behind = max(ahead[it] for it in [*ready, *(it for it, _ in running.values())]) - ahead[ready[0]]
+                jobs = jobs_for(behind, ready, running, idle)
+                rank = min(LAST_RANK, int(behind / SECONDS_OF_A_RANK))
+                running[pool.submit(prove, ready[0], jobs, rank)] = ready[0], jobs
                 left.remove(ready.pop(0))
             for it in wait(running, return_when=FIRST_COMPLETED).done:
                 name, _ = running.pop(it)

@@ -83,10 +83,9 @@ pub fn boot_message(alloc: Global, code: &[u8]) -> Result<Vec<u8>, BootFault>
         return Err(BootFault::TooLong);
     };
     let mut message = Vec::new(alloc);
-    message.push(length).map_err(|_| BootFault::NoMemory)?;
-    message
-        .extend_from_slice(code)
-        .map_err(|_| BootFault::NoMemory)?;
+    if message.push(length).is_err() || message.extend_from_slice(code).is_err() {
+        return Err(BootFault::NoMemory);
+    }
     Ok(message)
 }
 

@@ -43,7 +43,7 @@ impl Node {
         requires { registers_of self.old.state ≡ None }
         ensures answer { (self.new, result) ≡ node_step self.old }
     {
-        match &mut self.state {
+        match self.state {
             NodeState::WantsControl => {
                 let Some(link) = self.offered() else {
                     return Stepped::Idle;
@@ -56,19 +56,15 @@ impl Node {
                 Stepped::Ran
             }
             NodeState::Takes { link, task } => {
-                let (link, task) = (*link, *task);
                 let Some(byte) = self.links.take_byte(link) else {
                     return Stepped::Idle;
                 };
                 self.give(link, task, byte);
                 Stepped::Ran
             }
-            NodeState::Answers { link, left, word } => {
-                let (link, left, word) = (*link, *left, *word);
-                self.answer(link, left, word)
-            }
+            NodeState::Answers { link, left, word } => self.answer(link, left, word),
             NodeState::Runs(_) => unreachable!(),
-            NodeState::Halted(fault) => Stepped::Fault(*fault),
+            NodeState::Halted(fault) => Stepped::Fault(fault),
         }
     }
 

@@ -1,6 +1,7 @@
 -- What an event makes of a machine is what it makes of an equal one, and when a machine is quiet: the clauses of
 -- `RunningMachine::act` and `quiet`.
 use Rattle.std.proofs.Common.{◌≡◌, ℕ, ◌<◌, Bool, true, false, not, length, refl, sym, ap, ◌∙◌, subst}
+use Rattle.std.proofs.Common.{if◌then◌else◌}
 use Rattle.virtual_switch.specs.Each.{KeepsPorts, ConfiguresTo}
 use Rattle.virtual_switch.specs.PrivateSwitch.{Configured, configured}
 use Rattle.virtual_switch.specs.declared.reply.ConfigReply.{ConfigReply}
@@ -60,6 +61,19 @@ kept_alike v now later same kept = subst (λ (x : MachineValue). KeepsPorts x.sw
 pub not_not : (b : Bool) → not (not b) ≡ b
 not_not true = refl
 not_not false = refl
+
+-- ---- a byte for a host
+
+-- a byte for which there is room is written
+pub was_written : (full : Bool) → not full ≡ true
+    → reply_of.Written ≡ (if full then reply_of.Full else reply_of.Written)
+was_written true room = absurd cc
+was_written false room = refl
+
+-- and one for which there is none isn't
+pub was_full : (full : Bool) → not full ≡ false → reply_of.Full ≡ (if full then reply_of.Full else reply_of.Written)
+was_full true room = refl
+was_full false room = absurd cc
 
 -- ---- a configuration byte
 

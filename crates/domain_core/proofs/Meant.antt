@@ -1,22 +1,27 @@
--- A domain that has answered one event more is still its journal, for `Domain::apply`, `move_port` and `Moment::burst`.
-use Rattle.std.proofs.Common.{◌≡◌, ◌≢◌, ℕ, ◌+◌, ◌^◌, ◌≤◌, ◌==◌, List, [], ◌∷◌, ◌++◌, length, Bool, true, false, not, Ok}
-use Rattle.std.proofs.Common.{refl, sym, ap, ◌∙◌, arith, subst, if◌then◌else◌}
+-- A domain that has answered one event more is still its journal, or has refused it, for `Domain::apply`, `move_port`,
+-- `commit_lent` and `Moment::burst`.
+use Rattle.std.proofs.Common.{◌≡◌, ◌≢◌, ℕ, ◌+◌, ◌^◌, ◌<◌, ◌≤◌, ◌==◌, List, [], ◌∷◌, ◌++◌, length, Bool, true, false}
+use Rattle.std.proofs.Common.{not, Ok, Err, refl, sym, ap, ◌∙◌, arith, subst, if◌then◌else◌}
 use Rattle.std.proofs.lemmas.Bool.Decides.{nat_tests}
-use Rattle.std.proofs.lemmas.List.{set-get_or, length-append}
+use Rattle.std.proofs.lemmas.List.{set-get_or, length-append, append-nil}
 use Rattle.std.specs.Prelude.{OnErr}
 use Rattle.std.specs.List.{AllZip}
+use Rattle.crossbar.specs.Laws.{UnchangedCountsNothing}
 use Rattle.crossbar.specs.Word.{CountsChange}
 use Rattle.plan_rules.specs.Part.{PartData}
 use Rattle.bootstrap.specs.declared.node.Node.{Node}
 use Rattle.bootstrap.specs.Laws.{QuietStepChangesNothing}
 use Rattle.bootstrap.specs.Opening.{opened_node}
 use Rattle.bootstrap.specs.Step.{is_step_recorded, node_step}
+use Rattle.domain_core.specs.declared.event.By.TheVariants.{Farm}
 use Rattle.domain_core.specs.declared.event.Event.{Event}
 use Rattle.domain_core.specs.declared.event.Event.TheVariants.{Config, Write, Read, Reset, Look, Step, Move}
+use Rattle.domain_core.specs.declared.event.Refusal.{Refusal}
+use Rattle.domain_core.specs.declared.event.Refusal.TheVariants.{NoSuch, JournalFull, NoMemory}
 use Rattle.domain_core.specs.declared.event.Reply.{Reply}
 use Rattle.domain_core.specs.declared.journal.Entry.{Entry}
 use Rattle.domain_core.specs.Devices.{DeviceStates, node_at, with_node}
-use Rattle.domain_core.specs.Domain.{DomainValue, state_of, IsMeant, IsCalled, gained}
+use Rattle.domain_core.specs.Domain.{DomainValue, state_of, IsMeant, IsCalled, UnlessNoMemory, gained}
 use Rattle.domain_core.specs.Journal.{AnsweredCall, expanded, IsHistory}
 use Rattle.domain_core.specs.Machine.{Machine, with_devices, acted, is_recorded}
 use Rattle.domain_core.specs.MachineValue.{MachineValue, machine_of}
@@ -191,3 +196,116 @@ meant_unrecorded law d event other_machine entries meant machine part recorded s
   where
     within_part : (now before limit same : ℕ) → now ≡ before → before ≤ limit → same ≡ limit → now ≤ same
     within_part now before limit same still few is = omega (arith, still, few, is)
+
+-- ---- a call that is refused, or that isn't recorded
+
+unless_refused_so : (P : Type 0) (told : Answer) → P → UnlessNoMemory told P
+unless_refused_so P (Ok reply) it = it
+unless_refused_so P (Err NoSuch) it = it
+unless_refused_so P (Err JournalFull) it = it
+unless_refused_so P (Err NoMemory) it = tt
+
+-- a domain that refuses a call as the private farm does, and stays, has answered it
+pub called_refused : UnchangedCountsNothing → (d : DomainValue) (call : Call) (refusal : Refusal)
+    → next d.machine.part (state_of d) call ≡ (state_of d, Err refusal)
+    → IsCalled call (Err refusal) d d
+called_refused law d call refusal told =
+    let said : Answer = Err refusal in
+    let answer : (next d.machine.part (state_of d) call).1 ≡ said = ap (λ (p : State × Answer). p.1) told in
+    record {
+      answer = unless_refused_so _ said (sym answer);
+      state = unless_refused_so _ said (sym (ap (λ (p : State × Answer). p.0) told));
+      refused = subst (λ (a : Answer). OnErr a (said ≡ a)) (sym answer) refl;
+      journal = sym (append-nil (expanded d.journal));
+      counts = law d.machine.switch.words;
+    }
+
+-- a call that isn't there for its caller is refused so
+pub called_no_such : UnchangedCountsNothing → (d : DomainValue) (call : Call) → is_there d.machine.part call ≡ false
+    → IsCalled call (Err NoSuch) d d
+called_no_such law d call not_there = called_refused law d call NoSuch (told d.machine.part (state_of d) call not_there)
+  where
+    told : (part : PartData) (s : State) (call : Call) → is_there part call ≡ false → next part s call ≡ (s, Err NoSuch)
+    told part s call not_there = rw not_there refl
+
+-- and one that is there, while the journal is full
+pub called_full : UnchangedCountsNothing → (d : DomainValue) (call : Call) → is_there d.machine.part call ≡ true
+    → length (expanded d.journal) ≡ d.machine.part.limit
+    → IsCalled call (Err JournalFull) d d
+called_full law d call there full =
+    called_refused law d call JournalFull (told d.machine.part (state_of d) call there (same _ _ full))
+  where
+    same : (m n : ℕ) → m ≡ n → (m == n) ≡ true
+    same m n is = grind (arith, nat_tests)
+
+    told : (part : PartData) (s : State) (call : Call) → is_there part call ≡ true → (s.recorded == part.limit) ≡ true
+        → next part s call ≡ (s, Err JournalFull)
+    told part s call there full = rw (there, full) refl
+
+-- a domain that stays for want of memory has answered a call that the private farm doesn't refuse
+pub called_no_memory : UnchangedCountsNothing → (d : DomainValue) (call : Call) → is_there d.machine.part call ≡ true
+    → length (expanded d.journal) ≢ d.machine.part.limit
+    → IsCalled call (Err NoMemory) d d
+called_no_memory law d call there below =
+    let said : Answer = Err NoMemory in
+    let told = next_told d.machine.part (state_of d) call there below in
+    record {
+      answer = tt;
+      state = tt;
+      refused =
+          subst (λ (a : Answer). OnErr a (said ≡ a)) (sym (ap (λ (p : State × Answer). p.1) told)) tt;
+      journal = sym (append-nil (expanded d.journal));
+      counts = law d.machine.switch.words;
+    }
+
+uncounted : (recorded : Bool) (n : ℕ) → recorded ≡ false → (if recorded then n + 1 else n) ≡ n
+uncounted recorded n is = rw is refl
+
+-- a domain that answered an event and didn't record it has answered the call, if its journal stays
+pub called_unrecorded : (d : DomainValue) (call : Call) (other_machine : MachineValue) (reply : Reply)
+    (entries : List Entry)
+    → is_there d.machine.part call ≡ true → length (expanded d.journal) ≢ d.machine.part.limit
+    → machine_of other_machine ≡ (acted d.machine.part (machine_of d.machine) call.event).0
+    → reply ≡ (acted d.machine.part (machine_of d.machine) call.event).1
+    → is_recorded d.machine.part (machine_of d.machine) call.event ≡ false
+    → entries ≡ d.journal
+    → AllZip CountsChange d.machine.switch.words other_machine.switch.words
+    → IsCalled call (Ok reply) d (record { machine = other_machine; journal = entries })
+called_unrecorded d call other_machine reply entries there below machine replies recorded same counts =
+    let s : State = state_of d in
+    let P : PartData = d.machine.part in
+    let said : Answer = Ok reply in
+    let told : next P s call ≡ (answered P s call.event, Ok (acted P s.machine call.event).1) =
+    next_told P s call there below in
+    let answer : (next P s call).1 ≡ said =
+    ap (λ (p : State × Answer). p.1) told ∙ ap (λ (r : Reply). let a : Answer = Ok r in a) (sym replies) in
+    let none : gained P s call said ≡ [] = rw recorded refl in
+    record {
+      answer = sym answer;
+      state =
+          ap (λ (l : List Entry).
+          let y : State = record { machine = machine_of other_machine; recorded = length (expanded l) } in
+          y)
+          same
+          ∙ ap (λ (x : Machine). let y : State = record { machine = x; recorded = s.recorded } in y) machine
+          ∙ ap (λ (n : ℕ).
+          let y : State = record { machine = (acted P s.machine call.event).0; recorded = n } in
+          y)
+          (sym (uncounted (is_recorded P s.machine call.event) s.recorded recorded))
+          ∙ sym (ap (λ (p : State × Answer). p.0) told);
+      refused = subst (λ (a : Answer). OnErr a (said ≡ a)) (sym answer) tt;
+      journal =
+          ap expanded same ∙ sym (append-nil (expanded d.journal))
+          ∙ ap (λ (more : List AnsweredCall). expanded d.journal ++ more) (sym none);
+      counts = counts;
+    }
+
+-- a Move of a port of the part is there for the farm
+pub move_there : (part : PartData) (port : ℕ) → port < part.count
+    → is_there part (record { by = Farm; event = Move port }) ≡ true
+move_there part port here = grind (arith, nat_tests)
+
+-- a Step of a node of the part is there for the farm
+pub step_there : (part : PartData) (node : ℕ) → node < length part.nodes
+    → is_there part (record { by = Farm; event = Step node }) ≡ true
+step_there part node here = grind (arith, nat_tests)

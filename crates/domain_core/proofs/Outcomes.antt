@@ -17,7 +17,7 @@ use Rattle.plan_rules.specs.Part.{PartData}
 use Rattle.domain_core.specs.declared.device.Device.{Device}
 use Rattle.domain_core.specs.declared.event.Moved.{Moved}
 use Rattle.domain_core.specs.declared.event.Moved.TheVariants.{Nothing, Lost, Stayed, Passed}
-use Rattle.domain_core.specs.Devices.{DeviceStates, HasDevice, device_at}
+use Rattle.domain_core.specs.Devices.{DeviceStates, HasDevice, device_at, packet_waiting}
 use Rattle.domain_core.specs.Moves.{Joining, driven, are_ready, packet_at, delivered_at, copies_arrived, outcome}
 use Rattle.domain_core.specs.Moves.{moved_by, sent, moved_from, joining_of, moved}
 use Rattle.domain_core.specs.Machine.{has_moved}
@@ -253,3 +253,23 @@ pub still : (part : PartData) (s : Switch) (d : DeviceStates) (port : ℕ) → h
     → (moved part s d port).0 ≡ d
 still part s d port no_move =
     still_from (joining_of part) s d (driven (joining_of part) s port) (device_at part port) no_move
+
+-- a Move of a port that has no device
+pub moved_nowhere : (part : PartData) (s : Switch) (d : DeviceStates) (port : ℕ) → device_at part port ≡ None
+    → moved part s d port ≡ (d, Nothing)
+moved_nowhere part s d port none =
+    ap (λ (from : Option Device). moved_from (joining_of part) s d (driven (joining_of part) s port) from) none
+
+-- and of one at whose device no packet waits
+pub moved_nothing : (part : PartData) (s : Switch) (d : DeviceStates) (port : ℕ) (device : Device)
+    → device_at part port ≡ Some device → packet_waiting d device ≡ None
+    → moved part s d port ≡ (d, Nothing)
+moved_nothing part s d port device is none =
+    let j : Joining DeviceStates Device = joining_of part in
+    ap (λ (from : Option Device). moved_from j s d (driven j s port) from) is
+    ∙ ap (λ (packet : Option Packet). sent j s d (driven j s port) device packet) none
+
+-- the table at a port where it has no device
+pub none_of : (device : Option Device) → ((x : Device) → device ≢ Some x) → device ≡ None
+none_of None other = refl
+none_of (Some x) other = absurd (other x refl)

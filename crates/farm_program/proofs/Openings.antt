@@ -1,19 +1,63 @@
--- The users of a plan, one after another: the contract of `users_of`.
+-- The users of a plan, one after another, and what their lines ask: the contracts of `users_of` and `commands_at`.
 use Rattle.std.proofs.Common.{◌≡◌, ◌<◌, ◌+◌, ℕ, zero, suc, List, [], ◌∷◌, ◌++◌, Bor, length}
 use Rattle.std.proofs.Common.{map, take, get_or, slice_get, Option, Some, None, IfSome, All}
 use Rattle.std.proofs.Common.{refl, sym, ap, ◌∙◌, subst, arith, append_assoc, length-append}
+use Rattle.std.specs.Prelude.{◌==◌, false, filter}
 use Rattle.std.specs.List.{range_with_len, flat_map}
+use Rattle.std.proofs.lemmas.Bool.{eq-eqb}
 use Rattle.std.proofs.lemmas.List.{append-nil, length-map, map-append, map-id, take_more, take_all, get_or-map}
-use Rattle.std.proofs.lemmas.List.Elements.{All-append, All-from_recursion}
+use Rattle.std.proofs.lemmas.List.Elements.{All-append, All-from_recursion, filter-append}
 use Rattle.std.proofs.lemmas.List.FromFn.{map-range_with_len_more}
 use Rattle.std.proofs.lemmas.Grind.{flat_map-append}
 use Rattle.std.proofs.lemmas.Option.{slice_get_within, get_or_from_slice_get}
 use Rattle.plan_rules.specs.Data.{DomainData, UserData}
+use Rattle.script_lines.specs.declared.command.Command.{Command}
 use Rattle.script_lines.specs.declared.script.ScriptLine.{ScriptLine}
 use Rattle.farm_service.specs.Passes.{UserPassValue, passes_opened, passes_from, fresh_passes}
 use Rattle.farm_program.specs.declared.users.User.{User}
 use Rattle.farm_input.specs.Names.{all_names}
 use Rattle.farm_program.specs.Users.{commands_at, session_of, AreUsersOf}
+
+-- ---- commands
+
+commands_more : (lines : List ScriptLine) (line : ScriptLine) (place : ℕ)
+    → commands_at (lines ++ line ∷ []) place ≡ commands_at lines place ++ commands_at (line ∷ []) place
+commands_more lines line place =
+    ap (map (λ (l : ScriptLine). l.command)) (filter-append (λ l. l.user == place) lines (line ∷ []))
+    ∙ map-append (λ (l : ScriptLine). l.command) (filter (λ l. l.user == place) lines)
+    (filter (λ l. l.user == place) (line ∷ []))
+
+line_more : (lines : List ScriptLine) (i place : ℕ) (line : ScriptLine)
+    → i < length lines → line ≡ get_or lines i line
+    → commands_at (take (i + 1) lines) place ≡ commands_at (take i lines) place ++ commands_at (line ∷ []) place
+line_more lines i place line within is =
+    ap (λ (ls : List ScriptLine). commands_at ls place) (take_more lines i line within)
+    ∙ ap (λ (l : ScriptLine). commands_at (take i lines ++ l ∷ []) place) (sym is)
+    ∙ commands_more (take i lines) line place
+
+-- a line of the user of a place adds its command to his
+pub line_of_user : (lines : List ScriptLine) (i place : ℕ) (line : ScriptLine) (commands more : List (Bor Command))
+    (command : Bor Command)
+    → i < length lines → line ≡ get_or lines i line → line.user ≡ place
+    → map (λ c. c.now) commands ≡ commands_at (take i lines) place → more ≡ commands ++ command ∷ []
+    → command.now ≡ line.command
+    → map (λ c. c.now) more ≡ commands_at (take (i + 1) lines) place
+line_of_user lines i place line commands more command within is his before added same =
+    ap (map (λ (c : Bor Command). c.now)) added
+    ∙ map-append (λ (c : Bor Command). c.now) commands (command ∷ [])
+    ∙ (λ k. before k ++ same k ∷ [])
+    ∙ ap (λ (some : List Command). commands_at (take i lines) place ++ some) (rw (eq-eqb line.user place his) refl)
+    ∙ sym (line_more lines i place line within is)
+
+-- a line of another user adds none
+pub line_of_another : (lines : List ScriptLine) (i place : ℕ) (line : ScriptLine) (commands : List (Bor Command))
+    → i < length lines → line ≡ get_or lines i line → line.user == place ≡ false
+    → map (λ c. c.now) commands ≡ commands_at (take i lines) place
+    → map (λ c. c.now) commands ≡ commands_at (take (i + 1) lines) place
+line_of_another lines i place line commands within is other before =
+    before ∙ sym (append-nil (commands_at (take i lines) place))
+    ∙ ap (λ (some : List Command). commands_at (take i lines) place ++ some) (rw other refl)
+    ∙ sym (line_more lines i place line within is)
 
 -- what texts that are lent hold
 abbrev pub texts : List (Bor (List ℕ)) → List (List ℕ)

@@ -1,7 +1,8 @@
 -- Domains that stand at their places, and a user's commands that are listed entry by entry: the clause `domains` of
 -- `open_domains`, and the contract of `list_commands`.
 use Rattle.std.proofs.Common.{◌≡◌, ℕ, zero, suc, ◌+◌, List, [], ◌∷◌, ◌++◌, length}
-use Rattle.std.proofs.Common.{take, Some, slice_get, sym, ap, ◌∙◌, subst, append_assoc}
+use Rattle.std.proofs.Common.{◌<◌, arith, get_or, inl, inr, take, Some, slice_get, sym, ap, ◌∙◌, subst, append_assoc}
+use Rattle.std.proofs.lemmas.Bool.Decides.{eqb_tells}
 use Rattle.std.proofs.lemmas.List.{take_more}
 use Rattle.std.proofs.lemmas.List.Elements.{filter_map-append}
 use Rattle.std.proofs.lemmas.Option.{slice_get_within, get_or_from_slice_get, same_Some, none-some}
@@ -31,6 +32,21 @@ pub in_places_more : (plan : List DomainData) (domains : List DomainValue) (numb
     → AreInPlaces plan (domains ++ d ∷ [])
 in_places_more plan domains number d each is fits =
     snoc_each (Fits plan) domains d each (subst (λ (n : ℕ). Fits plan n d) is fits)
+
+-- a domain that fits the next place stands there, if those before it fit theirs
+pub fits_more : (plan : List DomainData) (domains : List DomainValue) (i : ℕ) (domain : DomainValue)
+    → ((n : ℕ) (d : DomainValue) → n < i → slice_get domains n ≡ Some d → Fits plan n d)
+    → domain ≡ get_or domains i domain → Fits plan i domain
+    → (n : ℕ) (d : DomainValue) → n < i + 1 → slice_get domains n ≡ Some d → Fits plan n d
+fits_more plan domains i domain before is fits n d less at = elim (eqb_tells n i) [
+  | inl same ↦
+      subst (λ (m : ℕ). Fits plan m d) (sym same.1)
+      (subst (Fits plan i)
+      (is
+      ∙ get_or_from_slice_get domains i d domain (subst (λ (m : ℕ). slice_get domains m ≡ Some d) same.1 at))
+      fits)
+  | inr other ↦ before n d (omega (arith, less, other.1)) at
+]
 
 -- what an entry more has of a user's commands
 commands_more : JournalsAddUp

@@ -1,15 +1,17 @@
 -- What a session asks, event by event.
 use Rattle.std.proofs.Common.{◌≡◌, ℕ, ◌+◌, ◌<◌, true, false, List, [], ◌∷◌, ◌++◌, length, get_or, Some, None, refl, sym}
 use Rattle.std.proofs.Common.{ap, ◌∙◌, subst, arith, append_assoc}
-use Rattle.std.specs.Prelude.{slice_get, Ok, Err, Option}
+use Rattle.std.specs.Prelude.{slice_get, MatchResult, Result, Ok, Err, Option}
 use Rattle.std.specs.List.{filter, list_all, list_any}
 use Rattle.std.specs.Option.{option_map}
+use Rattle.std.specs.Result.{IsErrAnd}
 use Rattle.std.proofs.lemmas.List.{append-nil, length-append}
 use Rattle.std.proofs.lemmas.List.Folds.{list_any-append, list_all-append}
 use Rattle.std.proofs.lemmas.List.Elements.{filter-append}
 use Rattle.std.proofs.lemmas.List.{map-append}
 use Rattle.std.proofs.lemmas.Bool.{lt-ltb, le-ltb}
 use Rattle.std.proofs.lemmas.Option.{slice_get-get_or, slice_get_past}
+use Rattle.std.proofs.lemmas.Result.{err_from_is_err_and}
 use Rattle.domain_core.specs.declared.event.Event.{Event}
 use Rattle.domain_core.specs.declared.event.Event.TheVariants as event
 use Rattle.domain_core.specs.declared.event.Reply.{Reply}
@@ -19,7 +21,7 @@ use Rattle.farm_service.specs.Answers.{IsTold}
 use Rattle.farm_service.specs.Passes.{SessionValue, with_told, Gains}
 use Rattle.answer_text.specs.Results.{replies_told}
 use Rattle.line_answers.specs.Asks.{is_write, is_read, had_no_room, is_byte, write_replies, read_replies}
-use Rattle.line_answers.specs.Asks.{next_config, next_write, next_read, next_collect, AreAsked}
+use Rattle.line_answers.specs.Asks.{next_config, next_write, next_read, next_collect, once, AreAsked}
 use Rattle.line_answers.specs.Sessions.{with_all, AsksJust}
 
 -- an event with its reply
@@ -64,16 +66,19 @@ ended next s t told a so_far same = record { told = told; list = so_far.list; as
 
 -- an exchange ends with an error if the service refuses what is asked next
 pub refused : {A : Type 0} (next : List Told → Option Event) (s t session : SessionValue) (told : List Told) (e : Event)
-    (refusal : Refusal)
+    (refusal : Refusal) (result : Result A Refusal)
     → IsAsking next s t told
     → next told ≡ Some e → Gains t e (Err refusal) session → IsTold t e (Err refusal)
-    → AsksJust {A = A} next s (Err refusal) session
-refused next s t session told e refusal so_far equal same is = record {
-  told = told;
-  list = same ∙ so_far.list;
-  asked = so_far.asked;
-  ended = (e, equal, subst (λ (v : SessionValue). IsTold v e (Err refusal)) (sym same) is);
-}
+    → IsErrAnd result (λ given. given ≡ refusal)
+    → AsksJust next s result session
+refused next s t session told e refusal result so_far equal same is returned =
+    let exit = err_from_is_err_and result returned in
+    subst (λ result. AsksJust next s result session) (sym (exit.1 ∙ ap Err exit.2)) (record {
+      told = told;
+      list = same ∙ so_far.list;
+      asked = so_far.asked;
+      ended = (e, equal, subst (λ (v : SessionValue). IsTold v e (Err refusal)) (sym same) is);
+    })
 
 -- before anything is asked
 pub begun : (next : List Told → Option Event) (s : SessionValue) → IsAsking next s s []
@@ -125,15 +130,17 @@ config_ended bytes s t a was =
 
 -- the next byte is refused, which ends the line
 pub config_refused : {A : Type 0} (bytes : List ℕ) (s t session : SessionValue) (i : ℕ) (refusal : Refusal)
+    (result : Result A Refusal)
     → IsConfiguring bytes s t i
     → i < length bytes
     → Gains t (event.Config (get_or bytes i 0)) (Err refusal) session
     → IsTold t (event.Config (get_or bytes i 0)) (Err refusal)
-    → AsksJust {A = A} (next_config bytes) s (Err refusal) session
-config_refused bytes s t session i refusal was within same is =
-    refused (next_config bytes) s t session was.told _ refusal was.so_far
+    → IsErrAnd result (λ given. given ≡ refusal)
+    → AsksJust (next_config bytes) s result session
+config_refused bytes s t session i refusal result was within same is returned =
+    refused (next_config bytes) s t session was.told _ refusal result was.so_far
     (config_next bytes was.told i was.count within)
-    same is
+    same is returned
 
 -- ---- bytes for a host
 
@@ -214,14 +221,16 @@ write_ended host bytes s t a was =
 
 -- the next byte is refused, which ends the line
 pub write_refused : {A : Type 0} (host : ℕ) (bytes : List ℕ) (s t session : SessionValue) (i : ℕ) (refusal : Refusal)
+    (result : Result A Refusal)
     → IsWriting host bytes s t i
     → i < length bytes
     → Gains t (event.Write host (get_or bytes i 0)) (Err refusal) session
     → IsTold t (event.Write host (get_or bytes i 0)) (Err refusal)
-    → AsksJust {A = A} (next_write host bytes) s (Err refusal) session
-write_refused host bytes s t session i refusal was within same is =
-    refused (next_write host bytes) s t session was.told _ refusal was.so_far
-    (write_next host bytes was.told i was.room was.count within) same is
+    → IsErrAnd result (λ given. given ≡ refusal)
+    → AsksJust (next_write host bytes) s result session
+write_refused host bytes s t session i refusal result was within same is returned =
+    refused (next_write host bytes) s t session was.told _ refusal result was.so_far
+    (write_next host bytes was.told i was.room was.count within) same is returned
 
 -- ---- bytes of a host
 
@@ -282,13 +291,15 @@ read_ended host count s t a was =
 
 -- the next read is refused, which ends the line
 pub read_refused : {A : Type 0} (host count : ℕ) (s t session : SessionValue) (i : ℕ) (refusal : Refusal)
+    (result : Result A Refusal)
     → IsReading host count s t i
     → i < count
     → Gains t (event.Read host) (Err refusal) session → IsTold t (event.Read host) (Err refusal)
-    → AsksJust {A = A} (next_read host count) s (Err refusal) session
-read_refused host count s t session i refusal was within same is =
-    refused (next_read host count) s t session was.told _ refusal was.so_far
-    (read_next host count was.told i was.bytes was.so_many within) same is
+    → IsErrAnd result (λ given. given ≡ refusal)
+    → AsksJust (next_read host count) s result session
+read_refused host count s t session i refusal result was within same is returned =
+    refused (next_read host count) s t session was.told _ refusal result was.so_far
+    (read_next host count was.told i was.bytes was.so_many within) same is returned
 
 -- the same of all bytes
 pub record IsCollecting (host : ℕ) (s t : SessionValue) : Type 0 where
@@ -333,8 +344,26 @@ collect_none host s t session r a was gains none =
     (rw over refl)
 
 -- the next read is refused, which ends the line
-pub collect_refused : {A : Type 0} (host : ℕ) (s t session : SessionValue) (refusal : Refusal) → IsCollecting host s t
+pub collect_refused : {A : Type 0} (host : ℕ) (s t session : SessionValue) (refusal : Refusal)
+    (result : Result A Refusal) → IsCollecting host s t
     → Gains t (event.Read host) (Err refusal) session → IsTold t (event.Read host) (Err refusal)
-    → AsksJust {A = A} (next_collect host) s (Err refusal) session
-collect_refused host s t session refusal was same is =
-    refused (next_collect host) s t session was.told _ refusal was.so_far (collect_next host was.told was.bytes) same is
+    → IsErrAnd result (λ given. given ≡ refusal)
+    → AsksJust (next_collect host) s result session
+collect_refused host s t session refusal result was same is returned =
+    refused (next_collect host) s t session was.told _ refusal result was.so_far
+    (collect_next host was.told was.bytes) same is returned
+
+-- ---- one event
+
+-- an event that is taken or refused is just what is asked
+pub once_asked : {A : Type 0} (e : Event) (s t : SessionValue) (answer : Result Reply Refusal) (a : A)
+    (result : Result A Refusal) → IsTold s e answer
+    → Gains s e answer t
+    → MatchResult answer (λ reply. result ≡ Ok a) (λ refusal. result ≡ Err refusal)
+    → AsksJust (once e) s result t
+once_asked e s t (Ok reply) a result is gains same =
+    subst (λ result. AsksJust (once e) s result t) (sym same)
+    (ended (once e) s t (told_of e reply ∷ []) a (grown (once e) s s t [] e reply (begun (once e) s) refl gains) refl)
+once_asked e s t (Err refusal) a result is gains same =
+    refused (once e) s s t [] e refusal result (begun (once e) s) refl gains is
+    (subst (λ result. IsErrAnd result (λ given. given ≡ refusal)) (sym same) refl)

@@ -5,6 +5,7 @@ use Rattle.std.proofs.Common.{inl, inr}
 use Rattle.std.specs.Prelude.{slice_get, nat_lt, Result, Ok, Err, Option, if◌then◌else◌, ⊤}
 use Rattle.std.specs.List.{filter, list_all, list_any}
 use Rattle.std.specs.Option.{option_map, option_or}
+use Rattle.std.specs.Result.{IsErrAnd}
 use Rattle.std.specs.Prelude.{OnOk}
 use Rattle.std.proofs.Math.Seq.{drop-append_seam}
 use Rattle.std.proofs.lemmas.Bool.{le-leb}
@@ -12,6 +13,7 @@ use Rattle.std.proofs.lemmas.List.{append-nil, length-append, map-append, take_m
 use Rattle.std.proofs.lemmas.List.Folds.{list_any-append}
 use Rattle.std.proofs.lemmas.List.Elements.{filter-append}
 use Rattle.std.proofs.lemmas.Option.{slice_get_past, slice_get_cases}
+use Rattle.std.proofs.lemmas.Result.{err_from_is_err_and}
 use Rattle.bootstrap.specs.Messages.{bytes_of_word}
 use Rattle.domain_core.specs.declared.event.Event.{Event}
 use Rattle.domain_core.specs.declared.event.Event.TheVariants as event
@@ -276,11 +278,13 @@ peek_unsettled host address s t a refusal writes is = record {
 -- the same as `peek_unwritten`, of results that are known by equations
 pub unwritten : {A B : Type 0} (host address : ℕ) (bytes : List ℕ) (s t : SessionValue) (outcome : Result A Refusal)
     (other_outcome : Result B Refusal) (refusal : Refusal)
-    → bytes ≡ 1 ∷ bytes_of_word address → outcome ≡ Err refusal → other_outcome ≡ Err refusal
+    → bytes ≡ 1 ∷ bytes_of_word address → outcome ≡ Err refusal → IsErrAnd other_outcome (λ given. given ≡ refusal)
     → AsksJust (next_write host bytes) s outcome t
     → AsksLine (command.Peek host address) s other_outcome t
-unwritten {A} {B} host address bytes s t outcome other_outcome refusal bytes_are is same asks =
-    subst (λ (other_outcome : Result B Refusal). AsksLine (command.Peek host address) s other_outcome t) (sym same)
+unwritten {A} {B} host address bytes s t outcome other_outcome refusal bytes_are is returned asks =
+    let exit = err_from_is_err_and other_outcome returned in
+    subst (λ (other_outcome : Result B Refusal). AsksLine (command.Peek host address) s other_outcome t)
+    (sym (exit.1 ∙ ap Err exit.2))
     (peek_unwritten host address s t refusal
     (subst (λ (outcome : Result A Refusal). AsksJust (next_write host (1 ∷ bytes_of_word address)) s outcome t) is
     (subst (λ (bytes : List ℕ). AsksJust (next_write host bytes) s outcome t) bytes_are asks)))
@@ -289,11 +293,13 @@ unwritten {A} {B} host address bytes s t outcome other_outcome refusal bytes_are
 pub unsettled : {A B : Type 0} (host address : ℕ) (bytes : List ℕ) (s t : SessionValue) (a : A)
     (outcome : Result A Refusal)
     (other_outcome : Result B Refusal) (refusal : Refusal)
-    → bytes ≡ 1 ∷ bytes_of_word address → outcome ≡ Ok a → other_outcome ≡ Err refusal
+    → bytes ≡ 1 ∷ bytes_of_word address → outcome ≡ Ok a → IsErrAnd other_outcome (λ given. given ≡ refusal)
     → AsksJust (next_write host bytes) s outcome t
     → IsOfSettling t refusal → AsksLine (command.Peek host address) s other_outcome t
-unsettled {A} {B} host address bytes s t a outcome other_outcome refusal bytes_are is same asks settling =
-    subst (λ (other_outcome : Result B Refusal). AsksLine (command.Peek host address) s other_outcome t) (sym same)
+unsettled {A} {B} host address bytes s t a outcome other_outcome refusal bytes_are is returned asks settling =
+    let exit = err_from_is_err_and other_outcome returned in
+    subst (λ (other_outcome : Result B Refusal). AsksLine (command.Peek host address) s other_outcome t)
+    (sym (exit.1 ∙ ap Err exit.2))
     (peek_unsettled host address s t a refusal
     (subst (λ (outcome : Result A Refusal). AsksJust (next_write host (1 ∷ bytes_of_word address)) s outcome t) is
     (subst (λ (bytes : List ℕ). AsksJust (next_write host bytes) s outcome t) bytes_are asks))

@@ -1,8 +1,7 @@
 //! What a line asks of its user's domain.
-ghost use Rattle.std.specs.Prelude.{◌≡◌, IfErr};
-ghost use Rattle.domain_core.specs.declared.event.Event.TheVariants.{Reset, Look};
+ghost use Rattle.std.specs.Prelude.{◌≡◌, IfErr, MatchResult, Ok, Err};
 ghost use Rattle.script_lines.specs.declared.command.Command.TheVariants.{Peek};
-ghost use Rattle.line_answers.specs.Asks.{had_no_room, is_byte, next_config, next_write, next_boot, next_read, next_collect, once};
+ghost use Rattle.line_answers.specs.Asks.{had_no_room, is_byte, next_config, next_write, next_boot, next_read, next_collect};
 ghost use Rattle.line_answers.specs.Lines.{IsOfSettling};
 ghost use Rattle.line_answers.specs.Sessions.{AsksJust, AsksLine};
 
@@ -91,20 +90,14 @@ pub(crate) fn read_all<R: Wait>(rt: &R, session: &mut Session<'_>, host: u8) -> 
     Ok(())
 }
 
-// Reset of a node.
-fn reset<R: Wait>(rt: &R, session: &mut Session<'_>, node: u8) -> Result<(), Refusal>
-    ensures { AsksJust (once (Reset node)) session.old result session.new }
+// The answer to an event without its reply.
+fn without_reply(answer: Result<Reply, Refusal>) -> Result<(), Refusal>
+    ensures { MatchResult answer (λ reply. result ≡ Ok tt) (λ refusal. result ≡ Err refusal) }
 {
-    let _ = session.reset(rt, node)?;
-    Ok(())
-}
-
-// A look at a node.
-fn look<R: Wait>(rt: &R, session: &mut Session<'_>, node: u8) -> Result<(), Refusal>
-    ensures { AsksJust (once (Look node)) session.old result session.new }
-{
-    let _ = session.look(rt, node)?;
-    Ok(())
+    match answer {
+        Ok(_) => Ok(()),
+        Err(refusal) => Err(refusal),
+    }
 }
 
 /// Settles as long as the program does after each line. Whether that came to rest is nobody's fault.
@@ -176,7 +169,7 @@ pub(crate) fn ask_line<R: Wait>(
         } => write_all(rt, session, *host, &poke_message(*address, *word)),
         Command::Peek { host, address } => peek(rt, session, quantum, *host, *address),
         Command::Collect { host } => read_all(rt, session, *host),
-        Command::Reset { node } => reset(rt, session, *node),
-        Command::Look { node } => look(rt, session, *node),
+        Command::Reset { node } => without_reply(session.reset(rt, *node)),
+        Command::Look { node } => without_reply(session.look(rt, *node)),
     }
 }

@@ -6,7 +6,7 @@ use Rattle.std.proofs.lemmas.List.{get_or_append_left, get_or-replicate, append_
 use Rattle.std.proofs.lemmas.List.{take-append-drop, take-append-le, ext_get_or, get_or-drop, length-drop}
 use Rattle.std.proofs.lemmas.Bool.{cases_lt}
 use Rattle.std.proofs.lemmas.Bool.Decides.{nat_tests}
-use Rattle.node_memory.specs.Bytes.{with_word, with_word_from, word_from, word_offset}
+use Rattle.node_memory.specs.Bytes.{word_at, with_word, with_word_from, word_from, word_offset}
 use Rattle.node_memory.specs.Kept.{memory_of}
 
 -- memory has its size
@@ -93,6 +93,22 @@ stores kept size a w offset there great words within most below = elim (cases_lt
       let place : word_offset a ≡ offset - offset % 4 = omega (arith, equal, more) in
       let written = kept_word_set kept size (word_offset a) w (omega (arith, place, words, below)) in
       rw (← place, ← written) (grind (arith, nat_tests, equal, more, words, within, most, below, whole))
+]
+
+-- a word comes from where an address leads that lies in what is kept, by the same offset
+pub loads : (kept : List ℕ) (size a offset : ℕ)
+    → (2147483648 ≤ a → offset ≡ a - 2147483648) → (a < 2147483648 → 65536 < offset)
+    → length kept % 4 ≡ 0 → length kept ≤ size → size ≤ 65536 → offset < length kept
+    → word_at (memory_of kept size) a ≡ Ok (word_from kept (offset - offset % 4))
+unfolding word_at
+loads kept size a offset there great words within most below = elim (cases_lt a 2147483648) [
+  | inl less ↦ let above = great less in absurd (omega (arith, above, within, most, below))
+  | inr more ↦
+      let whole = length_memory kept size within in
+      let equal = there more in
+      let place : word_offset a ≡ offset - offset % 4 = omega (arith, equal, more) in
+      let read = kept_word kept size (word_offset a) (omega (arith, place, words, below)) in
+      rw (← place, ← read) (grind (arith, nat_tests, equal, more, words, within, most, below, whole))
 ]
 
 -- one more byte that is kept, and is 0, changes no memory

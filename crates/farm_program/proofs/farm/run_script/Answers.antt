@@ -1,8 +1,11 @@
-use Rattle.std.proofs.Common.{◌∙◌, List, map, ap, subst}
+use Rattle.std.proofs.Common.{◌∙◌, ◌<◌, All, List, length, map, ap, subst, sym}
 use Rattle.std.specs.Prelude.{IfOk}
+use Rattle.std.proofs.lemmas.Result.{IfOk-from_err}
 use Rattle.plan_rules.specs.Data.{DomainData}
 use Rattle.farm_core.specs.Places.{places_of}
-use Rattle.farm_service.specs.Closed.{EachMergeRuns}
+use Rattle.farm_service.specs.Passes.{fresh_passes}
+use Rattle.farm_service.specs.Closed.{AreDomainsOf, EachMergeRuns}
+use Rattle.farm_input.specs.Names.{all_names}
 use Rattle.farm_program.specs.declared.farm.ScriptEnd.{ScriptEnd}
 use Rattle.farm_program.specs.declared.users.User.{User}
 use Rattle.farm_program.specs.Closing.{ArePassesOf}
@@ -48,3 +51,63 @@ returns-clause-runs g c =
     subst (λ (plan : List DomainData). IfOk c.close.result
     (λ ended. EachMergeRuns (places_of plan) ended.closed.domains.items))
     c.in-Ok.ensures.plan c.close.ensures.runs
+
+pub returns-clause-domains : goal.returns-clause-domains
+returns-clause-domains g c =
+    subst (λ (plan : List DomainData). IfOk c.close.result (λ ended. AreDomainsOf plan ended.closed.domains.items))
+    c.in-Ok.ensures.plan c.close.ensures.domains
+
+pub users_of-requires-clause-passes : goal.users_of-requires-clause-passes
+users_of-requires-clause-passes g c = c.in-Ok.ensures.users ∙ ap fresh_passes (sym c.in-Ok.ensures.plan)
+
+pub users_of-requires-clause-lines : goal.users_of-requires-clause-lines
+users_of-requires-clause-lines g c =
+    subst (λ (plan : List DomainData). All (λ l. l.user < length (all_names plan)) c.args.lines.now)
+    (sym c.in-Ok.ensures.plan) c.requires.lines
+
+pub close-requires : goal.close-requires
+close-requires g c = c.run_all.ensures.passes
+
+pub returns-in_err-users-clause-domains : goal.returns-in_err-users-clause-domains
+returns-in_err-users-clause-domains g c = IfOk-from_err c.from_residual.result _ c.from_residual.ensures.0
+
+pub returns-in_err-users-clause-runs : goal.returns-in_err-users-clause-runs
+returns-in_err-users-clause-runs g c = IfOk-from_err c.from_residual.result _ c.from_residual.ensures.0
+
+pub returns-in_err-users-clause-users : goal.returns-in_err-users-clause-users
+returns-in_err-users-clause-users g c = IfOk-from_err c.from_residual.result _ c.from_residual.ensures.0
+
+pub returns-in_err-users-clause-screens : goal.returns-in_err-users-clause-screens
+returns-in_err-users-clause-screens g c = IfOk-from_err c.from_residual.result _ c.from_residual.ensures.0
+
+pub returns-in_err-run_all-clause-domains : goal.returns-in_err-run_all-clause-domains
+returns-in_err-run_all-clause-domains g c =
+    IfOk-from_err c.from_residual-in_err-run_all.result _ c.from_residual-in_err-run_all.ensures.0
+
+pub returns-in_err-run_all-clause-runs : goal.returns-in_err-run_all-clause-runs
+returns-in_err-run_all-clause-runs g c =
+    IfOk-from_err c.from_residual-in_err-run_all.result _ c.from_residual-in_err-run_all.ensures.0
+
+pub returns-in_err-run_all-clause-users : goal.returns-in_err-run_all-clause-users
+returns-in_err-run_all-clause-users g c =
+    IfOk-from_err c.from_residual-in_err-run_all.result _ c.from_residual-in_err-run_all.ensures.0
+
+pub returns-in_err-run_all-clause-screens : goal.returns-in_err-run_all-clause-screens
+returns-in_err-run_all-clause-screens g c =
+    IfOk-from_err c.from_residual-in_err-run_all.result _ c.from_residual-in_err-run_all.ensures.0
+
+pub returns-in_err-left-clause-domains : goal.returns-in_err-left-clause-domains
+returns-in_err-left-clause-domains g c =
+    IfOk-from_err c.from_residual-in_err-left.result _ c.from_residual-in_err-left.ensures.0
+
+pub returns-in_err-left-clause-runs : goal.returns-in_err-left-clause-runs
+returns-in_err-left-clause-runs g c =
+    IfOk-from_err c.from_residual-in_err-left.result _ c.from_residual-in_err-left.ensures.0
+
+pub returns-in_err-left-clause-users : goal.returns-in_err-left-clause-users
+returns-in_err-left-clause-users g c =
+    IfOk-from_err c.from_residual-in_err-left.result _ c.from_residual-in_err-left.ensures.0
+
+pub returns-in_err-left-clause-screens : goal.returns-in_err-left-clause-screens
+returns-in_err-left-clause-screens g c =
+    IfOk-from_err c.from_residual-in_err-left.result _ c.from_residual-in_err-left.ensures.0

@@ -2,6 +2,7 @@ use Rattle.std.proofs.Common.{ap, sym, refl, List, ℕ}
 use Rattle.domain_core.specs.declared.event.Event.TheVariants as event
 use Rattle.script_lines.specs.declared.command.Command.TheVariants as command
 use Rattle.line_answers.specs.Asks.{next_config, next_write, next_boot, next_collect, once}
+use Rattle.line_answers.proofs.Exchange.{once_asked}
 use Rattle.line_answers.proofs.Lines.{of_command}
 use Rattle.line_answers.proofs.asking.ask_line.Goals as goal
 
@@ -43,11 +44,15 @@ returns-in-Collect g c =
 pub returns-in-Reset : goal.returns-in-Reset
 returns-in-Reset g c =
     of_command (once (event.Reset c.in-Reset.node)) c.args.command.now (command.Reset c.in-Reset.node)
-    c.args.session.now c.reset.new.session c.reset.result c.in-Reset.is
-    (λ told. refl) c.reset.ensures
+    c.args.session.now c.reset.new.self c.without_reply.result c.in-Reset.is
+    (λ told. refl)
+    (once_asked (event.Reset c.in-Reset.node) c.args.session.now c.reset.new.self c.reset.result tt
+    c.without_reply.result c.reset.ensures.answer c.reset.ensures.list c.without_reply.ensures)
 
 pub returns-in-Look : goal.returns-in-Look
 returns-in-Look g c =
     of_command (once (event.Look c.in-Look.node)) c.args.command.now (command.Look c.in-Look.node) c.args.session.now
-    c.look.new.session c.look.result c.in-Look.is
-    (λ told. refl) c.look.ensures
+    c.look.new.self c.without_reply-in-Look.result c.in-Look.is
+    (λ told. refl)
+    (once_asked (event.Look c.in-Look.node) c.args.session.now c.look.new.self c.look.result tt
+    c.without_reply-in-Look.result c.look.ensures.answer c.look.ensures.list c.without_reply-in-Look.ensures)

@@ -1,12 +1,21 @@
-use Rattle.std.proofs.Common.{rules}
 use Rattle.line_answers.proofs.Lines.{unwritten, unsettled, settled}
 use Rattle.line_answers.proofs.asking.peek.Goals as goal
 
 pub returns-in_err-write_all : goal.returns-in_err-write_all
-returns-in_err-write_all g c = search (rules, unwritten)
+returns-in_err-write_all g c =
+    unwritten c.args.host c.args.address c.peek_message.result c.args.session.now c.write_all.new.session
+    c.write_all.result c.from_residual.result c.in_err-write_all.field-0.0 c.peek_message.ensures.answer
+    c.in_err-write_all.was c.from_residual.ensures.1 c.write_all.ensures
 
 pub returns-in_err-settle : goal.returns-in_err-settle
-returns-in_err-settle g c = search (rules, unsettled)
+returns-in_err-settle g c =
+    unsettled c.args.host c.args.address c.peek_message.result c.args.session.now c.write_all.new.session
+    c.in_ok-write_all.field-0 c.write_all.result c.from_residual-in_err-settle.result c.in_err-settle.field-0.0
+    c.peek_message.ensures.answer c.in_ok-write_all.was c.from_residual-in_err-settle.ensures.1 c.write_all.ensures
+    c.in_err-settle.ensures
 
 pub returns : goal.returns
-returns g c = search (rules, settled)
+returns g c =
+    settled c.args.host c.args.address c.peek_message.result c.args.session.now c.write_all.new.session
+    c.read_up_to.new.session c.in_ok-write_all.field-0 c.write_all.result c.read_up_to.result
+    c.peek_message.ensures.answer c.in_ok-write_all.was c.write_all.ensures c.read_up_to.ensures

@@ -1,22 +1,29 @@
-use Rattle.std.proofs.Common.{length, not, refl, ap, sym, ◌∙◌, subst}
+use Rattle.std.proofs.Common.{ℕ, ◌<◌, length, not, refl, ap, sym, ◌∙◌, subst}
+use Rattle.std.proofs.lemmas.Bool.{false≢true}
 use Rattle.std.proofs.lemmas.List.{length-set}
 use Rattle.bootstrap.specs.Opening.{restarted}
 use Rattle.bootstrap.specs.Step.{node_step}
 use Rattle.virtual_switch.specs.Each.{KeepsPorts}
 use Rattle.virtual_switch.specs.SwitchValue.{SwitchValue, private_of}
+use Rattle.domain_core.specs.declared.entries.SmallReply.{SmallReply}
+use Rattle.domain_core.specs.declared.event.Event.{Event}
 use Rattle.domain_core.specs.declared.event.Event.TheVariants.{Config, Write, Read, Reset, Step, Move}
 use Rattle.domain_core.specs.declared.event.Moved.{Moved}
 use Rattle.domain_core.specs.declared.event.Reply.{Reply}
 use Rattle.domain_core.specs.declared.event.Reply.TheVariants as reply_of
 use Rattle.domain_core.specs.Devices.{node_at, host_at, with_node, with_host}
+use Rattle.domain_core.specs.Entries as small
+use Rattle.domain_core.specs.Entries.{is_look}
 use Rattle.domain_core.specs.Hosts.{HostState, host_written, host_read}
 use Rattle.domain_core.specs.Machine.{Machine, has_moved}
-use Rattle.domain_core.specs.MachineValue.{MachineValue}
+use Rattle.domain_core.specs.MachineValue.{MachineValue, IsIn}
 use Rattle.domain_core.proofs.Acts.{told_alike, acts_alike, devices_alike, recorded_alike, kept_alike, not_not}
-use Rattle.domain_core.proofs.Acts.{configured_alike}
+use Rattle.domain_core.proofs.Acts.{configured_alike, was_written, was_full}
+use Rattle.domain_core.proofs.Outcomes.{of_part_nodes}
 use Rattle.domain_core.proofs.Sizes.{as_large, still_of_part, large_by, large_with_node}
 use Rattle.domain_core.proofs.Unchanged.{keeps_itself}
 use Rattle.domain_core.proofs.machine.RunningMachine.act.Goals as goal
+use Rattle.domain_core.proofs.machine.RunningMachine.act.Goals.{then-write, else-write}
 
 pub invariant_of-self-in-Reset : goal.invariant_of-self-in-Reset
 invariant_of-self-in-Reset g c =
@@ -104,6 +111,19 @@ invariant_of-self-in-Write g c =
           (record { memories = refl; hosts = length-set v.devices.hosts c.in-Write.host host })),
       c.self-in-Write.invariant.1,
     )
+
+pub returns-after-write-clause-reply : goal.returns-after-write-clause-reply
+returns-after-write-clause-reply g c =
+    told_alike _ c.args.self.now (Write c.in-Write.host c.in-Write.byte) c.args.event (small.reply_of c.if-write.reply)
+    c.self-in-Write.view_is c.in-Write.is
+    (elim c.if-write.branch [
+      | then-write w ↦
+          ap (λ (r : SmallReply). small.reply_of r) w.reply-is
+          ∙ was_written _ (sym c.write.ensures.answer ∙ w.if-write.true)
+      | else-write w ↦
+          ap (λ (r : SmallReply). small.reply_of r) w.reply-is
+          ∙ was_full _ (sym c.write.ensures.answer ∙ w.if-write.false)
+    ])
 
 pub returns-after-write-clause-recorded : goal.returns-after-write-clause-recorded
 returns-after-write-clause-recorded g c =
@@ -238,3 +258,64 @@ pub returns-in-Move-clause-kept : goal.returns-in-Move-clause-kept
 returns-in-Move-clause-kept g c =
     subst (λ (s : SwitchValue). KeepsPorts c.args.self.now.switch s) (sym c.move_packet-moved.ensures.switch)
     (keeps_itself c.unchanged_words_count_nothing.ensures.unchanged c.args.self.now.switch)
+
+-- ---- the host, node or port is there
+
+pub write-requires : goal.write-requires
+write-requires g c =
+    subst (λ (n : ℕ). c.in-Write.host < n)
+    (ap (λ (m : MachineValue). length m.part.hosts) (sym c.self-in-Write.view_is)
+    ∙ sym c.self-in-Write.invariant.0.hosts)
+    (subst (λ (e : Event). IsIn c.args.self.now.part e) c.in-Write.is c.requires.there)
+
+pub read-requires : goal.read-requires
+read-requires g c =
+    subst (λ (n : ℕ). c.in-Read.host < n)
+    (ap (λ (m : MachineValue). length m.part.hosts) (sym c.self-in-Read.view_is)
+    ∙ sym c.self-in-Read.invariant.0.hosts)
+    (subst (λ (e : Event). IsIn c.args.self.now.part e) c.in-Read.is c.requires.there)
+
+pub reset-requires : goal.reset-requires
+reset-requires g c =
+    let v : MachineValue =
+    record {
+      part = c.self-in-Reset.inside.part;
+      switch = c.self-in-Reset.inside.switch;
+      devices = c.self-in-Reset.inside.devices;
+    } in
+    subst (λ (n : ℕ). c.in-Reset.node < n)
+    (ap (λ (m : MachineValue). length m.part.nodes) (sym c.self-in-Reset.view_is)
+    ∙ sym (of_part_nodes v c.self-in-Reset.invariant.0))
+    (subst (λ (e : Event). IsIn c.args.self.now.part e) c.in-Reset.is c.requires.there)
+
+pub is_quiet-recorded-requires : goal.is_quiet-recorded-requires
+is_quiet-recorded-requires g c =
+    let v : MachineValue =
+    record {
+      part = c.self-in-Step.inside.part;
+      switch = c.self-in-Step.inside.switch;
+      devices = c.self-in-Step.inside.devices;
+    } in
+    subst (λ (n : ℕ). c.in-Step.node < n)
+    (ap (λ (m : MachineValue). length m.part.nodes) (sym c.self-in-Step.view_is)
+    ∙ sym (of_part_nodes v c.self-in-Step.invariant.0))
+    (subst (λ (e : Event). IsIn c.args.self.now.part e) c.in-Step.is c.requires.there)
+
+pub step-requires : goal.step-requires
+step-requires g c =
+    let v : MachineValue =
+    record {
+      part = c.self-in-Step.inside.part;
+      switch = c.self-in-Step.inside.switch;
+      devices = c.self-in-Step.inside.devices;
+    } in
+    subst (λ (n : ℕ). c.in-Step.node < n)
+    (ap (λ (m : MachineValue). length m.part.nodes) (sym c.self-in-Step.view_is)
+    ∙ sym (of_part_nodes v c.self-in-Step.invariant.0))
+    (subst (λ (e : Event). IsIn c.args.self.now.part e) c.in-Step.is c.requires.there)
+
+pub move_packet-moved-requires : goal.move_packet-moved-requires
+move_packet-moved-requires g c = subst (λ (e : Event). IsIn c.args.self.now.part e) c.in-Move.is c.requires.there
+
+pub unreachable-requires : goal.unreachable-requires
+unreachable-requires g c = false≢true (sym c.requires.no_look ∙ ap is_look c.in-Look.is)
