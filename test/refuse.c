@@ -60,8 +60,13 @@ void *realloc(void *old, size_t size) {
     return is_refused(__builtin_return_address(0), __builtin_frame_address(0)) ? NULL : plain_realloc(old, size);
 }
 
-void _exit(int status) {
+/* A program ends by one of these: its main returns, or it ends itself. */
+__attribute__((destructor)) static void tell(void) {
     fprintf(stderr, "allocations: %lu\n", atomic_load(&asked));
+}
+
+void _exit(int status) {
+    tell();
     syscall(SYS_exit_group, status);
     __builtin_unreachable();
 }
