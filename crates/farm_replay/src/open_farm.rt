@@ -116,21 +116,20 @@ impl OpenFarm {
         ensures looks { StaysIfLooked (asked_of_domain request) self.old.farm self.new.farm }
     {
         match request {
-            DomainRequest::Quiet => self.write_quiet(domain, text)?,
-            DomainRequest::Word(output) => self.write_word(domain, output, text)?,
-            DomainRequest::Recorded => self.write_recorded(domain, text)?,
-            DomainRequest::Restart => self.restart(domain, text)?,
-            DomainRequest::Journal => self.write_journal(domain, text)?,
-            DomainRequest::Checkout(node) => self.checkout(domain, node, text)?,
+            DomainRequest::Quiet => self.write_quiet(domain, text),
+            DomainRequest::Word(output) => self.write_word(domain, output, text),
+            DomainRequest::Recorded => self.write_recorded(domain, text),
+            DomainRequest::Restart => self.restart(domain, text),
+            DomainRequest::Journal => self.write_journal(domain, text),
+            DomainRequest::Checkout(node) => self.checkout(domain, node, text),
             DomainRequest::Burst(ticket, steps) => {
-                self.burst(domain, ticket, steps, text, meter)?
+                self.burst(domain, ticket, steps, text, meter)
             }
-            DomainRequest::Commit(ticket) => self.commit(domain, ticket, text)?,
+            DomainRequest::Commit(ticket) => self.commit(domain, ticket, text),
             DomainRequest::Settle(quantum, rounds) => {
-                self.write_settled(domain, quantum, rounds, text, meter)?
+                self.write_settled(domain, quantum, rounds, text, meter)
             }
         }
-        Ok(())
     }
 
     fn has_domain(&self, domain: u8) -> bool
@@ -266,11 +265,11 @@ impl OpenFarm {
         Ok(answer)
     }
 
-    fn write_quiet(&mut self, domain: u8, text: &mut TextWriter) -> Result<(), Refusal>
+    fn write_quiet(&mut self, domain: u8, text: &mut TextWriter) -> Result<(), AskFault>
         ensures farm { self.new.farm ≡ self.old.farm }
     {
         if !self.has_domain(domain) {
-            return Err(Refusal::NoSuch);
+            return Err(AskFault::Refused(Refusal::NoSuch));
         }
         text.push(if self.farm.quiet(domain) {
             "true"
@@ -280,7 +279,7 @@ impl OpenFarm {
         Ok(())
     }
 
-    fn write_word(&mut self, domain: u8, output: u8, text: &mut TextWriter) -> Result<(), Refusal>
+    fn write_word(&mut self, domain: u8, output: u8, text: &mut TextWriter) -> Result<(), AskFault>
         ensures farm { self.new.farm ≡ self.old.farm }
     {
         let word = self
@@ -291,21 +290,21 @@ impl OpenFarm {
         Ok(())
     }
 
-    fn write_recorded(&self, domain: u8, text: &mut TextWriter) -> Result<(), Refusal> {
+    fn write_recorded(&self, domain: u8, text: &mut TextWriter) -> Result<(), AskFault> {
         text.push_decimal(self.farm.recorded(domain).ok_or(Refusal::NoSuch)?);
         Ok(())
     }
 
-    fn restart(&mut self, domain: u8, text: &mut TextWriter) -> Result<(), Refusal> {
+    fn restart(&mut self, domain: u8, text: &mut TextWriter) -> Result<(), AskFault> {
         if !self.has_domain(domain) {
-            return Err(Refusal::NoSuch);
+            return Err(AskFault::Refused(Refusal::NoSuch));
         }
         self.farm.restart(domain);
         text.push("restarted");
         Ok(())
     }
 
-    fn write_journal(&self, domain: u8, text: &mut TextWriter) -> Result<(), Refusal> {
+    fn write_journal(&self, domain: u8, text: &mut TextWriter) -> Result<(), AskFault> {
         let journal = self.farm.journal(domain).ok_or(Refusal::NoSuch)?;
         for index in 0..journal.len() {
             if let Some(entry) = journal.get(index) {
@@ -318,7 +317,7 @@ impl OpenFarm {
         Ok(())
     }
 
-    fn checkout(&mut self, domain: u8, node: u8, text: &mut TextWriter) -> Result<(), Refusal>
+    fn checkout(&mut self, domain: u8, node: u8, text: &mut TextWriter) -> Result<(), AskFault>
         ensures farm { self.new.farm ≡ self.old.farm }
     {
         let ticket = self.farm.checkout(domain, node)?;
@@ -326,7 +325,7 @@ impl OpenFarm {
         text.push_decimal(self.tickets.len() as u64);
         match self.tickets.push(Some(ticket)) {
             Ok(()) => Ok(()),
-            Err(_) => Err(Refusal::NoMemory),
+            Err(_) => Err(AskFault::Refused(Refusal::NoMemory)),
         }
     }
 
@@ -348,9 +347,9 @@ impl OpenFarm {
         Ok(())
     }
 
-    fn commit(&mut self, domain: u8, ticket: usize, text: &mut TextWriter) -> Result<(), Refusal> {
+    fn commit(&mut self, domain: u8, ticket: usize, text: &mut TextWriter) -> Result<(), AskFault> {
         let Some(ticket) = held(&mut self.tickets, domain, ticket)?.take() else {
-            return Err(Refusal::NoSuch);
+            return Err(AskFault::Refused(Refusal::NoSuch));
         };
         match self.farm.commit(domain, ticket)? {
             Committed::Done => text.push("done"),
