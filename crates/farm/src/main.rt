@@ -1,7 +1,14 @@
-//! The farm's script program: see the library `farm_program`, which it only starts.
+//! The script program over a farm of T414 processors on a C004 link switch: words of the command
+//! line, a plan and a script in, one line of output for each script line out.
 #![tactic(auto)]
 
-use farm_program::{refuse_arguments, run};
+mod answering;
+mod farm;
+mod program;
+mod users;
+
+use crate::program::run;
+use farm_input::refuse_arguments;
 use std::process::ExitCode;
 use std::{env, io};
 
