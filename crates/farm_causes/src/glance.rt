@@ -7,9 +7,8 @@ use crate::past::{FaultPast, Past};
 use bootstrap::{Node, NodeState, Task};
 use domain_core::{Event, Moment, Moved, NoMemory, Reply, device_at};
 use link_channels::Links;
-use node_memory::Memory;
+use node_memory::{Memory, NOT_PROCESS};
 use os_link::Packet;
-use process_queue::NOT_PROCESS;
 use t414_step::{Cpu, Stepped};
 
 /// What was seen before an event.

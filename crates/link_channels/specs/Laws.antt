@@ -3,7 +3,7 @@ use Rattle.std.specs.Prelude.{◌≡◌, ℕ, ◌<◌, false, List, length}
 use Rattle.node_memory.specs.Bytes.{copied}
 use Rattle.node_memory.specs.Effect.{Gave, Halted}
 use Rattle.node_memory.specs.declared.fault.Fault.TheVariants.{OutsideMemory}
-use Rattle.process_queue.specs.declared.queue.Queue.{Queue}
+use Rattle.node_memory.specs.declared.queue.Queue.{Queue}
 use Rattle.link_channels.specs.declared.link.FourLinks.{FourLinks}
 use Rattle.link_channels.specs.declared.process.Transfer.{Transfer}
 use Rattle.link_channels.specs.Links.{any_has_work}

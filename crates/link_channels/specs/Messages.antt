@@ -3,7 +3,7 @@
 use Rattle.std.specs.Prelude.{ℕ, Bool, List}
 use Rattle.node_memory.specs.Effect.{Effect, Gave, Halted, ◌>>=◌, perform}
 use Rattle.node_memory.specs.declared.fault.Fault.TheVariants.{WrongChannel}
-use Rattle.process_queue.specs.declared.queue.Queue.{Queue}
+use Rattle.node_memory.specs.declared.queue.Queue.{Queue}
 use Rattle.link_channels.specs.declared.channel.Channel.{Channel}
 use Rattle.link_channels.specs.declared.channel.Channel.TheVariants.{Soft, LinkOutput, LinkInput, Event}
 use Rattle.link_channels.specs.declared.link.Link.{Link}

@@ -5,8 +5,8 @@ use Rattle.node_memory.specs.Effect.{Effect, Gave, Halted, ◌>>=◌, tried, loa
 use Rattle.node_memory.specs.Marks.{not_process, enabling, waiting, ready}
 use Rattle.node_memory.specs.Words.{◌⊕◌}
 use Rattle.node_memory.specs.declared.fault.Fault.{Fault}
-use Rattle.process_queue.specs.Queue.{put}
-use Rattle.process_queue.specs.declared.queue.Queue.{Queue}
+use Rattle.node_memory.specs.Queue.{put}
+use Rattle.node_memory.specs.declared.queue.Queue.{Queue}
 use Rattle.os_link.specs.End.{emptied, posted}
 use Rattle.link_channels.specs.declared.link.Link.{Link}
 use Rattle.link_channels.specs.declared.link.FourLinks.{FourLinks}

@@ -3,8 +3,8 @@
 use Rattle.std.specs.Prelude.{ℕ, ◌==◌, ◌||◌, Bool, true, false, List, Option, Some, None, if◌then◌else◌}
 use Rattle.node_memory.specs.Effect.{Effect, Gave, ◌>>=◌, tried, load, store, copy}
 use Rattle.node_memory.specs.Marks.{not_process, enabling, waiting, ready, none_selected}
-use Rattle.process_queue.specs.Queue.{put}
-use Rattle.process_queue.specs.declared.queue.Queue.{Queue}
+use Rattle.node_memory.specs.Queue.{put}
+use Rattle.node_memory.specs.declared.queue.Queue.{Queue}
 use Rattle.link_channels.specs.declared.process.Process.{Process}
 use Rattle.link_channels.specs.declared.process.Transfer.{Transfer}
 use Rattle.link_channels.specs.declared.process.TransferDirection.{TransferDirection}

@@ -6,8 +6,7 @@ use crate::channel::Channel;
 use crate::links::Links;
 use crate::number::LinkNumber;
 use crate::process::{Process, Transfer, TransferDirection, Turn};
-use node_memory::{Fault, Memory};
-use process_queue::Queue;
+use node_memory::{Fault, Memory, Queue};
 
 impl Process {
     ghost use Rattle.link_channels.specs.Hard.{link_input, link_output};

@@ -3,3 +3,5 @@ pub mod Edge
 pub mod Kept
 pub mod Parts
 pub mod Writes
+-- the queue that waits
+pub mod Lists

@@ -13,7 +13,7 @@ use Rattle.node_memory.specs.Marks.{not_process, enabling, waiting, ready, none_
 use Rattle.node_memory.specs.Words.{◌⊕◌, ◌⊖◌, ◌⊗◌, aligned, signed, overflows, sum_checked, difference_checked, product_checked, shifted_left, shifted_right}
 use Rattle.node_memory.specs.Effect.{Gave, Halted, ◌>>=◌, load, load_byte, store, store_byte, copy}
 use Rattle.node_memory.specs.declared.fault.Fault.TheVariants.{UnknownOperation, ErrorSet, HighPriority}
-use Rattle.process_queue.specs.Queue.{put}
+use Rattle.node_memory.specs.Queue.{put}
 use Rattle.link_channels.specs.Waiting.{save}
 use Rattle.link_channels.specs.declared.link.FourLinks.{FourLinks}
 use Rattle.t414_decode.specs.Codes.{operation_of, shifted}

@@ -1,9 +1,9 @@
 use Rattle.std.proofs.Common.{◌≡◌, rules, Err}
 use Rattle.node_memory.specs.declared.fault.Fault.TheVariants.{OutsideMemory}
 use Rattle.node_memory.specs.Effect.{Gave, Halted}
-use Rattle.process_queue.specs.Queue.{after_put}
-use Rattle.process_queue.proofs.Lists.{stands-put, put-inside, put-outside}
-use Rattle.process_queue.proofs.queue.Queue.put.Goals as goal
+use Rattle.node_memory.specs.Queue.{after_put}
+use Rattle.node_memory.proofs.Lists.{stands-put, put-inside, put-outside}
+use Rattle.node_memory.proofs.queue.Queue.put.Goals as goal
 
 pub returns-clause-list : goal.returns-clause-list
 unfolding after_put

@@ -4,7 +4,7 @@ use Rattle.std.specs.Prelude.{ℕ, ◌==◌, List, Option, Some, None, if◌then
 use Rattle.node_memory.specs.Effect.{Effect, Gave, ◌>>=◌, load, store, beside}
 pub use Rattle.node_memory.specs.Marks.{not_process}
 use Rattle.node_memory.specs.Words.{◌⊖◌}
-use Rattle.process_queue.specs.declared.queue.Queue.{Queue}
+use Rattle.node_memory.specs.declared.queue.Queue.{Queue}
 
 -- the address of the link word of a workspace
 abbrev pub link_of : ℕ → ℕ

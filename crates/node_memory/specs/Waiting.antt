@@ -2,9 +2,9 @@
 -- Transputer instruction set handbook, processes.
 use Rattle.std.specs.Prelude.{◌≡◌, ◌≢◌, ℕ, ◌%◌, ◌^◌, ◌<◌, List, [], ◌∷◌, Option, Some, None, Ok}
 use Rattle.node_memory.specs.Bytes.{word_at}
-use Rattle.process_queue.specs.declared.queue.Queue.{Queue}
+use Rattle.node_memory.specs.declared.queue.Queue.{Queue}
 use Rattle.node_memory.specs.Marks.{not_process}
-use Rattle.process_queue.specs.Queue.{link_of}
+use Rattle.node_memory.specs.Queue.{link_of}
 
 -- a word address that stands for a process
 pub record IsWorkspace (w : ℕ) : Type 0 where

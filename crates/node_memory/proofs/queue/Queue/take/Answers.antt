@@ -1,9 +1,9 @@
 use Rattle.std.proofs.Common.{◌≡◌, rules, Some, Err}
 use Rattle.node_memory.specs.declared.fault.Fault.TheVariants.{OutsideMemory}
 use Rattle.node_memory.specs.Effect.{Gave, Halted}
-use Rattle.process_queue.specs.Queue.{after_take}
-use Rattle.process_queue.proofs.Lists.{stands-take, take-inside, take-outside}
-use Rattle.process_queue.proofs.queue.Queue.take.Goals as goal
+use Rattle.node_memory.specs.Queue.{after_take}
+use Rattle.node_memory.proofs.Lists.{stands-take, take-inside, take-outside}
+use Rattle.node_memory.proofs.queue.Queue.take.Goals as goal
 
 pub returns-in_err-self-clause-first : goal.returns-in_err-self-clause-first
 unfolding after_take

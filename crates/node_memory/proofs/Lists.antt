@@ -4,13 +4,13 @@ use Rattle.std.proofs.Common.{None, Result, Ok, Err, refl, arith, ◌∙◌, ap,
 use Rattle.std.proofs.lemmas.Bool.Decides.{nat_tests}
 use Rattle.node_memory.specs.Bytes.{word_at, with_word, word_from, word_offset, holds_word}
 use Rattle.node_memory.specs.Laws.{WordIsRead, OtherWordsStay, WriteFaultsAsRead}
-use Rattle.process_queue.specs.declared.queue.Queue.{Queue}
+use Rattle.node_memory.specs.declared.queue.Queue.{Queue}
 use Rattle.node_memory.specs.Marks.{not_process}
 use Rattle.node_memory.specs.Effect.{Effect, Gave, Halted, tried}
-use Rattle.process_queue.specs.Queue.{link_of, after_put, after_take}
+use Rattle.node_memory.specs.Queue.{link_of, after_put, after_take}
 use Rattle.node_memory.specs.declared.fault.Fault.{Fault}
 use Rattle.node_memory.specs.declared.fault.Fault.TheVariants.{OutsideMemory}
-use Rattle.process_queue.specs.Waiting.{IsWorkspace, IsAbsent, AreWorkspaces, IsLinked, Stands, first, others}
+use Rattle.node_memory.specs.Waiting.{IsWorkspace, IsAbsent, AreWorkspaces, IsLinked, Stands, first, others}
 
 -- different workspaces have different link words
 apart_links : (v w : ℕ) → IsWorkspace v → IsWorkspace w → v ≢ w → link_of v / 4 ≢ link_of w / 4

@@ -3,7 +3,9 @@
 ghost use Rattle.std.specs.Prelude.{◌≡◌, ◌≢◌, ◌↔◌, ◌++◌, ◌∷◌, [], List, ℕ, OnOk, OnErr};
 ghost use Rattle.node_memory.specs.declared.fault.Fault.TheVariants.{OutsideMemory};
 
-use node_memory::{Fault, Memory, written_words_are_read};
+use crate::fault::Fault;
+use crate::laws::written_words_are_read;
+use crate::memory::Memory;
 
 /// The word that stands for no process, MinInt.
 ///
@@ -34,8 +36,8 @@ impl Queue {
     ghost use Rattle.node_memory.specs.Bytes.{word_at};
     ghost use Rattle.node_memory.specs.Effect.{effect_of};
     ghost use Rattle.node_memory.specs.Marks.{not_process};
-    ghost use Rattle.process_queue.specs.Queue.{after_put, after_take, link_of};
-    ghost use Rattle.process_queue.specs.Waiting.{Stands, IsWorkspace, IsAbsent, first, others};
+    ghost use Rattle.node_memory.specs.Queue.{after_put, after_take, link_of};
+    ghost use Rattle.node_memory.specs.Waiting.{Stands, IsWorkspace, IsAbsent, first, others};
 
     /// The queue where none waits: both registers are `NOT_PROCESS`.
     pub fn empty() -> Queue
