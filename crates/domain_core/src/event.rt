@@ -72,7 +72,7 @@ pub enum Reply {
 }
 
 /// What a user asked, and the answer.
-#[derive(Clone, Copy, PartialEq, Eq)]
+#[derive(Clone, Copy)]
 pub struct Told {
     /// What was asked.
     pub event: Event,
