@@ -8,7 +8,6 @@ use crate::layout::{Image, LayoutFault, lay_out};
 use crate::parsing::Reader;
 use crate::statement::Statement;
 use line_mistakes::{NumberedLine, numbered_lines};
-use line_words::line_as_str;
 use std::alloc::{AllocError, Global};
 
 /// A program that was read from a text, and its bytes.
@@ -23,6 +22,14 @@ pub struct Assembly {
 }
 
 impl Assembly {
+    /// The bytes of the statements of the line of this index, from 0.
+    pub(crate) fn code_of_line(&self, index: usize) -> &[u8] {
+        let first = self.start_of_line(index);
+        let last = self.start_of_line(index.saturating_add(1));
+        let code = self.image.bytes.as_slice();
+        code.get(first as usize..last as usize).unwrap_or(&[])
+    }
+
     /// How many bytes stand before the line of this index, from 0; none before one behind the last.
     pub fn start_of_line(&self, index: usize) -> u32 {
         let place = self.lines.as_slice().get(index).copied().unwrap_or(0);
@@ -66,28 +73,22 @@ fn read_program(
     let mut reader = Reader::new(alloc);
     read_lines(alloc, &mut reader, source)?;
     reader.begin_again();
-    let lines = read_lines(alloc, &mut reader, source)?;
-    Ok((reader.into_statements()?, lines))
+    read_lines(alloc, &mut reader, source)?;
+    Ok(reader.finish()?)
 }
 
-// Reads all lines, and tells how many statements stand before each and behind the last.
+// Reads all lines.
 fn read_lines<'a>(
     alloc: Global,
     reader: &mut Reader<'a>,
     source: &[NumberedLine<'a>],
-) -> Result<Vec<usize>, TextFault> {
-    let mut lines = Vec::new(alloc);
+) -> Result<(), TextFault> {
     for line in source {
-        lines.push(reader.count())?;
-        if line_as_str(*line).is_err() {
-            return Err(fault_before(alloc, *line, line.text.len(), Expected::Text));
-        }
         if let Some(mismatch) = reader.read_line(*line) {
             return Err(fault_in(alloc, *line, mismatch));
         }
     }
-    lines.push(reader.count())?;
-    Ok(lines)
+    Ok(())
 }
 
 // The statement of a place, as what is too much.

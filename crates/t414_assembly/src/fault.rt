@@ -3,6 +3,7 @@
 use crate::cursor::{name_length, without_blanks};
 use crate::hints::{Hint, hint_of};
 use line_mistakes::NumberedLine;
+use script_text::TextWriter;
 use std::alloc::{AllocError, Global};
 use std::fmt;
 use thiserror::Error;
@@ -11,7 +12,7 @@ use thiserror::Error;
 const MOST_SHOWN: usize = 40;
 
 /// What was expected in place of what stands in a text. The texts begin with the numbers of the faults.
-#[derive(Clone, Copy, Debug)]
+#[derive(Clone, Copy)]
 pub enum Expected {
     Text,
     Statement,
@@ -78,14 +79,6 @@ impl fmt::Display for Expected {
     }
 }
 
-/// Where something stands in a text: its line and its character in that line, both from 1.
-#[derive(Clone, Copy, Debug, Error)]
-#[error("line {line}, column {column}")]
-pub struct Position {
-    pub line: u64,
-    pub column: u64,
-}
-
 /// Something else is expected before the last `left` bytes of a line.
 #[derive(Clone, Copy)]
 pub struct Mismatch<'a> {
@@ -96,12 +89,13 @@ pub struct Mismatch<'a> {
 }
 
 /// Why a text is no program, or no bytes.
-#[derive(Debug, Drop, Error)]
+#[derive(Drop, Error)]
 pub enum TextFault {
-    /// Something else was expected at a place.
-    #[error("{position}: {expected}{details}")]
+    /// Something else was expected at a place: a line, and a character in it, both from 1.
+    #[error("line {line}, column {column}: {expected}{details}")]
     Wrong {
-        position: Position,
+        line: u64,
+        column: u64,
         expected: Expected,
         /// What stands there, and what helps: what follows in the sentence, or nothing.
         details: String,
@@ -110,25 +104,10 @@ pub enum TextFault {
     Memory(#[from(alloc)] AllocError),
 }
 
-// What stands where something else was expected.
-#[derive(Clone, Copy)]
-enum Met<'a> {
-    End,
-    Comment,
-    Quoted,
-    Word(&'a str),
-    Bytes,
-}
-
-impl<'a> fmt::Display for Met<'a> {
+/// As it is told.
+impl fmt::Debug for TextFault {
     fn fmt<W: fmt::Write>(&self, f: &mut fmt::Formatter<W>) -> fmt::Result {
-        match *self {
-            Met::End => f.write_str("the end of the line"),
-            Met::Comment => f.write_str("a comment"),
-            Met::Quoted => f.write_str("a string"),
-            Met::Word(word) => write!(f, "{word:?}"),
-            Met::Bytes => f.write_str("bytes that aren't UTF-8"),
-        }
+        fmt::Display::fmt(self, f)
     }
 }
 
@@ -141,12 +120,12 @@ pub fn fault_in(alloc: Global, line: NumberedLine<'_>, mismatch: Mismatch<'_>) -
     } = mismatch;
     let before = line.text.len().saturating_sub(left);
     let rest = line.text.get(before..).unwrap_or(&[]);
-    match details_of(alloc, expected, rest, hint) {
+    let mut details = TextWriter::new(alloc);
+    write_details(&mut details, expected, rest, hint);
+    match details.finish() {
         Ok(details) => TextFault::Wrong {
-            position: Position {
-                line: line.number,
-                column: column_behind(line.text.get(..before).unwrap_or(line.text)),
-            },
+            line: line.number,
+            column: column_behind(line.text.get(..before).unwrap_or(line.text)),
             expected,
             details,
         },
@@ -183,15 +162,15 @@ fn column_behind(text: &[u8]) -> u64 {
     column
 }
 
-// What follows the text of what was expected.
-fn details_of(
-    alloc: Global,
+// Writes what follows the text of what was expected.
+fn write_details(
+    details: &mut TextWriter,
     expected: Expected,
     rest: &[u8],
     hint: Option<Hint<'_>>,
-) -> Result<String, AllocError> {
+) {
     if matches!(expected, Expected::Text | Expected::Length) {
-        return Ok(String::new(alloc));
+        return;
     }
     let is_in_quotes = matches!(expected, Expected::Character | Expected::Quote);
     let rest = if is_in_quotes {
@@ -200,25 +179,27 @@ fn details_of(
         without_blanks(rest)
     };
     let word = first_word(rest);
-    let met = met_in(rest, word, is_in_quotes);
-    match hint_of(expected, rest, word).or(hint) {
-        Some(hint) => format!(in alloc; ", not {met}. {hint}"),
-        None => format!(in alloc; ", not {met}"),
+    details.push(", not ");
+    write_met(details, rest, word, is_in_quotes);
+    if let Some(hint) = hint_of(expected, rest, word).or(hint) {
+        details.push(". ");
+        hint.write(details);
     }
 }
 
-// What the rest of a line begins with.
-fn met_in<'a>(rest: &[u8], word: &'a str, is_in_quotes: bool) -> Met<'a> {
+// Writes what the rest of a line begins with.
+fn write_met(details: &mut TextWriter, rest: &[u8], word: &str, is_in_quotes: bool) {
     if rest.is_empty() {
-        Met::End
+        details.push("the end of the line");
     } else if word.is_empty() {
-        Met::Bytes
+        details.push("bytes that aren't UTF-8");
     } else if rest.starts_with(b"--") && !is_in_quotes {
-        Met::Comment
+        details.push("a comment");
     } else if rest.starts_with(b"\"") && !is_in_quotes {
-        Met::Quoted
+        details.push("a string");
     } else {
-        Met::Word(word)
+        let written = write!(details.as_mut_string(), "{word:?}");
+        details.keep_failure(written);
     }
 }
 

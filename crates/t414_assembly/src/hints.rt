@@ -3,7 +3,7 @@
 use crate::cursor::without_blanks;
 use crate::fault::Expected;
 use crate::mnemonics::{Omission, name_in_lower_case, nearest_statement, omission_named};
-use std::fmt;
+use script_text::TextWriter;
 
 /// What helps to mend a fault.
 #[derive(Clone, Copy)]
@@ -87,20 +87,16 @@ impl<'a> Hint<'a> {
             _ => "",
         }
     }
-}
 
-impl<'a> fmt::Display for Hint<'a> {
-    fn fmt<W: fmt::Write>(&self, f: &mut fmt::Formatter<W>) -> fmt::Result {
-        f.write_str(self.text())?;
-        match *self {
-            Hint::Value(word) => {
-                let value = word.cast_signed();
-                write!(f, "{value}")?;
-            }
-            Hint::DefinedIn(line) => write!(f, "{line}")?,
-            hint => f.write_str(hint.name())?,
+    /// Writes what helps.
+    pub fn write(self, text: &mut TextWriter) {
+        text.push(self.text());
+        match self {
+            Hint::Value(word) => text.push_signed(i64::from(word.cast_signed())),
+            Hint::DefinedIn(line) => text.push_decimal(line),
+            hint => text.push(hint.name()),
         }
-        f.write_str(self.ending())
+        text.push(self.ending());
     }
 }
 
@@ -117,7 +113,8 @@ pub fn hint_of<'a>(expected: Expected, rest: &[u8], word: &'a str) -> Option<Hin
 }
 
 fn statement_hint<'a>(rest: &[u8], word: &'a str) -> Option<Hint<'a>> {
-    if begins_other_comment(word) || word.starts_with("#") {
+    let bytes = word.as_bytes();
+    if begins_other_comment(bytes) || bytes.starts_with(b"#") {
         return Some(Hint::Comment);
     }
     if let Some(omission) = omission_named(word) {
@@ -149,20 +146,21 @@ fn hexadecimal_hint(word: &str) -> Option<Hint<'_>> {
 }
 
 fn operand_hint(word: &str) -> Option<Hint<'_>> {
-    word.starts_with("(").then_some(Hint::Sums)
+    word.as_bytes().starts_with(b"(").then_some(Hint::Sums)
 }
 
 fn end_hint(word: &str) -> Option<Hint<'_>> {
-    if begins_other_comment(word) || word == "#" {
-        Some(Hint::Comment)
-    } else if word.starts_with("*") || word.starts_with("/") || word.starts_with("(") {
-        Some(Hint::Sums)
-    } else {
-        None
+    let bytes = word.as_bytes();
+    if begins_other_comment(bytes) || word == "#" {
+        return Some(Hint::Comment);
+    }
+    match bytes {
+        [b'*' | b'/' | b'(', ..] => Some(Hint::Sums),
+        _ => None,
     }
 }
 
 // Whether a word begins a comment in other assemblers.
-fn begins_other_comment(word: &str) -> bool {
-    word.starts_with(";") || word.starts_with("//") || word.starts_with("/*")
+fn begins_other_comment(word: &[u8]) -> bool {
+    word.starts_with(b";") || word.starts_with(b"//") || word.starts_with(b"/*")
 }

@@ -8,7 +8,6 @@ ghost use Rattle.t414_assembly.specs.Layout.{size_of, IsTight, AreRooms, AreStar
 use crate::statement::Statement;
 use crate::writing::{MOST_CODE, put_statement, size_of};
 use std::alloc::{AllocError, AllocFailed, Global};
-use thiserror::Error;
 
 /// The bytes of a program, and where its places are.
 #[derive(Drop)]
@@ -20,12 +19,10 @@ pub struct Image {
 }
 
 /// Why a program has no bytes.
-#[derive(Clone, Copy, Debug, Error)]
+#[derive(Clone, Copy)]
 pub enum LayoutFault {
     /// With this statement, counted from 0, the code has more than `MOST_CODE` bytes.
-    #[error("more than 65464 bytes of code")]
     TooLong(usize),
-    #[error("out of memory")]
     NoMemory,
 }
 
@@ -125,5 +122,8 @@ fn lay_out_once(
             grown = true;
         }
     }
-    Ok((!grown).then_some(bytes))
+    if grown {
+        return Ok(None);
+    }
+    Ok(Some(bytes))
 }

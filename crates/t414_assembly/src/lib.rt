@@ -25,7 +25,7 @@ pub use codes::{byte_of, is_prefix};
 pub use cursor::operand_of;
 pub use digits::{bytes_of_digits, code_as_text};
 pub use disassembly::{Instruction, disassemble};
-pub use fault::{Expected, Position, TextFault};
+pub use fault::{Expected, TextFault};
 pub use laws::reassembled_code_is_the_same;
 pub use layout::{Image, LayoutFault, lay_out};
 pub use loading::{BOOTED, LOADED, loader};

@@ -9,6 +9,7 @@ use crate::statement::{Operand, Statement};
 use crate::sums::{LabelTerm, Sum};
 use crate::writing::MOST_CODE;
 use line_mistakes::NumberedLine;
+use line_words::line_as_str;
 use std::alloc::{AllocError, Global};
 use t414_decode::Function;
 
@@ -46,6 +47,8 @@ pub struct Reader<'a> {
     line: u64,
     next_local: u32,
     statements: Vec<Statement>,
+    // How many statements stand before each line.
+    lines: Vec<usize>,
     has_memory: bool,
 }
 
@@ -58,6 +61,7 @@ impl Drop for Reader<'_> {
             line: _,
             next_local: _,
             statements: _,
+            lines: _,
             has_memory: _,
         } = self;
     }
@@ -72,6 +76,7 @@ impl<'a> Reader<'a> {
             line: 0,
             next_local: FIRST_LOCAL,
             statements: Vec::new(alloc),
+            lines: Vec::new(alloc),
             has_memory: true,
         }
     }
@@ -80,34 +85,37 @@ impl<'a> Reader<'a> {
     pub fn begin_again(&mut self) {
         self.gathers = false;
         self.statements.clear();
+        self.lines.clear();
     }
 
-    /// How many statements have been read.
-    pub fn count(&self) -> usize {
-        self.statements.len()
-    }
-
-    /// The statements that have been read; an error if there was no memory for one, or for a name.
-    pub fn into_statements(self) -> Result<Vec<Statement>, AllocError> {
+    /// The statements that have been read, and how many of them stand before each line and behind the last; an error if
+    /// there was no memory for one of these, or for a name.
+    pub fn finish(self) -> Result<(Vec<Statement>, Vec<usize>), AllocError> {
         let Reader {
             definitions: _,
             gathers: _,
             line: _,
             next_local: _,
             statements,
+            mut lines,
             has_memory,
         } = self;
-        if has_memory {
-            Ok(statements)
+        if has_memory && lines.push(statements.len()).is_ok() {
+            Ok((statements, lines))
         } else {
             Err(AllocError)
         }
     }
 
-    /// Reads a line: a label, if one is defined there, and a statement or several, or other names, if they stand there.
+    /// Reads a line, which has to be UTF-8: a label, if one is defined there, and a statement or several, or other names,
+    /// if they stand there.
     pub fn read_line(&mut self, line: NumberedLine<'a>) -> Option<Mismatch<'a>> {
         self.line = line.number;
+        self.has_memory &= self.lines.push(self.statements.len()).is_ok();
         let mut cursor = Cursor::of(line.text);
+        if line_as_str(line).is_err() {
+            cursor.refuse(Expected::Text);
+        }
         cursor.skip_blanks();
         let start = cursor;
         let name = cursor.take_name();

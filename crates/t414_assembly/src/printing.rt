@@ -27,37 +27,40 @@ pub fn listing(
     assembly: &Assembly,
     text: &[u8],
 ) -> Result<String, AllocError> {
+    let lines = numbered_lines(alloc, text)?;
     let mut listed = TextWriter::new(alloc);
-    for (index, line) in numbered_lines(alloc, text)?.iter().enumerate() {
-        let first = assembly.start_of_line(index);
-        let last = assembly.start_of_line(index.saturating_add(1));
-        let code = assembly.image.bytes.as_slice();
-        let bytes = code.get(first as usize..last as usize);
-        let address = origin.wrapping_add(first);
+    for (index, line) in lines.iter().enumerate() {
+        let address = origin.wrapping_add(assembly.start_of_line(index));
         let source = line_as_str(*line).unwrap_or("");
-        list_line(&mut listed, address, bytes.unwrap_or(&[]), source);
+        list_line(&mut listed, address, assembly.code_of_line(index), source);
     }
     listed.finish()
 }
 
 // A line of a text beside the bytes of its statements.
 fn list_line(listed: &mut TextWriter, address: u32, bytes: &[u8], source: &str) {
-    let head = bytes.get(..BYTES_A_LINE).unwrap_or(bytes);
+    let (head, rest) = bytes.split_at(bytes.len().min(BYTES_A_LINE));
     list_bytes(listed, address, head);
-    if !source.is_empty() {
-        for place in head.len()..BYTES_A_LINE {
-            listed.push(if place == 0 { "  " } else { "   " });
-        }
-        listed.push("  ");
-        listed.push(source);
-    }
+    list_source(listed, head.len(), source);
     listed.push("\n");
     let mut address = address;
-    for row in bytes[head.len()..].chunks(BYTES_A_LINE) {
+    for row in rest.chunks(BYTES_A_LINE) {
         address = address.wrapping_add(BYTES_A_LINE as u32);
         list_bytes(listed, address, row);
         listed.push("\n");
     }
+}
+
+// A line of a text, if it isn't empty, behind so many bytes and blanks for those that a line could have besides.
+fn list_source(listed: &mut TextWriter, count: usize, source: &str) {
+    if source.is_empty() {
+        return;
+    }
+    for place in count..BYTES_A_LINE {
+        listed.push(if place == 0 { "  " } else { "   " });
+    }
+    listed.push("  ");
+    listed.push(source);
 }
 
 // An address and the bytes that stand there.

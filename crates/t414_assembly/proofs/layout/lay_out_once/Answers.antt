@@ -53,3 +53,18 @@ loop-place-preserved c =
                 (c.in_ok-wider.ensures.put none);
           })
     ]
+
+pub put_statement-requires-clause-most : goal.put_statement-requires-clause-most
+put_statement-requires-clause-most c = c.requires.starts.most
+
+pub put_statement-requires-clause-next : goal.put_statement-requires-clause-next
+put_statement-requires-clause-next c =
+    next_at c.args.origin c.args.statements.now c.args.rooms.now c.args.starts.now _ c.loop-place.place
+    (slice_index c.loop-place.rooms c.loop-place.place) c.requires.starts c.loop-place-test.true
+    (slice_get-get_or c.args.statements.now c.loop-place.place _ c.loop-place-test.true)
+    (sym (c.loop-place.invariant.later c.loop-place.place (omega arith)))
+
+pub put_statement-requires-clause-tight : goal.put_statement-requires-clause-tight
+put_statement-requires-clause-tight c =
+    c.loop-place.invariant.rooms.tight c.loop-place.place _
+    (slice_get-get_or c.args.statements.now c.loop-place.place _ c.loop-place-test.true)
