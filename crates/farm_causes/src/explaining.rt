@@ -5,6 +5,7 @@ use crate::following::Follower;
 use crate::lines::follow_record;
 use crate::record::read_record;
 use crate::telling::{Chosen, write_causes};
+use crate::words::push_number;
 use domain_core::NoMemory;
 use script_text::TextWriter;
 use std::alloc::Global;
@@ -29,15 +30,13 @@ pub fn explain_record<M: StepMeter>(
 ) -> Result<String, RecordStop> {
     let record = read_record(alloc, text, most)?;
     let follower = follow_record(alloc, &record.plan, record.lines.as_slice(), meter)?;
-    Ok(explain_followed(alloc, &follower, record.is_cut)?)
+    explain_followed(alloc, &follower, record.is_cut).map_err(RecordStop::from)
 }
 
 // Says it of a domain that was led by its record, whose last line may be cut.
 fn explain_followed(alloc: Global, follower: &Follower, is_cut: bool) -> Result<String, NoMemory> {
     let mut told = TextWriter::new(alloc);
-    told.push("after ");
-    told.push_decimal(follower.recorded());
-    told.push(" events\n");
+    push_number(&mut told, "after ", follower.recorded(), " events\n");
     if is_cut {
         told.push("The last line is cut, and was left out.\n");
     }
@@ -45,7 +44,7 @@ fn explain_followed(alloc: Global, follower: &Follower, is_cut: bool) -> Result<
         node: None,
         most_inside: usize::MAX,
     };
-    write_causes(alloc, follower, all, &mut told)?;
+    write_causes(alloc, follower, all, &mut told);
     told.finish()
 }
 
@@ -61,6 +60,6 @@ pub fn explain_moment(
         node,
         most_inside: MOST_INSIDE,
     };
-    write_causes(alloc, follower, chosen, &mut told)?;
+    write_causes(alloc, follower, chosen, &mut told);
     told.finish()
 }

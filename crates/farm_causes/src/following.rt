@@ -191,18 +191,6 @@ impl Follower {
         }
     }
 
-    /// The same, without the answer.
-    pub fn follow<M: StepMeter>(
-        &mut self,
-        line: &RecordedLine,
-        meter: &mut M,
-    ) -> Result<(), LineStop>
-        ensures { OnOk result (MovesOn self.old (calls_said line.now.call) self.new) }
-    {
-        let _reply = self.answer(line, meter)?;
-        Ok(())
-    }
-
     /// The part of the domain.
     pub fn part(&self) -> &Part
         ensures { result.now ≡ self.now.machine.part }

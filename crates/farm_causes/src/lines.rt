@@ -51,7 +51,7 @@ impl Follower {
                 Ok(reply)
             }
             (times, By::Farm, Event::Step(node)) => self.follow_counted(node, times, meter),
-            _ => Ok(self.follow_call(call)?),
+            _ => self.follow_call(call).map_err(LineStop::Follow),
         }
     }
 }
@@ -73,7 +73,7 @@ pub fn follow_record<M: StepMeter>(
 {
     let mut follower = Follower::open(alloc, plan, 0)?;
     for line in lines {
-        if let Err(stop) = follower.follow(line, meter) {
+        if let Err(stop) = follower.answer(line, meter) {
             return Err(stop.at(line.number));
         }
     }

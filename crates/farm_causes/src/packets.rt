@@ -2,7 +2,7 @@
 
 use crate::passage::{Arrival, SentByte, Supply, arrival_at, is_in_mask, sent_byte, supply_of};
 use crate::telling::Scene;
-use crate::words::{push_device, push_link, push_lost, push_move};
+use crate::words::{push_device, push_link, push_lost, push_move, push_number};
 use domain_core::{Device, Moved};
 use link_channels::LinkNumber;
 use os_link::Packet;
@@ -16,8 +16,7 @@ impl Scene<'_> {
                 text.push("  The byte stays: no port of the switch is joined to that link.\n");
             }
             SentByte::Waits { port, moved } => {
-                text.push("  The byte waits at port ");
-                text.push_decimal(u64::from(port));
+                push_number(text, "  The byte waits at port ", u64::from(port), "");
                 push_move(text, port, moved);
             }
             SentByte::Left { port, drives } => self.write_left(port, drives, text),
@@ -38,9 +37,8 @@ impl Scene<'_> {
     // Says what became of a byte that left a port, at each output that this drives.
     fn write_arrivals(&mut self, port: u8, drives: u32, text: &mut TextWriter) {
         if drives == 0 {
-            text.push("  The byte left, and input ");
-            text.push_decimal(u64::from(port));
-            text.push(" drives no output now.\n");
+            let before = "  The byte left, and input ";
+            push_number(text, before, u64::from(port), " drives no output now.\n");
         }
         for output in 0..self.moment.part().count() {
             if is_in_mask(drives, output) {
@@ -54,35 +52,31 @@ impl Scene<'_> {
         if output >= self.moment.part().count() {
             return;
         }
-        text.push("  At output ");
-        text.push_decimal(u64::from(output));
-        text.push(" ");
+        push_number(text, "  At output ", u64::from(output), " ");
         match arrival_at(&mut self.moment, output) {
             Arrival::Nobody => text.push("no device is joined that could take the byte.\n"),
-            Arrival::Held(device) => {
-                push_device(text, device);
-                text.push(match device {
-                    Device::Host(_) => " holds a byte, as its queue is full: it is to be read.\n",
-                    Device::Link { .. } => " holds a byte that nobody has taken.\n",
-                });
-            }
+            Arrival::Held(device) => push_held(text, device),
             Arrival::Acknowledged { device, moved } => {
-                push_device(text, device);
-                text.push(" took the byte. Its acknowledge waits at port ");
-                text.push_decimal(u64::from(output));
+                let behind = " took the byte. Its acknowledge waits at port ";
+                push_device(text, "", device, behind);
+                push_number(text, "", u64::from(output), "");
                 push_move(text, output, moved);
             }
-            Arrival::Gone(device) => match self.past.port(output).acknowledge {
-                Some(event) => {
-                    push_device(text, device);
-                    text.push(" took the byte, but its acknowledge");
-                    push_lost(text, output, event);
-                }
-                None => {
-                    push_device(text, device);
-                    text.push(" has neither the byte nor an acknowledge of it.\n");
-                }
-            },
+            Arrival::Gone(device) => self.write_gone(output, device, text),
+        }
+    }
+
+    // Says of a device that it has no byte, and nothing of it waits at its output.
+    fn write_gone(&self, output: u8, device: Device, text: &mut TextWriter) {
+        match self.past.port(output).acknowledge {
+            Some(event) => {
+                push_device(text, "", device, " took the byte, but its acknowledge");
+                push_lost(text, output, event);
+            }
+            None => {
+                let behind = " has neither the byte nor an acknowledge of it.\n";
+                push_device(text, "", device, behind);
+            }
         }
     }
 
@@ -143,12 +137,12 @@ impl Scene<'_> {
                 true
             }
             None if self.awaits(source) => {
-                push_awaiting(text, source);
+                push_device(text, "Of ", source, " a byte isn't acknowledged yet.\n");
                 self.write_sent(source, text);
                 false
             }
             None => {
-                push_silence(text, source);
+                push_device(text, "Of ", source, " nothing waits there.\n");
                 true
             }
         }
@@ -171,38 +165,43 @@ impl Scene<'_> {
     // Says so if an acknowledge of a link was lost at its port.
     fn write_own_loss(&self, port: u8, link: LinkNumber, text: &mut TextWriter) {
         if let Some(event) = self.past.port(port).acknowledge {
-            text.push("  An acknowledge of ");
-            push_link(text, link);
+            push_link(text, "  An acknowledge of ", link, "");
             push_lost(text, port, event);
         }
     }
 }
 
+// That a device holds a byte.
+fn push_held(text: &mut TextWriter, device: Device) {
+    let behind = match device {
+        Device::Host(_) => " holds a byte, as its queue is full: it is to be read.\n",
+        Device::Link { .. } => " holds a byte that nobody has taken.\n",
+    };
+    push_device(text, "", device, behind);
+}
+
 // That a link is joined to no port.
 fn push_unjoined(text: &mut TextWriter, link: LinkNumber) {
-    text.push("  No byte comes: no port of the switch is joined to ");
-    push_link(text, link);
-    text.push(".\n");
+    let before = "  No byte comes: no port of the switch is joined to ";
+    push_link(text, before, link, ".\n");
 }
 
 // That no input drives the output to which a link is joined.
 fn push_undriven(text: &mut TextWriter, link: LinkNumber, port: u8) {
-    text.push("  No byte comes by ");
-    push_link(text, link);
-    text.push(": no input drives output ");
-    text.push_decimal(u64::from(port));
-    text.push(".\n");
+    push_link(
+        text,
+        "  No byte comes by ",
+        link,
+        ": no input drives output ",
+    );
+    push_number(text, "", u64::from(port), ".\n");
 }
 
 // Which input drives the output to which a link is joined.
 fn push_drive(text: &mut TextWriter, input: u8, port: u8, link: LinkNumber) {
-    text.push("  Input ");
-    text.push_decimal(u64::from(input));
-    text.push(" drives output ");
-    text.push_decimal(u64::from(port));
-    text.push(" of ");
-    push_link(text, link);
-    text.push(". ");
+    push_number(text, "  Input ", u64::from(input), " drives output ");
+    push_number(text, "", u64::from(port), " of ");
+    push_link(text, "", link, ". ");
 }
 
 // Begins a sentence about a packet that waits at a device's port.
@@ -214,21 +213,5 @@ fn push_waiting(text: &mut TextWriter, source: Device, packet: Packet) {
         }
         Packet::Ack => text.push("An acknowledge"),
     }
-    text.push(" of ");
-    push_device(text, source);
-    text.push(" waits there");
-}
-
-// That a device's last byte isn't acknowledged.
-fn push_awaiting(text: &mut TextWriter, source: Device) {
-    text.push("Of ");
-    push_device(text, source);
-    text.push(" a byte isn't acknowledged yet.\n");
-}
-
-// That a device has nothing to send.
-fn push_silence(text: &mut TextWriter, source: Device) {
-    text.push("Of ");
-    push_device(text, source);
-    text.push(" nothing waits there.\n");
+    push_device(text, " of ", source, " waits there");
 }

@@ -46,7 +46,13 @@ fn whole_lines(text: &[u8]) -> &[u8] {
 
 // How many lines a text has, each with its line feed.
 fn lines_in(text: &[u8]) -> u64 {
-    text.iter().filter(|byte| **byte == b'\n').count() as u64
+    let mut lines: u64 = 0;
+    for byte in text {
+        if *byte == b'\n' {
+            lines = lines.saturating_add(1);
+        }
+    }
+    lines
 }
 
 // A line, or the beginning of it, of as many events as are left to be done.

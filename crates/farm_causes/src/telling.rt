@@ -4,9 +4,9 @@ use crate::cause::{Cause, InputWait, InsideWait, LinkWaits, OutputWait, Rendezvo
 use crate::finding::inside_waits;
 use crate::following::Follower;
 use crate::past::{FaultPast, Past};
-use crate::words::{push_at, push_count, push_instruction, push_link, push_text};
+use crate::words::{push_at, push_count, push_instruction, push_link, push_number, push_text};
 use bootstrap::{CODE_START, Node, Task, number_of};
-use domain_core::{Device, Moment, NoMemory};
+use domain_core::{Device, Moment};
 use link_channels::{LinkNumber, Process};
 use node_memory::Fault;
 use script_text::TextWriter;
@@ -37,73 +37,55 @@ pub struct Scene<'a> {
     most_inside: usize,
 }
 
-/// Writes why the chosen nodes do no more than they do, at the moment to which a domain was led.
-pub fn write_causes(
-    alloc: Global,
-    follower: &Follower,
-    chosen: Chosen,
-    text: &mut TextWriter,
-) -> Result<(), NoMemory> {
-    let mut scene = Scene {
-        alloc,
-        moment: follower.moment()?,
-        past: follower.past(),
-        most_inside: chosen.most_inside,
-    };
-    scene.write_nodes(follower, chosen.node, text)
+/// Writes why the chosen nodes do no more than they do, at the moment to which a domain was led. Where there is no memory to look
+/// at them the text says so when it is finished.
+pub fn write_causes(alloc: Global, follower: &Follower, chosen: Chosen, text: &mut TextWriter) {
+    match follower.moment() {
+        Ok(moment) => {
+            let mut scene = Scene {
+                alloc,
+                moment,
+                past: follower.past(),
+                most_inside: chosen.most_inside,
+            };
+            scene.write_nodes(follower, chosen.node, text);
+        }
+        Err(error) => text.keep_failure(Err(error)),
+    }
 }
 
 impl Scene<'_> {
     // Writes what is said of one node, or of all and of the domain.
-    fn write_nodes(
-        &mut self,
-        follower: &Follower,
-        chosen: Option<u8>,
-        text: &mut TextWriter,
-    ) -> Result<(), NoMemory> {
+    fn write_nodes(&mut self, follower: &Follower, chosen: Option<u8>, text: &mut TextWriter) {
+        if let Some(number) = chosen {
+            self.write_node(follower, number, text);
+            return;
+        }
         for number in 0..8u8 {
-            if let Some(cause) = follower.cause_of(number)
-                && chosen.unwrap_or(number) == number
-            {
-                self.write_node(number, cause, text)?;
-            }
+            self.write_node(follower, number, text);
         }
-        if chosen.is_none() {
-            self.write_exchanges(text);
-        }
-        Ok(())
+        self.write_exchanges(text);
     }
 
-    // Writes what is said of a node.
-    fn write_node(
-        &mut self,
-        number: u8,
-        cause: Cause,
-        text: &mut TextWriter,
-    ) -> Result<(), NoMemory> {
-        text.push("node ");
-        text.push_decimal(u64::from(number));
-        self.write_cause(number, cause, text)?;
-        self.write_overruns(number, text);
-        Ok(())
+    // Writes what is said of a node, if it is there.
+    fn write_node(&mut self, follower: &Follower, number: u8, text: &mut TextWriter) {
+        if let Some(cause) = follower.cause_of(number) {
+            push_number(text, "node ", u64::from(number), "");
+            self.write_cause(number, cause, text);
+            self.write_overruns(number, text);
+        }
     }
 
     // Writes why a node does no more than it does.
-    fn write_cause(
-        &mut self,
-        number: u8,
-        cause: Cause,
-        text: &mut TextWriter,
-    ) -> Result<(), NoMemory> {
+    fn write_cause(&mut self, number: u8, cause: Cause, text: &mut TextWriter) {
         match cause {
             Cause::WantsControl => self.write_wanting(number, text),
             Cause::Takes { link, task } => self.write_taking(number, link, task, text),
             Cause::Answers { link, left } => self.write_answering(number, link, left, text),
             Cause::Runs => self.write_running(number, text),
-            Cause::Rests(waits) => return self.write_resting(number, waits, text),
+            Cause::Rests(waits) => self.write_resting(number, &waits, text),
             Cause::Halted(fault) => self.write_halted(number, fault, text),
         }
-        Ok(())
     }
 
     // Whether a node's next Step would not be recorded.
@@ -128,25 +110,23 @@ impl Scene<'_> {
 
     // It takes the bytes of a task.
     fn write_taking(&mut self, number: u8, link: LinkNumber, task: Task, text: &mut TextWriter) {
-        let (what, came, whole) = match task {
-            Task::Poke { left, .. } => (" takes a poke by ", 8 - u32::from(left.min(8)), 8),
-            Task::Peek { left, .. } => (" takes a peek by ", 4 - u32::from(left.min(4)), 4),
+        match task {
+            Task::Poke { left, .. } => {
+                let came = 8 - u32::from(left.min(8));
+                push_taken(text, " takes a poke by ", link, came, 8);
+            }
+            Task::Peek { left, .. } => {
+                let came = 4 - u32::from(left.min(4));
+                push_taken(text, " takes a peek by ", link, came, 4);
+            }
             Task::Load { left, address } => {
                 let came = address.wrapping_sub(CODE_START);
-                (" takes code by ", came, came.wrapping_add(u32::from(left)))
+                let whole = came.wrapping_add(u32::from(left));
+                push_taken(text, " takes code by ", link, came, whole);
+                text.push(", as the control byte ");
+                text.push_byte((whole % 0x100) as u8);
+                text.push(" asks");
             }
-        };
-        text.push(what);
-        push_link(text, link);
-        text.push(": ");
-        text.push_decimal(u64::from(came));
-        text.push(" of ");
-        push_count(text, whole, "byte");
-        text.push(" have come");
-        if let Task::Load { .. } = task {
-            text.push(", as the control byte ");
-            text.push_byte((whole % 0x100) as u8);
-            text.push(" asks");
         }
         text.push(".\n");
         if self.is_quiet(number) {
@@ -158,11 +138,9 @@ impl Scene<'_> {
 
     // It answers a peek.
     fn write_answering(&mut self, number: u8, link: LinkNumber, left: u8, text: &mut TextWriter) {
-        text.push(" answers a peek by ");
-        push_link(text, link);
-        text.push(": ");
-        push_count(text, u32::from(left), "byte");
-        text.push(" more are to be sent when the last one is acknowledged.\n");
+        push_link(text, " answers a peek by ", link, ": ");
+        let behind = " more are to be sent when the last one is acknowledged.\n";
+        push_count(text, "", u32::from(left), behind);
         if self.is_quiet(number) {
             self.write_sent(Device::Link { node: number, link }, text);
         } else {
@@ -173,9 +151,12 @@ impl Scene<'_> {
     // It has something to do.
     fn write_running(&mut self, number: u8, text: &mut TextWriter) {
         let steps = self.past.node(number).steps;
-        text.push(" runs, ");
-        text.push_decimal(steps);
-        text.push(" Steps since a packet came or went.\n");
+        push_number(
+            text,
+            " runs, ",
+            steps,
+            " Steps since a packet came or went.\n",
+        );
         if let Some(node) = self.moment.node(number) {
             self.write_next(number, node, text);
         }
@@ -199,14 +180,12 @@ impl Scene<'_> {
 
     // It met a fault.
     fn write_halted(&mut self, number: u8, fault: Fault, text: &mut TextWriter) {
-        text.push(" halted by fault ");
-        text.push_decimal(u64::from(fault.number()));
+        push_number(text, " halted by fault ", u64::from(fault.number()), "");
         let Some(past) = self.past.node(number).fault else {
             push_text(text, ": ", fault);
             return;
         };
-        text.push(" in event ");
-        text.push_decimal(past.event);
+        push_number(text, " in event ", past.event, "");
         push_text(text, ": ", fault);
         if let FaultPast {
             registers: Some(cpu),
@@ -222,20 +201,28 @@ impl Scene<'_> {
     }
 
     // No process can go on.
-    fn write_resting(
+    fn write_resting(&mut self, number: u8, waits: &[LinkWaits; 4], text: &mut TextWriter) {
+        let Some(node) = self.moment.node(number) else {
+            return;
+        };
+        match inside_waits(self.alloc, node.memory()) {
+            Ok(inside) => self.write_waits(number, waits, inside.as_slice(), text),
+            Err(error) => text.keep_failure(Err(error)),
+        }
+    }
+
+    // Who waits at links and at channels in memory.
+    fn write_waits(
         &mut self,
         number: u8,
-        waits: [LinkWaits; 4],
+        waits: &[LinkWaits; 4],
+        inside: &[InsideWait],
         text: &mut TextWriter,
-    ) -> Result<(), NoMemory> {
-        let inside = match self.moment.node(number) {
-            Some(node) => inside_waits(self.alloc, node.memory())?,
-            None => Vec::new(self.alloc),
-        };
-        if are_at_links(&waits, inside.as_slice()) && !is_waited_for(&waits) {
+    ) {
+        if are_at_links(waits, inside) && !is_waited_for(waits) {
             text.push(" has ended: no process is left.\n");
             self.write_untaken(number, text);
-            return Ok(());
+            return;
         }
         text.push(" rests.\n");
         for (place, link) in LinkNumber::all().iter().enumerate() {
@@ -243,8 +230,7 @@ impl Scene<'_> {
                 self.write_link(number, *link, *waits, text);
             }
         }
-        self.write_inside(number, &waits, inside.as_slice(), text);
-        Ok(())
+        self.write_inside(number, waits, inside, text);
     }
 
     // The bytes that came to the links of a node which has ended.
@@ -254,11 +240,9 @@ impl Scene<'_> {
         };
         for link in LinkNumber::all() {
             if node.links().at(link).end.input.buffer.is_some() {
-                text.push("  Link ");
-                text.push_decimal(u64::from(number_of(link)));
-                text.push(
-                    " holds a byte that nobody will take: reset the node before you boot it again.\n",
-                );
+                let behind =
+                    " holds a byte that nobody will take: reset the node before you boot it again.\n";
+                push_number(text, "  Link ", u64::from(number_of(link)), behind);
             }
         }
     }
@@ -282,9 +266,13 @@ impl Scene<'_> {
             }
         }
         if count > self.most_inside {
-            text.push("  ");
-            text.push_decimal((count - self.most_inside) as u64);
-            text.push(" more processes wait at channels in its memory.\n");
+            let more = (count - self.most_inside) as u64;
+            push_number(
+                text,
+                "  ",
+                more,
+                " more processes wait at channels in its memory.\n",
+            );
         }
         if count > 0 && !is_waited_for(waits) {
             text.push("  No other process is left that could come there: a deadlock.\n");
@@ -310,9 +298,7 @@ impl Scene<'_> {
         }
         if waits.watch.is_some() {
             push_at(text, waits.watch);
-            text.push(" waits in an alternative for a byte of ");
-            push_link(text, link);
-            text.push(".\n");
+            push_link(text, " waits in an alternative for a byte of ", link, ".\n");
             self.write_supply(number, link, text);
         }
     }
@@ -321,13 +307,9 @@ impl Scene<'_> {
     fn write_output(&self, number: u8, link: LinkNumber, wait: OutputWait, text: &mut TextWriter) {
         push_at(text, wait.process);
         text.push(self.sending_words(number, wait.process));
-        text.push(" until a byte of ");
-        push_link(text, link);
-        text.push(" is acknowledged");
+        push_link(text, " until a byte of ", link, " is acknowledged");
         if wait.behind > 0 {
-            text.push(", with ");
-            push_count(text, wait.behind, "byte");
-            text.push(" behind it");
+            push_count(text, ", with ", wait.behind, " behind it");
         }
         text.push(".\n");
         self.write_of(number, wait.process, text);
@@ -373,13 +355,16 @@ impl Scene<'_> {
         let Some(node) = self.moment.node(number) else {
             return;
         };
-        for (overruns, link) in node.look().overruns.iter().zip(LinkNumber::all().iter()) {
-            if *overruns > 0 {
-                text.push("  Link ");
-                text.push_decimal(u64::from(number_of(*link)));
-                text.push(" dropped ");
-                push_count(text, *overruns, "byte");
-                text.push(" that came while its buffer was full.\n");
+        for link in LinkNumber::all() {
+            let overruns = node.links().at(link).end.input.overruns;
+            if overruns > 0 {
+                push_number(text, "  Link ", u64::from(number_of(link)), " dropped ");
+                push_count(
+                    text,
+                    "",
+                    overruns,
+                    " that came while its buffer was full.\n",
+                );
             }
         }
     }
@@ -387,15 +372,20 @@ impl Scene<'_> {
     // Says so if the nodes have long been alone with one another.
     fn write_exchanges(&self, text: &mut TextWriter) {
         if self.past.exchanges >= MANY_PACKETS {
-            text.push("Since event ");
-            text.push_decimal(self.past.alone_since);
-            text.push(" the nodes have passed ");
-            text.push_decimal(self.past.exchanges);
-            text.push(
-                " packets to one another, and no byte came from a host or went to one: it may go on for ever.\n",
-            );
+            let since = self.past.alone_since;
+            push_number(text, "Since event ", since, " the nodes have passed ");
+            let behind =
+                " packets to one another, and no byte came from a host or went to one: it may go on for ever.\n";
+            push_number(text, "", self.past.exchanges, behind);
         }
     }
+}
+
+// How much of a task has come by a link.
+fn push_taken(text: &mut TextWriter, what: &str, link: LinkNumber, came: u32, whole: u32) {
+    push_link(text, what, link, ": ");
+    push_number(text, "", u64::from(came), " of ");
+    push_count(text, "", whole, " have come");
 }
 
 // Whether somebody waits at a link.
@@ -452,18 +442,13 @@ fn write_input(link: LinkNumber, wait: InputWait, text: &mut TextWriter) {
     text.push(" waits in `in` for ");
     match wait.whole {
         Some(whole) if whole >= wait.left => {
-            push_count(text, whole, "byte");
-            text.push(" of ");
-            push_link(text, link);
-            text.push(", of which ");
-            text.push_decimal(u64::from(whole - wait.left));
-            text.push(" came.\n");
+            push_count(text, "", whole, " of ");
+            push_link(text, "", link, ", of which ");
+            push_number(text, "", u64::from(whole - wait.left), " came.\n");
         }
         _ => {
-            push_count(text, wait.left, "byte");
-            text.push(" more of ");
-            push_link(text, link);
-            text.push(".\n");
+            push_count(text, "", wait.left, " more of ");
+            push_link(text, "", link, ".\n");
         }
     }
 }

@@ -17,33 +17,34 @@ pub fn push_text(text: &mut TextWriter, before: &str, fault: Fault) {
     text.push(".\n");
 }
 
-/// Writes `1 byte` or `2 bytes`.
-pub fn push_count(text: &mut TextWriter, count: u32, what: &str) {
-    text.push_decimal(u64::from(count));
-    text.push(" ");
-    text.push(what);
-    if count != 1 {
-        text.push("s");
-    }
+/// Writes a number between two texts.
+pub fn push_number(text: &mut TextWriter, before: &str, number: u64, behind: &str) {
+    text.push(before);
+    text.push_decimal(number);
+    text.push(behind);
 }
 
-/// Writes `link 1`.
-pub fn push_link(text: &mut TextWriter, link: LinkNumber) {
-    text.push("link ");
-    text.push_decimal(u64::from(number_of(link)));
+/// Writes `1 byte` or `2 bytes` between two texts.
+pub fn push_count(text: &mut TextWriter, before: &str, count: u32, behind: &str) {
+    let what = if count == 1 { " byte" } else { " bytes" };
+    push_number(text, before, u64::from(count), what);
+    text.push(behind);
 }
 
-/// Writes `host 0` or `link 1 of node 2`.
-pub fn push_device(text: &mut TextWriter, device: Device) {
+/// Writes `link 1` between two texts.
+pub fn push_link(text: &mut TextWriter, before: &str, link: LinkNumber, behind: &str) {
+    text.push(before);
+    push_number(text, "link ", u64::from(number_of(link)), behind);
+}
+
+/// Writes `host 0` or `link 1 of node 2` between two texts.
+pub fn push_device(text: &mut TextWriter, before: &str, device: Device, behind: &str) {
+    text.push(before);
     match device {
-        Device::Host(number) => {
-            text.push("host ");
-            text.push_decimal(u64::from(number));
-        }
+        Device::Host(number) => push_number(text, "host ", u64::from(number), behind),
         Device::Link { node, link } => {
-            push_link(text, link);
-            text.push(" of node ");
-            text.push_decimal(u64::from(node));
+            push_link(text, "", link, " of node ");
+            push_number(text, "", u64::from(node), behind);
         }
     }
 }
@@ -80,14 +81,13 @@ pub fn push_move(text: &mut TextWriter, port: u8, moved: Moved) {
         Moved::Nothing => text.push("."),
         Moved::Passed => text.push(", and a Move takes it on."),
         Moved::Lost => {
-            text.push(", and a Move loses it: input ");
-            text.push_decimal(u64::from(port));
-            text.push(" drives no output.");
+            let before = ", and a Move loses it: input ";
+            push_number(text, before, u64::from(port), " drives no output.");
         }
         Moved::Stayed => {
-            text.push(", and stays there: an output that input ");
-            text.push_decimal(u64::from(port));
-            text.push(" drives isn't ready. Message 03 makes it ready.");
+            let before = ", and stays there: an output that input ";
+            let behind = " drives isn't ready. Message 03 makes it ready.";
+            push_number(text, before, u64::from(port), behind);
         }
     }
     text.push("\n");
@@ -95,9 +95,6 @@ pub fn push_move(text: &mut TextWriter, port: u8, moved: Moved) {
 
 /// Ends a sentence about a packet that was lost at a port in an event.
 pub fn push_lost(text: &mut TextWriter, port: u8, event: u64) {
-    text.push(" was lost in event ");
-    text.push_decimal(event);
-    text.push(", as input ");
-    text.push_decimal(u64::from(port));
-    text.push(" drove no output.\n");
+    push_number(text, " was lost in event ", event, ", as input ");
+    push_number(text, "", u64::from(port), " drove no output.\n");
 }
