@@ -67,7 +67,7 @@ impl Follower {
     }
 
     // Does Steps of a node, of which the last came to this.
-    #[tactic(auto, using(crate::proofs::EntryCalls::stays_by, crate::proofs::EntryCalls::moves_more))]
+    #[tactic(auto, using(crate::proofs::EntryCalls::stays_by))]
     fn follow_run(&mut self, by: By, node: u8, count: u64, last: Stepped) -> Result<(), FollowFault>
         ensures { OnOk result (MovesOn self.old (replicate count (record { by = by; event = Event.Step node })) self.new) }
     {
@@ -82,7 +82,6 @@ impl Follower {
     }
 
     // Does what an entry stands for.
-    #[tactic(auto, using(crate::proofs::EntryCalls::moves_run))]
     fn follow_entry(&mut self, entry: Entry) -> Result<(), FollowFault>
         ensures { OnOk result (MovesOn self.old (entry_calls (entry ∷ [])) self.new) }
     {

@@ -1,6 +1,8 @@
 //! What is said of packets: where one is, and what comes to a link.
 
-use crate::passage::{Arrival, SentByte, Supply, arrival_at, is_in_mask, sent_byte, supply_of};
+use crate::passage::{
+    Arrival, SentByte, Supply, arrival_at, end_at, is_in_mask, sent_byte, supply_of,
+};
 use crate::telling::Scene;
 use crate::words::{push_device, push_link, push_lost, push_move, push_number};
 use domain_core::{Device, Moved};
@@ -136,7 +138,7 @@ impl Scene<'_> {
                 push_move(text, input, moved);
                 true
             }
-            None if self.awaits(source) => {
+            None if end_at(&self.moment, source).output.awaits => {
                 push_device(text, "Of ", source, " a byte isn't acknowledged yet.\n");
                 self.write_sent(source, text);
                 false
@@ -145,20 +147,6 @@ impl Scene<'_> {
                 push_device(text, "Of ", source, " nothing waits there.\n");
                 true
             }
-        }
-    }
-
-    // Whether a device awaits an acknowledge.
-    fn awaits(&self, source: Device) -> bool {
-        match source {
-            Device::Host(number) => match self.moment.host(number) {
-                Some(host) => host.end().output.awaits,
-                None => false,
-            },
-            Device::Link { node, link } => match self.moment.node(node) {
-                Some(home) => home.links().at(link).end.output.awaits,
-                None => false,
-            },
         }
     }
 

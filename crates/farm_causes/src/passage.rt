@@ -89,7 +89,7 @@ fn input_of(moment: &mut Moment, output: u8) -> Option<u8>
 }
 
 // The link end of a device.
-fn end_at(moment: &Moment, device: Device) -> LinkEnd
+pub(crate) fn end_at(moment: &Moment, device: Device) -> LinkEnd
     ensures { result ≡ end_at moment.now.machine.devices device }
 {
     match device {
