@@ -206,7 +206,7 @@ fn follow_lines<M: StepMeter>(
     meter: &mut M,
 ) -> Result<(), RecordStop> {
     for line in lines.iter().take(start.lines) {
-        at_line(line, follower.follow(line, meter))?;
+        at_line(line, follower.answer(line, meter))?;
     }
     match lines.get(start.lines) {
         Some(line) if start.events > 0 => {
@@ -228,7 +228,8 @@ fn follow_part<M: StepMeter>(
     meter: &mut M,
 ) -> Result<(), LineStop> {
     check_steps(alloc, line)?;
-    follower.follow(&part_of_line(line, steps), meter)
+    let _reply = follower.answer(&part_of_line(line, steps), meter)?;
+    Ok(())
 }
 
 // What ended it, with the line at which that came.
