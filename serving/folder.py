@@ -9,7 +9,6 @@ import re
 import socket
 import stat
 import subprocess
-import sys
 
 TOP = os.path.dirname(os.path.dirname(os.path.abspath(__file__)))
 EXAMPLES = os.path.join(TOP, "examples", "programs")
@@ -33,11 +32,12 @@ def program(name):
 
 
 def ready(name):
-    """Builds a program if it isn't built or is stale, and shows that. One that a variable names is taken as it is."""
+    """Builds a program if it isn't built or is stale, and shows that. One that a variable names is taken as it is. Of the lab
+    only that is built which gives the help, since it assembles too."""
     if os.environ.get(name.upper()):
         return
-    call = [os.path.join(TOP, "tools", "start"), "--only-build", name]
-    if subprocess.run(call, stdin=subprocess.DEVNULL, stdout=sys.stderr, check=False).returncode != 0:
+    call = [os.path.join(TOP, name), "--help"]
+    if subprocess.run(call, stdin=subprocess.DEVNULL, stdout=subprocess.DEVNULL, check=False).returncode != 0:
         raise Refused(f"the program {name} can't be built: see above")
 
 

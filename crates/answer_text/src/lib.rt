@@ -1,4 +1,4 @@
-//! The words of answers, as the programs print them. Where a call answers `NoMemory` nothing is said of the text.
+//! The words of answers, as the programs print them. If a call answers `NoMemory`, nothing is said of the text.
 #![tactic(auto)]
 
 mod digits;

@@ -28,7 +28,7 @@ pub fn recorded_step_ran()
 {}
 
 /// Recorded Steps after recorded Steps are recorded Steps, as many as both, and the last of all is the last of the
-/// later ones, where there are any.
+/// later ones, if there are any.
 pub fn steps_add_up()
     ensures steps { StepsAddUp }
     ensures last { LastAnswersAddUp }

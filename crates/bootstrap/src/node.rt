@@ -98,7 +98,7 @@ impl Node {
         self.links.waiting(link)
     }
 
-    /// Takes the packet that leaves a link next. Where none waits nothing changes.
+    /// Takes the packet that leaves a link next. If none waits, nothing changes.
     pub fn take(&mut self, link: LinkNumber) -> Option<Packet>
         ensures answer { result ≡ next_of (at link self.old.links).end.latch }
         ensures state { self.new ≡ record self.old { links = packet_taken link self.old.links } }

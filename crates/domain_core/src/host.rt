@@ -175,7 +175,7 @@ impl Host {
         self.send_on();
     }
 
-    /// Posts the front byte, where none awaits its acknowledge.
+    /// Posts the front byte, if none awaits its acknowledge.
     fn send_on(&mut self)
         ensures { self.new ≡ sending_on self.old }
     {
@@ -187,7 +187,7 @@ impl Host {
         }
     }
 
-    /// Moves the byte in the buffer into the receiving queue, where there is room.
+    /// Moves the byte in the buffer into the receiving queue, if there is room.
     fn receive(&mut self)
         ensures { self.new ≡ receiving self.old }
     {

@@ -23,7 +23,7 @@ pub struct User<'a> {
     pub quantum: Quantum,
     /// His output lines so far.
     pub screen: String,
-    /// Whether there was memory for all that he did. Where there was none he stopped.
+    /// Whether there was memory for all that he did. If there was none, he stopped.
     pub ended: Result<(), NoMemory>,
 }
 

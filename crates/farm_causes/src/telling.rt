@@ -37,7 +37,7 @@ pub struct Scene<'a> {
     most_inside: usize,
 }
 
-/// Writes why the chosen nodes do no more than they do, at the moment to which a domain was led. Where there is no memory to look
+/// Writes why the chosen nodes do no more than they do, at the moment to which a domain was led. If there is no memory to look
 /// at them the text says so when it is finished.
 pub fn write_causes(alloc: Global, follower: &Follower, chosen: Chosen, text: &mut TextWriter) {
     match follower.moment() {

@@ -72,7 +72,7 @@ fn words_of(domain: &mut SeatedDomain, room: WordMemory) -> Vec<Word>
     words
 }
 
-// What is left of a domain. Where it isn't the plan's of this number, waits for ever.
+// What is left of a domain. If it isn't the plan's of this number, waits for ever.
 fn close_domain<R: Wait>(
     rt: &R,
     plan: &AcceptedPlan,

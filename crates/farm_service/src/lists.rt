@@ -78,7 +78,7 @@ fn are_listed(closed: &[ClosedDomain], users: &[UserPass]) -> bool
     true
 }
 
-/// Sees that each pass lists what its domain's journal has of its user. Where one doesn't, waits for ever.
+/// Sees that each pass lists what its domain's journal has of its user. If one doesn't, waits for ever.
 pub(crate) fn await_listed<R: Wait>(rt: &R, closed: &[ClosedDomain], users: &[UserPass])
     ensures { AreListed closed.now users.now }
 {

@@ -18,7 +18,7 @@ pub fn take<'a, R: Wait>(rt: &R, lock: &'a Mutex<SeatedDomain>) -> MutexGuard<'a
     lock.lock(rt)
 }
 
-/// Sees that a domain is the plan's of this number. Where it isn't, waits for ever.
+/// Sees that a domain is the plan's of this number. If it isn't, waits for ever.
 pub(crate) fn await_fitting<R: Wait>(rt: &R, domain: &SeatedDomain, plan: &AcceptedPlan, number: u8)
     ensures { Fits plan.now number domain.now }
 {

@@ -247,7 +247,7 @@ impl Service {
         Some(seated)
     }
 
-    // Asks a domain under its lock. Where that one isn't the plan's, waits for ever.
+    // Asks a domain under its lock. If that one isn't the plan's, waits for ever.
     pub(crate) fn ask<R: Wait>(
         &self,
         rt: &R,
@@ -332,12 +332,12 @@ impl Service {
     /// journal, with their replies, are the list of the pass that was handed in for him, in its order;
     /// and the tokens are the plan's nodes, each once.
     ///
-    /// Where a journal has other commands of a user than his pass lists, which no run comes to, the
+    /// If a journal has other commands of a user than his pass lists, which no run comes to, the
     /// call waits for ever.
     ///
     /// # Errors
     ///
-    /// Service and passes as they were handed in, where there is no memory for what is left of them.
+    /// Service and passes as they were handed in, if there is no memory for what is left of them.
     // Six clauses: what closing vouches for of domains, runs, users and tokens, and what is given back.
     pub fn close<R: Wait>(
         self,

@@ -1,20 +1,11 @@
 //! A record is looked through by commands.
 
-use crate::failure::LabFailure;
-use crate::files::{read_file, readable_bytes};
-use crate::meter::TerminalMeter;
+use crate::failure::wrong_debugging;
+use lab_command::{ArgumentFault, Debugging, LabFailure, TerminalMeter, read_file, readable_bytes};
 use lab_debug::{DebugFault, Debugger, ProgramOf, ProgramTexts, debug};
-use std::alloc::AllocError;
+use line_words::decimal_number;
+use std::alloc::{AllocError, Global};
 use std::io::{BufReader, IsTerminal};
-
-/// What is asked of the debugger.
-#[derive(Drop)]
-pub struct Debugging<'a> {
-    pub record: &'a str,
-    pub programs: Vec<ProgramOf<'a>>,
-    /// How many Steps the record may have, or any number.
-    pub most: Option<u64>,
-}
 
 /// The texts of programs are those of files.
 #[derive(Clone, Copy)]
@@ -27,30 +18,75 @@ impl ProgramTexts for Files<'_> {
 }
 
 /// Reads commands from standard input to its end, and shows what they ask of the record in a file. Nothing is left to print.
+/// Wrong words are told before the file is read.
 pub fn print_debugging(rt: &HostRuntime, asked: &Debugging) -> Result<String, LabFailure> {
-    let record = read_file(rt, asked.record)?;
-    match look_through(rt, asked, record.as_slice()) {
-        Ok(()) => Ok(String::new(rt.alloc())),
-        Err(fault) => Err(LabFailure::of_debug(rt.alloc(), fault)),
+    match read_programs(rt.alloc(), asked.programs.as_slice()) {
+        Ok(programs) => {
+            let record = read_file(rt, asked.record)?;
+            print_record(rt, asked, programs.as_slice(), record.as_slice())
+        }
+        Err(fault) => Err(LabFailure::of_argument(rt.alloc(), fault)),
     }
 }
 
-fn look_through(rt: &HostRuntime, asked: &Debugging, record: &[u8]) -> Result<(), DebugFault> {
+// The programs of nodes, by the numbers of the nodes and the files.
+fn read_programs<'a>(
+    alloc: Global,
+    words: &[&'a str],
+) -> Result<Vec<ProgramOf<'a>>, ArgumentFault> {
+    let mut programs = Vec::new(alloc);
+    for pair in words.chunks(2) {
+        programs.push(program_of(pair)?)?;
+    }
+    Ok(programs)
+}
+
+fn program_of<'a>(pair: &[&'a str]) -> Result<ProgramOf<'a>, ArgumentFault> {
+    let [node, file] = pair else {
+        return Err(ArgumentFault::Program);
+    };
+    match decimal_number(node) {
+        Some(number) if number < 256 => Ok(ProgramOf {
+            node: number as u8,
+            file: *file,
+        }),
+        _ => Err(ArgumentFault::Program),
+    }
+}
+
+fn print_record(
+    rt: &HostRuntime,
+    asked: &Debugging,
+    programs: &[ProgramOf],
+    record: &[u8],
+) -> Result<String, LabFailure> {
+    match look_through(rt, asked, programs, record) {
+        Ok(()) => Ok(String::new(rt.alloc())),
+        Err(fault) => Err(wrong_debugging(rt.alloc(), fault)),
+    }
+}
+
+fn look_through(
+    rt: &HostRuntime,
+    asked: &Debugging,
+    programs: &[ProgramOf],
+    record: &[u8],
+) -> Result<(), DebugFault> {
     let mut debugger = opened(rt, record, asked.most)?;
-    do_commands(rt, asked, &mut debugger)
+    do_commands(rt, programs, &mut debugger)
 }
 
 // Does the commands on standard input.
 fn do_commands(
     rt: &HostRuntime,
-    asked: &Debugging,
+    programs: &[ProgramOf],
     debugger: &mut Debugger,
 ) -> Result<(), DebugFault> {
     let mut input = BufReader::new(rt.alloc(), rt.reader())?;
     debug(
         rt.alloc(),
         debugger,
-        asked.programs.as_slice(),
+        programs,
         &Files(rt),
         &mut input,
         &mut rt.stdout(),

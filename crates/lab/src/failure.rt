@@ -1,276 +1,81 @@
-//! Why the lab ends without its output.
+//! Why nothing is answered of farms, plans, scripts and records.
 
 use farm_causes::{RecordStop, WhyFault};
+use lab_command::{LabFailure, NO_MEMORY, REFUSED_PLAN, WRONG_TEXT};
 use lab_debug::DebugFault;
-use line_words::NumberedLineFault;
-use node_trace::{BootFault, TraceFault};
 use plan_faults::PlanRefusal;
 use script_replay::{ReplayFault, RunFault};
-use script_text::{ReadFault, write_whole};
-use std::alloc::{AllocError, AllocFailed, Global};
-use std::fmt;
-use std::io::Write;
-use step_meter::StepsEnd;
-use t414_assembly::TextFault;
-use thiserror::Error;
+use std::alloc::Global;
 
-/// The status if the words of the command line are wrong.
-pub const WRONG_WORDS: u8 = 2;
-/// The status if a plan is refused.
-pub const REFUSED_PLAN: u8 = 3;
-/// The status if a text has a mistake, or asks for what isn't there.
-pub const WRONG_TEXT: u8 = 4;
-
-const NO_MEMORY: u8 = 5;
-/// The status if a file can't be read, or a stream fails.
-pub const NOT_READ: u8 = 6;
-
-const MOST_STEPS: u8 = 7;
-
-/// What is wrong with words that the parser takes.
-#[derive(Clone, Copy, Debug, Error)]
-pub enum ArgumentFault {
-    #[error("an argument isn't UTF-8")]
-    Arguments,
-    /// The words name no subcommand.
-    #[error("a subcommand is missing")]
-    Subcommand,
-    /// The code of `--boot` isn't hexadecimal digits.
-    #[error("the code is not hexadecimal digits, two for each byte and no 0x before them (`lab assemble` prints them of a program)")]
-    Code,
-    /// The code has so many bytes, which no boot takes.
-    #[error("the code has {0} bytes, and a boot takes 2 to 255{hint}", hint = hint_of_length(*.0))]
-    Length(usize),
-    /// What stands behind `--program` is no node and file.
-    #[error("--program takes the number of a node, and a file")]
-    Program,
-    /// More than one of `--boot`, `--program` and `--plan` stand there.
-    #[error("--boot, --program and --plan each say what is traced: write one of them")]
-    TwoCodes,
-    /// Other options of `trace` stand there than go with what is traced.
-    #[error("--until and --input go with --boot or --program, and --domain with --plan")]
-    TraceOptions,
-    /// `--until` is no address, and no label of a program.
-    #[error("--until takes an address, one to eight hexadecimal digits, or a label of --program: --until 8000004c")]
-    Address,
-    /// `--input` is no link with bytes.
-    #[error("--input takes a link, 0 to 3, a colon and bytes in hexadecimal digits: --input 1:0a0b")]
-    Input,
-    #[error("memory")]
-    Memory(#[from(alloc)] AllocError),
-}
-
-// What loads code of so many bytes, if there are too many for a boot.
-fn hint_of_length(count: usize) -> &'static str {
-    if count > 255 {
-        " (`lab assemble --pokes HOST USER` prints the lines of a script that load more)"
-    } else {
-        ""
+/// A plan is refused, with the place and the reason.
+pub fn refused_plan(alloc: Global, refusal: &PlanRefusal) -> LabFailure {
+    match refusal {
+        PlanRefusal::NoMemory => LabFailure::Memory,
+        refusal => LabFailure::of_line(alloc, refusal, REFUSED_PLAN),
     }
 }
 
-impl From<BootFault> for ArgumentFault {
-    fn from(fault: BootFault) -> ArgumentFault {
-        match fault {
-            BootFault::TooShort | BootFault::TooLong => ArgumentFault::Code,
-            BootFault::NoMemory => ArgumentFault::Memory(AllocError),
-        }
+/// A text isn't replayed.
+pub fn wrong_replay(alloc: Global, fault: ReplayFault) -> LabFailure {
+    match fault {
+        ReplayFault::OfUser(text) => LabFailure::Told {
+            text,
+            status: WRONG_TEXT,
+        },
+        ReplayFault::Line(wrong) => LabFailure::of_line(alloc, &wrong, WRONG_TEXT),
+        ReplayFault::Steps(end) => LabFailure::of_steps(alloc, end),
+        ReplayFault::Memory(_) => LabFailure::Memory,
+        fault => LabFailure::of_line(alloc, &fault, REFUSED_PLAN),
     }
 }
 
-/// Why the lab ends without its output.
-#[derive(Drop)]
-pub enum LabFailure {
-    /// This is told, and the process has this status.
-    Told { text: String, status: u8 },
-    Memory,
-    /// Standard input can't be read, or standard output can't be written.
-    Io,
-}
-
-impl LabFailure {
-    /// This text is told, if there was memory for it.
-    pub fn of_text(text: Result<String, AllocError>, status: u8) -> LabFailure {
-        match text {
-            Ok(text) => LabFailure::Told { text, status },
-            Err(_) => LabFailure::Memory,
-        }
-    }
-
-    // A line says this.
-    fn of_line<T: fmt::Display>(alloc: Global, told: &T, status: u8) -> LabFailure {
-        LabFailure::of_text(format!(in alloc; "{told}\n"), status)
-    }
-
-    /// `clap` refuses the words.
-    pub fn of_words(alloc: Global, error: &clap::Error) -> LabFailure {
-        LabFailure::of_text(format!(in alloc; "{error}"), WRONG_WORDS)
-    }
-
-    /// Words that the parser takes are wrong.
-    pub fn of_argument(alloc: Global, fault: ArgumentFault) -> LabFailure {
-        match fault {
-            ArgumentFault::Memory(_) => LabFailure::Memory,
-            fault => LabFailure::of_text(format!(in alloc; "error: {fault}\n"), WRONG_WORDS),
-        }
-    }
-
-    /// A boot can't take so many bytes of code.
-    pub fn of_length(alloc: Global, count: usize) -> LabFailure {
-        LabFailure::of_line(alloc, &ArgumentFault::Length(count), WRONG_TEXT)
-    }
-
-    /// A text is no program, or no digits.
-    pub fn of_program(alloc: Global, fault: &TextFault) -> LabFailure {
-        match fault {
-            TextFault::Memory(_) => LabFailure::Memory,
-            fault => LabFailure::of_line(alloc, fault, WRONG_TEXT),
-        }
-    }
-
-    /// A plan is refused, with the place and the reason.
-    pub fn of_plan(alloc: Global, refusal: &PlanRefusal) -> LabFailure {
-        match refusal {
-            PlanRefusal::NoMemory => LabFailure::Memory,
-            refusal => LabFailure::of_line(alloc, refusal, REFUSED_PLAN),
-        }
-    }
-
-    /// A line of a text has a mistake.
-    pub fn of_numbered(alloc: Global, fault: NumberedLineFault) -> LabFailure {
-        match fault {
-            NumberedLineFault::Wrong(wrong) => LabFailure::of_line(alloc, &wrong, WRONG_TEXT),
-            NumberedLineFault::Memory(_) => LabFailure::Memory,
-        }
-    }
-
-    // As many Steps were done as may be.
-    fn of_steps(alloc: Global, end: StepsEnd) -> LabFailure {
-        LabFailure::of_line(alloc, &end, MOST_STEPS)
-    }
-
-    /// The lines of a node aren't answered.
-    pub fn of_trace(alloc: Global, fault: TraceFault) -> LabFailure {
-        match fault {
-            TraceFault::Line(wrong) => LabFailure::of_line(alloc, &wrong, WRONG_TEXT),
-            TraceFault::Steps(end) => LabFailure::of_steps(alloc, end),
-            TraceFault::Memory(_) => LabFailure::Memory,
-        }
-    }
-
-    /// A text isn't replayed.
-    pub fn of_replay(alloc: Global, fault: ReplayFault) -> LabFailure {
-        match fault {
-            ReplayFault::OfUser(text) => LabFailure::Told {
-                text,
-                status: WRONG_TEXT,
-            },
-            ReplayFault::Line(wrong) => LabFailure::of_line(alloc, &wrong, WRONG_TEXT),
-            ReplayFault::Steps(end) => LabFailure::of_steps(alloc, end),
-            ReplayFault::Memory(_) => LabFailure::Memory,
-            fault => LabFailure::of_line(alloc, &fault, REFUSED_PLAN),
-        }
-    }
-
-    /// A script isn't run.
-    pub fn of_run(alloc: Global, fault: RunFault) -> LabFailure {
-        match fault {
-            RunFault::Lines(text) => LabFailure::Told {
-                text,
-                status: WRONG_TEXT,
-            },
-            RunFault::Domain(domain) => LabFailure::of_domain(alloc, domain),
-            RunFault::Head(_) => LabFailure::of_text(
-                String::from_str(alloc, "the head of the record doesn't read as its plan\n"),
-                WRONG_TEXT,
-            ),
-            RunFault::Steps(end) => LabFailure::of_steps(alloc, end),
-            RunFault::Memory(_) => LabFailure::Memory,
-            fault => LabFailure::of_line(alloc, &fault, REFUSED_PLAN),
-        }
-    }
-
-    /// A farm has no domain of this number.
-    pub fn of_domain(alloc: Global, domain: u8) -> LabFailure {
-        LabFailure::of_line(alloc, &RunFault::Domain(domain), WRONG_TEXT)
-    }
-
-    // A text is no record, or can't be followed.
-    fn of_record(alloc: Global, fault: WhyFault) -> LabFailure {
-        let status = match fault {
-            WhyFault::Plan(_) | WhyFault::Domains(_) => REFUSED_PLAN,
-            WhyFault::Memory(_) => NO_MEMORY,
-            _ => WRONG_TEXT,
-        };
-        LabFailure::of_line(alloc, &fault, status)
-    }
-
-    /// A record isn't followed to the moment that is asked for.
-    pub fn of_stop(alloc: Global, stop: RecordStop) -> LabFailure {
-        match stop {
-            RecordStop::Record(fault) => LabFailure::of_record(alloc, fault),
-            RecordStop::Steps(end) => LabFailure::of_steps(alloc, end),
-        }
-    }
-
-    /// A record isn't looked through.
-    pub fn of_debug(alloc: Global, fault: DebugFault) -> LabFailure {
-        match fault {
-            DebugFault::Record(fault) => LabFailure::of_record(alloc, fault),
-            DebugFault::Steps(end) => LabFailure::of_steps(alloc, end),
-            DebugFault::Memory(_) => LabFailure::Memory,
-            DebugFault::Io => LabFailure::Io,
-        }
-    }
-
-    /// The same, with the name of the file of which it is told.
-    pub fn in_file(self, alloc: Global, file: &str) -> LabFailure {
-        let status = self.status();
-        LabFailure::of_text(format!(in alloc; "{file}: {}", self.text()), status)
-    }
-
-    // The text for standard error.
-    fn text(&self) -> &str {
-        match self {
-            LabFailure::Told { text, .. } => text.as_str(),
-            LabFailure::Memory => "memory\n",
-            LabFailure::Io => "io\n",
-        }
-    }
-
-    // The status of the process.
-    fn status(&self) -> u8 {
-        match self {
-            LabFailure::Told { status, .. } => *status,
-            LabFailure::Memory => NO_MEMORY,
-            LabFailure::Io => NOT_READ,
-        }
-    }
-
-    /// Writes the text, and gives the status. If the text can't be written, the status stays.
-    pub fn tell<E: Write>(&self, errors: &mut E) -> u8 {
-        let _ = write_whole(errors, self.text().as_bytes());
-        self.status()
+/// A script isn't run.
+pub fn wrong_run(alloc: Global, fault: RunFault) -> LabFailure {
+    match fault {
+        RunFault::Lines(text) => LabFailure::Told {
+            text,
+            status: WRONG_TEXT,
+        },
+        RunFault::Domain(domain) => no_domain(alloc, domain),
+        RunFault::Head(_) => LabFailure::of_text(
+            String::from_str(alloc, "the head of the record doesn't read as its plan\n"),
+            WRONG_TEXT,
+        ),
+        RunFault::Steps(end) => LabFailure::of_steps(alloc, end),
+        RunFault::Memory(_) => LabFailure::Memory,
+        fault => LabFailure::of_line(alloc, &fault, REFUSED_PLAN),
     }
 }
 
-impl From<AllocError> for LabFailure {
-    fn from(_error: AllocError) -> LabFailure {
-        LabFailure::Memory
+/// A farm has no domain of this number.
+pub fn no_domain(alloc: Global, domain: u8) -> LabFailure {
+    LabFailure::of_line(alloc, &RunFault::Domain(domain), WRONG_TEXT)
+}
+
+// A text is no record, or can't be followed.
+fn wrong_record(alloc: Global, fault: WhyFault) -> LabFailure {
+    let status = match fault {
+        WhyFault::Plan(_) | WhyFault::Domains(_) => REFUSED_PLAN,
+        WhyFault::Memory(_) => NO_MEMORY,
+        _ => WRONG_TEXT,
+    };
+    LabFailure::of_line(alloc, &fault, status)
+}
+
+/// A record isn't followed to the moment that is asked for.
+pub fn stopped_record(alloc: Global, stop: RecordStop) -> LabFailure {
+    match stop {
+        RecordStop::Record(fault) => wrong_record(alloc, fault),
+        RecordStop::Steps(end) => LabFailure::of_steps(alloc, end),
     }
 }
 
-impl<T: Drop> From<AllocFailed<T>> for LabFailure {
-    fn from(_error: AllocFailed<T>) -> LabFailure {
-        LabFailure::Memory
-    }
-}
-
-impl From<ReadFault> for LabFailure {
-    fn from(fault: ReadFault) -> LabFailure {
-        match fault {
-            ReadFault::Failed => LabFailure::Io,
-            ReadFault::NoMemory => LabFailure::Memory,
-        }
+/// A record isn't looked through.
+pub fn wrong_debugging(alloc: Global, fault: DebugFault) -> LabFailure {
+    match fault {
+        DebugFault::Record(fault) => wrong_record(alloc, fault),
+        DebugFault::Steps(end) => LabFailure::of_steps(alloc, end),
+        DebugFault::Memory(_) => LabFailure::Memory,
+        DebugFault::Io => LabFailure::Io,
     }
 }

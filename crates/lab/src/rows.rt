@@ -1,27 +1,18 @@
 //! Worked rows that stand in files, compared with the answers that they expect.
 
 use crate::assembly::answer_row;
-use crate::failure::LabFailure;
-use crate::files::read_file;
-use crate::meter::TerminalMeter;
+use crate::failure::wrong_replay;
 use crate::mistakes::tell_mistake;
 use crate::plans::try_plans;
-use crate::reports::{Report, replayed};
+use crate::replays::replayed;
 use crate::scripts::folder_of;
+use lab_command::{LabFailure, Report, RowFiles, TerminalMeter, read_file};
 use line_words::{Answered, NumberedLineFault, Question, read_questions};
+use node_answers::wrong_trace;
 use node_trace::{TraceFault, trace};
 use script_replay::Replayed;
 use script_text::TextWriter;
 use std::alloc::Global;
-
-/// Which rows are compared.
-#[derive(Drop)]
-pub struct RowFiles<'a> {
-    /// The files in which they stand.
-    pub files: Vec<&'a str>,
-    /// How many Steps may be done for all of them, or any number.
-    pub most: Option<u64>,
-}
 
 /// Compares the rows of files. Each wrong row has a line that names its file and line, what it asked, the answer and
 /// what was expected; each file has a line that counts. The status is 1 if a row is wrong or a file has none.
@@ -74,7 +65,7 @@ fn answer_rows<'a>(
     }
     match answer_lines(rt.alloc(), file, text, meter) {
         Ok(answers) => Ok(answers),
-        Err(fault) => Err(LabFailure::of_trace(rt.alloc(), fault)),
+        Err(fault) => Err(wrong_trace(rt.alloc(), fault)),
     }
 }
 
@@ -86,7 +77,7 @@ fn answer_replayed<'a>(
 ) -> Result<Vec<Answered<'a>>, LabFailure> {
     match replayed(rt, folder_of(file), text, meter) {
         Ok(Replayed { answers, last: _ }) => Ok(answers),
-        Err(fault) => Err(LabFailure::of_replay(rt.alloc(), fault)),
+        Err(fault) => Err(wrong_replay(rt.alloc(), fault)),
     }
 }
 

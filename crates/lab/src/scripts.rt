@@ -1,31 +1,12 @@
-//! Scripts with lines that help: spelled out, run, or traced.
+//! Scripts with lines that help: spelled out, or run.
 
-use crate::debugging::opened;
-use crate::failure::{LabFailure, WRONG_TEXT};
-use crate::files::{read_file, readable_bytes};
-use crate::meter::TerminalMeter;
-use lab_debug::{DebugFault, Debugger};
+use crate::failure::wrong_run;
+use lab_command::{LabFailure, ScriptUse, TerminalMeter, WRONG_TEXT, read_file, readable_bytes};
 use lab_script::{Expanded, LoadedFile, expand, files_named};
 use line_words::NumberedLineFault;
 use script_replay::{record_script, run_script};
 use script_text::{TextWriter, divide, read_whole};
 use std::alloc::{AllocError, Global};
-
-/// How many Steps are traced unless the words say it.
-pub const USUAL_STEPS: u64 = 1000;
-
-/// What is done with the text of a script.
-#[derive(Clone, Copy)]
-pub enum ScriptUse {
-    /// Its lines that help are spelled out.
-    Expand,
-    /// It is run on one thread, if that takes no more Steps than these.
-    Run(Option<u64>),
-    /// The same, and the record of the domain of this number is printed.
-    Record { domain: u8, most: Option<u64> },
-    /// The same, and the Steps of that domain's nodes are traced, with the packets between.
-    Trace { domain: u8, most: Option<u64> },
-}
 
 /// Does this with the script in a file, or with the one on standard input. The files that it loads have their names from the
 /// folder of that file, or from the one in which the program runs.
@@ -66,8 +47,8 @@ fn print_text(
     }
 }
 
-// The files that the lines of a script load, as far as they can be read.
-fn loaded_files<'a>(
+/// The files that the lines of a script load, as far as they can be read.
+pub fn loaded_files<'a>(
     rt: &HostRuntime,
     folder: Option<&str>,
     text: &'a [u8],
@@ -87,7 +68,6 @@ fn use_script(
         ScriptUse::Expand => print_expansion(rt.alloc(), text, files),
         ScriptUse::Run(most) => print_run(rt, text, files, most),
         ScriptUse::Record { domain, most } => print_record(rt, text, files, domain, most),
-        ScriptUse::Trace { domain, most } => print_trace(rt, text, files, domain, most),
     }
 }
 
@@ -102,12 +82,12 @@ fn print_run(
     meter.wipe();
     match answers {
         Ok(answers) => Ok(answers),
-        Err(fault) => Err(LabFailure::of_run(rt.alloc(), fault)),
+        Err(fault) => Err(wrong_run(rt.alloc(), fault)),
     }
 }
 
-// The record of a domain after a script.
-fn print_record(
+/// The record of a domain after a script.
+pub fn print_record(
     rt: &HostRuntime,
     text: &[u8],
     files: &[LoadedFile],
@@ -119,35 +99,8 @@ fn print_record(
     meter.wipe();
     match record {
         Ok(record) => Ok(record),
-        Err(fault) => Err(LabFailure::of_run(rt.alloc(), fault)),
+        Err(fault) => Err(wrong_run(rt.alloc(), fault)),
     }
-}
-
-// What each Step of a domain's nodes does while a script runs, and each packet.
-fn print_trace(
-    rt: &HostRuntime,
-    text: &[u8],
-    files: &[LoadedFile],
-    domain: u8,
-    most: Option<u64>,
-) -> Result<String, LabFailure> {
-    let record = print_record(rt, text, files, domain, most)?;
-    match traced_record(rt, record.as_bytes(), most.unwrap_or(USUAL_STEPS)) {
-        Ok(text) => Ok(text),
-        Err(fault) => Err(LabFailure::of_debug(rt.alloc(), fault)),
-    }
-}
-
-// What the events of a record do, up to so many Steps.
-fn traced_record(rt: &HostRuntime, record: &[u8], steps: u64) -> Result<String, DebugFault> {
-    let mut debugger = opened(rt, record, None)?;
-    trace_of(rt.alloc(), &mut debugger, steps)
-}
-
-fn trace_of(alloc: Global, debugger: &mut Debugger, steps: u64) -> Result<String, DebugFault> {
-    let mut traced = TextWriter::new(alloc);
-    debugger.trace_from_opening(steps, &mut traced)?;
-    Ok(traced.finish()?)
 }
 
 fn print_expansion(alloc: Global, text: &[u8], files: &[LoadedFile]) -> Result<String, LabFailure> {

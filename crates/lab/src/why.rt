@@ -1,27 +1,15 @@
 //! Why the nodes of a record wait.
 
-use crate::failure::LabFailure;
-use crate::files::read_file;
-use crate::meter::TerminalMeter;
+use crate::failure::stopped_record;
 use farm_causes::{RecordStop, explain_record};
-
-/// What is explained of a record.
-#[derive(Clone, Copy)]
-pub struct Explaining<'a> {
-    /// The file of the record.
-    pub record: &'a str,
-    /// After how many of its events, or at its end if it has fewer.
-    pub events: u64,
-    /// How many Steps may be done to get there, or any number.
-    pub most: Option<u64>,
-}
+use lab_command::{Explaining, LabFailure, TerminalMeter, read_file};
 
 /// Says why each node waits, halted or runs on, at this moment of a record.
 pub fn print_why(rt: &HostRuntime, asked: Explaining) -> Result<String, LabFailure> {
     let record = read_file(rt, asked.record)?;
     match explain(rt, record.as_slice(), asked) {
         Ok(text) => Ok(text),
-        Err(stop) => Err(LabFailure::of_stop(rt.alloc(), stop)),
+        Err(stop) => Err(stopped_record(rt.alloc(), stop)),
     }
 }
 

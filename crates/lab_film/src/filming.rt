@@ -15,9 +15,6 @@ use script_text::TextWriter;
 use std::alloc::Global;
 use step_meter::StepMeter;
 
-/// How many frames a film has at most unless it is said.
-pub const USUAL_COUNT: u64 = 100_000;
-
 /// Which part of a record is shown.
 #[derive(Clone, Copy)]
 pub struct Span {

@@ -14,7 +14,7 @@ mod steps;
 mod style;
 mod told;
 
-pub use filming::{Span, USUAL_COUNT, film_of};
+pub use filming::{Span, film_of};
 pub use frame::{Frame, HostFrame, NodeFrame, frame_of};
 pub use page::page_of;
 pub use shot::{FoundPacket, Shot, shot_of};

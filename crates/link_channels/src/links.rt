@@ -87,7 +87,7 @@ impl Links {
         self.at(number).end.latch.next()
     }
 
-    /// Takes the packet that leaves a link next. Where none waits nothing changes.
+    /// Takes the packet that leaves a link next. If none waits, nothing changes.
     pub fn take(&mut self, number: LinkNumber) -> Option<Packet>
         ensures answer { result ≡ next_of (at number self.old).end.latch }
         ensures state { self.new ≡ packet_taken number self.old }
@@ -116,7 +116,7 @@ impl Links {
         self.set(number, link);
     }
 
-    /// Takes the byte from a link's buffer, which posts an acknowledge. Where there is none nothing changes.
+    /// Takes the byte from a link's buffer, which posts an acknowledge. If there is none, nothing changes.
     pub fn take_byte(&mut self, number: LinkNumber) -> Option<u8>
         ensures answer { result ≡ (at number self.old).end.input.buffer }
         ensures state { self.new ≡ byte_taken number self.old }

@@ -1,14 +1,14 @@
 //! The farm that stays up: see the library `live_farm`, to which it hands the words, the plan's file and the streams.
 #![tactic(auto)]
 
-ghost use Rattle.live_farm.specs.LiveRanges.{IsInRange};
+ghost use Rattle.live_lines.specs.LiveRanges.{IsInRange};
 
 use clap::error::ErrorKind;
 use farm_service::Histories;
 use live_farm::{
-    FileRecords, LiveFailure, LiveSettings, Outlet, RecordFolder, SharedOutlet, live_settings,
-    no_records, run_live,
+    FileRecords, LiveFailure, Outlet, RecordFolder, SharedOutlet, no_records, run_live,
 };
+use live_lines::{LiveSettings, live_settings};
 use plan_checker::{AcceptedPlan, check, read_plan};
 use script_text::{ReadFault, read_whole, write_whole};
 use std::alloc::Global;

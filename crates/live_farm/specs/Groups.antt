@@ -6,8 +6,8 @@ use Rattle.script_lines.specs.declared.command.Command.{Command}
 use Rattle.line_answers.specs.Sessions.{IsAnswered}
 use Rattle.script_lines.specs.declared.fault.LineFault.TheVariants as fault
 use Rattle.farm_service.specs.Restarts.{begun_anew}
-use Rattle.live_farm.specs.declared.asked.WholeRequest.TheVariants as whole
-use Rattle.live_farm.specs.declared.asked.LiveRequest.TheVariants as request
+use Rattle.live_lines.specs.declared.asked.WholeRequest.TheVariants as whole
+use Rattle.live_lines.specs.declared.asked.LiveRequest.TheVariants as request
 use Rattle.live_farm.specs.declared.group.DomainUsers.{DomainUsers}
 use Rattle.live_farm.specs.declared.letter.Letter.{Letter}
 use Rattle.live_farm.specs.declared.letter.Matter.{Matter}

@@ -3,7 +3,6 @@ ghost use Rattle.std.specs.Prelude.{◌≡◌, ◌<◌, true, false, length, map
 ghost use Rattle.farm_service.specs.Restarts.{begun_anew};
 ghost use Rattle.live_farm.specs.Groups.{AnswersLine, AnswersRest, AnswersRestart, AnswersWhy, AnswersOperator, AnswersLetter};
 
-use crate::asked::{LiveRequest, WholeRequest};
 use crate::causes::told_of;
 use crate::group::DomainUsers;
 use crate::letter::{Letter, Matter};
@@ -14,6 +13,7 @@ use crate::texts::{
 use domain_core::{NoMemory, Refusal};
 use farm_causes::FollowFault;
 use line_answers::{answer_line, settle};
+use live_lines::{LiveRequest, WholeRequest};
 use script_lines::{Command, LineFault};
 use std::alloc::Global;
 use std::sync::Wait;

@@ -1,16 +1,15 @@
 //! Who reads the lines: users' lines go to the threads of their domains, and the operator's are answered here.
 
-use crate::asked::{LiveLine, OperatorRequest};
 use crate::crew::Crew;
 use crate::failure::Trouble;
-use crate::fault::LiveFault;
 use crate::letter::Matter;
 use crate::mailbox::Sent;
 use crate::operator::Operator;
 use crate::outlet::SharedOutlet;
-use crate::parsing::{is_operators, parse_live_line};
-use crate::reading::{InputLine, next_line};
 use crate::texts::{Why, error_answer, unknown_user_answer};
+use live_lines::{
+    InputLine, LiveFault, LiveLine, OperatorRequest, is_operators, next_line, parse_live_line,
+};
 use script_lines::{LineWords, user_named};
 use script_text::{is_passed_over, split_line, write_whole};
 use std::alloc::Global;

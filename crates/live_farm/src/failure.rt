@@ -143,7 +143,7 @@ impl LiveFailure {
         }
     }
 
-    /// Writes the text, and gives the status: 5 if there is no memory for the text. Where the text can't be written the
+    /// Writes the text, and gives the status: 5 if there is no memory for the text. If the text can't be written, the
     /// status stays.
     pub fn report<E: Write>(&self, alloc: Global, errors: &mut E) -> u8
         ensures { (result ≡ live_status self.now) ⊎ (result ≡ 5) }

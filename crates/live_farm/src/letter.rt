@@ -1,7 +1,7 @@
 //! What comes to a domain's thread.
 
-use crate::asked::LiveRequest;
 use crate::texts::Why;
+use live_lines::LiveRequest;
 
 /// What is to be answered.
 #[derive(Drop)]

@@ -4,9 +4,8 @@ ghost use Rattle.token_queue.specs.Passes.{AreItsPasses};
 ghost use Rattle.farm_core.specs.Places.{places_of};
 ghost use Rattle.farm_service.specs.Closed.{AreDomainsOf, EachMergeRuns};
 ghost use Rattle.farm_service.specs.Services.{IsItsOperator};
-ghost use Rattle.live_farm.specs.LiveRanges.{IsInRange};
+ghost use Rattle.live_lines.specs.LiveRanges.{IsInRange};
 
-use crate::command_line::LiveSettings;
 use crate::crew::Crew;
 use crate::failure::{LiveFailure, Trouble};
 use crate::operator::Operator;
@@ -18,6 +17,7 @@ use farm_service::{
     Closed, Histories, NoGate, Opened, Service, UserPass, WorkerPass, run_users_and_workers,
 };
 use line_answers::Quantum;
+use live_lines::LiveSettings;
 use record_keeping::NotKept;
 use std::alloc::Global;
 use std::io::{BufRead, Write};

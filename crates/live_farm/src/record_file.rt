@@ -1,11 +1,11 @@
 //! Records in files of a folder.
 
-use crate::command_line::RecordSettings;
 use crate::crew::{UserNumber, name_of};
 use crate::failure::LiveFailure;
 use domain_core::NoMemory;
 use farm_records::{HeadFault, RecordFault, Redone, head_of, redo_record};
 use farm_service::{Histories, SeatedDomain};
+use live_lines::RecordSettings;
 use plan_checker::AcceptedPlan;
 use record_keeping::{DomainRecord, RecordStore};
 use script_text::write_whole;

@@ -3,7 +3,6 @@ ghost use Rattle.std.specs.Prelude.{◌<◌, ◌⊎◌, length, IfOk, string_byt
 ghost use Rattle.live_farm.specs.Groups.{AnswersLetter, TellsUnrecorded};
 
 use crate::answering::answer_letter;
-use crate::asked::LiveRequest;
 use crate::group::DomainUsers;
 use crate::letter::{Letter, Matter};
 use crate::mailbox::Mailbox;
@@ -11,6 +10,7 @@ use crate::outlet::SharedOutlet;
 use crate::record::SharedRecord;
 use crate::texts::{LiveAnswer, Why, error_answer};
 use domain_core::NoMemory;
+use live_lines::LiveRequest;
 use record_keeping::NotKept;
 use std::alloc::Global;
 use std::sync::atomic::{AtomicBool, AtomicU64, Ordering};

@@ -42,7 +42,7 @@ impl LinkEnd {
         self.output.begin();
     }
 
-    /// Takes the byte from the buffer, which posts an acknowledge. Where the buffer is empty nothing
+    /// Takes the byte from the buffer, which posts an acknowledge. If the buffer is empty, nothing
     /// changes.
     pub fn take_byte(&mut self) -> Option<u8>
         ensures answer { result ≡ self.old.input.buffer }

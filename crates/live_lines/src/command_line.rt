@@ -1,6 +1,6 @@
 //! The settings that the words of the command line give.
 ghost use Rattle.std.specs.Prelude.{◌≤◌, IfOk};
-ghost use Rattle.live_farm.specs.LiveRanges.{IsInRange};
+ghost use Rattle.live_lines.specs.LiveRanges.{IsInRange};
 
 use clap::{Arg, ArgAction, ArgMatches, Command, value_parser};
 use std::alloc::{AllocError, Global};

@@ -1,6 +1,6 @@
 -- Which settings a farm takes.
 use Rattle.std.specs.Prelude.{◌≤◌}
-use Rattle.live_farm.specs.declared.command_line.LiveSettings.{LiveSettings}
+use Rattle.live_lines.specs.declared.command_line.LiveSettings.{LiveSettings}
 
 -- 1 to 8 workers, and 1 to 4096 Steps at a time
 pub record IsInRange (s : LiveSettings) : Type 0 where

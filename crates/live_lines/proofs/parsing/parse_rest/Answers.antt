@@ -1,9 +1,9 @@
 use Rattle.std.proofs.Common.{◌≡◌, ◌∷◌, rules}
 use Rattle.script_lines.specs.declared.fault.LineFault.{LineFault}
 use Rattle.script_lines.specs.declared.fault.Unread.TheVariants.{Faulty}
-use Rattle.live_farm.specs.LiveLines.{IsLiveRestFault}
-use Rattle.live_farm.proofs.Grammar.{not_of_domain, live_refused}
-use Rattle.live_farm.proofs.parsing.parse_rest.Goals as goal
+use Rattle.live_lines.specs.LiveLines.{IsLiveRestFault}
+use Rattle.live_lines.proofs.Grammar.{not_of_domain, live_refused}
+use Rattle.live_lines.proofs.parsing.parse_rest.Goals as goal
 
 pub returns-in_err-parse_request-clause-fault : goal.returns-in_err-parse_request-clause-fault
 returns-in_err-parse_request-clause-fault c =

@@ -5,12 +5,12 @@ use Rattle.script_lines.specs.declared.fault.LineFault.{LineFault}
 use Rattle.script_lines.specs.declared.fault.LineFault.TheVariants as fault
 use Rattle.script_lines.specs.Words.{words_between}
 use Rattle.script_lines.specs.Lines.{IsRestFault}
-use Rattle.live_farm.specs.declared.asked.LiveLine.{LiveLine}
-use Rattle.live_farm.specs.declared.fault.LiveFault.{LiveFault}
-use Rattle.live_farm.specs.declared.fault.LiveFault.TheVariants as live_fault
-use Rattle.live_farm.specs.declared.verbs.DomainVerb.{DomainVerb}
-use Rattle.live_farm.specs.LiveVerbs.{domain_verb_name}
-use Rattle.live_farm.specs.LiveLines.{is_operators, IsOfDomain, IsLiveRestFault, IsUserFault, IsLiveFault}
+use Rattle.live_lines.specs.declared.asked.LiveLine.{LiveLine}
+use Rattle.live_lines.specs.declared.fault.LiveFault.{LiveFault}
+use Rattle.live_lines.specs.declared.fault.LiveFault.TheVariants as live_fault
+use Rattle.live_lines.specs.declared.verbs.DomainVerb.{DomainVerb}
+use Rattle.live_lines.specs.LiveVerbs.{domain_verb_name}
+use Rattle.live_lines.specs.LiveLines.{is_operators, IsOfDomain, IsLiveRestFault, IsUserFault, IsLiveFault}
 
 -- if the first word is no verb of a domain, the words ask nothing of the domain as a whole
 pub not_of_domain : (rest behind : List (List ℕ)) (word : List ℕ)

@@ -5,21 +5,21 @@ use Rattle.script_lines.specs.declared.fault.LineFault.{LineFault}
 use Rattle.script_lines.specs.declared.fault.LineFault.TheVariants as fault
 use Rattle.script_lines.specs.Words.{words_between, IsDecimal}
 use Rattle.script_lines.specs.Lines.{BeginsWith, IsUserName, IsPlaceNumber, IsRequest, IsRestFault}
-use Rattle.live_farm.specs.declared.asked.WholeRequest.{WholeRequest}
-use Rattle.live_farm.specs.declared.asked.WholeRequest.TheVariants as whole
-use Rattle.live_farm.specs.declared.asked.LiveRequest.{LiveRequest}
-use Rattle.live_farm.specs.declared.asked.LiveRequest.TheVariants as request
-use Rattle.live_farm.specs.declared.asked.LiveLine.{LiveLine}
-use Rattle.live_farm.specs.declared.asked.LiveLine.TheVariants as live
-use Rattle.live_farm.specs.declared.asked.OperatorRequest.{OperatorRequest}
-use Rattle.live_farm.specs.declared.asked.OperatorRequest.TheVariants as operator
-use Rattle.live_farm.specs.declared.fault.LiveFault.{LiveFault}
-use Rattle.live_farm.specs.declared.fault.LiveFault.TheVariants as live_fault
-use Rattle.live_farm.specs.declared.verbs.DomainVerb.{DomainVerb}
-use Rattle.live_farm.specs.declared.verbs.DomainVerb.TheVariants as domain
-use Rattle.live_farm.specs.declared.verbs.OperatorVerb.{OperatorVerb}
-use Rattle.live_farm.specs.declared.verbs.OperatorVerb.TheVariants as verb
-use Rattle.live_farm.specs.LiveVerbs.{domain_verb_name, operator_verb_name}
+use Rattle.live_lines.specs.declared.asked.WholeRequest.{WholeRequest}
+use Rattle.live_lines.specs.declared.asked.WholeRequest.TheVariants as whole
+use Rattle.live_lines.specs.declared.asked.LiveRequest.{LiveRequest}
+use Rattle.live_lines.specs.declared.asked.LiveRequest.TheVariants as request
+use Rattle.live_lines.specs.declared.asked.LiveLine.{LiveLine}
+use Rattle.live_lines.specs.declared.asked.LiveLine.TheVariants as live
+use Rattle.live_lines.specs.declared.asked.OperatorRequest.{OperatorRequest}
+use Rattle.live_lines.specs.declared.asked.OperatorRequest.TheVariants as operator
+use Rattle.live_lines.specs.declared.fault.LiveFault.{LiveFault}
+use Rattle.live_lines.specs.declared.fault.LiveFault.TheVariants as live_fault
+use Rattle.live_lines.specs.declared.verbs.DomainVerb.{DomainVerb}
+use Rattle.live_lines.specs.declared.verbs.DomainVerb.TheVariants as domain
+use Rattle.live_lines.specs.declared.verbs.OperatorVerb.{OperatorVerb}
+use Rattle.live_lines.specs.declared.verbs.OperatorVerb.TheVariants as verb
+use Rattle.live_lines.specs.LiveVerbs.{domain_verb_name, operator_verb_name}
 
 -- whether a line is the operator's: it begins with `!`, with which no user's name begins
 abbrev pub is_operators : List ℕ → Bool

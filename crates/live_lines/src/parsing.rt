@@ -3,8 +3,8 @@ ghost use Rattle.std.specs.Prelude.{◌≡◌, ◌∷◌, [], ℕ, List, map, If
 ghost use Rattle.script_lines.specs.declared.fault.LineFault.{LineFault as SpecLineFault};
 ghost use Rattle.script_lines.specs.declared.fault.LineFault.TheVariants.{Args};
 ghost use Rattle.script_lines.specs.declared.fault.Unread.TheVariants.{Faulty};
-ghost use Rattle.live_farm.specs.LiveLines.{is_operators, DomainAsks, HasDomainArguments, AsksLive, IsLiveRestFault, IsUserLine, IsUserFault};
-ghost use Rattle.live_farm.specs.LiveLines.{OperatorAsks, IsOperatorArgumentFault, IsOperatorLine, IsOperatorFault, IsLiveLine, IsLiveFault};
+ghost use Rattle.live_lines.specs.LiveLines.{is_operators, DomainAsks, HasDomainArguments, AsksLive, IsLiveRestFault, IsUserLine, IsUserFault};
+ghost use Rattle.live_lines.specs.LiveLines.{OperatorAsks, IsOperatorArgumentFault, IsOperatorLine, IsOperatorFault, IsLiveLine, IsLiveFault};
 
 use crate::asked::{LiveLine, LiveRequest, OperatorRequest, WholeRequest};
 use crate::fault::LiveFault;

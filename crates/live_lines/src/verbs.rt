@@ -1,8 +1,8 @@
 //! The verbs that a script hasn't.
 ghost use Rattle.std.specs.Prelude.{◌≡◌, ◌≢◌, MatchOption};
-ghost use Rattle.live_farm.specs.declared.verbs.DomainVerb.{DomainVerb as SpecDomainVerb};
-ghost use Rattle.live_farm.specs.declared.verbs.OperatorVerb.{OperatorVerb as SpecOperatorVerb};
-ghost use Rattle.live_farm.specs.LiveVerbs.{domain_verb_name, operator_verb_name};
+ghost use Rattle.live_lines.specs.declared.verbs.DomainVerb.{DomainVerb as SpecDomainVerb};
+ghost use Rattle.live_lines.specs.declared.verbs.OperatorVerb.{OperatorVerb as SpecOperatorVerb};
+ghost use Rattle.live_lines.specs.LiveVerbs.{domain_verb_name, operator_verb_name};
 
 /// What a user asks of his domain as a whole.
 #[derive(Clone, Copy)]

@@ -1,9 +1,9 @@
 -- The verbs that a script hasn't. The words are our own.
 use Rattle.std.specs.Prelude.{ℕ, List, codes}
-use Rattle.live_farm.specs.declared.verbs.DomainVerb.{DomainVerb}
-use Rattle.live_farm.specs.declared.verbs.DomainVerb.TheVariants as domain
-use Rattle.live_farm.specs.declared.verbs.OperatorVerb.{OperatorVerb}
-use Rattle.live_farm.specs.declared.verbs.OperatorVerb.TheVariants as operator
+use Rattle.live_lines.specs.declared.verbs.DomainVerb.{DomainVerb}
+use Rattle.live_lines.specs.declared.verbs.DomainVerb.TheVariants as domain
+use Rattle.live_lines.specs.declared.verbs.OperatorVerb.{OperatorVerb}
+use Rattle.live_lines.specs.declared.verbs.OperatorVerb.TheVariants as operator
 
 -- the word by which a user asks something of his domain as a whole
 abbrev pub domain_verb_name : DomainVerb → List ℕ

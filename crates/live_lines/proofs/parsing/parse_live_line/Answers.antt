@@ -1,6 +1,6 @@
 use Rattle.std.proofs.Common.{rules}
-use Rattle.live_farm.proofs.Grammar.{user_line_refused}
-use Rattle.live_farm.proofs.parsing.parse_live_line.Goals as goal
+use Rattle.live_lines.proofs.Grammar.{user_line_refused}
+use Rattle.live_lines.proofs.parsing.parse_live_line.Goals as goal
 
 pub returns-then-not-is_operators-clause-fault : goal.returns-then-not-is_operators-clause-fault
 returns-then-not-is_operators-clause-fault c =

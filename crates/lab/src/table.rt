@@ -1,0 +1,45 @@
+//! A plan as a table.
+
+use crate::failure::refused_plan;
+use lab_command::{LabFailure, REFUSED_PLAN};
+use line_faults::has_verb;
+use plan_faults::{PlanRefusal, accepted, line_unread};
+use plan_views::table_of;
+use script_text::{divide, read_whole};
+use std::alloc::{AllocError, Global};
+
+/// The plan on standard input as a table.
+pub fn print_plan(rt: &HostRuntime) -> Result<String, LabFailure> {
+    let text = read_whole(rt.alloc(), &mut rt.reader())?;
+    table(rt.alloc(), text.as_slice())
+}
+
+fn table(alloc: Global, text: &[u8]) -> Result<String, LabFailure> {
+    let (plan, _) = divide(text, b"---");
+    match accepted(alloc, plan) {
+        Ok(plan) => Ok(table_of(alloc, &plan)?),
+        Err(refusal) => Err(tell_refused(alloc, plan, &refusal)),
+    }
+}
+
+// What is told of a plan that is refused. If what can't be read of it is a line of a script, the mark before that is missing.
+fn tell_refused(alloc: Global, plan: &[u8], refusal: &PlanRefusal) -> LabFailure {
+    match script_line(alloc, plan) {
+        Ok(Some(line)) => LabFailure::of_text(
+            format!(in alloc;
+                "{refusal} (line {line} begins like one of a script, and no line before it is just ---)\n"
+            ),
+            REFUSED_PLAN,
+        ),
+        Ok(None) => refused_plan(alloc, refusal),
+        Err(_) => LabFailure::Memory,
+    }
+}
+
+// The number of the line at which a text stops being TOML, if it begins as a line of a script does.
+fn script_line(alloc: Global, plan: &[u8]) -> Result<Option<u64>, AllocError> {
+    match line_unread(alloc, plan)? {
+        Some(line) if has_verb(line.text) => Ok(Some(line.number)),
+        _ => Ok(None),
+    }
+}

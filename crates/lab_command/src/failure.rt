@@ -1,0 +1,170 @@
+//! Why the lab ends without its output.
+
+use line_words::NumberedLineFault;
+use script_text::{ReadFault, write_whole};
+use std::alloc::{AllocError, AllocFailed, Global};
+use std::fmt;
+use std::io::Write;
+use step_meter::StepsEnd;
+use thiserror::Error;
+
+/// The status if the words of the command line are wrong.
+pub const WRONG_WORDS: u8 = 2;
+/// The status if a plan is refused.
+pub const REFUSED_PLAN: u8 = 3;
+/// The status if a text has a mistake, or asks for what isn't there.
+pub const WRONG_TEXT: u8 = 4;
+
+/// The status if there is no memory.
+pub const NO_MEMORY: u8 = 5;
+/// The status if a file can't be read, or a stream fails.
+pub const NOT_READ: u8 = 6;
+
+const MOST_STEPS: u8 = 7;
+
+/// What is wrong with words that the parser takes.
+#[derive(Clone, Copy, Debug, Error)]
+pub enum ArgumentFault {
+    #[error("an argument isn't UTF-8")]
+    Arguments,
+    /// The words name no subcommand.
+    #[error("a subcommand is missing")]
+    Subcommand,
+    /// The code of `--boot` isn't hexadecimal digits.
+    #[error("the code is not hexadecimal digits, two for each byte and no 0x before them (`lab assemble` prints them of a program)")]
+    Code,
+    /// The code has so many bytes, which no boot takes.
+    #[error("the code has {0} bytes, and a boot takes 2 to 255{hint}", hint = hint_of_length(*.0))]
+    Length(usize),
+    /// What stands behind `--program` is no node and file.
+    #[error("--program takes the number of a node, and a file")]
+    Program,
+    /// More than one of `--boot`, `--program` and `--plan` stand there.
+    #[error("--boot, --program and --plan each say what is traced: write one of them")]
+    TwoCodes,
+    /// Other options of `trace` stand there than go with what is traced.
+    #[error("--until and --input go with --boot or --program, and --domain with --plan")]
+    TraceOptions,
+    /// `--until` is no address, and no label of a program.
+    #[error("--until takes an address, one to eight hexadecimal digits, or a label of --program: --until 8000004c")]
+    Address,
+    /// `--input` is no link with bytes.
+    #[error("--input takes a link, 0 to 3, a colon and bytes in hexadecimal digits: --input 1:0a0b")]
+    Input,
+    /// Another program of the lab answers this.
+    #[error("another program answers this subcommand, and the command `lab` starts the right one")]
+    Elsewhere,
+    #[error("memory")]
+    Memory(#[from(alloc)] AllocError),
+}
+
+// What loads code of so many bytes, if there are too many for a boot.
+fn hint_of_length(count: usize) -> &'static str {
+    if count > 255 {
+        " (`lab assemble --pokes HOST USER` prints the lines of a script that load more)"
+    } else {
+        ""
+    }
+}
+
+/// Why the lab ends without its output.
+#[derive(Drop)]
+pub enum LabFailure {
+    /// This is told, and the process has this status.
+    Told { text: String, status: u8 },
+    Memory,
+    /// Standard input can't be read, or standard output can't be written.
+    Io,
+}
+
+impl LabFailure {
+    /// This text is told, if there was memory for it.
+    pub fn of_text(text: Result<String, AllocError>, status: u8) -> LabFailure {
+        match text {
+            Ok(text) => LabFailure::Told { text, status },
+            Err(_) => LabFailure::Memory,
+        }
+    }
+
+    /// A line says this.
+    pub fn of_line<T: fmt::Display>(alloc: Global, told: &T, status: u8) -> LabFailure {
+        LabFailure::of_text(format!(in alloc; "{told}\n"), status)
+    }
+
+    // `clap` refuses the words.
+    pub(crate) fn of_words(alloc: Global, error: &clap::Error) -> LabFailure {
+        LabFailure::of_text(format!(in alloc; "{error}"), WRONG_WORDS)
+    }
+
+    /// Words that the parser takes are wrong.
+    pub fn of_argument(alloc: Global, fault: ArgumentFault) -> LabFailure {
+        match fault {
+            ArgumentFault::Memory(_) => LabFailure::Memory,
+            fault => LabFailure::of_text(format!(in alloc; "error: {fault}\n"), WRONG_WORDS),
+        }
+    }
+
+    /// A line of a text has a mistake.
+    pub fn of_numbered(alloc: Global, fault: NumberedLineFault) -> LabFailure {
+        match fault {
+            NumberedLineFault::Wrong(wrong) => LabFailure::of_line(alloc, &wrong, WRONG_TEXT),
+            NumberedLineFault::Memory(_) => LabFailure::Memory,
+        }
+    }
+
+    /// As many Steps were done as may be.
+    pub fn of_steps(alloc: Global, end: StepsEnd) -> LabFailure {
+        LabFailure::of_line(alloc, &end, MOST_STEPS)
+    }
+
+    /// The same, with the name of the file of which it is told.
+    pub fn in_file(self, alloc: Global, file: &str) -> LabFailure {
+        let status = self.status();
+        LabFailure::of_text(format!(in alloc; "{file}: {}", self.text()), status)
+    }
+
+    // The text for standard error.
+    fn text(&self) -> &str {
+        match self {
+            LabFailure::Told { text, .. } => text.as_str(),
+            LabFailure::Memory => "memory\n",
+            LabFailure::Io => "io\n",
+        }
+    }
+
+    // The status of the process.
+    fn status(&self) -> u8 {
+        match self {
+            LabFailure::Told { status, .. } => *status,
+            LabFailure::Memory => NO_MEMORY,
+            LabFailure::Io => NOT_READ,
+        }
+    }
+
+    /// Writes the text, and gives the status. If the text can't be written, the status stays.
+    pub fn tell<E: Write>(&self, errors: &mut E) -> u8 {
+        let _ = write_whole(errors, self.text().as_bytes());
+        self.status()
+    }
+}
+
+impl From<AllocError> for LabFailure {
+    fn from(_error: AllocError) -> LabFailure {
+        LabFailure::Memory
+    }
+}
+
+impl<T: Drop> From<AllocFailed<T>> for LabFailure {
+    fn from(_error: AllocFailed<T>) -> LabFailure {
+        LabFailure::Memory
+    }
+}
+
+impl From<ReadFault> for LabFailure {
+    fn from(fault: ReadFault) -> LabFailure {
+        match fault {
+            ReadFault::Failed => LabFailure::Io,
+            ReadFault::NoMemory => LabFailure::Memory,
+        }
+    }
+}

@@ -1,0 +1,25 @@
+//! The command line of the lab: its subcommands and their arguments, what the words ask, and why no answer comes.
+//!
+//! Two programs answer: `lab` all that can be asked, and `lab_node` a part. They read all words alike, and write the same help.
+#![tactic(auto)]
+
+mod arguments;
+mod command_line;
+mod failure;
+mod files;
+mod meter;
+mod report;
+mod request;
+mod subcommand;
+
+pub use command_line::{CommandLine, USUAL_STEPS, read_command_line, words_of};
+pub use failure::{
+    ArgumentFault, LabFailure, NO_MEMORY, NOT_READ, REFUSED_PLAN, WRONG_TEXT, WRONG_WORDS,
+};
+pub use files::{read_file, readable_bytes};
+pub use meter::TerminalMeter;
+pub use report::{Report, end_with, print_answers};
+pub use request::{
+    AssemblyOptions, BootOptions, BootedCode, Debugging, Drawing, Explaining, LabRequest, RowFiles,
+    ScriptUse, Showing, TracedScript,
+};

@@ -1,0 +1,3 @@
+        ldc 3
+loop:   adc -1
+        j loop

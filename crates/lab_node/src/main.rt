@@ -1,0 +1,18 @@
+//! The lab's program for whoever assembles a text or traces a node, and needn't wait for the proof of the whole lab.
+#![tactic(auto)]
+
+use lab_command::{CommandLine, LabFailure, Report, end_with, read_command_line, words_of};
+use node_answers::answer_of_node;
+use std::process::ExitCode;
+
+fn main(rt: HostRuntime) -> ExitCode {
+    end_with(&rt, report(&rt))
+}
+
+fn report(rt: &HostRuntime) -> Result<Report, LabFailure> {
+    let words = words_of(rt)?;
+    match read_command_line(rt.alloc(), words.as_slice())? {
+        CommandLine::Help(text) => Report::of(Ok(text)),
+        CommandLine::Request(request) => Report::of(answer_of_node(rt, &request)),
+    }
+}

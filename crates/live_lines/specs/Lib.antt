@@ -1,0 +1,4 @@
+-- what must be believed
+pub mod LiveRanges
+pub mod LiveVerbs
+pub mod LiveLines

@@ -1,0 +1,133 @@
+//! A node that is booted with code, and traced.
+
+use crate::failure::{wrong_length, wrong_program};
+use crate::inputs::{read_code, read_inputs};
+use lab_command::{ArgumentFault, BootOptions, BootedCode, LabFailure, TerminalMeter, read_file};
+use line_words::hexadecimal_word;
+use node_trace::{BootFault, BootTrace, LinkInput, Program, trace_boot};
+use std::alloc::{AllocError, Global};
+
+/// Traces a node that is booted with the code of the words, or with that of the program in a file.
+pub fn print_booted(rt: &HostRuntime, options: &BootOptions) -> Result<String, LabFailure> {
+    match options.code {
+        BootedCode::Digits(digits) => told(rt.alloc(), trace_digits(rt, options, digits)),
+        BootedCode::Program(file) => print_program(rt, options, file),
+    }
+}
+
+// A trace, or what is wrong with the words.
+fn told(alloc: Global, traced: Result<String, ArgumentFault>) -> Result<String, LabFailure> {
+    match traced {
+        Ok(text) => Ok(text),
+        Err(fault) => Err(LabFailure::of_argument(alloc, fault)),
+    }
+}
+
+fn trace_digits(
+    rt: &HostRuntime,
+    options: &BootOptions,
+    digits: &str,
+) -> Result<String, ArgumentFault> {
+    let code = read_code(rt.alloc(), digits)?;
+    let inputs = read_inputs(rt.alloc(), options.inputs.as_slice())?;
+    let until = match options.until {
+        Some(word) => Some(address_of(word)?),
+        None => None,
+    };
+    trace_code(
+        rt,
+        &BootTrace {
+            code: code.as_slice(),
+            steps: options.steps,
+            until,
+            inputs: inputs.as_slice(),
+            lines: &[],
+        },
+    )
+}
+
+// Wrong bytes of the words are told before the file is read.
+fn print_program(
+    rt: &HostRuntime,
+    options: &BootOptions,
+    file: &str,
+) -> Result<String, LabFailure> {
+    match read_inputs(rt.alloc(), options.inputs.as_slice()) {
+        Ok(inputs) => {
+            let program = read_program(rt, file)?;
+            told(
+                rt.alloc(),
+                trace_program(rt, options, inputs.as_slice(), &program),
+            )
+        }
+        Err(fault) => Err(LabFailure::of_argument(rt.alloc(), fault)),
+    }
+}
+
+// The program in a file, if a boot takes its code.
+fn read_program(rt: &HostRuntime, file: &str) -> Result<Program, LabFailure> {
+    let text = read_file(rt, file)?;
+    match booted_program(rt.alloc(), text) {
+        Ok(program) => Ok(program),
+        Err(failure) => Err(failure.in_file(rt.alloc(), file)),
+    }
+}
+
+// The program of a text, if a boot takes its code.
+fn booted_program(alloc: Global, text: Vec<u8>) -> Result<Program, LabFailure> {
+    let program = match Program::read(alloc, text) {
+        Ok(program) => program,
+        Err(fault) => return Err(wrong_program(alloc, &fault)),
+    };
+    match program.code().len() {
+        2..=255 => Ok(program),
+        length => Err(wrong_length(alloc, length)),
+    }
+}
+
+fn trace_program(
+    rt: &HostRuntime,
+    options: &BootOptions,
+    inputs: &[LinkInput],
+    program: &Program,
+) -> Result<String, ArgumentFault> {
+    let until = match options.until {
+        Some(word) => Some(address_in(rt.alloc(), program, word)?),
+        None => None,
+    };
+    let lines = program.lines(rt.alloc())?;
+    trace_code(
+        rt,
+        &BootTrace {
+            code: program.code(),
+            steps: options.steps,
+            until,
+            inputs,
+            lines: lines.as_slice(),
+        },
+    )
+}
+
+// The address that a word says: that of a label of the program, or its own.
+fn address_in(alloc: Global, program: &Program, word: &str) -> Result<u32, ArgumentFault> {
+    match program.address_of(alloc, word)? {
+        Some(address) => Ok(address),
+        None => address_of(word),
+    }
+}
+
+// The address that a word says.
+fn address_of(word: &str) -> Result<u32, ArgumentFault> {
+    hexadecimal_word(word).ok_or(ArgumentFault::Address)
+}
+
+fn trace_code(rt: &HostRuntime, trace: &BootTrace) -> Result<String, ArgumentFault> {
+    let mut meter = TerminalMeter::begin(rt, None);
+    let traced = trace_boot(rt.alloc(), trace, &mut meter);
+    meter.wipe();
+    match traced {
+        Ok(text) => Ok(text),
+        Err(BootFault::TooShort | BootFault::TooLong) => Err(ArgumentFault::Code),
+        Err(BootFault::NoMemory) => Err(ArgumentFault::Memory(AllocError)),
+    }
+}

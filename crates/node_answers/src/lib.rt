@@ -1,0 +1,13 @@
+//! What the lab answers of a node by itself and of its programs: traces, code, and code as text.
+#![tactic(auto)]
+
+mod answering;
+mod assembly;
+mod booting;
+mod failure;
+mod inputs;
+mod tracing;
+
+pub use answering::answer_of_node;
+pub use assembly::disassembled;
+pub use failure::wrong_trace;
