@@ -8,4 +8,4 @@ loop-screen-preserved g c =
     written_more string_bytes (contents c.args.output.now) (contents c.loop-screen.output)
     (contents c.write_whole.new.writer) c.args.screens.now c.loop-screen.screen-index
     c.screen-item.result c.as_bytes.result.now (search rules) (search rules) c.as_bytes.ensures.value
-    c.loop-screen.invariant c.in_ok-write_whole.ensures
+    c.loop-screen.invariant c.in_ok-write_whole.ensures.whole
