@@ -1,5 +1,6 @@
 //! The output line of a script line.
-ghost use Rattle.std.specs.Prelude.{◌≡◌, ◌≢◌, ◌++◌, ◌∷◌, [], OnOk, MatchOption, string_bytes, length, codes};
+ghost use Rattle.std.specs.Prelude.{◌≡◌, ◌≢◌, ◌++◌, ◌∷◌, [], Err, OnOk, MatchOption, string_bytes, length, codes};
+ghost use Rattle.domain_core.specs.declared.event.Refusal.TheVariants as why;
 ghost use Rattle.std.specs.List.{filter, flat_map, list_any};
 ghost use Rattle.answer_text.specs.Digits.{byte_text};
 ghost use Rattle.answer_text.specs.Replies.{reply_text};
@@ -242,7 +243,8 @@ fn write_outcome(
     told: &[Told],
     ended: Result<(), Refusal>,
 ) -> Result<(), NoMemory>
-    ensures { OnOk result (string_bytes text.new ≡ string_bytes text.old ++ outcome_text command.now (replies_told told.now) ended) }
+    ensures text { OnOk result (string_bytes text.new ≡ string_bytes text.old ++ outcome_text command.now (replies_told told.now) ended) }
+    ensures memory { OnOk result (ended ≢ Err why.NoMemory) }
 {
     match ended {
         Ok(()) => write_result(text, command, told),
@@ -255,7 +257,9 @@ fn write_outcome(
 
 /// Appends the output line of a line: the user's name, the verb, the number of a host or node, and what came of it.
 ///
-/// `NoMemory` too if the line ended because memory ran out, which has no word.
+/// # Errors
+///
+/// `NoMemory` if the text can't grow, and if the line ended because memory ran out, which has no word.
 pub fn write_line(
     text: &mut String,
     name: &str,
@@ -263,7 +267,8 @@ pub fn write_line(
     told: &[Told],
     ended: Result<(), Refusal>,
 ) -> Result<(), NoMemory>
-    ensures { OnOk result (string_bytes text.new ≡ string_bytes text.old ++ line_text name.now command.now (replies_told told.now) ended) }
+    ensures text { OnOk result (string_bytes text.new ≡ string_bytes text.old ++ line_text name.now command.now (replies_told told.now) ended) }
+    ensures memory { OnOk result (ended ≢ Err why.NoMemory) }
 {
     let verb = command.verb().name();
     write!(text, "{name} {verb}")?;
