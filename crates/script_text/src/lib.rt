@@ -9,4 +9,4 @@ mod writing;
 pub use lines::{divide, is_passed_over, split_line};
 pub use reading::{MOST_READS, ReadFault, read_whole};
 pub use writer::TextWriter;
-pub use writing::{WriteFailed, write_whole};
+pub use writing::{WriteFailed, write_texts, write_whole};
