@@ -7,3 +7,4 @@ pub mod Openings
 pub mod PortMoves
 pub mod Restarts
 pub mod Same
+pub mod Entries

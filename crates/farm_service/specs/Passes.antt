@@ -1,17 +1,21 @@
 -- What contracts see of a user's pass and of his session.
-use Rattle.std.specs.Prelude.{ℕ, zero, suc, List, [], ◌∷◌, ◌++◌, ◌≡◌, Ok, Err, length}
+use Rattle.std.specs.Prelude.{ℕ, zero, suc, Bool, true, false, List, [], ◌∷◌, ◌++◌, ◌≡◌, Ok, Err, length}
 use Rattle.plan_rules.specs.Data.{DomainData}
 use Rattle.domain_core.specs.declared.event.By.TheVariants.{User}
 use Rattle.domain_core.specs.declared.event.Event.{Event}
+use Rattle.domain_core.specs.declared.event.Refusal.{Refusal}
+use Rattle.domain_core.specs.declared.event.Refusal.TheVariants.{NoSuch, JournalFull, NoMemory}
 use Rattle.domain_core.specs.declared.event.Reply.{Reply}
 use Rattle.domain_core.specs.PrivateFarm.{Answer, Call}
 use Rattle.domain_core.specs.declared.event.Told.{Told}
 
--- whose it is, by the number of his domain in the plan and his number there; and what he asked and was answered, in his order
+-- whose it is, by the number of his domain in the plan and his number there; what he asked and was answered, in his order; and whether the journal of
+-- his domain was full when he asked
 pub record UserPassValue : Type 0 where
   pub domain : ℕ
   pub user : ℕ
   pub told : List Told
+  pub met_full : Bool
 
 -- the plan of its service, and the user's pass
 pub record SessionValue : Type 0 where
@@ -22,7 +26,7 @@ pub record SessionValue : Type 0 where
 
 -- a pass before its user has asked anything
 abbrev pub fresh_pass : ℕ → ℕ → UserPassValue
-fresh_pass domain user = record { domain = domain; user = user; told = [] }
+fresh_pass domain user = record { domain = domain; user = user; told = []; met_full = false }
 
 -- the passes of so many users of a domain
 abbrev pub passes_opened : ℕ → ℕ → List UserPassValue
@@ -48,7 +52,13 @@ call_of pass event = record { by = User pass.user; event = event }
 abbrev pub with_told : UserPassValue → Event → Reply → UserPassValue
 with_told pass event reply = record pass { told = pass.told ++ record { event = event; reply = reply } ∷ [] }
 
+-- the pass after a refusal: it has met a full journal, if that is why
+abbrev pub with_refusal : UserPassValue → Refusal → UserPassValue
+with_refusal pass JournalFull = record pass { met_full = true }
+with_refusal pass NoSuch = pass
+with_refusal pass NoMemory = pass
+
 -- the list gains just an answered event with its reply, and nothing if it was refused
 abbrev pub Gains : SessionValue → Event → Answer → SessionValue → Type 0
 Gains s event (Ok reply) t = t ≡ record s { pass = with_told s.pass event reply }
-Gains s event (Err refusal) t = t ≡ s
+Gains s event (Err refusal) t = t ≡ record s { pass = with_refusal s.pass refusal }

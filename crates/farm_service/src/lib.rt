@@ -2,11 +2,13 @@
 //! the right to step a node, and a schedule of bursts.
 #![tactic(auto)]
 
+mod askers;
 mod closed;
 mod closing;
 mod copying;
 mod halves;
 mod histories;
+mod limits;
 mod lists;
 mod locking;
 mod moves;

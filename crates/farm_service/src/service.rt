@@ -17,13 +17,15 @@ ghost use Rattle.token_queue.specs.Tokens.{HasEachOnce};
 ghost use Rattle.farm_service.specs.Answers.{IsAnswerIn};
 ghost use Rattle.std.specs.Sync.Mutex.{mutex_guard_value};
 ghost use Rattle.farm_service.specs.Domains.{IsFound};
-ghost use Rattle.farm_service.specs.Closed.{AreDomainsOf, EachMergeRuns, AreListed};
+ghost use Rattle.farm_service.specs.Closed.{AreDomainsOf, EachMergeRuns, AreListed, AllMetFullTruly, AllAreRightlyAsked};
 ghost use Rattle.farm_service.specs.Services.{IsItsOperator};
 
 use crate::NoMemory;
+use crate::askers::await_rightly_asked;
 use crate::closed::{Closed, NotClosed};
 use crate::closing::{ClosingMemory, close_domains};
 use crate::histories::Histories;
+use crate::limits::await_limits;
 use crate::lists::await_listed;
 use crate::locking::{await_fitting, take};
 use crate::opening::{Opened, lock_each};
@@ -330,15 +332,18 @@ impl Service {
     /// Ends the service. Every merge of the journals is a run of the whole farm of the plan, which
     /// answers the stored replies and ends as the words say; each user's commands in his domain's
     /// journal, with their replies, are the list of the pass that was handed in for him, in its order;
-    /// and the tokens are the plan's nodes, each once.
+    /// a pass has met a full journal only if his domain's has as many events as its limit; users asked for
+    /// all commands, and the farm itself for nothing but Steps and Moves; and the tokens are the plan's
+    /// nodes, each once.
     ///
-    /// If a journal has other commands of a user than his pass lists, which no run comes to, the
-    /// call waits for ever.
+    /// If a journal has other commands of a user than his pass lists, or isn't full though his pass has met a
+    /// full one, or has a command of the farm itself or a Step or a Move of a user, the call waits for ever. No
+    /// run comes to it, unless a history that was done again has such a call.
     ///
     /// # Errors
     ///
     /// Service and passes as they were handed in, if there is no memory for what is left of them.
-    // Six clauses: what closing vouches for of domains, runs, users and tokens, and what is given back.
+    // Eight clauses: what closing vouches for of domains, runs, users and tokens, and what is given back.
     pub fn close<R: Wait>(
         self,
         rt: &R,
@@ -350,6 +355,8 @@ impl Service {
         ensures domains { IfOk result (λ closed. AreDomainsOf self.plan closed.domains.items) }
         ensures runs { IfOk result (λ closed. EachMergeRuns (places_of self.plan) closed.domains.items) }
         ensures users { IfOk result (λ closed. AreListed closed.domains.items users.items) }
+        ensures full { IfOk result (λ closed. AllMetFullTruly self.plan closed.domains.items users.items) }
+        ensures asked { IfOk result (λ closed. AllAreRightlyAsked closed.domains.items) }
         ensures tokens { IfOk result (λ closed. HasEachOnce self.plan closed.tokens.items) }
         ensures err { IfErr result (λ e. (e.service ≡ self) × (e.passes.items ≡ passes.items) × (e.users.items ≡ users.items)) }
     {
@@ -375,6 +382,8 @@ impl Service {
         } = room;
         let closed = close_domains(rt, &plan, domains, closed, words);
         await_listed(rt, closed.as_slice(), users.as_slice());
+        await_limits(rt, &plan, closed.as_slice(), users.as_slice());
+        await_rightly_asked(rt, closed.as_slice());
         tokens.end(rt, &plan, passes, &mut left);
         Ok(Closed {
             domains: closed,

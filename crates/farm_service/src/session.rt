@@ -83,25 +83,28 @@ impl Session<'_> {
         &self.pass
     }
 
-    // Makes the user's list empty.
+    // Makes the user's pass as it was opened.
     pub(crate) fn begin_anew(&mut self)
         ensures { self.new ≡ begun_anew self.old }
     {
-        self.pass.told.clear();
+        self.pass.begin_anew();
     }
 
-    // Asks the user's domain, and lists what it answers.
+    // Asks the user's domain, lists what it answers, and notes a refusal.
     fn ask<R: Wait>(&mut self, rt: &R, event: Event) -> Result<Reply, Refusal>
         ensures answer { IsTold self.old event result }
         ensures list { Gains self.old event result self.new }
     {
         let pass = &mut self.pass;
         pass.told.reserve(1)?;
-        let reply = self
+        let answer = self
             .service
-            .ask(rt, pass.domain, By::User(pass.user), event)?;
-        pass.told.push_reserved(Told { event, reply });
-        Ok(reply)
+            .ask(rt, pass.domain, By::User(pass.user), event);
+        match answer {
+            Ok(reply) => pass.told.push_reserved(Told { event, reply }),
+            Err(refusal) => pass.note_refusal(refusal),
+        }
+        answer
     }
 
     /// The next configuration byte comes to the domain's switch.

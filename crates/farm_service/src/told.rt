@@ -6,8 +6,8 @@ ghost use Rattle.farm_service.specs.Commands.{commands_of};
 
 use domain_core::{By, Entry, Event, Told};
 
-// Whether a session can ask it.
-fn is_command(event: Event) -> bool
+/// Whether a session can ask it.
+pub(crate) fn is_command(event: Event) -> bool
     ensures { result ≡ is_command event }
 {
     match event {

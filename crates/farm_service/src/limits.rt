@@ -1,0 +1,92 @@
+//! Whether journals are full of which passes say that they met a full one.
+ghost use Rattle.std.specs.Prelude.{◌≡◌, ◌∷◌, [], length, true, IfSome};
+ghost use Rattle.domain_core.specs.Journal.{expanded};
+ghost use Rattle.farm_service.specs.Closed.{IsFull, MetFullTruly, AllMetFullTruly};
+
+use crate::closed::ClosedDomain;
+use crate::pass::UserPass;
+use crate::waiting::block_forever;
+use domain_core::laws::journals_add_up;
+use domain_core::{Entry, Journal};
+use plan_rules::AcceptedPlan;
+use std::sync::Wait;
+
+// How many events an entry stands for.
+fn event_count(entry: &Entry) -> u64
+    ensures { result ≡ length (expanded (entry.now ∷ [])) }
+{
+    match *entry {
+        Entry::One { .. } => 1,
+        Entry::Run { count, .. } => count,
+    }
+}
+
+// How many events a journal stands for, none if that is past every limit.
+fn all_events(journal: &Journal) -> Option<u64>
+    ensures { IfSome result (λ n. n ≡ length (expanded journal.now)) }
+{
+    // What is appended to a journal comes after what it stands for.
+    journals_add_up();
+    let mut events = 0u64;
+    for index in 0..journal.len() {
+        let entry = journal.get(index)?;
+        events = events.checked_add(event_count(&entry))?;
+    }
+    Some(events)
+}
+
+// Whether a journal has just as many events as this limit.
+fn is_at(journal: &Journal, limit: u64) -> bool
+    ensures { result ≡ true → length (expanded journal.now) ≡ limit }
+{
+    match all_events(journal) {
+        Some(events) => events == limit,
+        None => false,
+    }
+}
+
+// Whether the domain of this number is closed with just as many events as the plan's limit of it.
+fn is_full(plan: &AcceptedPlan, closed: &[ClosedDomain], domain: u8) -> bool
+    ensures { result ≡ true → IsFull plan.now closed.now domain }
+{
+    if domain >= plan.domains() {
+        return false;
+    }
+    match closed.get(usize::from(domain)) {
+        Some(closed) => is_at(&closed.journal, plan.part(domain).limit()),
+        None => false,
+    }
+}
+
+// Whether a pass has met a full journal only if that of its domain is full.
+fn met_full_truly(plan: &AcceptedPlan, closed: &[ClosedDomain], pass: &UserPass) -> bool
+    ensures { result ≡ true → MetFullTruly plan.now closed.now pass.now }
+{
+    !pass.met_full() || is_full(plan, closed, pass.domain())
+}
+
+// Whether each pass has.
+fn all_met_full_truly(plan: &AcceptedPlan, closed: &[ClosedDomain], users: &[UserPass]) -> bool
+    ensures { result ≡ true → AllMetFullTruly plan.now closed.now users.now }
+{
+    for pass in users {
+        if !met_full_truly(plan, closed, pass) {
+            return false;
+        }
+    }
+    true
+}
+
+/// Sees that each pass has met a full journal only if that of its domain is full. If it isn't so, waits for ever.
+pub(crate) fn await_limits<R: Wait>(
+    rt: &R,
+    plan: &AcceptedPlan,
+    closed: &[ClosedDomain],
+    users: &[UserPass],
+)
+    ensures { AllMetFullTruly plan.now closed.now users.now }
+{
+    if !all_met_full_truly(plan, closed, users) {
+        block_forever(rt)
+    }
+}
