@@ -1,5 +1,5 @@
 -- What a session asks, event by event.
-use Rattle.std.proofs.Common.{◌≡◌, ℕ, ◌+◌, ◌<◌, true, false, List, [], ◌∷◌, ◌++◌, length, get_or, Some, None, refl, sym}
+use Rattle.std.proofs.Common.{◌≡◌, ℕ, ◌+◌, ◌<◌, Bool, true, false, List, [], ◌∷◌, ◌++◌, length, get_or, Some, None, refl, sym}
 use Rattle.std.proofs.Common.{ap, ◌∙◌, subst, arith, append_assoc}
 use Rattle.std.specs.Prelude.{slice_get, MatchResult, Result, Ok, Err, Option}
 use Rattle.std.specs.List.{filter, list_all, list_any}
@@ -16,13 +16,14 @@ use Rattle.domain_core.specs.declared.event.Event.{Event}
 use Rattle.domain_core.specs.declared.event.Event.TheVariants as event
 use Rattle.domain_core.specs.declared.event.Reply.{Reply}
 use Rattle.domain_core.specs.declared.event.Refusal.{Refusal}
+use Rattle.domain_core.specs.declared.event.Refusal.TheVariants.{NoSuch, JournalFull, NoMemory}
 use Rattle.domain_core.specs.declared.event.Told.{Told}
 use Rattle.farm_service.specs.Answers.{IsTold}
 use Rattle.farm_service.specs.Passes.{SessionValue, with_told, Gains}
 use Rattle.answer_text.specs.Results.{replies_told}
 use Rattle.line_answers.specs.Asks.{is_write, is_read, had_no_room, is_byte, write_replies, read_replies}
 use Rattle.line_answers.specs.Asks.{next_config, next_write, next_read, next_collect, once, AreAsked}
-use Rattle.line_answers.specs.Sessions.{with_all, AsksJust}
+use Rattle.line_answers.specs.Sessions.{HasMetFull, with_all, HasGained, AsksJust}
 
 -- an event with its reply
 abbrev pub told_of : Event → Reply → Told
@@ -42,9 +43,51 @@ asked_more next before (u ∷ told) other_told given same = (
       (subst (λ (b : List Told). next b ≡ Some other_told.event) (sym (append_assoc before (u ∷ []) told)) same),
 )
 
+-- ---- what a session gains
+
+-- one event more
+gained_more : (s t session : SessionValue) (told : List Told) (e : Event) (r : Reply)
+    → HasGained s t told → Gains t e (Ok r) session → HasGained s session (told ++ told_of e r ∷ [])
+gained_more s t session told e r so_far gains =
+    let same : session.pass.met_full ≡ t.pass.met_full = ap (λ (v : SessionValue). v.pass.met_full) gains in record {
+      list = gains ∙ ap (λ (v : SessionValue). record v { pass = with_told v.pass e r }) so_far.list
+          ∙ ap (λ (list : List Told). record s { pass = record s.pass { told = list; met_full = t.pass.met_full } })
+          (append_assoc s.pass.told told (told_of e r ∷ []))
+          ∙ ap (λ (full : Bool). with_all s (told ++ told_of e r ∷ []) full) (sym same);
+      full = λ met. same ∙ so_far.full met;
+    }
+
+-- whoever is refused for a full journal has met it
+now_met : (t session : SessionValue) (e : Event) (refusal : Refusal) → Gains t e (Err refusal) session
+    → refusal ≡ JournalFull → HasMetFull session
+now_met t session e refusal same is =
+    ap (λ (v : SessionValue). v.pass.met_full)
+    (subst (λ (r : Refusal). Gains t e (Err r) session) is same)
+
+-- nothing by a refusal
+gained_still : (s t session : SessionValue) (told : List Told) (e : Event) (refusal : Refusal)
+    → HasGained s t told → Gains t e (Err refusal) session → HasGained s session told
+gained_still s t session told e NoSuch so_far same =
+    subst (λ (v : SessionValue). HasGained s v told) (sym same) so_far
+gained_still s t session told e NoMemory so_far same =
+    subst (λ (v : SessionValue). HasGained s v told) (sym same) so_far
+gained_still s t session told e JournalFull so_far same =
+    let met : HasMetFull session = now_met t session e JournalFull same refl in record {
+      list = same ∙ ap (λ (v : SessionValue). record v { pass = record v.pass { met_full = true } }) so_far.list
+          ∙ ap (λ (full : Bool). with_all s told full) (sym met);
+      full = λ before. met;
+    }
+
+-- what a session is told, it is told after a refusal too
+told_still : (t session : SessionValue) (e : Event) (refusal : Refusal) → Gains t e (Err refusal) session
+    → IsTold t e (Err refusal) → IsTold session e (Err refusal)
+told_still t session e NoSuch same is = subst (λ (v : SessionValue). IsTold v e (Err NoSuch)) (sym same) is
+told_still t session e JournalFull same is = subst (λ (v : SessionValue). IsTold v e (Err JournalFull)) (sym same) is
+told_still t session e NoMemory same is = tt
+
 -- a session has asked this so far
 pub record IsAsking (next : List Told → Option Event) (s t : SessionValue) (told : List Told) : Type 0 where
-  pub list : t ≡ with_all s told
+  pub gains : HasGained s t told
   pub asked : AreAsked next [] told
 
 -- one event more
@@ -52,9 +95,7 @@ pub grown : (next : List Told → Option Event) (s t session : SessionValue) (to
     → IsAsking next s t told
     → next told ≡ Some e → Gains t e (Ok r) session → IsAsking next s session (told ++ told_of e r ∷ [])
 grown next s t session told e r so_far same gains = record {
-  list = gains ∙ ap (λ (t : SessionValue). record t { pass = with_told t.pass e r }) so_far.list
-      ∙ ap (λ (told : List Told). record s { pass = record s.pass { told = told } })
-      (append_assoc s.pass.told told (told_of e r ∷ []));
+  gains = gained_more s t session told e r so_far.gains gains;
   asked = asked_more next [] told (told_of e r) so_far.asked same;
 }
 
@@ -62,7 +103,7 @@ grown next s t session told e r so_far same gains = record {
 pub ended : {A : Type 0} (next : List Told → Option Event) (s t : SessionValue) (told : List Told) (a : A)
     → IsAsking next s t told → next told ≡ None
     → AsksJust next s (Ok a) t
-ended next s t told a so_far same = record { told = told; list = so_far.list; asked = so_far.asked; ended = same }
+ended next s t told a so_far same = record { told = told; gains = so_far.gains; asked = so_far.asked; ended = same }
 
 -- an exchange ends with an error if the service refuses what is asked next
 pub refused : {A : Type 0} (next : List Told → Option Event) (s t session : SessionValue) (told : List Told) (e : Event)
@@ -75,15 +116,18 @@ refused next s t session told e refusal result so_far equal same is returned =
     let exit = err_from_is_err_and result returned in
     subst (λ result. AsksJust next s result session) (sym (exit.1 ∙ ap Err exit.2)) (record {
       told = told;
-      list = same ∙ so_far.list;
+      gains = gained_still s t session told e refusal so_far.gains same;
       asked = so_far.asked;
-      ended = (e, equal, subst (λ (v : SessionValue). IsTold v e (Err refusal)) (sym same) is);
+      ended = (e, equal, told_still t session e refusal same is, now_met t session e refusal same);
     })
 
 -- before anything is asked
 pub begun : (next : List Told → Option Event) (s : SessionValue) → IsAsking next s s []
 begun next s = record {
-  list = ap (λ (told : List Told). record s { pass = record s.pass { told = told } }) (sym (append-nil s.pass.told));
+  gains = record {
+    list = ap (λ (told : List Told). record s { pass = record s.pass { told = told } }) (sym (append-nil s.pass.told));
+    full = λ met. met;
+  };
   asked = tt;
 }
 

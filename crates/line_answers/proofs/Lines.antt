@@ -1,5 +1,5 @@
 -- What a line asks, in one or two parts.
-use Rattle.std.proofs.Common.{◌≡◌, Bor, take, drop, map, get_or, ℕ, ◌+◌, ◌-◌, ◌<◌, ◌≤◌, Bool, true, false, ◌||◌, ◌&&◌}
+use Rattle.std.proofs.Common.{◌≡◌, ◌≢◌, Bor, take, drop, map, get_or, ℕ, ◌+◌, ◌-◌, ◌<◌, ◌≤◌, Bool, true, false, ◌||◌, ◌&&◌}
 use Rattle.std.proofs.Common.{List, [], ◌∷◌, ◌++◌, length, Some, None, refl, sym, ap, ◌∙◌, subst, arith, append_assoc}
 use Rattle.std.proofs.Common.{inl, inr}
 use Rattle.std.specs.Prelude.{slice_get, nat_lt, Result, Ok, Err, Option, if◌then◌else◌, ⊤}
@@ -19,7 +19,8 @@ use Rattle.domain_core.specs.declared.event.Event.{Event}
 use Rattle.domain_core.specs.declared.event.Event.TheVariants as event
 use Rattle.domain_core.specs.declared.event.Reply.{Reply}
 use Rattle.domain_core.specs.declared.event.Refusal.{Refusal}
-use Rattle.domain_core.specs.declared.event.Refusal.TheVariants.{NoMemory}
+use Rattle.domain_core.specs.declared.event.Refusal.TheVariants.{NoSuch, JournalFull, NoMemory}
+use Rattle.farm_service.specs.Answers.{IsTold}
 use Rattle.domain_core.specs.declared.event.Told.{Told}
 use Rattle.farm_service.specs.Passes.{SessionValue}
 use Rattle.script_lines.specs.declared.command.Command.{Command}
@@ -27,9 +28,9 @@ use Rattle.script_lines.specs.declared.command.Command.TheVariants as command
 use Rattle.line_answers.specs.Asks.{is_write, is_read, had_no_room, is_byte, write_replies, read_replies}
 use Rattle.line_answers.specs.Asks.{next_write, next_boot, next_read, next_event, AreAsked}
 use Rattle.line_answers.proofs.Exchange.{begun}
-use Rattle.line_answers.specs.Lines.{LineHasEnded, IsOfSettling, IsAnsweredLine, AreAnsweredLines}
+use Rattle.line_answers.specs.Lines.{LineHasEnded, IsAnsweredLine, AreAnsweredLines}
 use Rattle.answer_text.specs.Results.{line_text, replies_told}
-use Rattle.line_answers.specs.Sessions.{with_all, HasEnded, AsksJust, AsksLine, GainsSome, IsAnswered, AreAnswered}
+use Rattle.line_answers.specs.Sessions.{HasMetFull, with_all, HasGained, HasEnded, AsksJust, GainsSome, IsAnswered, AreAnswered}
 
 -- ---- what is asked by one rule is asked by another
 
@@ -62,20 +63,9 @@ asked_append next before (x ∷ xs) ys some more = (
       (subst (λ (b : List Told). AreAsked next b ys) (sym (append_assoc before (x ∷ []) xs)) more),
 )
 
--- ---- a line of one part
-
--- a command that asks just its events asks its line
-pub whole : {A : Type 0} (command : Command) (s t : SessionValue) (outcome : Result A Refusal)
-    → AsksJust (next_event command) s outcome t
-    → AsksLine command s outcome t
-whole command s t (Ok a) asks = record { told = asks.told; list = asks.list; asked = asks.asked; ended = asks.ended }
-whole command s t (Err refusal) asks =
-    record {
-      told = asks.told;
-      list = asks.list;
-      asked = asks.asked;
-      ended = (asks.ended.0, asks.ended.1, inl asks.ended.2);
-    }
+-- want of memory is no full journal
+no_full : NoMemory ≡ JournalFull → ⊥
+no_full is = cc
 
 -- ---- code
 
@@ -84,15 +74,15 @@ same_asks : {A : Type 0} (make other_make : List Told → Option Event) (s t : S
     → AsksJust other_make s outcome t
 same_asks make other_make s t (Ok a) same asks = record {
   told = asks.told;
-  list = asks.list;
+  gains = asks.gains;
   asked = asked_as make other_make (λ told e is. same told ∙ is) [] asks.told asks.asked;
   ended = same asks.told ∙ asks.ended;
 }
 same_asks make other_make s t (Err refusal) same asks = record {
   told = asks.told;
-  list = asks.list;
+  gains = asks.gains;
   asked = asked_as make other_make (λ told e is. same told ∙ is) [] asks.told asks.asked;
-  ended = (asks.ended.0, same asks.told ∙ asks.ended.1, asks.ended.2);
+  ended = (asks.ended.0, same asks.told ∙ asks.ended.1, asks.ended.2, asks.ended.3);
 }
 
 boot_is_written : (host : ℕ) (code : List ℕ) → 2 ≤ length code → length code ≤ 255 → (told : List Told)
@@ -114,9 +104,9 @@ pub code_refused : {A : Type 0} (host : ℕ) (code : List ℕ) (s : SessionValue
     → AsksJust {A = A} (next_boot host code) s (Err NoMemory) s
 code_refused host code s long short = record {
   told = [];
-  list = (begun (next_boot host code) s).list;
+  gains = (begun (next_boot host code) s).gains;
   asked = tt;
-  ended = (event.Write host (length code), boot_is_written host code long short [], tt);
+  ended = (event.Write host (length code), boot_is_written host code long short [], tt, λ is. absurd (no_full is));
 }
 
 -- ---- a peek
@@ -208,29 +198,32 @@ writes_of_peek : (host address : ℕ) (told : List Told) (e : Event)
     → next_event (command.Peek host address) told ≡ Some e
 writes_of_peek host address told e is = ap (λ (first : Option Event). option_or first (next_read host 4 told)) is
 
-joined : (s t session : SessionValue) (xs ys : List Told) → t ≡ with_all s xs → session ≡ with_all t ys → session
-    ≡ with_all s (xs ++ ys)
-joined s t session xs ys first second =
-    second ∙ ap (λ (t : SessionValue). with_all t ys) first
-    ∙ ap (λ (told : List Told). record s { pass = record s.pass { told = told } }) (append_assoc s.pass.told xs ys)
+joined : (s t session : SessionValue) (xs ys : List Told) → HasGained s t xs → HasGained t session ys
+    → HasGained s session (xs ++ ys)
+joined s t session xs ys first second = record {
+  list = second.list ∙ ap (λ (v : SessionValue). with_all v ys session.pass.met_full) first.list
+      ∙ ap (λ (list : List Told). record s { pass = record s.pass { told = list; met_full = session.pass.met_full } })
+      (append_assoc s.pass.told xs ys);
+  full = λ met. second.full (first.full met);
+}
 
 peek_end : {A : Type 0} (host address : ℕ) (xs ys : List Told) (session : SessionValue) (outcome : Result A Refusal)
     → ((told : List Told) → next_event (command.Peek host address) (xs ++ told) ≡ next_read host 4 told)
-    → HasEnded (next_read host 4) ys session outcome → LineHasEnded (command.Peek host address)
-    (xs ++ ys) session outcome
+    → HasEnded (next_read host 4) ys session outcome
+    → HasEnded (next_event (command.Peek host address)) (xs ++ ys) session outcome
 peek_end host address xs ys session (Ok a) same over = same ys ∙ over
-peek_end host address xs ys session (Err refusal) same over = (over.0, same ys ∙ over.1, inl over.2)
+peek_end host address xs ys session (Err refusal) same over = (over.0, same ys ∙ over.1, over.2, over.3)
 
 -- a peek writes its message, and then reads four bytes
 pub peeked : {A B : Type 0} (host address : ℕ) (s t session : SessionValue) (a : A) (outcome : Result B Refusal)
     → AsksJust (next_write host (1 ∷ bytes_of_word address)) s (Ok a) t
-    → AsksJust (next_read host 4) t outcome session → AsksLine (command.Peek host address) s outcome session
+    → AsksJust (next_read host 4) t outcome session → AsksJust (next_event (command.Peek host address)) s outcome session
 peeked host address s t session a outcome writes reads =
     let same : (told : List Told)
     → next_event (command.Peek host address) (writes.told ++ told) ≡ next_read host 4 told =
     λ told. reads_behind host address writes.told told writes.asked writes.ended in record {
       told = writes.told ++ reads.told;
-      list = joined s t session writes.told reads.told writes.list reads.list;
+      gains = joined s t session writes.told reads.told writes.gains reads.gains;
       asked =
           asked_append (next_event (command.Peek host address)) [] writes.told reads.told
           (asked_as (next_write host (1 ∷ bytes_of_word address)) (next_event (command.Peek host address))
@@ -245,23 +238,28 @@ peeked host address s t session a outcome writes reads =
 -- a peek ends if its message is refused
 pub peek_unwritten : {A B : Type 0} (host address : ℕ) (s t : SessionValue) (refusal : Refusal)
     → AsksJust {A = A} (next_write host (1 ∷ bytes_of_word address)) s (Err refusal) t
-    → AsksLine {A = B} (command.Peek host address) s (Err refusal) t
+    → AsksJust {A = B} (next_event (command.Peek host address)) s (Err refusal) t
 peek_unwritten host address s t refusal writes = record {
   told = writes.told;
-  list = writes.list;
+  gains = writes.gains;
   asked =
       asked_as (next_write host (1 ∷ bytes_of_word address)) (next_event (command.Peek host address))
       (writes_of_peek host address) [] writes.told writes.asked;
-  ended = (writes.ended.0, writes_of_peek host address writes.told writes.ended.0 writes.ended.1, inl writes.ended.2);
+  ended = (
+    writes.ended.0,
+    writes_of_peek host address writes.told writes.ended.0 writes.ended.1,
+    writes.ended.2,
+    writes.ended.3,
+  );
 }
 
--- a peek ends if its domain may not settle
-pub peek_unsettled : {A B : Type 0} (host address : ℕ) (s t : SessionValue) (a : A) (refusal : Refusal)
+-- a peek ends if there is no memory to settle its domain
+pub peek_unsettled : {A B : Type 0} (host address : ℕ) (s t : SessionValue) (a : A)
     → AsksJust (next_write host (1 ∷ bytes_of_word address)) s (Ok a) t
-    → IsOfSettling t refusal → AsksLine {A = B} (command.Peek host address) s (Err refusal) t
-peek_unsettled host address s t a refusal writes is = record {
+    → AsksJust {A = B} (next_event (command.Peek host address)) s (Err NoMemory) t
+peek_unsettled host address s t a writes = record {
   told = writes.told;
-  list = writes.list;
+  gains = writes.gains;
   asked =
       asked_as (next_write host (1 ∷ bytes_of_word address)) (next_event (command.Peek host address))
       (writes_of_peek host address) [] writes.told writes.asked;
@@ -269,7 +267,8 @@ peek_unsettled host address s t a refusal writes is = record {
     event.Read host,
     ap (next_event (command.Peek host address)) (sym (append-nil writes.told))
         ∙ reads_behind host address writes.told [] writes.asked writes.ended,
-    inr is,
+    tt,
+    λ is. absurd (no_full is),
   );
 }
 
@@ -280,10 +279,10 @@ pub unwritten : {A B : Type 0} (host address : ℕ) (bytes : List ℕ) (s t : Se
     (other_outcome : Result B Refusal) (refusal : Refusal)
     → bytes ≡ 1 ∷ bytes_of_word address → outcome ≡ Err refusal → IsErrAnd other_outcome (λ given. given ≡ refusal)
     → AsksJust (next_write host bytes) s outcome t
-    → AsksLine (command.Peek host address) s other_outcome t
+    → AsksJust (next_event (command.Peek host address)) s other_outcome t
 unwritten {A} {B} host address bytes s t outcome other_outcome refusal bytes_are is returned asks =
     let exit = err_from_is_err_and other_outcome returned in
-    subst (λ (other_outcome : Result B Refusal). AsksLine (command.Peek host address) s other_outcome t)
+    subst (λ (other_outcome : Result B Refusal). AsksJust (next_event (command.Peek host address)) s other_outcome t)
     (sym (exit.1 ∙ ap Err exit.2))
     (peek_unwritten host address s t refusal
     (subst (λ (outcome : Result A Refusal). AsksJust (next_write host (1 ∷ bytes_of_word address)) s outcome t) is
@@ -291,26 +290,21 @@ unwritten {A} {B} host address bytes s t outcome other_outcome refusal bytes_are
 
 -- the same as `peek_unsettled`, of results that are known by equations
 pub unsettled : {A B : Type 0} (host address : ℕ) (bytes : List ℕ) (s t : SessionValue) (a : A)
-    (outcome : Result A Refusal)
-    (other_outcome : Result B Refusal) (refusal : Refusal)
-    → bytes ≡ 1 ∷ bytes_of_word address → outcome ≡ Ok a → IsErrAnd other_outcome (λ given. given ≡ refusal)
+    (outcome : Result A Refusal) → bytes ≡ 1 ∷ bytes_of_word address → outcome ≡ Ok a
     → AsksJust (next_write host bytes) s outcome t
-    → IsOfSettling t refusal → AsksLine (command.Peek host address) s other_outcome t
-unsettled {A} {B} host address bytes s t a outcome other_outcome refusal bytes_are is returned asks settling =
-    let exit = err_from_is_err_and other_outcome returned in
-    subst (λ (other_outcome : Result B Refusal). AsksLine (command.Peek host address) s other_outcome t)
-    (sym (exit.1 ∙ ap Err exit.2))
-    (peek_unsettled host address s t a refusal
+    → AsksJust {A = B} (next_event (command.Peek host address)) s (Err NoMemory) t
+unsettled {A} host address bytes s t a outcome bytes_are is asks =
+    peek_unsettled host address s t a
     (subst (λ (outcome : Result A Refusal). AsksJust (next_write host (1 ∷ bytes_of_word address)) s outcome t) is
     (subst (λ (bytes : List ℕ). AsksJust (next_write host bytes) s outcome t) bytes_are asks))
-    settling)
 
 -- the same as `peeked`, of results that are known by equations
 pub settled : {A B : Type 0} (host address : ℕ) (bytes : List ℕ) (s t session : SessionValue) (a : A)
     (outcome : Result A Refusal)
     (other_outcome : Result B Refusal)
     → bytes ≡ 1 ∷ bytes_of_word address → outcome ≡ Ok a → AsksJust (next_write host bytes) s outcome t
-    → AsksJust (next_read host 4) t other_outcome session → AsksLine (command.Peek host address) s other_outcome session
+    → AsksJust (next_read host 4) t other_outcome session
+    → AsksJust (next_event (command.Peek host address)) s other_outcome session
 settled {A} {B} host address bytes s t session a outcome other_outcome bytes_are is writes reads =
     peeked host address s t session a other_outcome
     (subst (λ (outcome : Result A Refusal). AsksJust (next_write host (1 ∷ bytes_of_word address)) s outcome t) is
@@ -322,64 +316,104 @@ pub of_command : {A : Type 0} (next : List Told → Option Event) (c other_comma
     (outcome : Result A Refusal)
     → c ≡ other_command
     → ((told : List Told) → next_event other_command told ≡ next told) → AsksJust next s outcome t
-    → AsksLine c s outcome t
+    → AsksJust (next_event c) s outcome t
 of_command next c other_command s t outcome is same asks =
-    subst (λ (c : Command). AsksLine c s outcome t) (sym is)
-    (whole other_command s t outcome (same_asks next (next_event other_command) s t outcome same asks))
+    subst (λ (c : Command). AsksJust (next_event c) s outcome t) (sym is)
+    (same_asks next (next_event other_command) s t outcome same asks)
 
--- ---- a line's end is the same for each session of its user
+-- ---- a line's end, for its session at the beginning and whatever says that the journal is full
 
-of_user : {A : Type 0} (command : Command) (told : List Told) (s : SessionValue) (before : List Told)
-    (outcome : Result A Refusal)
-    → LineHasEnded command told (with_all s before) outcome → LineHasEnded command told s outcome
-of_user command told s before (Ok a) over = over
-of_user (command.Config bytes) told s before (Err refusal) over = over
-of_user (command.Write host bytes) told s before (Err refusal) over = over
-of_user (command.Boot host code) told s before (Err refusal) over = over
-of_user (command.Poke host address word) told s before (Err refusal) over = over
-of_user (command.Peek host address) told s before (Err refusal) over = over
-of_user (command.Collect host) told s before (Err refusal) over = over
-of_user (command.Reset node) told s before (Err refusal) over = over
-of_user (command.Look node) told s before (Err refusal) over = over
+-- a line that ran out of memory has no end
+line_end : {A : Type 0} (c : Command) (told gained : List Told) (s t : SessionValue) (outcome : Result A Refusal)
+    → HasGained s t gained → HasEnded (next_event c) told t outcome → outcome ≢ Err NoMemory
+    → LineHasEnded (HasMetFull t) s c told outcome
+line_end c told gained s t (Ok a) gains over fine = over
+line_end c told gained s t (Err NoSuch) gains over fine =
+    (over.0, over.1, subst (λ (v : SessionValue). IsTold v over.0 (Err NoSuch)) gains.list over.2)
+line_end c told gained s t (Err JournalFull) gains over fine =
+    (over.0, over.1, (subst (λ (v : SessionValue). IsTold v over.0 (Err JournalFull)) gains.list over.2, over.3 refl))
+line_end c told gained s t (Err NoMemory) gains over fine = absurd (fine refl)
 
 -- a line that is asked and shown is answered
 pub answered : (name : List ℕ) (c : Command) (s t : SessionValue) (outcome : Result ⊤ Refusal)
-    (asks : AsksLine c s outcome t)
+    (asks : AsksJust (next_event c) s outcome t)
     (screen more : List ℕ)
+    → outcome ≢ Err NoMemory
     → more ≡ screen ++ line_text name c (replies_told asks.told) outcome → IsAnswered name c s t screen more
-answered name c s t outcome asks screen more is = record {
+answered name c s t outcome asks screen more fine is = record {
   told = asks.told;
   line = line_text name c (replies_told asks.told) outcome;
-  list = asks.list;
+  gains = asks.gains;
   is_line =
       record {
         result = outcome;
         asked = asks.asked;
-        ended =
-            of_user c asks.told s asks.told outcome
-            (subst (λ (v : SessionValue). LineHasEnded c asks.told v outcome) asks.list asks.ended);
+        ended = line_end c asks.told asks.told s t outcome asks.gains asks.ended fine;
         is_text = refl;
       };
   text = is;
 }
 
--- ---- lines one after another
+end_for : {A : Type 0} (P : Type 0) (c : Command) (told : List Told) (s : SessionValue) (before : List Told)
+    (full : Bool) (outcome : Result A Refusal)
+    → LineHasEnded P (with_all s before full) c told outcome → LineHasEnded P s c told outcome
+end_for P c told s before full (Ok a) over = over
+end_for P c told s before full (Err NoSuch) over = over
+end_for P c told s before full (Err JournalFull) over = over
+end_for P c told s before full (Err NoMemory) over = over
 
-line_of_user : (s : SessionValue) (before : List Told) (name : List ℕ) (c : Command) (told : List Told) (text : List ℕ)
-    → IsAnsweredLine (with_all s before) name c told text
-    → IsAnsweredLine s name c told text
-line_of_user s before name c told text line = record {
+end_if : {A P Q : Type 0} → (P → Q) → (c : Command) (told : List Told) (s : SessionValue) (outcome : Result A Refusal)
+    → LineHasEnded P s c told outcome → LineHasEnded Q s c told outcome
+end_if so c told s (Ok a) over = over
+end_if so c told s (Err NoSuch) over = over
+end_if so c told s (Err JournalFull) over = (over.0, over.1, (over.2.0, so over.2.1))
+end_if so c told s (Err NoMemory) over = over
+
+-- a line is answered for each session of its user
+line_for : (P : Type 0) (s : SessionValue) (before : List Told) (full : Bool) (name : List ℕ) (c : Command)
+    (told : List Told) (text : List ℕ)
+    → IsAnsweredLine P (with_all s before full) name c told text
+    → IsAnsweredLine P s name c told text
+line_for P s before full name c told text line = record {
   result = line.result;
   asked = line.asked;
-  ended = of_user c told s before line.result line.ended;
+  ended = end_for P c told s before full line.result line.ended;
   is_text = line.is_text;
 }
 
-lines_more : (s : SessionValue) (name : List ℕ) (commands : List Command) (c : Command) (told some : List Told)
-    (screen line : List ℕ)
-    → AreAnsweredLines s name commands told screen
-    → IsAnsweredLine s name c some line → AreAnsweredLines s name (commands ++ c ∷ []) (told ++ some) (screen ++ line)
-lines_more s name [] c told some screen line lines is = (
+line_if : {P Q : Type 0} → (P → Q) → (s : SessionValue) (name : List ℕ) (c : Command) (told : List Told) (text : List ℕ)
+    → IsAnsweredLine P s name c told text → IsAnsweredLine Q s name c told text
+line_if so s name c told text line = record {
+  result = line.result;
+  asked = line.asked;
+  ended = end_if so c told s line.result line.ended;
+  is_text = line.is_text;
+}
+
+-- what one fact says of a full journal, another says that follows from it
+lines_if : {P Q : Type 0} → (P → Q) → (s : SessionValue) (name : List ℕ) (commands : List Command)
+    (told : List Told) (screen : List ℕ)
+    → AreAnsweredLines P s name commands told screen → AreAnsweredLines Q s name commands told screen
+lines_if so s name [] told screen lines = lines
+lines_if so s name (c ∷ commands) told screen lines = (
+  lines.0,
+  lines.1,
+  lines.2,
+  lines.3,
+  lines.4,
+  lines.5,
+  line_if so s name c lines.0 lines.2 lines.6,
+  lines_if so s name commands lines.1 lines.3 lines.7,
+)
+
+-- ---- lines one after another
+
+lines_more : (P : Type 0) (s : SessionValue) (name : List ℕ) (commands : List Command) (c : Command)
+    (told some : List Told) (screen line : List ℕ)
+    → AreAnsweredLines P s name commands told screen
+    → IsAnsweredLine P s name c some line
+    → AreAnsweredLines P s name (commands ++ c ∷ []) (told ++ some) (screen ++ line)
+lines_more P s name [] c told some screen line lines is = (
   some,
   [],
   line,
@@ -389,7 +423,7 @@ lines_more s name [] c told some screen line lines is = (
   is,
   (refl, refl),
 )
-lines_more s name (first ∷ commands) c told some screen line lines is = (
+lines_more P s name (first ∷ commands) c told some screen line lines is = (
   lines.0,
   lines.1 ++ some,
   lines.2,
@@ -397,12 +431,12 @@ lines_more s name (first ∷ commands) c told some screen line lines is = (
   ap (λ (before : List Told). before ++ some) lines.4 ∙ append_assoc lines.0 lines.1 some,
   ap (λ (before : List ℕ). before ++ line) lines.5 ∙ append_assoc lines.2 lines.3 line,
   lines.6,
-  lines_more s name commands c lines.1 some lines.3 line lines.7 is,
+  lines_more P s name commands c lines.1 some lines.3 line lines.7 is,
 )
 
 -- no commands show nothing
 pub none_shown : (name : List ℕ) (s : SessionValue) → AreAnswered name [] s s []
-none_shown name s = record { told = []; list = (begun (λ told. None) s).list; lines = (refl, refl) }
+none_shown name s = record { told = []; gains = (begun (λ told. None) s).gains; lines = (refl, refl) }
 
 -- commands and a further one show what the further one shows behind the screen of the others
 pub one_shown : (name : List ℕ) (commands : List Command) (c : Command) (s t session : SessionValue)
@@ -410,15 +444,18 @@ pub one_shown : (name : List ℕ) (commands : List Command) (c : Command) (s t s
     → AreAnswered name commands s t screen
     → IsAnswered name c t session screen more → AreAnswered name (commands ++ c ∷ []) s session more
 one_shown name commands c s t session screen more so_far line =
-    let is : IsAnsweredLine s name c line.told line.line =
-    line_of_user s so_far.told name c line.told line.line
-    (subst (λ (v : SessionValue). IsAnsweredLine v name c line.told line.line) so_far.list line.is_line) in
+    let P : Type 0 = HasMetFull session in
+    let is : IsAnsweredLine P s name c line.told line.line =
+    line_for P s so_far.told t.pass.met_full name c line.told line.line
+    (subst (λ (v : SessionValue). IsAnsweredLine P v name c line.told line.line) so_far.gains.list line.is_line) in
     record {
       told = so_far.told ++ line.told;
-      list = joined s t session so_far.told line.told so_far.list line.list;
+      gains = joined s t session so_far.told line.told so_far.gains line.gains;
       lines =
-          subst (λ (text : List ℕ). AreAnsweredLines s name (commands ++ c ∷ []) (so_far.told ++ line.told) text)
-          (sym line.text) (lines_more s name commands c so_far.told line.told screen line.line so_far.lines is);
+          subst (λ (text : List ℕ). AreAnsweredLines P s name (commands ++ c ∷ []) (so_far.told ++ line.told) text)
+          (sym line.text)
+          (lines_more P s name commands c so_far.told line.told screen line.line
+          (lines_if line.gains.full s name commands so_far.told screen so_far.lines) is);
     }
 
 -- one command more of those that are lent
@@ -444,23 +481,23 @@ gains_more s t session first second = (first.0 ++ second.0, joined s t session f
 
 -- a session that stays gained some, namely none
 pub gains_none : (s : SessionValue) → GainsSome s s
-gains_none s = ([], (begun (λ told. None) s).list)
+gains_none s = ([], (begun (λ told. None) s).gains)
 
 -- a line whose events are the last of the list
 pub last_answered : {A E : Type 0} (outcome : Result A E) (name : List ℕ) (c : Command) (s t : SessionValue)
-    (other_outcome : Result ⊤ Refusal) (asks : AsksLine c s other_outcome t) (before all : List Told)
-    (screen more : List ℕ) → before ≡ s.pass.told → all ≡ t.pass.told
+    (other_outcome : Result ⊤ Refusal) (asks : AsksJust (next_event c) s other_outcome t) (before all : List Told)
+    (screen more : List ℕ) → before ≡ s.pass.told → all ≡ t.pass.told → OnOk outcome (other_outcome ≢ Err NoMemory)
     → OnOk outcome (more
     ≡ screen ++ line_text name c
     (replies_told (take (length all - length before) (drop (length before) all))) other_outcome)
     → OnOk outcome (IsAnswered name c s t screen more)
-last_answered (Err e) name c s t other_outcome asks before all screen more was is shown = tt
-last_answered (Ok a) name c s t other_outcome asks before all screen more was is shown =
-    answered name c s t other_outcome asks screen more
+last_answered (Err e) name c s t other_outcome asks before all screen more was is fine shown = tt
+last_answered (Ok a) name c s t other_outcome asks before all screen more was is fine shown =
+    answered name c s t other_outcome asks screen more fine
     (shown ∙ ap (λ (told : List Told). screen ++ line_text name c (replies_told told) other_outcome) last)
   where
     whole_list : all ≡ s.pass.told ++ asks.told
-    whole_list = is ∙ ap (λ (v : SessionValue). v.pass.told) asks.list
+    whole_list = is ∙ ap (λ (v : SessionValue). v.pass.told) asks.gains.list
 
     behind : drop (length before) all ≡ asks.told
     behind =

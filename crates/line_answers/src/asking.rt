@@ -1,9 +1,9 @@
 //! What a line asks of its user's domain.
-ghost use Rattle.std.specs.Prelude.{◌≡◌, IfErr, MatchResult, Ok, Err};
+ghost use Rattle.std.specs.Prelude.{◌≡◌, ◌≢◌, ◌<◌, length, MatchResult, Ok, Err};
+ghost use Rattle.domain_core.specs.declared.event.Refusal.TheVariants.{NoSuch};
 ghost use Rattle.script_lines.specs.declared.command.Command.TheVariants.{Peek};
-ghost use Rattle.line_answers.specs.Asks.{had_no_room, is_byte, next_config, next_write, next_boot, next_read, next_collect};
-ghost use Rattle.line_answers.specs.Lines.{IsOfSettling};
-ghost use Rattle.line_answers.specs.Sessions.{AsksJust, AsksLine};
+ghost use Rattle.line_answers.specs.Asks.{had_no_room, is_byte, next_config, next_write, next_boot, next_read, next_collect, next_event};
+ghost use Rattle.line_answers.specs.Sessions.{AsksJust};
 
 use crate::quantum::Quantum;
 use bootstrap::{BootFault, boot_message, peek_message, poke_message};
@@ -104,15 +104,16 @@ fn without_reply(answer: Result<Reply, Refusal>) -> Result<(), Refusal>
 ///
 /// # Errors
 ///
-/// The first refusal of a Step or Move.
+/// The first refusal of a Step or Move: `JournalFull` if the journal is full, or has no room for a quantum of Steps of a node.
 pub fn settle<R: Wait>(rt: &R, session: &Session<'_>, quantum: Quantum) -> Result<(), Refusal>
-    ensures { IfErr result (IsOfSettling session.now) }
+    ensures { session.now.pass.domain < length session.now.plan → result ≢ Err NoSuch }
 {
     let _ = session.settle(rt, quantum.steps(), ROUNDS)?;
     Ok(())
 }
 
-// The word at an address: the bytes of the message, and when the node has done what it can, those of its answer.
+// The word at an address: the bytes of the message, and when the node has done what it can, those of its answer. Whether the
+// domain could do all is nobody's fault: if its journal is full, the first read is refused.
 fn peek<R: Wait>(
     rt: &R,
     session: &mut Session<'_>,
@@ -120,10 +121,12 @@ fn peek<R: Wait>(
     host: u8,
     address: u32,
 ) -> Result<(), Refusal>
-    ensures { AsksLine (Peek host address) session.old result session.new }
+    ensures { AsksJust (next_event (Peek host address)) session.old result session.new }
 {
     write_all(rt, session, host, &peek_message(address))?;
-    settle(rt, session, quantum)?;
+    if matches!(settle(rt, session, quantum), Err(Refusal::NoMemory)) {
+        return Err(Refusal::NoMemory);
+    }
     read_up_to(rt, session, host, 4)
 }
 
@@ -148,7 +151,8 @@ fn boot<R: Wait>(
 ///
 /// # Errors
 ///
-/// The first refusal ends the line. What was taken before it stands. `NoMemory` too if a boot message can't be made.
+/// The first refusal ends the line. What was taken before it stands. `NoMemory` too if a boot message can't be made, and if
+/// the settling of a peek ran out of memory.
 pub(crate) fn ask_line<R: Wait>(
     rt: &R,
     alloc: Global,
@@ -156,7 +160,7 @@ pub(crate) fn ask_line<R: Wait>(
     quantum: Quantum,
     command: &Command,
 ) -> Result<(), Refusal>
-    ensures { AsksLine command.now session.old result session.new }
+    ensures { AsksJust (next_event command.now) session.old result session.new }
 {
     match command {
         Command::Config(bytes) => configure_all(rt, session, bytes.as_slice()),

@@ -12,11 +12,13 @@ use std::alloc::Global;
 use std::sync::Wait;
 
 /// Asks what a line asks in its user's session, and appends its output line to his screen. A peek settles before it reads,
-/// and nothing else does.
+/// and nothing else does. Whether that settling is refused for its full journal is nobody's fault: the domain answers what is
+/// asked next, as it answers every command.
 ///
 /// # Errors
 ///
-/// `NoMemory` if a command, a boot message or the text ran out of memory. What was taken before it stands.
+/// `NoMemory` if a command, a boot message, the settling of a peek or the text ran out of memory. What was taken before it
+/// stands, and so may the beginning of the output line.
 pub fn answer_line<R: Wait>(
     rt: &R,
     alloc: Global,

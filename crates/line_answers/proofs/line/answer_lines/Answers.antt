@@ -13,12 +13,12 @@ loop-command-init g c =
 pub returns-in_err-answer_line-clause-list : goal.returns-in_err-answer_line-clause-list
 returns-in_err-answer_line-clause-list g c =
     gains_more c.args.session.now c.loop-command.session c.answer_line.new.session
-    (c.loop-command.invariant.told, c.loop-command.invariant.list) c.in_err-answer_line.ensures.list
+    (c.loop-command.invariant.told, c.loop-command.invariant.gains) c.in_err-answer_line.ensures.list
 
 pub returns-then-matches-clause-list : goal.returns-then-matches-clause-list
 returns-then-matches-clause-list g c =
     gains_more c.args.session.now c.loop-command.session c.answer_line.new.session
-    (c.loop-command.invariant.told, c.loop-command.invariant.list) c.in_ok-answer_line.ensures.list
+    (c.loop-command.invariant.told, c.loop-command.invariant.gains) c.in_ok-answer_line.ensures.list
 
 pub loop-command-preserved : goal.loop-command-preserved
 loop-command-preserved g c =
@@ -27,7 +27,7 @@ loop-command-preserved g c =
     c.loop-command.invariant c.in_ok-answer_line.ensures.line
 
 pub returns-clause-list : goal.returns-clause-list
-returns-clause-list g c = (c.loop-command.invariant.told, c.loop-command.invariant.list)
+returns-clause-list g c = (c.loop-command.invariant.told, c.loop-command.invariant.gains)
 
 pub returns-clause-lines : goal.returns-clause-lines
 returns-clause-lines g c =
