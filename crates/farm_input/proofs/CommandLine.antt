@@ -6,11 +6,9 @@ use Rattle.std.proofs.Common.{sym, subst, inl, inr, arith, codes, not, is_some, 
 use Rattle.std.specs.Prelude.{pos, unwrap_or, Result, Ok}
 use Rattle.std.specs.List.{All, slice_index_or}
 use Rattle.std.specs.Str.{bytes_eq}
-use Rattle.std.specs.Option.{option_map_or}
-use Rattle.std.specs.Str.Parse.{ParsesBool, ParsesUnsigned}
+use Rattle.std.specs.Str.Parse.{ParsesUnsigned}
 use Rattle.std.proofs.lemmas.List.{nil_from_length, length-map}
 use Rattle.std.proofs.lemmas.Bool.{eqb-true}
-use Rattle.std.proofs.lemmas.Slice.Eq.{bytes_eq-Decides}
 use Rattle.clap.specs.Words.{App, HasMatchesOf, Rule, Text, app_of, matches_of, one_of, rule_of, rows_of}
 use Rattle.clap.specs.Lexer.{without_minus}
 use Rattle.clap.specs.Texts.{items_of}

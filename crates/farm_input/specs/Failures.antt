@@ -1,5 +1,5 @@
 -- Why a text has no output, and what is told of it.
-use Rattle.std.specs.Prelude.{◌≡◌, ◌≢◌, ◌++◌, ◌⊎◌, ℕ, Bool, List, true, Option, Err, codes, ⊤}
+use Rattle.std.specs.Prelude.{◌≡◌, ◌≢◌, ◌++◌, ◌⊎◌, ℕ, List, true, Option, Err, codes, ⊤}
 use Rattle.std.specs.Fmt.{decimal}
 use Rattle.std.specs.Io.KnownBytes.{Appends}
 use Rattle.std.specs.Str.Lines.{lines}
@@ -9,6 +9,7 @@ use Rattle.plan_rules.specs.Separate.{IsSmallestFault}
 use Rattle.plan_rules.specs.declared.fault.PlanFault.{PlanFault}
 use Rattle.plan_rules.specs.declared.fault.PlanFault.TheVariants.{NoMemory}
 use Rattle.plan_checker.specs.Document.{IsPlan, ReadsPlan}
+use Rattle.script_text.specs.Writing.{AppendsBeginning}
 use Rattle.script_text.specs.declared.reading.ReadFault.{ReadFault}
 use Rattle.script_text.specs.declared.reading.ReadFault.TheVariants as input
 use Rattle.script_lines.specs.declared.fault.LineFault.{LineFault}
@@ -95,7 +96,12 @@ failure_text (Line number fault) = codes "line " ++ decimal number ++ codes ": "
 failure_text Memory = codes "memory\n"
 failure_text Io = codes "io\n"
 
--- a run ends by a failure: by its status, and by its text on standard error, if this takes it
+-- a text is written: all of it, if the ending says so, and else a beginning of it
+pub record Tells (text : List ℕ) (ending : Ending) (before after : Option (List ℕ)) : Type 0 where
+  pub whole : ending.is_told ≡ true → Appends before after text
+  pub begun : AppendsBeginning before after text
+
+-- a run ends by a failure: by its status, and by its text on standard error, or by a beginning of it if a write failed
 pub record EndsBy (failure : FarmFailure) (ending : Ending) (errors_before errors_after : Option (List ℕ)) : Type 0 where
   pub status_of : ending.status ≡ failure_status failure
-  pub text_of : ending.is_told ≡ true → Appends errors_before errors_after (failure_text failure)
+  pub text_of : Tells (failure_text failure) ending errors_before errors_after

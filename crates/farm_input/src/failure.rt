@@ -1,14 +1,16 @@
 //! Why a run ends without its output, and what is told of it.
-ghost use Rattle.std.specs.Prelude.{◌≡◌, OnOk};
+ghost use Rattle.std.specs.Prelude.{◌≡◌, OnOk, OnErr};
 ghost use Rattle.std.specs.Io.KnownBytes.{Appends};
+ghost use Rattle.script_text.specs.Writing.{AppendsBeginning};
 ghost use Rattle.farm_input.specs.declared.failure.FarmFailure.TheVariants.{Memory};
 ghost use Rattle.farm_input.specs.Failures.{EndsBy, failure_of_input, failure_of_plan, failure_of_script, failure_status, failure_text, fault_word};
 
+use itoa::Buffer;
 use plan_checker::PlanFault;
 use script_lines::{LineFault, ScriptFault};
-use script_text::ReadFault;
+use script_text::{ReadFault, WriteFailed, write_texts, write_whole};
 use std::alloc::AllocError;
-use std::io::{self, Write};
+use std::io::Write;
 
 /// Why a run ends without its output.
 #[derive(Clone, Copy, Debug)]
@@ -58,16 +60,21 @@ impl FarmFailure {
     }
 
     // Writes what is told of it.
-    fn write<E: Write>(self, errors: &mut E) -> io::Result<()>
-        ensures { OnOk result (Appends (E.contents errors.old) (E.contents errors.new) (failure_text self)) }
+    fn write<E: Write>(self, errors: &mut E) -> Result<(), WriteFailed>
+        ensures whole { OnOk result (Appends (E.contents errors.old) (E.contents errors.new) (failure_text self)) }
+        ensures begun { OnErr result (AppendsBeginning (E.contents errors.old) (E.contents errors.new) (failure_text self)) }
     {
+        let mut digits = Buffer::new();
         match self {
-            FarmFailure::Plan(fault) => write!(errors, "plan: {}\n", fault.number()),
-            FarmFailure::Line { number, fault } => {
-                write!(errors, "line {number}: {}\n", word_of(fault))
+            FarmFailure::Plan(fault) => {
+                write_texts(errors, &["plan: ", digits.format(fault.number()), "\n"])
             }
-            FarmFailure::Memory => errors.write_all(b"memory\n"),
-            FarmFailure::Io => errors.write_all(b"io\n"),
+            FarmFailure::Line { number, fault } => {
+                let number = digits.format(number);
+                write_texts(errors, &["line ", number, ": ", word_of(fault), "\n"])
+            }
+            FarmFailure::Memory => write_whole(errors, b"memory\n"),
+            FarmFailure::Io => write_whole(errors, b"io\n"),
         }
     }
 
