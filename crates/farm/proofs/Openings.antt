@@ -13,7 +13,7 @@ use Rattle.std.proofs.lemmas.Option.{slice_get_within, get_or_from_slice_get}
 use Rattle.plan_rules.specs.Data.{DomainData, UserData}
 use Rattle.script_lines.specs.declared.command.Command.{Command}
 use Rattle.script_lines.specs.declared.script.ScriptLine.{ScriptLine}
-use Rattle.farm_service.specs.Passes.{UserPassValue, passes_opened, passes_from, fresh_passes}
+use Rattle.farm_service.specs.Passes.{UserPassValue, fresh_pass, passes_opened, passes_from, fresh_passes}
 use Rattle.farm.specs.declared.users.User.{User}
 use Rattle.farm_input.specs.Names.{all_names}
 use Rattle.farm.specs.Users.{commands_at, session_of, AreUsersOf}
@@ -70,7 +70,7 @@ length_in number zero = refl
 length_in number (suc count) =
     omega (
       arith,
-      length-append (passes_opened number count) (record { domain = number; user = count; told = [] } ∷ []),
+      length-append (passes_opened number count) (fresh_pass number count ∷ []),
       length_in number count,
     )
 

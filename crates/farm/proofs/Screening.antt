@@ -14,16 +14,17 @@ use Rattle.script_lines.specs.declared.script.ScriptLine.{ScriptLine}
 use Rattle.domain_core.specs.declared.event.Told.{Told}
 use Rattle.farm_service.specs.declared.closed.ClosedDomain.{ClosedDomain}
 use Rattle.farm_service.specs.Passes.{SessionValue, UserPassValue, fresh_pass, passes_opened, passes_from, fresh_passes}
-use Rattle.farm_service.specs.Closed.{AreListed, IsListed, history_of}
+use Rattle.farm_service.specs.Closed.{AreListed, IsListed, IsFull, MetFullTruly, AllMetFullTruly, history_of}
 use Rattle.farm_service.specs.Commands.{commands_of}
 use Rattle.line_answers.specs.Lines.{AreAnsweredLines}
-use Rattle.line_answers.specs.Sessions.{with_all}
+use Rattle.line_answers.specs.Sessions.{HasMetFull, with_all}
 use Rattle.farm.specs.declared.farm.ScriptEnd.{ScriptEnd}
 use Rattle.farm.specs.declared.farm.UsersEnd.{UsersEnd}
 use Rattle.farm.specs.declared.users.User.{User}
 use Rattle.farm_input.specs.Names.{all_names}
 use Rattle.farm.specs.Users.{commands_at, session_of, AreUsersOf, HasAnswered, HaveAnswered}
 use Rattle.farm.specs.Screens.{IsScreen, AreScreens}
+use Rattle.farm.proofs.FullJournals.{lines_if}
 
 -- ---- lists
 
@@ -87,34 +88,42 @@ one_screen : (plan : List DomainData) (closed : List ClosedDomain) (pass : UserP
     (commands : List Command) (u v : User)
     → pass.told ≡ [] → u.session ≡ session_of plan pass → u.name.now ≡ name
     → map (λ c. c.now) u.commands.items ≡ commands → string_bytes v.screen ≡ screen → HasAnswered u v
-    → IsListed closed v.session.pass
+    → IsListed closed v.session.pass → MetFullTruly plan closed v.session.pass
     → IsScreen plan closed pass name commands screen
-one_screen plan closed pass name screen commands u v unasked session named asked shown lines listed =
-    let at : v.session ≡ with_all (session_of plan pass) lines.told =
-    lines.list ∙ ap (λ (s : SessionValue). with_all s lines.told) session in
+one_screen plan closed pass name screen commands u v unasked session named asked shown lines listed truly =
+    let P : Type 0 = IsFull plan closed pass.domain in
+    let met = v.session.pass.met_full in
+    let at : v.session ≡ with_all (session_of plan pass) lines.told met =
+    lines.gains.list ∙ ap (λ (s : SessionValue). with_all s lines.told met) session in
     let told : v.session.pass.told ≡ lines.told =
     ap (λ (s : SessionValue). s.pass.told) at ∙ ap (λ (before : List Told). before ++ lines.told) unasked in
-    let theirs : AreAnsweredLines (session_of plan pass) name commands v.session.pass.told screen =
-    subst (λ (text : List ℕ). AreAnsweredLines (session_of plan pass) name commands v.session.pass.told text) shown
-    (subst (λ (list : List Told). AreAnsweredLines (session_of plan pass) name commands list
+    let full : HasMetFull v.session → P =
+    λ is. subst (λ (s : SessionValue). IsFull plan closed s.pass.domain) at (truly is) in
+    let own : AreAnsweredLines P u.session u.name.now (map (λ c. c.now) u.commands.items) lines.told
+    (string_bytes v.screen) =
+    lines_if full u.session u.name.now (map (λ c. c.now) u.commands.items) lines.told (string_bytes v.screen)
+    lines.lines in
+    let theirs : AreAnsweredLines P (session_of plan pass) name commands v.session.pass.told screen =
+    subst (λ (text : List ℕ). AreAnsweredLines P (session_of plan pass) name commands v.session.pass.told text) shown
+    (subst (λ (list : List Told). AreAnsweredLines P (session_of plan pass) name commands list
     (string_bytes v.screen))
     (sym told)
-    (subst (λ (cs : List Command). AreAnsweredLines (session_of plan pass) name cs lines.told
+    (subst (λ (cs : List Command). AreAnsweredLines P (session_of plan pass) name cs lines.told
     (string_bytes v.screen))
     asked
-    (subst (λ (n : List ℕ). AreAnsweredLines (session_of plan pass) n (map (λ c. c.now) u.commands.items)
+    (subst (λ (n : List ℕ). AreAnsweredLines P (session_of plan pass) n (map (λ c. c.now) u.commands.items)
     lines.told (string_bytes v.screen))
     named
-    (subst (λ (s : SessionValue). AreAnsweredLines s u.name.now (map (λ c. c.now) u.commands.items)
+    (subst (λ (s : SessionValue). AreAnsweredLines P s u.name.now (map (λ c. c.now) u.commands.items)
     lines.told (string_bytes v.screen))
-    session lines.lines)))) in
+    session own)))) in
     let here : IfSome (slice_get closed pass.domain) (λ c. commands_of pass.user (history_of c) ≡ v.session.pass.told) =
     subst (λ (s : SessionValue). IfSome (slice_get closed s.pass.domain)
     (λ c. commands_of s.pass.user (history_of c) ≡ v.session.pass.told))
     at listed in
     some_then (slice_get closed pass.domain) (λ c. commands_of pass.user (history_of c) ≡ v.session.pass.told)
-    (λ c. AreAnsweredLines (session_of plan pass) name commands (commands_of pass.user (history_of c)) screen)
-    (λ c is. subst (λ (list : List Told). AreAnsweredLines (session_of plan pass) name commands list screen)
+    (λ c. AreAnsweredLines P (session_of plan pass) name commands (commands_of pass.user (history_of c)) screen)
+    (λ c is. subst (λ (list : List Told). AreAnsweredLines P (session_of plan pass) name commands list screen)
     (sym is) theirs)
     here
 
@@ -123,9 +132,9 @@ pub all_screens : (plan : List DomainData) (lines : List ScriptLine) (steps : �
     (passes : List UserPassValue) (screens : List (List ℕ)) (closed : List ClosedDomain)
     → AreUsersOf plan lines steps opened → length after ≡ length opened → HaveAnswered opened after
     → All (λ u. IsOk u.ended) after → passes ≡ map (λ u. u.session.pass) after
-    → screens ≡ map (λ u. string_bytes u.screen) after → AreListed closed passes
+    → screens ≡ map (λ u. string_bytes u.screen) after → AreListed closed passes → AllMetFullTruly plan closed passes
     → AreScreens plan lines closed screens
-all_screens plan lines steps opened after passes screens closed users count answered ended left shown listed =
+all_screens plan lines steps opened after passes screens closed users count answered ended left shown listed truly =
     let many : length opened ≡ length (fresh_passes plan) =
     sym (length-map opened (λ (u : User). u.session)) ∙ ap length users.sessions
     ∙ length-map (fresh_passes plan) (session_of plan) in record {
@@ -152,7 +161,10 @@ all_screens plan lines steps opened after passes screens closed users count answ
           before (answered place d within))) in
           let theirs : IsListed closed v.0.session.pass =
           subst (IsListed closed) (ap (λ (w : User). w.session.pass) behind)
-          (listed_at closed after passes place d (omega (arith, within, count)) left listed) in
+          (at_pass_of (IsListed closed) after passes place d (omega (arith, within, count)) left listed) in
+          let full : MetFullTruly plan closed v.0.session.pass =
+          subst (MetFullTruly plan closed) (ap (λ (w : User). w.session.pass) behind)
+          (at_pass_of (MetFullTruly plan closed) after passes place d (omega (arith, within, count)) left truly) in
           one_screen plan closed pass name screen (commands_at lines place) u.0 v.0 unasked
           (read_at (λ (w : User). w.session) opened (map (session_of plan) (fresh_passes plan)) place u.0
           (session_of plan pass) users.sessions u.1 (mapped (session_of plan) (fresh_passes plan) place pass at_pass))
@@ -163,7 +175,7 @@ all_screens plan lines steps opened after passes screens closed users count answ
           (mapped (commands_at lines) (range_with_len 0 (length opened)) place place
           (counted place (length opened) within)))
           (read_at (λ (w : User). string_bytes w.screen) after screens place v.0 screen (sym shown) v.1 at_screen)
-          has theirs;
+          has theirs full;
     }
   where
     get_is : {A : Type 0} (xs : List A) (i : ℕ) (x d : A) → slice_get xs i ≡ Some x → get_or xs i d ≡ x
@@ -174,12 +186,11 @@ all_screens plan lines steps opened after passes screens closed users count answ
         slice_get-get_or (range_with_len 0 n) i 0 (long_enough i n less)
         ∙ ap Some (get_or-range_with_len 0 n i 0 less ∙ omega arith)
 
-    listed_at : (closed : List ClosedDomain) (after : List User) (passes : List UserPassValue) (i : ℕ) (d : User)
-        → i < length after → passes ≡ map (λ u. u.session.pass) after → AreListed closed passes
-        → IsListed closed (get_or after i d).session.pass
-    listed_at closed after passes i d less are listed =
-        each_of (λ u. u.session.pass) (IsListed closed) after
-        (subst (λ (ps : List UserPassValue). All (IsListed closed) ps) are listed) i d less
+    at_pass_of : (P : UserPassValue → Type 0) (after : List User) (passes : List UserPassValue) (i : ℕ) (d : User)
+        → i < length after → passes ≡ map (λ u. u.session.pass) after → All P passes
+        → P (get_or after i d).session.pass
+    at_pass_of P after passes i d less are all =
+        each_of (λ u. u.session.pass) P after (subst (λ (ps : List UserPassValue). All P ps) are all) i d less
 
 -- the same of users who were lent to threads, and with whose passes the service was then closed
 pub closed_screens : {E : Type 0} (plan opened_plan : List DomainData) (lines : List ScriptLine) (steps : ℕ)
@@ -189,17 +200,18 @@ pub closed_screens : {E : Type 0} (plan opened_plan : List DomainData) (lines : 
     → left.passes.items ≡ map (λ u. u.session.pass) back
     → map string_bytes left.screens.items ≡ map (λ u. string_bytes u.screen) back
     → IfOk outcome (λ e. AreListed e.closed.domains.items left.passes.items)
+    → IfOk outcome (λ e. AllMetFullTruly opened_plan e.closed.domains.items left.passes.items)
     → IfOk outcome (λ e. e.screens ≡ left.screens)
     → IfOk outcome (λ e. AreScreens plan lines e.closed.domains.items (map string_bytes e.screens.items))
 closed_screens plan opened_plan lines steps opened lent after back left (Err e) same lent_is users count answered
-    back_is ended passes screens listed kept =
+    back_is ended passes screens listed truly kept =
     tt
 closed_screens plan opened_plan lines steps opened lent after back left (Ok e) same lent_is users count answered
-    back_is ended passes screens listed kept =
+    back_is ended passes screens listed truly kept =
     subst (λ (p : List DomainData). AreScreens p lines e.closed.domains.items (map string_bytes e.screens.items)) same
     (all_screens opened_plan lines steps lent after left.passes.items (map string_bytes e.screens.items)
     e.closed.domains.items (subst (λ (us : List User). AreUsersOf opened_plan lines steps us) (sym lent_is) users)
     count answered (subst (λ (us : List User). All (λ u. IsOk u.ended) us) back_is ended)
     (passes ∙ ap (map (λ (u : User). u.session.pass)) back_is)
     (ap (λ v. map string_bytes v.items) kept ∙ screens ∙ ap (map (λ (u : User). string_bytes u.screen)) back_is)
-    listed)
+    listed truly)

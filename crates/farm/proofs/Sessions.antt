@@ -6,4 +6,4 @@ use Rattle.farm.specs.Users.{as_opened}
 
 -- whatever a session gained, it is the same user's
 pub gains_keep : (s t : SessionValue) → GainsSome s t → as_opened t ≡ as_opened s
-gains_keep s t gained = ap as_opened gained.1
+gains_keep s t gained = ap as_opened gained.1.list

@@ -1,16 +1,16 @@
 //! A text and its output.
-ghost use Rattle.std.specs.Prelude.{◌≡◌, ◌≢◌, IfOk, IfErr, OnOk, IfSome, map, string_bytes};
+ghost use Rattle.std.specs.Prelude.{◌≡◌, ◌≢◌, IfOk, IfErr, IfSome, map, string_bytes};
 ghost use Rattle.std.specs.List.{concat};
-ghost use Rattle.std.specs.Io.KnownBytes.{Appends, Keeps};
+ghost use Rattle.std.specs.Io.KnownBytes.{Keeps};
 ghost use Rattle.farm_input.specs.declared.failure.FarmFailure.{FarmFailure as SpecFailure};
 ghost use Rattle.farm_input.specs.Failures.{EndsBy, IsFailure};
 ghost use Rattle.farm_input.specs.Settings.{InRange};
-ghost use Rattle.farm.specs.Output.{IsOutput, Prints};
+ghost use Rattle.farm.specs.Output.{IsOutput, Prints, PrintsBeginning};
 
 use crate::farm::run_script;
 use farm_core::laws::each_domain_of_a_plan_is_private;
 use farm_input::{Ending, FarmFailure, Settings, accepted, lines_of, text_read};
-use script_text::{WriteFailed, divide, write_whole};
+use script_text::{WriteFailed, divide, write_texts};
 use std::alloc::Global;
 use std::io::{Read, Write};
 use std::sync::Wait;
@@ -36,17 +36,8 @@ fn screens_of<R: Threads + Wait + Sync>(
     Ok(ended.screens)
 }
 
-// Writes screens one after another.
-fn write_screens<W: Write>(output: &mut W, screens: &[String]) -> Result<(), WriteFailed>
-    ensures { OnOk result (Appends (W.contents output.old) (W.contents output.new) (concat (map string_bytes screens.now))) }
-{
-    for screen in screens {
-        write_whole(output, screen.as_bytes())?;
-    }
-    Ok(())
-}
-
 // Runs what a text asks, as `answer` does.
+// Six clauses: those of `answer`.
 fn answer_text<R: Threads + Wait + Sync, W: Write, E: Write>(
     rt: &R,
     alloc: Global,
@@ -61,9 +52,10 @@ fn answer_text<R: Threads + Wait + Sync, W: Write, E: Write>(
     ensures failure { result.status ≢ 0 → (failure : SpecFailure) × EndsBy failure result (E.contents errors.old) (E.contents errors.new)
         × IsFailure text.now failure }
     ensures kept { result.status ≢ 0 → result.status ≢ 6 → Keeps (W.contents output.old) (W.contents output.new) }
+    ensures begun { PrintsBeginning text.now (W.contents output.old) (W.contents output.new) }
 {
     match screens_of(rt, alloc, settings, text) {
-        Ok(screens) => match write_screens(output, screens.as_slice()) {
+        Ok(screens) => match write_texts(output, screens.as_slice()) {
             Ok(()) => Ending {
                 status: 0,
                 is_told: true,
@@ -78,7 +70,9 @@ fn answer_text<R: Threads + Wait + Sync, W: Write, E: Write>(
 /// lines.
 ///
 /// The status is 0 if all is written, 3 if the plan is refused, 4 if a line of the script is, 5 for want of memory, and 6 if a
-/// stream failed. For 3 to 5 nothing goes to the output; for all but 0 a text goes to the errors.
+/// stream failed. For 3 to 5 nothing goes to the output, for 6 nothing or a beginning of the lines; for all but 0 a text goes
+/// to the errors.
+// Six clauses: which settings there are, what is printed and told with status 0 and without it, and what may be printed then.
 pub fn answer<R: Threads + Wait + Sync, I: Read, W: Write, E: Write>(
     rt: &R,
     alloc: Global,
@@ -93,6 +87,7 @@ pub fn answer<R: Threads + Wait + Sync, I: Read, W: Write, E: Write>(
     ensures failure { result.status ≢ 0 → (failure : SpecFailure) × EndsBy failure result (E.contents errors.old) (E.contents errors.new)
         × IfSome (I.remaining input.old) (λ text. IsFailure text failure) }
     ensures kept { result.status ≢ 0 → result.status ≢ 6 → Keeps (W.contents output.old) (W.contents output.new) }
+    ensures begun { IfSome (I.remaining input.old) (λ text. PrintsBeginning text (W.contents output.old) (W.contents output.new)) }
 {
     match text_read(alloc, input) {
         Ok(text) => answer_text(rt, alloc, settings, text.as_slice(), output, errors),

@@ -2,7 +2,7 @@
 ghost use Rattle.std.specs.Prelude.{◌≡◌, ◌<◌, IfOk, IsOk, All, length, map, string_bytes};
 ghost use Rattle.token_queue.specs.Passes.{AreItsPasses};
 ghost use Rattle.farm_core.specs.Places.{places_of};
-ghost use Rattle.farm_service.specs.Closed.{AreDomainsOf, AreListed, EachMergeRuns};
+ghost use Rattle.farm_service.specs.Closed.{AreDomainsOf, AreListed, AllMetFullTruly, AllAreRightlyAsked, EachMergeRuns};
 ghost use Rattle.farm_input.specs.Names.{all_names};
 ghost use Rattle.farm_input.specs.Settings.{InRange};
 ghost use Rattle.farm.specs.Closing.{AreAllListed};
@@ -81,6 +81,7 @@ pub struct ScriptEnd {
 }
 
 // Closes the service with the passes of its workers and of all its users.
+// Six clauses: what closing vouches for, and that the screens stay.
 fn close<R: Wait>(
     rt: &R,
     alloc: Global,
@@ -92,6 +93,8 @@ fn close<R: Wait>(
     ensures domains { IfOk result (λ ended. AreDomainsOf service.plan ended.closed.domains.items) }
     ensures runs { IfOk result (λ ended. EachMergeRuns (places_of service.plan) ended.closed.domains.items) }
     ensures users { IfOk result (λ ended. AreListed ended.closed.domains.items left.passes.items) }
+    ensures full { IfOk result (λ ended. AllMetFullTruly service.plan ended.closed.domains.items left.passes.items) }
+    ensures asked { IfOk result (λ ended. AllAreRightlyAsked ended.closed.domains.items) }
     ensures screens { IfOk result (λ ended. ended.screens ≡ left.screens) }
 {
     let UsersEnd {
@@ -106,7 +109,7 @@ fn close<R: Wait>(
 
 /// Runs the lines of a script on a service of the plan, closes the service with the passes of all users, and gives
 /// what is left of it and the output lines of each user. So what users were told is what the journals hold.
-// Six clauses: what is asked for and whose lines there are, and what is left of domains, runs, users and screens.
+// Seven clauses: what is asked for and whose lines there are, and what is left of domains, runs, users, calls and screens.
 pub fn run_script<R: Threads + Wait + Sync>(
     rt: &R,
     alloc: Global,
@@ -119,6 +122,7 @@ pub fn run_script<R: Threads + Wait + Sync>(
     ensures domains { IfOk result (λ ended. AreDomainsOf plan ended.closed.domains.items) }
     ensures runs { IfOk result (λ ended. EachMergeRuns (places_of plan) ended.closed.domains.items) }
     ensures users { IfOk result (λ ended. AreAllListed plan ended.closed.domains.items) }
+    ensures asked { IfOk result (λ ended. AllAreRightlyAsked ended.closed.domains.items) }
     ensures screens { IfOk result (λ ended. AreScreens plan lines.now ended.closed.domains.items (map string_bytes ended.screens.items)) }
 {
     let Ok(opened) = Service::open(rt, alloc, plan, settings.workers) else {

@@ -4,7 +4,7 @@ ghost use Rattle.std.specs.Io.KnownBytes.{Keeps};
 ghost use Rattle.farm_input.specs.declared.failure.FarmFailure.{FarmFailure as SpecFailure};
 ghost use Rattle.farm_input.specs.Endings.{EndsByWords, GiveSettings};
 ghost use Rattle.farm_input.specs.Failures.{EndsBy, IsFailure};
-ghost use Rattle.farm.specs.Output.{Prints};
+ghost use Rattle.farm.specs.Output.{Prints, PrintsBeginning};
 
 use crate::answering::answer;
 use farm_input::{Ending, end_by_error, settings};
@@ -19,7 +19,7 @@ use std::thread::Threads;
 ///
 /// If the words give settings it does what [`answer`] does. Else the input isn't read: the status is 2 if the words are
 /// refused, and 0 behind the text of `--help`.
-// Six clauses: what is printed and told as in `answer`, and how a run ends and what it leaves alone that isn't to answer.
+// Seven clauses: what is printed and told as in `answer`, and how a run ends and what it leaves alone that isn't to answer.
 pub fn run<R: Threads + Wait + Sync, S: AsStr, I: Read, W: Write, E: Write>(
     rt: &R,
     alloc: Global,
@@ -38,6 +38,8 @@ pub fn run<R: Threads + Wait + Sync, S: AsStr, I: Read, W: Write, E: Write>(
         (W.contents output.old) (W.contents output.new) (E.contents errors.old) (E.contents errors.new) }
     ensures unread { GiveSettings (map S.text words.now) ⊎ (input.new ≡ input.old) }
     ensures kept { result.status ≢ 0 → result.status ≢ 6 → Keeps (W.contents output.old) (W.contents output.new) }
+    ensures begun { GiveSettings (map S.text words.now)
+        → IfSome (I.remaining input.old) (λ text. PrintsBeginning text (W.contents output.old) (W.contents output.new)) }
 {
     match settings(alloc, words) {
         Ok(settings) => answer(rt, alloc, settings, input, output, errors),

@@ -1,5 +1,6 @@
 -- What a line asks, in one or two parts.
-use Rattle.std.proofs.Common.{◌≡◌, ◌≢◌, Bor, take, drop, map, get_or, ℕ, ◌+◌, ◌-◌, ◌<◌, ◌≤◌, Bool, true, false, ◌||◌, ◌&&◌}
+use Rattle.std.proofs.Common.{◌≡◌, ◌≢◌, Bor, take, drop, map, get_or, ℕ, ◌+◌, ◌-◌, ◌<◌, ◌≤◌, Bool, true, false}
+use Rattle.std.proofs.Common.{◌||◌, ◌&&◌}
 use Rattle.std.proofs.Common.{List, [], ◌∷◌, ◌++◌, length, Some, None, refl, sym, ap, ◌∙◌, subst, arith, append_assoc}
 use Rattle.std.proofs.Common.{inl, inr}
 use Rattle.std.specs.Prelude.{slice_get, nat_lt, Result, Ok, Err, Option, if◌then◌else◌, ⊤}
@@ -30,7 +31,8 @@ use Rattle.line_answers.specs.Asks.{next_write, next_boot, next_read, next_event
 use Rattle.line_answers.proofs.Exchange.{begun}
 use Rattle.line_answers.specs.Lines.{LineHasEnded, IsAnsweredLine, AreAnsweredLines}
 use Rattle.answer_text.specs.Results.{line_text, replies_told}
-use Rattle.line_answers.specs.Sessions.{HasMetFull, with_all, HasGained, HasEnded, AsksJust, GainsSome, IsAnswered, AreAnswered}
+use Rattle.line_answers.specs.Sessions.{HasMetFull, with_all, HasGained, HasEnded, AsksJust, GainsSome}
+use Rattle.line_answers.specs.Sessions.{IsAnswered, AreAnswered}
 
 -- ---- what is asked by one rule is asked by another
 
@@ -217,7 +219,8 @@ peek_end host address xs ys session (Err refusal) same over = (over.0, same ys �
 -- a peek writes its message, and then reads four bytes
 pub peeked : {A B : Type 0} (host address : ℕ) (s t session : SessionValue) (a : A) (outcome : Result B Refusal)
     → AsksJust (next_write host (1 ∷ bytes_of_word address)) s (Ok a) t
-    → AsksJust (next_read host 4) t outcome session → AsksJust (next_event (command.Peek host address)) s outcome session
+    → AsksJust (next_read host 4) t outcome session
+    → AsksJust (next_event (command.Peek host address)) s outcome session
 peeked host address s t session a outcome writes reads =
     let same : (told : List Told)
     → next_event (command.Peek host address) (writes.told ++ told) ≡ next_read host 4 told =

@@ -19,6 +19,7 @@ returns-clause-output g c =
           (c.divide.result.0.now, c.divide.result.1.now, c.divide.ensures, (accepted, c.in_ok-asked.ensures.asked));
       domains = c.in_ok-ended.ensures.domains;
       alone = all_alone plan closed c.each_domain_of_a_plan_is_private.ensures.told accepted.1 runs;
+      askers = c.in_ok-ended.ensures.asked;
       runs = runs;
       shown =
           subst (λ (lines : List ScriptLine). AreScreens plan lines closed screens)

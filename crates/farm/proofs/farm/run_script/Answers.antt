@@ -44,7 +44,7 @@ returns-clause-screens g c =
     c.in_ok-left.left c.close.result c.in-Ok.ensures.plan lent_is
     c.in_ok-users.ensures c.run_all.ensures.count c.run_all.ensures.lines back c.in_ok-left.ensures.ended
     c.in_ok-left.ensures.passes c.in_ok-left.ensures.screens
-    c.close.ensures.users c.close.ensures.screens
+    c.close.ensures.users c.close.ensures.full c.close.ensures.screens
 
 pub returns-clause-runs : goal.returns-clause-runs
 returns-clause-runs g c =

@@ -7,4 +7,5 @@ pub loop-rest-preserved : goal.loop-rest-preserved
 loop-rest-preserved g c =
     let contents = g.W.Write.contents in
     less_remains (contents c.args.writer.now) (contents c.loop-rest.writer) (contents c.write.new.self)
-    c.loop-rest.rest.now _ c.args.bytes.now c.in-Ok.count (grind (arith, common_steps)) c.loop-rest.invariant c.in-Ok.ensures.bytes
+    c.loop-rest.rest.now _ c.args.bytes.now c.in-Ok.count (grind (arith, common_steps)) c.loop-rest.invariant
+    c.in-Ok.ensures.bytes
