@@ -92,6 +92,15 @@ fn redo_steps<O: Outputs + Drop>(
     }
 }
 
+// Whether a user asks for a command, or the farm itself for a Step or a Move: no farm records another call.
+fn is_rightly_asked(by: By, event: Event) -> bool {
+    match event {
+        Event::Step(_) | Event::Move(_) => by == By::Farm,
+        Event::Config(_) | Event::Write(_, _) | Event::Read(_) | Event::Reset(_) | Event::Look(_) =>
+            by != By::Farm,
+    }
+}
+
 // Does a call as often as it was made. Only Steps stand together.
 fn redo_call<O: Outputs + Drop>(
     domain: &mut Domain<O>,
@@ -104,6 +113,9 @@ fn redo_call<O: Outputs + Drop>(
     })) domain.old domain.new) }
 {
     let RecordedCall { times, by, event } = call;
+    if !is_rightly_asked(by, event) {
+        return Err(RedoFault::NoLine);
+    }
     match (times, by, event) {
         (1, _, _) => redo_event(domain, by, event),
         (_, By::Farm, Event::Step(node)) => {
@@ -118,8 +130,9 @@ fn redo_call<O: Outputs + Drop>(
 ///
 /// # Errors
 ///
-/// `NoLine` if it isn't a line of a record, or not in its only form, and `Differs` if the domain answers otherwise or doesn't
-/// record it; `Memory`. The domain may then have done what the line says.
+/// `NoLine` if it isn't a line of a record, as a command of the farm itself or a Step of a user isn't, or not in its only
+/// form, and `Differs` if the domain answers otherwise or doesn't record it; `Memory`. The domain may then have done what the
+/// line says.
 pub fn redo_line<O: Outputs + Drop>(
     redoing: &mut Redoing,
     domain: &mut Domain<O>,
