@@ -1,5 +1,5 @@
 -- What is said of a full journal in lines that were answered: the clause `screens` of `run_script`.
-use Rattle.std.proofs.Common.{ℕ, List, [], ◌∷◌, Ok, Err}
+use Rattle.std.proofs.Common.{ℕ, List, [], ◌∷◌, Ok, Err, inl, inr}
 use Rattle.std.specs.Prelude.{Result}
 use Rattle.domain_core.specs.declared.event.Refusal.{Refusal}
 use Rattle.domain_core.specs.declared.event.Refusal.TheVariants.{NoSuch, JournalFull, NoMemory}
@@ -12,7 +12,10 @@ end_if : {A P Q : Type 0} → (P → Q) → (c : Command) (told : List Told) (s 
     → LineHasEnded P s c told outcome → LineHasEnded Q s c told outcome
 end_if so c told s (Ok a) over = over
 end_if so c told s (Err NoSuch) over = over
-end_if so c told s (Err JournalFull) over = (over.0, over.1, (over.2.0, so over.2.1))
+end_if so c told s (Err JournalFull) over = elim over [
+  | inl ended ↦ inl (ended.0, ended.1, (ended.2.0, so ended.2.1))
+  | inr unsettled ↦ inr unsettled
+]
 end_if so c told s (Err NoMemory) over = over
 
 line_if : {P Q : Type 0} → (P → Q) → (s : SessionValue) (name : List ℕ) (c : Command) (told : List Told) (text : List ℕ)

@@ -31,7 +31,8 @@ use Rattle.line_answers.specs.Asks.{next_write, next_boot, next_read, next_event
 use Rattle.line_answers.proofs.Exchange.{begun}
 use Rattle.line_answers.specs.Lines.{LineHasEnded, IsAnsweredLine, AreAnsweredLines}
 use Rattle.answer_text.specs.Results.{line_text, replies_told}
-use Rattle.line_answers.specs.Sessions.{HasMetFull, with_all, HasGained, HasEnded, AsksJust, GainsSome}
+use Rattle.line_answers.specs.Sessions.{HasMetFull, with_all, HasGained, HasEnded, IsOver, AsksJust, AsksLine}
+use Rattle.line_answers.specs.Sessions.{GainsSome}
 use Rattle.line_answers.specs.Sessions.{IsAnswered, AreAnswered}
 
 -- ---- what is asked by one rule is asked by another
@@ -64,6 +65,16 @@ asked_append next before (x ∷ xs) ys some more = (
   asked_append next (before ++ x ∷ []) xs ys some.1
       (subst (λ (b : List Told). AreAsked next b ys) (sym (append_assoc before (x ∷ []) xs)) more),
 )
+
+-- ---- a line of one part
+
+-- a command that asks just its events asks its line
+pub whole : {A : Type 0} (c : Command) (s t : SessionValue) (outcome : Result A Refusal)
+    → AsksJust (next_event c) s outcome t
+    → AsksLine c s outcome t
+whole c s t (Ok a) asks = record { told = asks.told; gains = asks.gains; asked = asks.asked; ended = asks.ended }
+whole c s t (Err refusal) asks =
+    record { told = asks.told; gains = asks.gains; asked = asks.asked; ended = inl asks.ended }
 
 -- want of memory is no full journal
 no_full : NoMemory ≡ JournalFull → ⊥
@@ -257,10 +268,10 @@ peek_unwritten host address s t refusal writes = record {
 }
 
 -- a peek ends if there is no memory to settle its domain
-pub peek_unsettled : {A B : Type 0} (host address : ℕ) (s t : SessionValue) (a : A)
+peek_out_of_memory : {A B : Type 0} (host address : ℕ) (s t : SessionValue) (a : A)
     → AsksJust (next_write host (1 ∷ bytes_of_word address)) s (Ok a) t
     → AsksJust {A = B} (next_event (command.Peek host address)) s (Err NoMemory) t
-peek_unsettled host address s t a writes = record {
+peek_out_of_memory host address s t a writes = record {
   told = writes.told;
   gains = writes.gains;
   asked =
@@ -275,6 +286,22 @@ peek_unsettled host address s t a writes = record {
   );
 }
 
+-- a peek ends if its domain can't settle
+pub peek_unsettled : {A B : Type 0} (host address : ℕ) (s t : SessionValue) (a : A) (refusal : Refusal)
+    → AsksJust (next_write host (1 ∷ bytes_of_word address)) s (Ok a) t → refusal ≢ NoSuch
+    → AsksLine {A = B} (command.Peek host address) s (Err refusal) t
+peek_unsettled host address s t a NoSuch writes there = absurd (there refl)
+peek_unsettled host address s t a JournalFull writes there = record {
+  told = writes.told;
+  gains = writes.gains;
+  asked =
+      asked_as (next_write host (1 ∷ bytes_of_word address)) (next_event (command.Peek host address))
+      (writes_of_peek host address) [] writes.told writes.asked;
+  ended = inr (no_reads host (1 ∷ bytes_of_word address) [] writes.told writes.asked);
+}
+peek_unsettled host address s t a NoMemory writes there =
+    whole (command.Peek host address) s t (Err NoMemory) (peek_out_of_memory host address s t a writes)
+
 -- ---- the same of results that are known by equations
 
 -- the same as `peek_unwritten`, of results that are known by equations
@@ -282,24 +309,31 @@ pub unwritten : {A B : Type 0} (host address : ℕ) (bytes : List ℕ) (s t : Se
     (other_outcome : Result B Refusal) (refusal : Refusal)
     → bytes ≡ 1 ∷ bytes_of_word address → outcome ≡ Err refusal → IsErrAnd other_outcome (λ given. given ≡ refusal)
     → AsksJust (next_write host bytes) s outcome t
-    → AsksJust (next_event (command.Peek host address)) s other_outcome t
+    → AsksLine (command.Peek host address) s other_outcome t
 unwritten {A} {B} host address bytes s t outcome other_outcome refusal bytes_are is returned asks =
     let exit = err_from_is_err_and other_outcome returned in
-    subst (λ (other_outcome : Result B Refusal). AsksJust (next_event (command.Peek host address)) s other_outcome t)
+    subst (λ (other_outcome : Result B Refusal). AsksLine (command.Peek host address) s other_outcome t)
     (sym (exit.1 ∙ ap Err exit.2))
+    (whole (command.Peek host address) s t (Err refusal)
     (peek_unwritten host address s t refusal
     (subst (λ (outcome : Result A Refusal). AsksJust (next_write host (1 ∷ bytes_of_word address)) s outcome t) is
-    (subst (λ (bytes : List ℕ). AsksJust (next_write host bytes) s outcome t) bytes_are asks)))
+    (subst (λ (bytes : List ℕ). AsksJust (next_write host bytes) s outcome t) bytes_are asks))))
 
 -- the same as `peek_unsettled`, of results that are known by equations
 pub unsettled : {A B : Type 0} (host address : ℕ) (bytes : List ℕ) (s t : SessionValue) (a : A)
-    (outcome : Result A Refusal) → bytes ≡ 1 ∷ bytes_of_word address → outcome ≡ Ok a
+    (outcome : Result A Refusal)
+    (other_outcome : Result B Refusal) (refusal : Refusal)
+    → bytes ≡ 1 ∷ bytes_of_word address → outcome ≡ Ok a → IsErrAnd other_outcome (λ given. given ≡ refusal)
     → AsksJust (next_write host bytes) s outcome t
-    → AsksJust {A = B} (next_event (command.Peek host address)) s (Err NoMemory) t
-unsettled {A} host address bytes s t a outcome bytes_are is asks =
-    peek_unsettled host address s t a
+    → refusal ≢ NoSuch → AsksLine (command.Peek host address) s other_outcome t
+unsettled {A} {B} host address bytes s t a outcome other_outcome refusal bytes_are is returned asks there =
+    let exit = err_from_is_err_and other_outcome returned in
+    subst (λ (other_outcome : Result B Refusal). AsksLine (command.Peek host address) s other_outcome t)
+    (sym (exit.1 ∙ ap Err exit.2))
+    (peek_unsettled host address s t a refusal
     (subst (λ (outcome : Result A Refusal). AsksJust (next_write host (1 ∷ bytes_of_word address)) s outcome t) is
     (subst (λ (bytes : List ℕ). AsksJust (next_write host bytes) s outcome t) bytes_are asks))
+    there)
 
 -- the same as `peeked`, of results that are known by equations
 pub settled : {A B : Type 0} (host address : ℕ) (bytes : List ℕ) (s t session : SessionValue) (a : A)
@@ -307,39 +341,50 @@ pub settled : {A B : Type 0} (host address : ℕ) (bytes : List ℕ) (s t sessio
     (other_outcome : Result B Refusal)
     → bytes ≡ 1 ∷ bytes_of_word address → outcome ≡ Ok a → AsksJust (next_write host bytes) s outcome t
     → AsksJust (next_read host 4) t other_outcome session
-    → AsksJust (next_event (command.Peek host address)) s other_outcome session
+    → AsksLine (command.Peek host address) s other_outcome session
 settled {A} {B} host address bytes s t session a outcome other_outcome bytes_are is writes reads =
-    peeked host address s t session a other_outcome
+    whole (command.Peek host address) s session other_outcome
+    (peeked host address s t session a other_outcome
     (subst (λ (outcome : Result A Refusal). AsksJust (next_write host (1 ∷ bytes_of_word address)) s outcome t) is
     (subst (λ (bytes : List ℕ). AsksJust (next_write host bytes) s outcome t) bytes_are writes))
-    reads
+    reads)
 
 -- a command asks its line by what it asks next, if that is what the line asks next
 pub of_command : {A : Type 0} (next : List Told → Option Event) (c other_command : Command) (s t : SessionValue)
     (outcome : Result A Refusal)
     → c ≡ other_command
     → ((told : List Told) → next_event other_command told ≡ next told) → AsksJust next s outcome t
-    → AsksJust (next_event c) s outcome t
+    → AsksLine c s outcome t
 of_command next c other_command s t outcome is same asks =
-    subst (λ (c : Command). AsksJust (next_event c) s outcome t) (sym is)
-    (same_asks next (next_event other_command) s t outcome same asks)
+    subst (λ (c : Command). AsksLine c s outcome t) (sym is)
+    (whole other_command s t outcome (same_asks next (next_event other_command) s t outcome same asks))
 
 -- ---- a line's end, for its session at the beginning and whatever says that the journal is full
 
 -- a line that ran out of memory has no end
 line_end : {A : Type 0} (c : Command) (told gained : List Told) (s t : SessionValue) (outcome : Result A Refusal)
-    → HasGained s t gained → HasEnded (next_event c) told t outcome → outcome ≢ Err NoMemory
+    → HasGained s t gained → IsOver c told t outcome → outcome ≢ Err NoMemory
     → LineHasEnded (HasMetFull t) s c told outcome
 line_end c told gained s t (Ok a) gains over fine = over
-line_end c told gained s t (Err NoSuch) gains over fine =
-    (over.0, over.1, subst (λ (v : SessionValue). IsTold v over.0 (Err NoSuch)) gains.list over.2)
-line_end c told gained s t (Err JournalFull) gains over fine =
-    (over.0, over.1, (subst (λ (v : SessionValue). IsTold v over.0 (Err JournalFull)) gains.list over.2, over.3 refl))
+line_end c told gained s t (Err NoSuch) gains over fine = elim over [
+  | inl ended ↦ inl
+      (ended.0, ended.1, subst (λ (v : SessionValue). IsTold v ended.0 (Err NoSuch)) gains.list ended.2)
+  | inr unsettled ↦ inr unsettled
+]
+line_end c told gained s t (Err JournalFull) gains over fine = elim over [
+  | inl ended ↦ inl
+      (
+        ended.0,
+        ended.1,
+        (subst (λ (v : SessionValue). IsTold v ended.0 (Err JournalFull)) gains.list ended.2, ended.3 refl),
+      )
+  | inr unsettled ↦ inr unsettled
+]
 line_end c told gained s t (Err NoMemory) gains over fine = absurd (fine refl)
 
 -- a line that is asked and shown is answered
 pub answered : (name : List ℕ) (c : Command) (s t : SessionValue) (outcome : Result ⊤ Refusal)
-    (asks : AsksJust (next_event c) s outcome t)
+    (asks : AsksLine c s outcome t)
     (screen more : List ℕ)
     → outcome ≢ Err NoMemory
     → more ≡ screen ++ line_text name c (replies_told asks.told) outcome → IsAnswered name c s t screen more
@@ -369,7 +414,10 @@ end_if : {A P Q : Type 0} → (P → Q) → (c : Command) (told : List Told) (s 
     → LineHasEnded P s c told outcome → LineHasEnded Q s c told outcome
 end_if so c told s (Ok a) over = over
 end_if so c told s (Err NoSuch) over = over
-end_if so c told s (Err JournalFull) over = (over.0, over.1, (over.2.0, so over.2.1))
+end_if so c told s (Err JournalFull) over = elim over [
+  | inl ended ↦ inl (ended.0, ended.1, (ended.2.0, so ended.2.1))
+  | inr unsettled ↦ inr unsettled
+]
 end_if so c told s (Err NoMemory) over = over
 
 -- a line is answered for each session of its user
@@ -488,7 +536,7 @@ gains_none s = ([], (begun (λ told. None) s).gains)
 
 -- a line whose events are the last of the list
 pub last_answered : {A E : Type 0} (outcome : Result A E) (name : List ℕ) (c : Command) (s t : SessionValue)
-    (other_outcome : Result ⊤ Refusal) (asks : AsksJust (next_event c) s other_outcome t) (before all : List Told)
+    (other_outcome : Result ⊤ Refusal) (asks : AsksLine c s other_outcome t) (before all : List Told)
     (screen more : List ℕ) → before ≡ s.pass.told → all ≡ t.pass.told → OnOk outcome (other_outcome ≢ Err NoMemory)
     → OnOk outcome (more
     ≡ screen ++ line_text name c

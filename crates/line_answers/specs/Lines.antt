@@ -1,5 +1,5 @@
 -- What a user's lines come to: what they asked of his domain, with the replies, and their output lines.
-use Rattle.std.specs.Prelude.{◌≡◌, ◌++◌, ℕ, List, [], ◌∷◌, Some, None, Result, Ok, Err, ⊤}
+use Rattle.std.specs.Prelude.{◌≡◌, ◌++◌, ◌⊎◌, ℕ, List, [], ◌∷◌, Some, None, Result, Ok, Err, ⊤}
 use Rattle.domain_core.specs.declared.event.Event.{Event}
 use Rattle.domain_core.specs.declared.event.Refusal.{Refusal}
 use Rattle.domain_core.specs.declared.event.Refusal.TheVariants.{NoSuch, JournalFull, NoMemory}
@@ -7,8 +7,9 @@ use Rattle.domain_core.specs.declared.event.Told.{Told}
 use Rattle.farm_service.specs.Answers.{IsTold}
 use Rattle.farm_service.specs.Passes.{SessionValue}
 use Rattle.script_lines.specs.declared.command.Command.{Command}
+use Rattle.script_lines.specs.declared.command.Command.TheVariants.{Peek}
 use Rattle.answer_text.specs.Results.{line_text, replies_told}
-use Rattle.line_answers.specs.Asks.{next_event, AreAsked}
+use Rattle.line_answers.specs.Asks.{read_replies, next_event, AreAsked}
 
 -- an event is refused as the farm that holds the domain alone refuses it; that the journal is full is said only if this is so. Want of memory ends no line
 abbrev pub IsLineRefusal : Type 0 → SessionValue → Event → Refusal → Type 0
@@ -16,10 +17,16 @@ IsLineRefusal IsFull s event NoSuch = IsTold s event (Err NoSuch)
 IsLineRefusal IsFull s event JournalFull = IsTold s event (Err JournalFull) × IsFull
 IsLineRefusal IsFull s event NoMemory = ⊥
 
--- a line asks nothing more, or what it asks next is refused
+-- a peek that hasn't read yet is refused if its domain can't settle, since the journal is full or has no room for a quantum of Steps of a node
+abbrev pub IsUnsettled : Command → List Told → Refusal → Type 0
+IsUnsettled (Peek host address) told JournalFull = read_replies told ≡ []
+IsUnsettled command told refusal = ⊥
+
+-- a line asks nothing more, or what it asks next is refused, or it is a peek that can't settle
 abbrev pub LineHasEnded : {A : Type 0} → Type 0 → SessionValue → Command → List Told → Result A Refusal → Type 0
 LineHasEnded IsFull s command told (Ok done) = next_event command told ≡ None
-LineHasEnded IsFull s command told (Err refusal) = (event : Event) × (next_event command told ≡ Some event) × IsLineRefusal IsFull s event refusal
+LineHasEnded IsFull s command told (Err refusal) =
+    ((event : Event) × (next_event command told ≡ Some event) × IsLineRefusal IsFull s event refusal) ⊎ IsUnsettled command told refusal
 
 -- a line asks these events, one after another, up to its end, and its output line shows their replies
 pub record IsAnsweredLine (IsFull : Type 0) (s : SessionValue) (name : List ℕ) (command : Command) (told : List Told) (text : List ℕ) : Type 0 where

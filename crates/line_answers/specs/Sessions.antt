@@ -1,5 +1,5 @@
 -- What a line does to its user's session.
-use Rattle.std.specs.Prelude.{◌≡◌, ◌++◌, ℕ, Bool, true, List, [], Option, Some, None, Result, Ok, Err}
+use Rattle.std.specs.Prelude.{◌≡◌, ◌++◌, ◌⊎◌, ℕ, Bool, true, List, [], Option, Some, None, Result, Ok, Err}
 use Rattle.domain_core.specs.declared.event.Event.{Event}
 use Rattle.domain_core.specs.declared.event.Refusal.{Refusal}
 use Rattle.domain_core.specs.declared.event.Refusal.TheVariants.{JournalFull}
@@ -7,8 +7,8 @@ use Rattle.domain_core.specs.declared.event.Told.{Told}
 use Rattle.farm_service.specs.Answers.{IsTold}
 use Rattle.farm_service.specs.Passes.{SessionValue}
 use Rattle.script_lines.specs.declared.command.Command.{Command}
-use Rattle.line_answers.specs.Asks.{AreAsked}
-use Rattle.line_answers.specs.Lines.{IsAnsweredLine, AreAnsweredLines}
+use Rattle.line_answers.specs.Asks.{next_event, AreAsked}
+use Rattle.line_answers.specs.Lines.{IsUnsettled, IsAnsweredLine, AreAnsweredLines}
 
 -- whether the user of a session has met a full journal
 abbrev pub HasMetFull : SessionValue → Type 0
@@ -38,6 +38,18 @@ pub record AsksJust {A : Type 0} (next : List Told → Option Event) (s : Sessio
   pub gains : HasGained s t told
   pub asked : AreAsked next [] told
   pub ended : HasEnded next told t result
+
+-- a line asks nothing more, or what it asks next is refused, or it is a peek that can't settle
+abbrev pub IsOver : {A : Type 0} → Command → List Told → SessionValue → Result A Refusal → Type 0
+IsOver command told t (Ok done) = HasEnded (next_event command) told t (Ok done)
+IsOver {A} command told t (Err refusal) = HasEnded {A = A} (next_event command) told t (Err refusal) ⊎ IsUnsettled command told refusal
+
+-- a session asks what a line asks, up to its end
+pub record AsksLine {A : Type 0} (command : Command) (s : SessionValue) (result : Result A Refusal) (t : SessionValue) : Type 0 where
+  pub told : List Told
+  pub gains : HasGained s t told
+  pub asked : AreAsked (next_event command) [] told
+  pub ended : IsOver command told t result
 
 -- a line is answered: its user's session gains what it asked, and his screen gains its output line
 pub record IsAnswered (name : List ℕ) (command : Command) (s t : SessionValue) (screen more : List ℕ) : Type 0 where

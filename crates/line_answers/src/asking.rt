@@ -1,9 +1,9 @@
 //! What a line asks of its user's domain.
-ghost use Rattle.std.specs.Prelude.{◌≡◌, ◌≢◌, ◌<◌, length, MatchResult, Ok, Err};
+ghost use Rattle.std.specs.Prelude.{◌≡◌, ◌≢◌, ◌<◌, length, IfErr, MatchResult, Ok, Err};
 ghost use Rattle.domain_core.specs.declared.event.Refusal.TheVariants.{NoSuch};
 ghost use Rattle.script_lines.specs.declared.command.Command.TheVariants.{Peek};
-ghost use Rattle.line_answers.specs.Asks.{had_no_room, is_byte, next_config, next_write, next_boot, next_read, next_collect, next_event};
-ghost use Rattle.line_answers.specs.Sessions.{AsksJust};
+ghost use Rattle.line_answers.specs.Asks.{had_no_room, is_byte, next_config, next_write, next_boot, next_read, next_collect};
+ghost use Rattle.line_answers.specs.Sessions.{AsksJust, AsksLine};
 
 use crate::quantum::Quantum;
 use bootstrap::{BootFault, boot_message, peek_message, poke_message};
@@ -112,8 +112,18 @@ pub fn settle<R: Wait>(rt: &R, session: &Session<'_>, quantum: Quantum) -> Resul
     Ok(())
 }
 
-// The word at an address: the bytes of the message, and when the node has done what it can, those of its answer. Whether the
-// domain could do all is nobody's fault: if its journal is full, the first read is refused.
+// Settles before a peek reads. A pass is of a domain of the plan, so there is one.
+fn settle_to_read<R: Wait>(rt: &R, session: &Session<'_>, quantum: Quantum) -> Result<(), Refusal>
+    ensures { IfErr result (λ refusal. refusal ≢ NoSuch) }
+{
+    match settle(rt, session, quantum) {
+        Err(Refusal::JournalFull) => Err(Refusal::JournalFull),
+        Err(Refusal::NoMemory) => Err(Refusal::NoMemory),
+        Ok(()) | Err(Refusal::NoSuch) => Ok(()),
+    }
+}
+
+// The word at an address: the bytes of the message, and when the node has done what it can, those of its answer.
 fn peek<R: Wait>(
     rt: &R,
     session: &mut Session<'_>,
@@ -121,12 +131,10 @@ fn peek<R: Wait>(
     host: u8,
     address: u32,
 ) -> Result<(), Refusal>
-    ensures { AsksJust (next_event (Peek host address)) session.old result session.new }
+    ensures { AsksLine (Peek host address) session.old result session.new }
 {
     write_all(rt, session, host, &peek_message(address))?;
-    if matches!(settle(rt, session, quantum), Err(Refusal::NoMemory)) {
-        return Err(Refusal::NoMemory);
-    }
+    settle_to_read(rt, session, quantum)?;
     read_up_to(rt, session, host, 4)
 }
 
@@ -151,8 +159,9 @@ fn boot<R: Wait>(
 ///
 /// # Errors
 ///
-/// The first refusal ends the line. What was taken before it stands. `NoMemory` too if a boot message can't be made, and if
-/// the settling of a peek ran out of memory.
+/// The first refusal ends the line. What was taken before it stands. `NoMemory` too if a boot message can't be made. A peek is
+/// refused too as its settling is: `JournalFull` if the journal is full or has no room for a quantum of Steps of a node, and
+/// `NoMemory`.
 pub(crate) fn ask_line<R: Wait>(
     rt: &R,
     alloc: Global,
@@ -160,7 +169,7 @@ pub(crate) fn ask_line<R: Wait>(
     quantum: Quantum,
     command: &Command,
 ) -> Result<(), Refusal>
-    ensures { AsksJust (next_event command.now) session.old result session.new }
+    ensures { AsksLine command.now session.old result session.new }
 {
     match command {
         Command::Config(bytes) => configure_all(rt, session, bytes.as_slice()),

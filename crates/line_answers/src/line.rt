@@ -12,8 +12,7 @@ use std::alloc::Global;
 use std::sync::Wait;
 
 /// Asks what a line asks in its user's session, and appends its output line to his screen. A peek settles before it reads,
-/// and nothing else does. Whether that settling is refused for its full journal is nobody's fault: the domain answers what is
-/// asked next, as it answers every command.
+/// and nothing else does. If that settling is refused for want of room in the journal, so is the peek.
 ///
 /// # Errors
 ///

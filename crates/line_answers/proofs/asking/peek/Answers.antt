@@ -7,10 +7,12 @@ returns-in_err-write_all g c =
     c.write_all.result c.from_residual.result c.in_err-write_all.field-0.0 c.peek_message.ensures.answer
     c.in_err-write_all.was c.from_residual.ensures.1 c.write_all.ensures
 
-pub returns-then-matches : goal.returns-then-matches
-returns-then-matches g c =
+pub returns-in_err-settle_to_read : goal.returns-in_err-settle_to_read
+returns-in_err-settle_to_read g c =
     unsettled c.args.host c.args.address c.peek_message.result c.args.session.now c.write_all.new.session
-    c.in_ok-write_all.field-0 c.write_all.result c.peek_message.ensures.answer c.in_ok-write_all.was c.write_all.ensures
+    c.in_ok-write_all.field-0 c.write_all.result c.from_residual-in_err-settle_to_read.result
+    c.in_err-settle_to_read.field-0.0 c.peek_message.ensures.answer c.in_ok-write_all.was
+    c.from_residual-in_err-settle_to_read.ensures.1 c.write_all.ensures c.in_err-settle_to_read.ensures
 
 pub returns : goal.returns
 returns g c =
