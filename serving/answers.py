@@ -59,7 +59,8 @@ class Due:
         """Whether this may be its answer: it has its verb, and its host or node. Other clients of the user hear and are
         heard too."""
         if answer.startswith(LOST):
-            return self.line.startswith(answer[len(LOST):].removesuffix(MORE))
+            # what is told of a long line may end within a character
+            return bytes_of(self.line).startswith(bytes_of(answer[len(LOST):].removesuffix(MORE)))
         if re.fullmatch(r"(! )?error \d+ \w+", answer):
             return True
         told, asked = answer.split(), self.line.split()
@@ -70,6 +71,11 @@ class Due:
     def told(self, answer):
         """What is shown of its answer."""
         return self.loading.told(self.line, answer) if self.loading else with_meaning(self.line, answer)
+
+
+def bytes_of(text):
+    """The bytes of a line as it is sent, or as it was told."""
+    return text.encode("utf-8", "surrogateescape")
 
 
 def meaning(answer):

@@ -9,6 +9,7 @@ import subprocess
 import sys
 import time
 
+from .escapes import escaped
 from .folder import TOP, Refused, is_locked, mode_of, program, ready, socket_path
 from .plans import Machine, farms_of, plan_of, students_of
 from .sheets import Ways, count, sheet
@@ -67,7 +68,7 @@ def make(words):
             save(os.path.join(folder, "sheets", f"{name}.txt"), sheet(students[name], name, machine, place, ways))
     rights = ["--mode", f"{words.mode:03o}"] + (["--group", words.group] if words.group else [])
     save(os.path.join(folder, FILE), json.dumps({"farms": farms, "rights": rights}, indent=1) + "\n")
-    print("".join(f"note: {it}\n" for it in notes), end="")
+    print("".join(f"note: {escaped(it)}\n" for it in notes), end="")
     print(f"{count(len(students), 'student')} in {count(len(farms), 'farm')}, each with {count(machine.ports(), 'port')}; "
           f"their sheets are in {os.path.join(words.DIR, 'sheets')}")
     return 0
@@ -171,7 +172,7 @@ def main(given):
             return order(given)
         return make(words_of(given))
     except (Refused, OSError) as error:
-        print(f"class: {error}", file=sys.stderr)
+        print(f"class: {escaped(str(error))}", file=sys.stderr)
         return 1
     except KeyboardInterrupt:
         return INTERRUPTED

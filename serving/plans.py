@@ -14,6 +14,12 @@ MEMORY, LIMIT = range(2048, 65537, 4), range(1, (1 << 40) + 1)
 # How letters are spelled that aren't one of a to z with a mark.
 SPELLED = str.maketrans({"ß": "ss", "æ": "ae", "œ": "oe", "ø": "o", "ł": "l", "đ": "d", "ð": "d", "þ": "th", "ħ": "h", "ŧ": "t",
                          "ŋ": "ng", "ı": "i", "ə": "e"})
+TAB = "\t"
+# The kinds of characters, as Unicode has them: those that aren't seen, such as a mark of the direction; and those that stand in
+# no name, which are controls and what divides lines or paragraphs.
+UNSEEN, NAMELESS = "Cf", {"Cc", "Zl", "Zp"}
+# Those of them that end a line elsewhere.
+DIVIDING = set("\v\f\r\x1c\x1d\x1e\x85\u2028\u2029")
 
 
 class Machine(NamedTuple):
@@ -59,8 +65,9 @@ def spelled(letter):
     """A letter by a to z, or what stands for it between words; none if it can't be spelled so."""
     plain = unicodedata.normalize("NFKD", letter.lower().translate(SPELLED))
     ascii_part = "".join(it for it in plain if it.isascii())
+    kind = unicodedata.category(letter)
     # marks and what isn't seen say nothing, and punctuation and blanks stand between words
-    return ascii_part or {"M": "", "C": "", "P": " ", "Z": " "}.get(unicodedata.category(letter)[0])
+    return ascii_part or {UNSEEN: "", "M": "", "P": " ", "Z": " "}.get(kind if kind == UNSEEN else kind[0])
 
 
 def user_name(person):
@@ -73,7 +80,7 @@ def user_name(person):
 
 
 def lines_of(path):
-    """The lines of a file of names."""
+    """The lines of a file of names. A line feed divides them, with a carriage return before it or without, and nothing else."""
     try:
         with open(path, "rb") as it:
             text = it.read().removeprefix(codecs.BOM_UTF8)
@@ -82,11 +89,19 @@ def lines_of(path):
     except OSError as error:
         raise Refused(f"the file of names {path} can't be read: {error.strerror}") from None
     try:
-        return text.decode().splitlines()
+        return [line.removesuffix("\r") for line in text.decode().split("\n")]
     except UnicodeDecodeError as error:
         line = text.count(b"\n", 0, error.start) + 1
         raise Refused(f"{path}, line {line}: the byte {text[error.start]:02x} isn't UTF-8. Save the file as UTF-8. If it is "
                       f"Latin-1: iconv -f latin1 -t utf-8 {shlex.quote(path)} > utf8-names.txt") from None
+
+
+def check_person(path, number, person):
+    """Refuses a name with a character that stands in none."""
+    wrong = next((it for it in person if unicodedata.category(it) in NAMELESS and it != TAB), None)
+    if wrong is not None:
+        more = "write each name on a line of its own, which a line feed ends" if wrong in DIVIDING else "take it out"
+        raise Refused(f"{path}, line {number}: {person!r} has the character U+{ord(wrong):04X}, which stands in no name: {more}")
 
 
 def students_of(path):
@@ -94,8 +109,11 @@ def students_of(path):
     left out in it."""
     students, notes = {}, []
     for number, line in enumerate(lines_of(path), 1):
+        if line.lstrip().startswith("#"):
+            continue
+        check_person(path, number, line)
         person = line.strip()
-        if not person or person.startswith("#"):
+        if not person:
             continue
         name, left = user_name(person)
         if not name:

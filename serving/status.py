@@ -1,80 +1,76 @@
 """What the students of a class have done: as the operator is told of them, and as their records say."""
-import mmap
 import os
-import re
 import socket
 
+from .escapes import escaped
 from .folder import OPERATOR, is_locked, socket_path
+from .records import last_fault
 
 SECONDS = 30
 # A burst of the farm's own may be so long, and is done only if all of it can be recorded. So a node can't go on with
 # less room.
 BURST = 256
 HEAD = ("user", "farm", "lines", "events", "used", "now", "room", "last fault")
+# So many words the operator is told of a user behind his name: three numbers, and `quiet` or `busy`. More may follow.
+WORDS = 4
+# What a row has in their place if no `serve` has the farm, and if one has it and doesn't answer.
+OFF, SILENT = "off", "no answer"
 
 
-def ask_operator(folder, line):
-    """What the operator of a farm is answered, line by line."""
-    with socket.socket(socket.AF_UNIX, socket.SOCK_STREAM) as stream:
-        stream.settimeout(SECONDS)
+def operators_stream(folder, seconds=SECONDS):
+    """A connection with the operator's socket of a farm, for which nothing takes longer than this."""
+    stream = socket.socket(socket.AF_UNIX, socket.SOCK_STREAM)
+    try:
+        stream.settimeout(seconds)
         stream.connect(socket_path(folder, OPERATOR))
+        return stream
+    except OSError:
+        stream.close()
+        raise
+
+
+def ask_operator(folder, line, seconds=SECONDS):
+    """What the operator of a farm is answered, line by line."""
+    with operators_stream(folder, seconds) as stream:
         stream.sendall(line.encode() + b"\n")
         stream.shutdown(socket.SHUT_WR)
-        with stream.makefile("r", encoding="utf-8") as lines:
+        with stream.makefile("r", encoding="utf-8", errors="surrogateescape", newline="\n") as lines:
             return [it.rstrip("\n") for it in lines]
 
 
-def newest(records, name):
-    """The last record of a user's domain: each restart begins another."""
-    numbers = {1: f"{name}.replay"}
-    for entry in os.listdir(records) if os.path.isdir(records) else ():
-        number = re.fullmatch(rf"{re.escape(name)}\.(\d+)\.replay", entry)
-        if number:
-            numbers[int(number[1])] = entry
-    return os.path.join(records, numbers[max(numbers)])
-
-
-def last_fault(records, name):
-    """The last fault that is recorded of a user's nodes since the last restart: node and fault."""
-    try:
-        with open(newest(records, name), "rb") as file, mmap.mmap(file.fileno(), 0, access=mmap.ACCESS_READ) as text:
-            end = len(text)
-            while (at := text.rfind(b"fault ", 0, end)) >= 0:
-                begun = text.rfind(b"\n", 0, at) + 1
-                line = text[begun:text.find(b"\n", at) if text.find(b"\n", at) >= 0 else len(text)].decode(errors="replace")
-                fault = re.search(r"\bstep (\d+)\b.* fault (\d+(?: [0-9a-f]+)?)$", line)
-                if fault:
-                    return f"node {fault[1]}: {fault[2]}"
-                end = begun
-    except (OSError, ValueError):
-        pass
-    return "-"
-
-
 def row_of(folder, name, told):
-    """A student's row, of what the operator is told of him; none if his farm isn't up."""
+    """A student's row, of what the operator is told of him, or of why he is told nothing."""
     farm, fault = os.path.basename(folder), last_fault(os.path.join(folder, "records"), name)
-    if told is None:
-        return (name, farm, "-", "-", "-", "off", "-", fault)
-    lines, recorded, limit, now = int(told[0]), int(told[1]), int(told[2]), told[3]
+    if isinstance(told, str):
+        return (name, farm, "-", "-", "-", told, "-", fault)
+    (lines, recorded, limit), now = (int(it) for it in told[:WORDS - 1]), told[WORDS - 1:]
     room = "full" if recorded >= limit else "little" if limit - recorded < BURST else "yes"
-    return (name, farm, str(lines), str(recorded), f"{100 * recorded / limit:.1f}%", now, room, fault)
+    return (name, farm, str(lines), str(recorded), f"{100 * recorded / limit:.1f}%", " ".join(now), room, fault)
+
+
+def told_of(words):
+    """What the operator is told of a user behind his name, if that has the form that it should have."""
+    numbers = words[:WORDS - 1]
+    fits = len(words) >= WORDS and all(it.isascii() and it.isdecimal() for it in numbers) and int(numbers[-1]) > 0
+    return words if fits else SILENT
 
 
 def rows_of(folder, names):
     """The rows of a farm's students."""
-    told = {}
+    told, without = {}, OFF
     if is_locked(folder):
+        without = SILENT
         try:
-            told = {it.split()[1]: it.split()[2:] for it in ask_operator(folder, "!users") if it.startswith("!users ")}
+            told = {words[1]: told_of(words[2:]) for it in ask_operator(folder, "!users")
+                    if (words := it.split(" "))[0] == "!users" and len(words) > 1}
         except OSError:
             pass
-    return [row_of(folder, name, told.get(name)) for name in names]
+    return [row_of(folder, name, told.get(name, without)) for name in names]
 
 
 def table(rows):
     """Rows as lines with columns; numbers stand on the right."""
-    rows = [HEAD, *rows]
+    rows = [HEAD, *(tuple(escaped(cell) for cell in row) for row in rows)]
     widths = [max(len(row[at]) for row in rows) for at in range(len(HEAD))]
     right = {2, 3, 4}
     return ["  ".join(cell.rjust(width) if at in right else cell.ljust(width)

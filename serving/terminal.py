@@ -13,6 +13,7 @@ import time
 
 from .answers import Due, Loading, with_meaning
 from .completion import complete_with
+from .escapes import escaped
 from .folder import OPERATOR, Refused, no_right, no_socket, socket_path
 from .orders import lines_of, split, table_of
 from .ports import ports_of
@@ -28,6 +29,10 @@ STOP_SECONDS = 60
 AT_ONCE = 64
 # The status of a program that Ctrl-C has ended.
 INTERRUPTED = 130
+# Names of users by which somebody may want help.
+HELP = ("-h", "--help")
+# What divides the lines of a text of several.
+LINES = "\n"
 
 
 class Gone(Exception):
@@ -42,7 +47,7 @@ class Terminal:
         self.due, self.status, self.stops, self.is_unread = collections.deque(), 0, False, False
         self.news, self.has_ended, self.at_prompt = threading.Condition(), False, False
         self.interrupts, self.is_sending = 0, False
-        self.prompt = f"{name}> "
+        self.prompt = f"{escaped(name)}> "
         self.reader = threading.Thread(target=self.read, daemon=True)
         self.reader.start()
 
@@ -50,9 +55,10 @@ class Terminal:
         """Prints a line. What is typed at the prompt is shown again below it."""
         try:
             if self.at_prompt:
-                print(f"\r\x1b[K{text}\n{self.prompt}{readline.get_line_buffer()}", end="", flush=True)
+                typed = f"{self.prompt}{escaped(readline.get_line_buffer())}"
+                print(f"\r\x1b[K{escaped(text)}\n{typed}", end="", flush=True)
             else:
-                print(text, flush=True)
+                print(escaped(text), flush=True)
         except OSError:
             self.is_unread = True
             raise
@@ -63,7 +69,7 @@ class Terminal:
             with self.stream.makefile("rb") as lines:
                 for line in lines:
                     if line.endswith(b"\n"):
-                        self.hear(line.decode(errors="backslashreplace").removesuffix("\n"))
+                        self.hear(line.decode(errors="surrogateescape").removesuffix("\n"))
         except OSError:
             pass
         with self.news:
@@ -145,7 +151,7 @@ class Terminal:
             return self.do(line)
         except Wrong as wrong:
             self.status = 0 if self.is_person else 1
-            print(f"error: {wrong}", file=sys.stderr, flush=True)
+            print(f"error: {escaped(str(wrong), LINES)}", file=sys.stderr, flush=True)
             return True
 
     def run(self):
@@ -224,7 +230,7 @@ def at_terminal(terminal, folder):
     readline.set_history_length(MOST_HISTORY)
     signal.signal(signal.SIGUSR1, terminal.called_away)
     signal.signal(signal.SIGINT, terminal.interrupt)
-    print(f"You are {terminal.name}. help lists the verbs, Ctrl-D ends.")
+    print(f"You are {escaped(terminal.name)}. help lists the verbs, Ctrl-D ends.")
     try:
         return terminal.run()
     finally:
@@ -232,11 +238,22 @@ def at_terminal(terminal, folder):
             readline.write_history_file(HISTORY)
 
 
+def words_of(given):
+    """The words. Behind DIR stands a name, which may begin with a hyphen."""
+    it = argparse.ArgumentParser(prog="connect", usage="connect [-h] [--] DIR USER",
+                                 description="A terminal for a user of a farm that serve keeps up.")
+    it.add_argument("DIR", help="the folder of the farm; behind -- it may begin with a hyphen")
+    it.add_argument("USER", help=f"the user's name, or {OPERATOR}; behind DIR it may begin with a hyphen")
+    plain = given[1:] if given[:1] == ["--"] else given
+    if len(plain) == 3 and plain[1] == "--":
+        plain = [plain[0], plain[2]]
+    if len(plain) == 2 and (plain is not given or not plain[0].startswith("-")):
+        return argparse.Namespace(DIR=plain[0], USER=plain[1])
+    return it.parse_args(given)
+
+
 def main(given):
-    it = argparse.ArgumentParser(prog="connect", description="A terminal for a user of a farm that serve keeps up.")
-    it.add_argument("DIR", help="the folder of the farm")
-    it.add_argument("USER", help=f"the user's name, or {OPERATOR}")
-    words = it.parse_args(given)
+    words = words_of(given)
     sys.stdin.reconfigure(errors="surrogateescape")
     sys.stdout.reconfigure(errors="backslashreplace")
     is_person = sys.stdin.isatty() and sys.stdout.isatty()
@@ -244,7 +261,8 @@ def main(given):
         terminal = Terminal(opened(words.DIR, words.USER), words.USER, ports_of(words.DIR, words.USER), is_person)
         return at_terminal(terminal, words.DIR) if is_person else terminal.run()
     except (Refused, OSError) as error:
-        print(f"connect: {error}", file=sys.stderr)
+        more = ". For help: connect --help" if words.USER in HELP else ""
+        print(f"connect: {escaped(str(error), LINES)}{more}", file=sys.stderr)
         return 1
     except KeyboardInterrupt:
         return INTERRUPTED
