@@ -5,22 +5,21 @@ import json
 import os
 import shlex
 import socket
-import subprocess
 import sys
-import time
 
 from .escapes import escaped
-from .folder import TOP, Refused, is_locked, mode_of, program, ready, socket_path
+from .folder import TOP, Refused, mode_of, ready, socket_path
 from .plans import Machine, farms_of, plan_of, students_of
 from .sheets import Ways, count, sheet
-from .status import ask_operator, rows_of, table
+from .status import rows_of, table
+from .upkeep import INTERRUPTED, Start, Stop, do_all
+from .verifying import verify
 
 FILE = "class.json"
-STOP_SECONDS = 90
+# What most orders want behind them.
+FOLDER_ALONE = "the folder of the class behind it, and nothing else"
 # The rights of a socket by which other accounts than its owner open it.
 OTHERS = 0o022
-# The status of a program that Ctrl-C has ended.
-INTERRUPTED = 130
 
 
 def save(path, text):
@@ -84,48 +83,17 @@ def class_in(folder):
     return {os.path.join(os.path.abspath(folder), farm): names for farm, names in kept["farms"].items()}, kept["rights"]
 
 
-def is_up(farm):
-    """Whether the operator of a farm is answered."""
-    try:
-        return bool(ask_operator(farm, "!words"))
-    except OSError:
-        return False
-
-
 def start(folder):
     """Starts each farm that isn't served yet, and waits until it answers."""
     farms, rights = class_in(folder)
     ready("live")
-    begun = {}
-    for farm in farms:
-        if not is_locked(farm):
-            with open(os.path.join(farm, "serve.log"), "ab") as log:
-                # pylint: disable-next=consider-using-with
-                begun[farm] = subprocess.Popen([program("serve"), *rights, os.path.join(farm, "plan.toml"), farm],
-                                               stdin=subprocess.DEVNULL, stdout=log, stderr=log, start_new_session=True)
-    failed = 0
-    for farm, names in farms.items():
-        while not (up := is_up(farm)) and (farm not in begun or begun[farm].poll() is None):
-            time.sleep(0.05)
-        failed += not up
-        told = f"up, {count(len(names), 'user')}" if up else f"it did not start, see {os.path.join(farm, 'serve.log')}"
-        print(f"{os.path.basename(farm)}: {told}")
-    return 1 if failed else 0
+    return do_all([Start(farm, folder, len(names), rights) for farm, names in farms.items()])
 
 
 def stop(folder):
     """Stops each farm. Its records stay, and it goes on from them when it is started again."""
     farms, _ = class_in(folder)
-    for farm in farms:
-        if is_locked(farm):
-            ask_operator(farm, "!stop")
-    failed, end = 0, time.monotonic() + STOP_SECONDS
-    for farm in farms:
-        while is_locked(farm) and time.monotonic() < end:
-            time.sleep(0.05)
-        failed += is_locked(farm)
-        print(f"{os.path.basename(farm)}: {'it did not stop' if is_locked(farm) else 'off'}")
-    return 1 if failed else 0
+    return do_all([Stop(farm, folder) for farm in farms])
 
 
 def status(folder):
@@ -135,13 +103,26 @@ def status(folder):
     return 0
 
 
-ORDERS = {"start": start, "stop": stop, "status": status}
+def check_record(folder, name, file):
+    """Says whether a file is what the farm has recorded of a student."""
+    farms, _ = class_in(folder)
+    how, lines = verify(folder, farms, name, file)
+    print("\n".join(escaped(it) for it in lines))
+    return how
+
+
+# Each with what it wants behind it, and an example of that.
+ORDERS = {"start": (start, FOLDER_ALONE, "course"), "stop": (stop, FOLDER_ALONE, "course"),
+          "status": (status, FOLDER_ALONE, "course"),
+          "verify": (check_record, "the folder of the class, a student's name and a file",
+                     "course ada-lovelace ada-lovelace.replay")}
 
 
 def words_of(given):
     it = argparse.ArgumentParser(prog="class", description="A farm for each student of a class.", usage="""\
 class --students NAMES.txt --nodes N [--hosts H] [--memory M] [--limit L] [--mode M] [--group G] DIR
-       class start|stop|status DIR""")
+       class start|stop|status DIR
+       class verify DIR NAME FILE""")
     it.add_argument("--students", required=True, metavar="NAMES.txt", help="a file with one name a line")
     it.add_argument("--nodes", type=int, required=True, metavar="N", help="how many nodes each student has, 1 to 8")
     it.add_argument("--hosts", type=int, default=1, metavar="H", help="how many hosts, 1 to 4, default 1")
@@ -155,14 +136,21 @@ class --students NAMES.txt --nodes N [--hosts H] [--memory M] [--limit L] [--mod
 
 def order(given):
     """Does what is asked of a class that is there."""
-    first, folder = given[0], given[1] if len(given) == 2 else "course"
+    first, *words = given
     if first not in ORDERS:
         near = difflib.get_close_matches(first.lower(), ORDERS, 1, 0.5)
-        more = f"Is it {near[0]}? Try: class {near[0]} {folder}" if near else "A new class wants --students, see class --help"
-        raise Refused(f"there is no subcommand {first}: there are start, stop and status. {more}")
-    if len(given) != 2:
-        raise Refused(f"{first} wants the folder of the class behind it, and nothing else. Try: class {first} course")
-    return ORDERS[first](folder)
+        there = shlex.quote(words[0]) if len(words) == 1 else "course"
+        more = f"Is it {near[0]}? Try: {example_of(near[0], there)}" if near else "A new class wants --students, see class --help"
+        raise Refused(f"there is no subcommand {first}: there are start, stop, status and verify. {more}")
+    does, wants, example = ORDERS[first]
+    if len(words) != len(example.split()):
+        raise Refused(f"{first} wants {wants}. Try: {example_of(first)}")
+    return does(*words)
+
+
+def example_of(name, folder="course"):
+    """An order as it may be typed, of this class."""
+    return f"class {name} {ORDERS[name][2].replace('course', folder, 1)}"
 
 
 def main(given):
@@ -171,6 +159,10 @@ def main(given):
         if given and (given[0] in ORDERS or not any(it.startswith("-") for it in given)):
             return order(given)
         return make(words_of(given))
+    except BrokenPipeError:
+        # nobody reads any more
+        os.dup2(os.open(os.devnull, os.O_WRONLY), sys.stdout.fileno())
+        return 1
     except (Refused, OSError) as error:
         print(f"class: {escaped(str(error))}", file=sys.stderr)
         return 1
