@@ -6,6 +6,7 @@ import os
 import shlex
 import socket
 import sys
+from concurrent.futures import ThreadPoolExecutor
 
 from .escapes import escaped
 from .folder import TOP, Refused, mode_of, ready, socket_path
@@ -16,6 +17,8 @@ from .upkeep import INTERRUPTED, Start, Stop, do_all
 from .verifying import verify
 
 FILE = "class.json"
+# So many farms are asked at once.
+MOST_ASKED = 32
 # What most orders want behind them.
 FOLDER_ALONE = "the folder of the class behind it, and nothing else"
 # The rights of a socket by which other accounts than its owner open it.
@@ -75,12 +78,21 @@ def make(words):
 
 def class_in(folder):
     """The farms of a class with their users, and the rights of the sockets."""
+    path = os.path.join(folder, FILE)
     try:
-        with open(os.path.join(folder, FILE), encoding="utf-8") as it:
+        with open(path, encoding="utf-8") as it:
             kept = json.load(it)
+        farms, rights = kept["farms"], kept["rights"]
+        texts = [*farms, *rights, *(name for names in farms.values() for name in names)]
     except FileNotFoundError:
         raise Refused(f"there is no class in {folder}: make it first, see ./class --help") from None
-    return {os.path.join(os.path.abspath(folder), farm): names for farm, names in kept["farms"].items()}, kept["rights"]
+    except NotADirectoryError:
+        raise Refused(f"{folder} is no folder: give the folder of the class") from None
+    except (ValueError, LookupError, TypeError, AttributeError):
+        texts = None
+    if texts is None or not all(isinstance(it, str) for it in texts):
+        raise Refused(f"{path} isn't as class wrote it: put back a copy, or make the class anew in another folder")
+    return {os.path.join(os.path.abspath(folder), farm): names for farm, names in farms.items()}, rights
 
 
 def start(folder):
@@ -99,7 +111,10 @@ def stop(folder):
 def status(folder):
     """Prints a row for each student."""
     farms, _ = class_in(folder)
-    print("\n".join(table([row for farm, names in farms.items() for row in rows_of(farm, names)])))
+    # a farm that doesn't answer delays no other's rows
+    with ThreadPoolExecutor(MOST_ASKED) as pool:
+        rows = pool.map(rows_of, farms.keys(), farms.values())
+        print("\n".join(table([row for some in rows for row in some])))
     return 0
 
 

@@ -27,9 +27,12 @@ def ports_in(domain, name):
 
 def ports_of(folder, name):
     """The ports of this user; none if the plan can't be read."""
+    path = os.path.join(folder, PLAN)
+    if not os.path.isfile(path):
+        return None
     try:
-        with open(os.path.join(folder, PLAN), "rb") as it:
+        with open(path, "rb") as it:
             domains = tomllib.load(it)["domain"]
         return next((ports for domain in domains if (ports := ports_in(domain, name))), None)
-    except (OSError, ValueError, LookupError, TypeError, AttributeError):
+    except (OSError, ValueError, LookupError, TypeError, AttributeError, RecursionError):
         return None

@@ -6,7 +6,8 @@ from .escapes import escaped
 from .folder import OPERATOR, is_locked, socket_path
 from .records import last_fault
 
-SECONDS = 30
+# How long a farm may take for what its operator asks.
+SECONDS = 10
 # A burst of the farm's own may be so long, and is done only if all of it can be recorded. So a node can't go on with
 # less room.
 BURST = 256

@@ -112,7 +112,11 @@ def start_begins_what_has_ended(live, _):
             if not kills:
                 wanted(ended(first), ("farm-1: off\n", 0))
             wanted(it.lock(1) == serve, False)
-    return "killed, and stopped"
+        it.must("stop")
+        # two of them find the folder free
+        starts = [it.begin("start") for _ in range(4)]
+        wanted([ended(one) for one in starts], [("farm-1: up, 2 users\n", 0)] * 4)
+    return "killed, stopped, and begun by four at once"
 
 
 def start_ends_at_its_bound(live, _):
@@ -260,6 +264,7 @@ def nothing_raw_is_printed(live, _):
                 os.kill(number, signal.SIGKILL)
             screen.until(shown)
             screen.until("note: the farm goes on")
+            wanted("\x1b[2J" in screen.written, False)
             screen.press("quit\r")
             screen.end()
         told = reading.communicate(b"", timeout=SECONDS)[0]
@@ -406,7 +411,34 @@ def total(record):
     return sum(int(line.split()[0]) if b" times " in line else 1 for line in record.partition(b"---\n")[2].splitlines())
 
 
+# What `class.json` may hold that `class` never wrote.
+KEPT = ("", "[", "3", "[]", '{"farms": {}}', '{"farms": [], "rights": []}', '{"farms": {"farm-1": 3}, "rights": []}',
+        '{"farms": {"farm-1": [3]}, "rights": []}', '{"farms": {"farm-1": []}, "rights": [3]}', "\udcff")
+
+
+def odd_class_is_refused(live, _):
+    """A class whose file isn't as it was written is named, and nothing is begun."""
+    with Course(live, 1) as it:
+        with open(f"{it.folder}/class.json", "rb") as file:
+            kept = file.read()
+        for text in KEPT:
+            with open(f"{it.folder}/class.json", "w", encoding="utf-8", errors="surrogateescape") as file:
+                file.write(text)
+            for order in ("start", "status"):
+                done = it.call(order, it.folder)
+                told = f"class: {it.folder}/class.json isn't as class wrote it: put back a copy, or make the class anew in " \
+                       "another folder\n"
+                wanted((text, done.returncode, done.stdout, done.stderr), (text, 1, "", told))
+        done = it.call("start", f"{it.folder}/class.json")
+        wanted(done.stderr, f"class: {it.folder}/class.json is no folder: give the folder of the class\n")
+        with open(f"{it.folder}/class.json", "wb") as file:
+            file.write(kept)
+        wanted(os.path.exists(f"{it.folder}/farm-1/lock"), False)
+    return f"{len(KEPT)} files"
+
+
 # Those that take a second or two, and those that take some more.
-TRIALS = (start_begins_what_has_ended, start_is_broken_off, start_says_why_not, status_shows_all_words, nothing_raw_is_printed,
+TRIALS = (start_is_broken_off, start_says_why_not, status_shows_all_words, nothing_raw_is_printed,
           names_behind_a_folder_are_plain, line_feeds_alone_divide_names)
-LONG_TRIALS = (start_ends_at_its_bound, stop_asks_every_farm, stop_ends_no_other_process, files_are_held_against_records)
+LONG_TRIALS = (start_begins_what_has_ended, odd_class_is_refused, start_ends_at_its_bound, stop_asks_every_farm,
+               stop_ends_no_other_process, files_are_held_against_records)
