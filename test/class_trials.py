@@ -5,6 +5,7 @@ import fcntl
 import os
 import re
 import signal
+import socket
 import subprocess
 import sys
 import tempfile
@@ -113,10 +114,16 @@ def start_begins_what_has_ended(live, _):
                 wanted(ended(first), ("farm-1: off\n", 0))
             wanted(it.lock(1) == serve, False)
         it.must("stop")
-        # two of them find the folder free
-        starts = [it.begin("start") for _ in range(4)]
-        wanted([ended(one) for one in starts], [("farm-1: up, 2 users\n", 0)] * 4)
-    return "killed, stopped, and begun by four at once"
+        # both find the folder free, and begin a serve
+        it.env["SERVE"] = f"{it.room.name}/serve"
+        with open(it.env["SERVE"], "w", encoding="utf-8") as file:
+            file.write(f'#!/bin/sh\nsleep 0.5\nexec "{TOP}/serve" "$@"\n')
+        os.chmod(it.env["SERVE"], 0o755)
+        starts = [it.begin("start") for _ in range(2)]
+        wanted([ended(one) for one in starts], [("farm-1: up, 2 users\n", 0)] * 2)
+        with open(f"{it.folder}/farm-1/serve.log", encoding="utf-8") as log:
+            wanted(log.read().count("is served already"), 1)
+    return "killed, stopped, and begun by two at once"
 
 
 def start_ends_at_its_bound(live, _):
@@ -150,13 +157,16 @@ def start_is_broken_off(live, _):
             while not os.path.exists(f"{it.folder}/farm-1/lock"):
                 time.sleep(0.02)
             time.sleep(0.3)
+            serve = it.lock(1)
             screen.press(CONTROL_C)
             told, status = screen.end()
-        pattern = rf"\^?C?farm-1: not up yet, and its serve \(process {it.lock(1)}\) goes on\. class status {it.folder} shows " \
+            time.sleep(0.2)
+        pattern = rf"\^?C?farm-1: not up yet, and its serve \(process {serve}\) goes on\. class status {it.folder} shows " \
                   rf"when it is up, and class stop {it.folder} ends it\n"
         wanted((status, pattern, re.fullmatch(pattern, told) is not None or told), (130, pattern, True))
         # the records are free now
         wanted(it.must("start"), "farm-1: up, 1 user\n")
+        wanted(it.lock(1), serve)
     return "its serve went on"
 
 
@@ -196,7 +206,7 @@ def stop_asks_every_farm(live, _):
 
 def stop_ends_no_other_process(live, _):
     """A lock file may have the number of a process that is no serve, or has not locked it."""
-    with Course(live, 17) as it:
+    with Course(live, 17) as it, Course(live, 1) as other:
         it.must("start")
         place, serve = os.path.realpath(it.folder), it.lock(2)
         wanted(it.call("stop", it.folder).stdout, "farm-1: off\nfarm-2: off\n")
@@ -205,19 +215,38 @@ def stop_ends_no_other_process(live, _):
                 lock.write(f"{number}\n")
             with it.locked("farm-2/lock"):
                 told, status = ended(it.begin("stop", bounds=(120, 5, 0.1, 5)))
-            wanted((status, told), (1, "farm-1: off\nfarm-2: it can't be asked to stop: what has locked "
+        wanted((status, told), (1, "farm-1: off\nfarm-2: it can't be asked to stop: what has locked "
                                     f"{place}/farm-2/lock is no serve that this account can see\n"))
-        # a serve of another folder, which has not locked this one
+        # a serve of another class, which has not locked this folder
         it.must("start")
+        other.must("start")
         with open(f"{it.folder}/farm-2/lock", "r+", encoding="ascii") as lock:
             lock.truncate()
-            lock.write(f"{it.lock(1)}\n")
+            lock.write(f"{other.lock(1)}\n")
         os.rename(f"{it.folder}/farm-2/operator.sock", f"{it.folder}/farm-2/operator")
         told, status = ended(it.begin("stop", bounds=(120, 5, 0.1, 5)))
-        wanted((status, told.splitlines()[0]), (1, "farm-1: off"))
+        wanted((status, told), (1, "farm-1: off\nfarm-2: it can't be asked to stop: what has locked "
+                                f"{place}/farm-2/lock is no serve that this account can see\n"))
         os.rename(f"{it.folder}/farm-2/operator", f"{it.folder}/farm-2/operator.sock")
         wanted(it.must("stop"), "farm-1: off\nfarm-2: off\n")
+        wanted(re.split("  +", other.must("status").splitlines()[1])[5], "quiet")
     return "six numbers"
+
+
+def stop_finds_a_way(live, _):
+    """A farm whose operator has as many terminals open as may be is ended by a signal."""
+    with Course(live, 1) as it:
+        it.must("start")
+        terminals = []
+        for _ in range(16):
+            terminals.append(socket.socket(socket.AF_UNIX, socket.SOCK_STREAM))
+            terminals[-1].connect(f"{it.folder}/farm-1/operator.sock")
+        time.sleep(0.3)
+        told, status = ended(it.begin("stop", bounds=(120, 10, 0.3, 20)))
+        wanted((status, told), (0, "farm-1: off\n"))
+        for one in terminals:
+            one.close()
+    return "16 terminals"
 
 
 # Puts words behind what the operator is told of two users, one of which doesn't print.
@@ -438,7 +467,7 @@ def odd_class_is_refused(live, _):
 
 
 # Those that take a second or two, and those that take some more.
-TRIALS = (start_is_broken_off, start_says_why_not, status_shows_all_words, nothing_raw_is_printed,
+TRIALS = (start_is_broken_off, start_says_why_not, stop_finds_a_way, status_shows_all_words, nothing_raw_is_printed,
           names_behind_a_folder_are_plain, line_feeds_alone_divide_names)
 LONG_TRIALS = (start_begins_what_has_ended, odd_class_is_refused, start_ends_at_its_bound, stop_asks_every_farm,
                stop_ends_no_other_process, files_are_held_against_records)
