@@ -133,8 +133,18 @@ ORDERS = {"start": (start, FOLDER_ALONE, "course"), "stop": (stop, FOLDER_ALONE,
                      "course ada-lovelace ada-lovelace.replay")}
 
 
+ABOUT_ORDERS = """\
+a class that is there:
+  class start DIR             starts the farms that aren't up, and waits until they answer
+  class stop DIR              stops the farms; they go on where they were when they are started again
+  class status DIR            shows what each student has done
+  class verify DIR NAME FILE  says whether a file is what the farm has recorded of a student
+"""
+
+
 def words_of(given):
-    it = argparse.ArgumentParser(prog="class", description="A farm for each student of a class.", usage="""\
+    it = argparse.ArgumentParser(prog="class", description="A farm for each student of a class.", epilog=ABOUT_ORDERS,
+                                 formatter_class=argparse.RawDescriptionHelpFormatter, usage="""\
 class --students NAMES.txt --nodes N [--hosts H] [--memory M] [--limit L] [--mode M] [--group G] DIR
        class start|stop|status DIR
        class verify DIR NAME FILE""")

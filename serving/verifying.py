@@ -131,7 +131,11 @@ def student_in(farms, name, course):
 def verify(course, farms, name, given):
     """Compares a file with the records of a student: the status, and what is told."""
     folder, user = student_in(farms, name, course)
-    paths = records_of(os.path.join(course, os.path.basename(folder), "records"), user)
+    records = os.path.join(course, os.path.basename(folder), "records")
+    try:
+        paths = records_of(records, user)
+    except PermissionError:
+        raise Refused(f"this account may not read {records}: ask the account that runs the farm") from None
     if not paths:
         raise Refused(f"the farm has no record of {user} yet: class start {shlex.quote(course)} begins one")
     if not os.path.isfile(given):

@@ -170,6 +170,27 @@ def start_is_broken_off(live, _):
     return "its serve went on"
 
 
+def stop_is_broken_off(live, _):
+    """Ctrl-C ends the waiting for a farm that is stopped, which stops nevertheless."""
+    with Course(live, 1) as it:
+        it.must("start")
+        serve = it.lock(1)
+        kept = child_of(serve)
+        os.kill(kept, signal.SIGSTOP)
+        with Screen([f"{TOP}/class", "stop", it.folder]) as screen:
+            time.sleep(0.7)
+            screen.press(CONTROL_C)
+            told, status = screen.end()
+        wanted((status, told.removeprefix("^C")), (130, "farm-1: not off yet, but asked to stop: its serve "
+                                                   f"(process {serve}) goes on with that\n"))
+        os.kill(kept, signal.SIGCONT)
+        end = time.monotonic() + SECONDS
+        while os.path.exists(f"{it.folder}/farm-1/operator.sock") and time.monotonic() < end:
+            time.sleep(0.02)
+        wanted(re.split("  +", it.must("status").splitlines()[1])[5], "off")
+    return "it stopped"
+
+
 def start_says_why_not(live, _):
     """What a serve said last that didn't start, and a farm whose folder is gone."""
     with Course(live, 17) as it:
@@ -469,5 +490,5 @@ def odd_class_is_refused(live, _):
 # Those that take a second or two, and those that take some more.
 TRIALS = (start_is_broken_off, start_says_why_not, stop_finds_a_way, status_shows_all_words, nothing_raw_is_printed,
           names_behind_a_folder_are_plain, line_feeds_alone_divide_names)
-LONG_TRIALS = (start_begins_what_has_ended, odd_class_is_refused, start_ends_at_its_bound, stop_asks_every_farm,
-               stop_ends_no_other_process, files_are_held_against_records)
+LONG_TRIALS = (start_begins_what_has_ended, stop_is_broken_off, odd_class_is_refused, start_ends_at_its_bound,
+               stop_asks_every_farm, stop_ends_no_other_process, files_are_held_against_records)
