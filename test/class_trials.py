@@ -304,6 +304,7 @@ def nothing_raw_is_printed(live, _):
     shown = "error: not answered, send it again if you want it: look \\x1b[2J\\x07\u00e9\\xff\\x9b\\u202e\\x0d\\x090"
     env = {**os.environ, "LAB": built("lab"), "HOME": "/nonexistent"}
     with Served(live, PLAN) as it:
+        # pylint: disable-next=consider-using-with
         reading = subprocess.Popen([f"{TOP}/connect", it.folder, "ann"], stdin=subprocess.PIPE, stdout=subprocess.PIPE, env=env)
         other = it.client("ann")
         with Screen([f"{TOP}/connect", it.folder, "ann"], LAB=built("lab"), HOME=it.room.name) as screen:
@@ -353,7 +354,7 @@ FILES = [(b"Ada\x0bBob\n", 1, DIVIDED.format("000B")), (b"Eve\nAda\x0cBob\n", 2,
          (b"Ada\r\nBob\r\n# \x0b\nZo\tLi", 0, ["ada", "bob", "zo-li"]), ("Ada\u202eB\n".encode(), 0, ["adab"])]
 
 
-def line_feeds_alone_divide_names(live, _):
+def line_feeds_alone_divide_names(_, __):
     """A character that divides lines elsewhere, and a control, are refused in a name, and what is said has none of them."""
     with tempfile.TemporaryDirectory() as room:
         for at, (text, line, told) in enumerate(FILES):
@@ -376,84 +377,113 @@ def line_feeds_alone_divide_names(live, _):
     return f"{len(FILES)} files"
 
 
+class Marked:
+    """The first farm of a class that is up, what its first student types, and what is said of files that come from him."""
+
+    def __init__(self, course):
+        self.course, self.folder = course, f"{course.folder}/farm-1/records"
+        self.path = f"{self.folder}/student-1.replay"
+
+    def ask(self, *lines):
+        """What he is answered."""
+        done = subprocess.run([f"{TOP}/connect", f"{self.course.folder}/farm-1", "student-1"], env=self.course.env,
+                              input="".join(f"{line}\n" for line in lines), capture_output=True, encoding="utf-8",
+                              timeout=SECONDS, check=False)
+        wanted(done.stderr, "")
+        return done.stdout
+
+    def recorded(self, name="student-1"):
+        """What a record has at present."""
+        with open(f"{self.folder}/{name}.replay", "rb") as file:
+            return file.read()
+
+    def must(self, name, text, status, told):
+        """What `class verify` must say of these bytes, called FILE, as those of this student."""
+        file = f"{self.course.room.name}/file"
+        with open(file, "wb") as it:
+            it.write(text)
+        done = self.course.call("verify", self.course.folder, name, file)
+        wanted((done.returncode, (done.stdout or done.stderr).replace(file, "FILE")), (status, told))
+
+    def said_of(self, text):
+        """The status for these bytes as those of the first student, and the number of the line that is said to differ: 0 if they
+        are said to be no record, none if nothing differs."""
+        path = f"{self.course.room.name}/changed"
+        with open(path, "wb") as file:
+            file.write(text)
+        try:
+            status, told = verify(self.course.folder, {f"{self.course.folder}/farm-1": ["student-1"]}, "student-1", path)
+        except Refused as refused:
+            return 1, 0 if "is no record" in f"{refused}" else None
+        wanted(RAW.search("\n".join(told).encode()), None)
+        line = re.search(r" in line (\d+), ", told[0])
+        return status, int(line[1]) if line else None
+
+
 def files_are_held_against_records(live, _):
     """`class verify` tells whether a file is the farm's own record of a student, while the farm is up and goes on."""
-    with Course(live, 2) as it:
-        it.must("start")
-        farm, place = f"{it.folder}/farm-1", f"{it.folder}/farm-1/records"
-
-        def ask(*lines):
-            done = subprocess.run([f"{TOP}/connect", farm, "student-1"], input="".join(f"{line}\n" for line in lines), env=it.env,
-                                  capture_output=True, encoding="utf-8", timeout=SECONDS, check=False)
-            wanted(done.stderr, "")
-            return done.stdout
-
-        def verified(name, text, status, *told):
-            with open(f"{it.room.name}/file", "wb") as file:
-                file.write(text)
-            done = it.call("verify", it.folder, name, f"{it.room.name}/file")
-            said = (done.stdout or done.stderr).replace(f"{it.room.name}/file", "FILE")
-            wanted((done.returncode, said), (status, "".join(told)))
-
-        def recorded(name):
-            with open(f"{place}/{name}.replay", "rb") as file:
-                return file.read()
-
-        wanted(ask("config 01000103", "look 0"), "config -\nlook 0 booting overruns 0 0 0 0\n")
-        first = recorded("student-1")
-        path = f"{place}/student-1.replay"
-        verified("student-1", first, 0, f"student-1: FILE is the same as {path}, 5 events\n")
-        wanted(ask("boot 0 b424f224f2243081ff21f5", "look 0"), "boot 0 12\nlook 0 idle overruns 0 0 0 0\n")
+    with Course(live, 2) as course:
+        course.must("start")
+        it = Marked(course)
+        wanted(it.ask("config 01000103", "look 0"), "config -\nlook 0 booting overruns 0 0 0 0\n")
+        first = it.recorded()
+        it.must("student-1", first, 0, f"student-1: FILE is the same as {it.path}, 5 events\n")
+        wanted(it.ask("boot 0 b424f224f2243081ff21f5", "look 0"), "boot 0 12\nlook 0 idle overruns 0 0 0 0\n")
         for name in ("student-1", "Student 1", "STUDENT  1"):
-            verified(name, first, 0, f"student-1: FILE is a beginning of {path}, up to its event 5\n")
-        now = recorded("student-1")
-        times = re.search(rb"^(\d+) times 0 step 0 @farm = \d+ ran$", now, re.MULTILINE)
-        last = now[:times.end() + 1]
+            it.must(name, first, 0, f"student-1: FILE is a beginning of {it.path}, up to its event 5\n")
+        times = re.search(rb"^(\d+) times 0 step 0 @farm = \d+ ran\n", it.recorded(), re.MULTILINE)
+        last = it.recorded()[:times.end()]
         events = last.partition(b"---\n")[2].count(b"\n") - 1 + int(times[1])
-        verified("student-1", last, 0, f"student-1: FILE is a beginning of {path}, up to its event {events}\n")
-        wanted(ask("reset 0").startswith("reset 0 ok"), True)
-        lines = first.split(b"\n")
-        for at, line in enumerate(lines[:-1]):
-            text = b"\n".join([*lines[:at], line[:-1] + b"\x1b", *lines[at + 1:]])
-            wanted((at, said_of(it, text)), (at, (1, at + 1) if line != b"---" else (1, 0)))
-        added = b"0 config ff @0 = badcommand"
-        differs = f"student-1: FILE differs from {path} in line"
-        verified("student-1", first + added + b"\n", 1, f"{differs} {len(lines)}, after 5 events\n",
-                 f"  FILE: {added.decode()}\n", f"  {path}: {now.splitlines()[len(lines) - 1].decode()}\n")
-        whole = recorded("student-1")
-        verified("student-1", whole + added, 1, f"{differs} {len(whole.splitlines()) + 1}, after {total(whole)} events\n",
-                 f"  FILE: {added.decode()}\n  {path}: (it ends here)\n")
-        verified("student-1", first.replace(b"\n", b"\r\n"), 1, f"{differs} 1, after 0 events\n", "  FILE: version = 3\\x0d\n",
-                 f"  {path}: version = 3\n", "  The lines of FILE end with carriage returns, which it has got on its way. Take "
-                 "them out (tr -d '\\r')\n")
-        wanted(ask("restart", "config 01"), "restart ok\nconfig -\n")
-        second = f"{place}/student-1.2.replay"
-        verified("student-1", whole, 3, f"student-1: FILE is the same as {path}, up to its event {total(whole)}. A restart has "
-                 f"ended that record, and since then {second} goes on\n")
-        verified("student-1", first, 3, f"student-1: FILE is a beginning of {path}, up to its event 5. A restart has ended that "
-                 f"record, and since then {second} goes on\n")
-        verified("student-1", recorded("student-1.2"), 0, f"student-1: FILE is the same as {second}, 1 event\n")
-        verified("student-2", first, 1, f"student-2: FILE differs from {place}/student-2.replay in line 4, after 0 events\n",
-                 "  FILE: range = [[0, 1]]\n", f"  {place}/student-2.replay: range = [[2, 3]]\n")
-        verified("Studant 2", first, 1, f"class: there is no student Studant 2 in {it.folder}: near are student-2, student-1\n")
-        verified("student-1", b"", 1, "class: FILE is no record: it has no plan with a line --- behind it\n")
-        it.must("stop")
-        verified("student-1", recorded("student-1.2"), 0, f"student-1: FILE is the same as {second}, 1 event\n")
-    return f"{len(lines) - 1} lines, each of them changed"
+        it.must("student-1", last, 0, f"student-1: FILE is a beginning of {it.path}, up to its event {events}\n")
+        changed = changed_lines_are_found(it, first)
+        growing_records_are_compared(it)
+        wanted(it.ask("restart", "config 01"), "restart ok\nconfig -\n")
+        whole, second = it.recorded(), f"{it.folder}/student-1.2.replay"
+        ended_at = f"A restart has ended that record, and since then {second} goes on\n"
+        it.must("student-1", whole, 3, f"student-1: FILE is the same as {it.path}, up to its event {total(whole)}. {ended_at}")
+        it.must("student-1", first, 3, f"student-1: FILE is a beginning of {it.path}, up to its event 5. {ended_at}")
+        other = f"{it.folder}/student-2.replay"
+        it.must("student-2", first, 1, f"student-2: FILE differs from {other} in line 4, after 0 events\n"
+                f"  FILE: range = [[0, 1]]\n  {other}: range = [[2, 3]]\n")
+        near = "near are student-2, student-1"
+        it.must("Studant 2", first, 1, f"class: there is no student Studant 2 in {course.folder}: {near}\n")
+        it.must("student-1", b"", 1, "class: FILE is no record: it has no plan with a line --- behind it\n")
+        course.must("stop")
+        it.must("student-1", it.recorded("student-1.2"), 0, f"student-1: FILE is the same as {second}, 1 event\n")
+    return f"{changed} lines, each of them changed"
 
 
-def said_of(course, text):
-    """The status for a changed record of the first student, and the number of the line that is said to differ, 0 if the text is
-    said to be no record."""
-    path = f"{course.room.name}/changed"
-    with open(path, "wb") as file:
-        file.write(text)
-    try:
-        status, told = verify(course.folder, {f"{course.folder}/farm-1": ["student-1"]}, "student-1", path)
-    except Refused as refused:
-        return 1, 0 if "is no record" in f"{refused}" else None
-    wanted(RAW.search("\n".join(told).encode()), None)
-    return status, int(re.search(r" in line (\d+), ", told[0])[1])
+def changed_lines_are_found(it, first):
+    """Each line of the beginning of a record changed, lines more, and lines that were carried by another system."""
+    lines = first.splitlines()
+    for at, line in enumerate(lines):
+        text = b"\n".join([*lines[:at], line[:-1] + b"\x1b", *lines[at + 1:], b""])
+        wanted((at, it.said_of(text)), (at, (1, at + 1) if line != b"---" else (1, 0)))
+    added, differs, whole = "0 config ff @0 = badcommand", f"student-1: FILE differs from {it.path} in line", it.recorded()
+    it.must("student-1", first + added.encode() + b"\n", 1, f"{differs} {len(lines) + 1}, after 5 events\n  FILE: {added}\n"
+            f"  {it.path}: {whole.splitlines()[len(lines)].decode()}\n")
+    it.must("student-1", whole + added.encode(), 1, f"{differs} {len(whole.splitlines()) + 1}, after {total(whole)} events\n"
+            f"  FILE: {added}\n  {it.path}: (it ends here)\n")
+    it.must("student-1", first.replace(b"\n", b"\r\n"), 1, f"{differs} 1, after 0 events\n  FILE: version = 3\\x0d\n  {it.path}: "
+            "version = 3\n  The lines of FILE end with carriage returns, which it has got on its way. Take them out (tr -d "
+            "'\\r')\n")
+    return len(lines)
+
+
+def growing_records_are_compared(it):
+    """A copy is the same or a beginning, also if the record grows while it is made and compared."""
+    with socket.socket(socket.AF_UNIX, socket.SOCK_STREAM) as client, client.makefile("rb") as answers:
+        client.settimeout(SECONDS)
+        client.connect(f"{it.course.folder}/farm-1/student-1.sock")
+        sizes, asked, end = set(), 0, time.monotonic() + SECONDS
+        while len(sizes) < 5 and time.monotonic() < end:
+            asked += 1
+            client.sendall(b"config " + b"01000103" * 50 + b"\n")
+            text = it.recorded()
+            sizes.add(len(text))
+            wanted(it.said_of(text), (0, None))
+        wanted([answers.readline() for _ in range(asked)], [b"config -\n"] * asked)
+        wanted(len(sizes), 5)
 
 
 def total(record):
