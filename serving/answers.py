@@ -59,7 +59,7 @@ class Due:
         """Whether this may be its answer: it has its verb, and its host or node. Other clients of the user hear and are
         heard too."""
         if answer.startswith(LOST):
-            # what is told of a long line may end within a character
+            # a long line is cut, perhaps within a character
             return bytes_of(self.line).startswith(bytes_of(answer[len(LOST):].removesuffix(MORE)))
         if re.fullmatch(r"(! )?error \d+ \w+", answer):
             return True
@@ -74,7 +74,7 @@ class Due:
 
 
 def bytes_of(text):
-    """The bytes of a line as it is sent, or as it was told."""
+    """The bytes of a line, as they are on the connection."""
     return text.encode("utf-8", "surrogateescape")
 
 

@@ -17,7 +17,7 @@ from .upkeep import INTERRUPTED, Start, Stop, do_all
 from .verifying import verify
 
 FILE = "class.json"
-# So many farms are asked at once.
+# How many farms are asked at once.
 MOST_ASKED = 32
 # What most orders want behind them.
 FOLDER_ALONE = "the folder of the class behind it, and nothing else"

@@ -51,7 +51,7 @@ def end_serve(folder):
     path = os.path.join(folder, "lock")
     number = number_in(path)
     try:
-        # this stands for the process also if its number is given to another meanwhile
+        # this remains the same process if its number is given to another meanwhile
         process = os.pidfd_open(number) if number is not None else None
     except ProcessLookupError:
         process = None

@@ -15,8 +15,8 @@ MEMORY, LIMIT = range(2048, 65537, 4), range(1, (1 << 40) + 1)
 SPELLED = str.maketrans({"ß": "ss", "æ": "ae", "œ": "oe", "ø": "o", "ł": "l", "đ": "d", "ð": "d", "þ": "th", "ħ": "h", "ŧ": "t",
                          "ŋ": "ng", "ı": "i", "ə": "e"})
 TAB = "\t"
-# The kinds of characters, as Unicode has them: those that aren't seen, such as a mark of the direction; and those that stand in
-# no name, which are controls and what divides lines or paragraphs.
+# Unicode's kinds of characters that aren't seen, such as a mark of the direction; and of those that no name may have, which are
+# controls and what divides lines or paragraphs.
 UNSEEN, NAMELESS = "Cf", {"Cc", "Zl", "Zp"}
 # Those of them that end a line elsewhere.
 DIVIDING = set("\v\f\r\x1c\x1d\x1e\x85\u2028\u2029")
@@ -97,11 +97,11 @@ def lines_of(path):
 
 
 def check_person(path, number, person):
-    """Refuses a name with a character that stands in none."""
+    """Refuses a name with a character that none may have."""
     wrong = next((it for it in person if unicodedata.category(it) in NAMELESS and it != TAB), None)
     if wrong is not None:
         more = "write each name on a line of its own, which a line feed ends" if wrong in DIVIDING else "take it out"
-        raise Refused(f"{path}, line {number}: {person!r} has the character U+{ord(wrong):04X}, which stands in no name: {more}")
+        raise Refused(f"{path}, line {number}: {person!r} has the character U+{ord(wrong):04X}, which no name may have: {more}")
 
 
 def students_of(path):

@@ -2,7 +2,7 @@
 import os
 import re
 
-# So much of a record is read at a time.
+# How many bytes of a record are read at a time.
 PIECE = 1 << 18
 # What a node's Steps are answered that ended with a fault: its number, and the instruction if the fault has one.
 FAULT = re.compile(rb"\bstep (\d+)\b.* fault (\d+(?: [0-9a-f]+)?)$")

@@ -12,7 +12,7 @@ SECONDS = 10
 # less room.
 BURST = 256
 HEAD = ("user", "farm", "lines", "events", "used", "now", "room", "last fault")
-# So many words the operator is told of a user behind his name: three numbers, and `quiet` or `busy`. More may follow.
+# How many words `!users` has after a user's name at least: three numbers, and `quiet` or `busy`.
 WORDS = 4
 # What a row has in their place if no `serve` has the farm, and if one has it and doesn't answer.
 OFF, SILENT = "off", "no answer"
@@ -40,7 +40,7 @@ def ask_operator(folder, line, seconds=SECONDS):
 
 
 def row_of(folder, name, told):
-    """A student's row, of what the operator is told of him, or of why he is told nothing."""
+    """A student's row, of the words that `!users` has of him, or of why there are none."""
     farm, fault = os.path.basename(folder), last_fault(os.path.join(folder, "records"), name)
     if isinstance(told, str):
         return (name, farm, "-", "-", "-", told, "-", fault)
@@ -50,7 +50,7 @@ def row_of(folder, name, told):
 
 
 def told_of(words):
-    """What the operator is told of a user behind his name, if that has the form that it should have."""
+    """The words after a user's name in an answer to `!users`, if they have the form that they should have."""
     numbers = words[:WORDS - 1]
     fits = len(words) >= WORDS and all(it.isascii() and it.isdecimal() for it in numbers) and int(numbers[-1]) > 0
     return words if fits else SILENT

@@ -239,11 +239,11 @@ def at_terminal(terminal, folder):
 
 
 def words_of(given):
-    """The words. Behind DIR stands a name, which may begin with a hyphen."""
+    """The words. After DIR any word is a name, also if it begins with a hyphen."""
     it = argparse.ArgumentParser(prog="connect", usage="connect [-h] [--] DIR USER",
                                  description="A terminal for a user of a farm that serve keeps up.")
-    it.add_argument("DIR", help="the folder of the farm; behind -- it may begin with a hyphen")
-    it.add_argument("USER", help=f"the user's name, or {OPERATOR}; behind DIR it may begin with a hyphen")
+    it.add_argument("DIR", help="the folder of the farm; after -- it may begin with a hyphen")
+    it.add_argument("USER", help=f"the user's name, or {OPERATOR}; it may begin with a hyphen")
     plain = given[1:] if given[:1] == ["--"] else given
     if len(plain) == 3 and plain[1] == "--":
         plain = [plain[0], plain[2]]

@@ -11,22 +11,22 @@ from .holders import end_serve, serve_of
 from .sheets import count
 from .status import ask_operator, operators_stream
 
-# A farm that begins is waited for so long after the last thing that it said. A long record is done again for minutes, and
-# that is said all the time.
+# How long a farm that begins is waited for after its last word. A long record is done again for minutes, and its progress is
+# reported.
 QUIET_SECONDS = 120
 # `serve` ends a farm that was asked to stop after 60 seconds at most, and needs a moment for itself.
 STOP_SECONDS = 65
-# Each few seconds it is said what is waited for.
+# How often it is said what is waited for.
 SAY_SECONDS = 5
 # How long an operator's socket may take for an answer, and how often it is asked.
 ANSWER_SECONDS, PAUSE = 3, 0.05
-# So long a farm that was asked through its socket may still have its folder when it has ended the connection, and so long it is
-# tried to ask a farm that can't be asked yet.
+# How long a farm that has ended the operator's connection may still have its folder, and how long it is tried to ask one that
+# can't be asked yet.
 LAST_SECONDS = 5
-# So often a `serve` is begun that finds the folder in use for a moment.
+# How often a `serve` is begun that finds the folder in use for a moment.
 MOST_BEGUN = 3
 TAKEN = b"is served already"
-# So much of what `serve` said last is looked at.
+# How many bytes of the end of its log are looked at.
 LAST_BYTES = 4096
 # The status of a program that Ctrl-C has ended.
 INTERRUPTED = 130
@@ -112,7 +112,7 @@ class Start(Work):
                                             stdin=subprocess.DEVNULL, stdout=log, stderr=log, start_new_session=True)
 
     def is_quiet(self):
-        """Whether nothing new was seen for so long that it isn't waited any longer."""
+        """Whether it isn't waited any longer, since nothing new was seen."""
         news = self.whose(), os.path.getsize(self.log) if os.path.exists(self.log) else 0
         if news != self.news:
             self.news, self.last = news, time.monotonic()
@@ -173,7 +173,7 @@ class Stop(Work):
             if now > self.begun + STOP_SECONDS:
                 return False, f"it did not stop in {STOP_SECONDS} seconds: {self.whose()} is there still"
             time.sleep(PAUSE)
-        return True, "off, a signal has ended it while it began" if self.has_signalled and self.stream is None else "off"
+        return True, "off, ended by a signal" if self.has_signalled else "off"
 
     def is_asked(self):
         return self.stream is not None or self.has_signalled

@@ -11,13 +11,13 @@ from .plans import user_name
 from .records import PIECE, records_of
 from .sheets import count
 
-# What stands between the plan in a record's head and its events, also if its lines got carriage returns.
+# The line between the plan of a record and its events, also if its lines got carriage returns.
 DIVIDER = re.compile(rb"\n---\r?\n")
-# So many bytes at the beginning of a record are looked through for it.
+# How many bytes at the beginning of a record are looked through for it.
 MOST_HEAD = 1 << 16
-# So much of a line is shown.
+# How many bytes of a line are shown.
 MOST_SHOWN = 200
-# Steps of a node that stand together are one line of a record.
+# Steps of a node one after another are one line of a record.
 TIMES = re.compile(rb"(\d+) times ")
 # The statuses of `class verify`: the file is the record or a beginning of it, it isn't, or it is the record of an earlier
 # restart.
@@ -45,7 +45,7 @@ def sizes_of(file, other):
 
 
 def same_bytes(file, other, size):
-    """How many bytes at the beginning of two open files are the same, among so many."""
+    """How many of the first `size` bytes of two open files are the same."""
     at = 0
     while at < size:
         here, there = (os.pread(it, min(PIECE, size - at), at) for it in (file, other))
@@ -75,7 +75,7 @@ def whole_lines(file, size):
 
 
 def events_in(file, size):
-    """How many events the whole lines have that stand among the first bytes of a record."""
+    """How many events the whole lines have among the first bytes of a record."""
     head = os.pread(file, min(MOST_HEAD, size), 0)
     divider = DIVIDER.search(head)
     if divider is None:
@@ -86,7 +86,7 @@ def events_in(file, size):
 
 
 def line_at(file, at):
-    """The line of an open file in which this byte stands: its number, and its text as it is shown; none behind the end."""
+    """The line of an open file that has this byte: its number, and its text as it is shown; none after the end."""
     number, begun, place = 1, 0, 0
     while place < at and (piece := os.pread(file, min(PIECE, at - place), place)):
         number += piece.count(b"\n")
@@ -101,7 +101,7 @@ def line_at(file, at):
 
 
 def difference(name, given, file, it):
-    """What is told of a file that isn't the record: the first line that differs, as it stands in both."""
+    """What is said of a file that isn't the record: the first line that differs, as the file and the record have it."""
     number, here = line_at(file, it.same)
     other = os.open(it.path, os.O_RDONLY)
     try:
@@ -129,7 +129,7 @@ def student_in(farms, name, course):
 
 
 def verify(course, farms, name, given):
-    """Compares a file with the records of a student: the status, and what is told."""
+    """Compares a file with the records of a student: the status, and what is said."""
     folder, user = student_in(farms, name, course)
     records = os.path.join(course, os.path.basename(folder), "records")
     try:

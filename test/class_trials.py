@@ -22,7 +22,7 @@ from serving.verifying import Refused, verify
 
 # What no terminal may be sent: controls but for line feeds, bytes that are no UTF-8, and marks of the direction.
 RAW = re.compile(rb"[\x00-\x09\x0b-\x1f\x7f]|\xc2[\x80-\x9f]|\xe2\x80[\xaa-\xae]")
-# A `class` whose bounds are so many seconds: for its silence, for its stop, for what can't be asked, and between two lines.
+# A `class` with other bounds in seconds: of a farm's silence, of a stop, of what can't be asked, and between two lines.
 HURRIED = """import sys
 sys.path.insert(0, {top!r})
 from serving import classes, upkeep
@@ -93,6 +93,14 @@ def child_of(number):
         return int(it.read().split()[-1])
 
 
+# A `serve` that waits for a second one.
+SECOND = """#!/bin/sh
+: > "$0.$$"
+while [ "$(ls "$0".* | wc -l)" -lt 2 ]; do sleep 0.02; done
+exec "{top}/serve" "$@"
+"""
+
+
 def start_begins_what_has_ended(live, _):
     """A farm that is begun anew by `class start` though somebody had its folder as that began: one that is killed while it does
     nothing, and one that takes its time to stop."""
@@ -114,11 +122,12 @@ def start_begins_what_has_ended(live, _):
                 wanted(ended(first), ("farm-1: off\n", 0))
             wanted(it.lock(1) == serve, False)
         it.must("stop")
-        # both find the folder free, and begin a serve
-        it.env["SERVE"] = f"{it.room.name}/serve"
-        with open(it.env["SERVE"], "w", encoding="utf-8") as file:
-            file.write(f'#!/bin/sh\nsleep 0.5\nexec "{TOP}/serve" "$@"\n')
-        os.chmod(it.env["SERVE"], 0o755)
+        # both find the folder free, and begin a serve, and the one that has it takes longer than the other
+        for name, text in (("serve", SECOND.format(top=TOP)), ("live", f'#!/bin/sh\nsleep 1\nexec "{live}" "$@"\n')):
+            it.env[name.upper()] = f"{it.room.name}/{name}"
+            with open(it.env[name.upper()], "w", encoding="utf-8") as file:
+                file.write(text)
+            os.chmod(it.env[name.upper()], 0o755)
         starts = [it.begin("start") for _ in range(2)]
         wanted([ended(one) for one in starts], [("farm-1: up, 2 users\n", 0)] * 2)
         with open(f"{it.folder}/farm-1/serve.log", encoding="utf-8") as log:
@@ -127,8 +136,8 @@ def start_begins_what_has_ended(live, _):
 
 
 def start_ends_at_its_bound(live, _):
-    """A farm that doesn't answer is waited for so long, and what is waited for is said meanwhile; also if another program has the
-    folder."""
+    """A farm that doesn't answer is waited for up to a bound, and what is waited for is said meanwhile; also if another program
+    has the folder."""
     with Course(live, 17) as it:
         it.must("start")
         os.kill(serve := it.lock(1), signal.SIGSTOP)
@@ -215,7 +224,7 @@ def stop_asks_every_farm(live, _):
         with it.locked("farm-1/records/lock"):
             told, status = ended(it.begin("start", bounds=(3, 65, 5, 5)))
             wanted((status, told.splitlines()[1:]), (1, ["farm-2: up, 16 users", "farm-3: up, 16 users", "farm-4: up, 1 user"]))
-            wanted(it.must("stop"), "farm-1: off, a signal has ended it while it began\nfarm-2: off\nfarm-3: off\nfarm-4: off\n")
+            wanted(it.must("stop"), "farm-1: off, ended by a signal\nfarm-2: off\nfarm-3: off\nfarm-4: off\n")
         it.must("start")
         os.kill(serve := it.lock(2), signal.SIGSTOP)
         told, status = ended(it.begin("stop", bounds=(120, 1, 0.3, 5)))
@@ -263,14 +272,18 @@ def stop_finds_a_way(live, _):
             terminals.append(socket.socket(socket.AF_UNIX, socket.SOCK_STREAM))
             terminals[-1].connect(f"{it.folder}/farm-1/operator.sock")
         time.sleep(0.3)
-        told, status = ended(it.begin("stop", bounds=(120, 10, 0.3, 20)))
-        wanted((status, told), (0, "farm-1: off\n"))
+        # the line is sent before the connection is refused
+        os.kill(serve := it.lock(1), signal.SIGSTOP)
+        stopping = it.begin("stop", bounds=(120, 10, 0.3, 20))
+        time.sleep(0.7)
+        os.kill(serve, signal.SIGCONT)
+        wanted(ended(stopping), ("farm-1: off, ended by a signal\n", 0))
         for one in terminals:
             one.close()
     return "16 terminals"
 
 
-# Puts words behind what the operator is told of two users, one of which doesn't print.
+# Puts words after those that `!users` has of two users, one of which doesn't print.
 MARKING = """#!/bin/bash
 set -o pipefail
 "{live}" "$@" | LC_ALL=C sed -u 's/^!users student-1 .*/& unrecorded/
@@ -279,7 +292,7 @@ set -o pipefail
 
 
 def status_shows_all_words(live, _):
-    """What the operator is told behind `quiet` stands in the row, whatever it is, and an odd line leaves the others as they
+    """All words that `!users` has are in the row, whatever they are, and an odd line leaves the others as they
     are. A farm that doesn't answer isn't off."""
     with Course(live, 4) as it:
         it.env["LIVE"] = f"{it.room.name}/marking"
@@ -344,13 +357,13 @@ def names_behind_a_folder_are_plain(live, _):
 
 
 # A file of names, and what is said of it; none if all is well.
-DIVIDED = "has the character U+{}, which stands in no name: write each name on a line of its own, which a line feed ends"
+DIVIDED = "has the character U+{}, which no name may have: write each name on a line of its own, which a line feed ends"
 FILES = [(b"Ada\x0bBob\n", 1, DIVIDED.format("000B")), (b"Eve\nAda\x0cBob\n", 2, DIVIDED.format("000C")),
          ("Ada\u2028Bob\n".encode(), 1, DIVIDED.format("2028")), ("Ada\u2029Bob\n".encode(), 1, DIVIDED.format("2029")),
          ("Ada\u0085Bob\n".encode(), 1, DIVIDED.format("0085")), (b"Ada\rBob\r", 1, DIVIDED.format("000D")),
          (b"Ada\x1cBob\n", 1, DIVIDED.format("001C")),
-         (b"Eve\n\nAda\x1b[2J\n", 3, "has the character U+001B, which stands in no name: take it out"),
-         (b"Ada\x00\n", 1, "has the character U+0000, which stands in no name: take it out"),
+         (b"Eve\n\nAda\x1b[2J\n", 3, "has the character U+001B, which no name may have: take it out"),
+         (b"Ada\x00\n", 1, "has the character U+0000, which no name may have: take it out"),
          (b"Ada\r\nBob\r\n# \x0b\nZo\tLi", 0, ["ada", "bob", "zo-li"]), ("Ada\u202eB\n".encode(), 0, ["adab"])]
 
 
