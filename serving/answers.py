@@ -20,7 +20,7 @@ MEANINGS = (
     (r"restart operator", "other users share your machine: ask the operator"),
     (r"(! )?error \d+ busy", "too many lines wait: send it again later"),
     (r"(! )?error \d+ long", "a line has 1,048,576 bytes at most"),
-    (r"(! )?error \d+ record", "the records can't be written: tell the operator"),
+    (r"(! )?error \d+ record", "the record of your machine can't be read or written: tell the operator"),
     (r"(! )?error \d+ journal", "what your machine did can't be done again: tell the operator"),
     (r"! error \d+ user", "there is no such user: users lists them"),
     (r"look \d+ halted 1 .*", "an address outside memory"),

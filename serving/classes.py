@@ -9,7 +9,7 @@ import sys
 from concurrent.futures import ThreadPoolExecutor
 
 from .escapes import escaped
-from .folder import TOP, Refused, mode_of, ready, socket_path
+from .folder import FOLDER_MODE, TOP, Refused, made, mode_of, ready, socket_path
 from .plans import Machine, farms_of, plan_of, students_of
 from .sheets import Ways, count, sheet
 from .status import rows_of, table
@@ -61,10 +61,10 @@ def make(words):
     for farm in farms:
         for name in farms[farm]:
             socket_path(os.path.join(folder, farm), name)
-    os.makedirs(os.path.join(folder, "sheets"), exist_ok=True)
+    made(os.path.join(folder, "sheets"), FOLDER_MODE)
     for farm, names in farms.items():
         place = os.path.join(folder, farm)
-        os.makedirs(place, exist_ok=True)
+        made(place, FOLDER_MODE)
         save(os.path.join(place, "plan.toml"), plan_of(names, machine))
         for name in names:
             save(os.path.join(folder, "sheets", f"{name}.txt"), sheet(students[name], name, machine, place, ways))

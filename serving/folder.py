@@ -8,13 +8,24 @@ import pwd
 import re
 import socket
 import stat
+import struct
 import subprocess
+import time
+import tomllib
 
 TOP = os.path.dirname(os.path.dirname(os.path.abspath(__file__)))
 EXAMPLES = os.path.join(TOP, "examples", "programs")
 OPERATOR = "operator"
-# A link to the plan.
+# The plan of the farm, which is copied at the first start.
 PLAN = "plan"
+# A lock of a whole file for one process alone, as `fcntl` reads and writes it: its kind, from where its bytes are counted,
+# its first byte, how many bytes there are (0: all), and the number of the process.
+LOCK = struct.Struct("@hhqqi4x")
+# How long a folder is waited for that another process has, as it does while it ends.
+LOCK_SECONDS = 1
+# The modes of a folder that `serve` makes, of the plan's copy, and of what is for its own account alone.
+FOLDER_MODE, COPY_MODE, OWN_MODE = 0o755, 0o644, 0o700
+OTHERS_WRITE = 0o022
 # As many bytes as the path of a socket may have.
 MOST_PATH = 107
 # Stands for a user's name in the name of a group.
@@ -93,74 +104,195 @@ def group_name(number):
         return grp.struct_group((str(number), "", number, []))
 
 
-def is_locked(folder):
-    """Whether a `serve` has the folder at present."""
+def holder(folder):
+    """The number of the process that serves the folder at present; none if there is none. To look at the lock takes no
+    lock."""
     try:
-        file = os.open(os.path.join(folder, "lock"), os.O_RDWR)
+        file = os.open(os.path.join(folder, "lock"), os.O_RDONLY | os.O_NOFOLLOW)
     except FileNotFoundError:
-        return False
+        return None
     except PermissionError:
         raise Refused(f"this account ({account_name(os.geteuid())}) may not see who has {folder}: "
                       f"ask the account that started the farm there") from None
     try:
-        fcntl.flock(file, fcntl.LOCK_EX | fcntl.LOCK_NB)
-        return False
-    except BlockingIOError:
-        return True
+        kind, *_, number = LOCK.unpack(fcntl.fcntl(file, fcntl.F_GETLK, LOCK.pack(fcntl.F_WRLCK, os.SEEK_SET, 0, 0, 0)))
+        return None if kind == fcntl.F_UNLCK else number
     finally:
         os.close(file)
+
+
+def is_locked(folder):
+    """Whether a `serve` has the folder at present."""
+    return holder(folder) is not None
+
+
+def made(path, mode):
+    """Makes a folder with this mode, whatever the mask of the process is, and the folders above it. Which were made, the
+    lowest last."""
+    above = [] if os.path.isdir(os.path.dirname(path)) else made(os.path.dirname(path), FOLDER_MODE)
+    try:
+        os.mkdir(path)
+    except FileExistsError:
+        return above
+    os.chmod(path, mode)
+    return [*above, path]
+
+
+def check_own(path):
+    """Refuses a folder that is a link or another account's, or in which others may write: they could put anything in the
+    place of what is in it."""
+    it = os.lstat(path)
+    if not stat.S_ISDIR(it.st_mode):
+        raise Refused(f"{path} is no folder: choose another")
+    if it.st_uid != os.geteuid():
+        raise Refused(f"{path} belongs to the account {account_name(it.st_uid)}, and this is {account_name(os.geteuid())}: start "
+                      f"serve as that account, or choose another folder")
+    if it.st_mode & OTHERS_WRITE:
+        raise Refused(f"other accounts may write in {path}: chmod go-w {path} forbids it, or choose another folder")
+
+
+def sync(path):
+    """Sees that the names in a folder are on the disk."""
+    file = os.open(path, os.O_RDONLY | os.O_DIRECTORY)
+    try:
+        os.fsync(file)
+    finally:
+        os.close(file)
+
+
+def contents(path):
+    with open(path, "rb") as it:
+        return it.read()
+
+
+def meaning(plan):
+    """What a plan says, if it is TOML: two plans that differ in comments and blanks alone are the same."""
+    try:
+        return tomllib.loads(plan.decode())
+    except ValueError:
+        return plan
 
 
 class Folder:
     """A folder that this process has for itself until it ends."""
 
-    def __init__(self, path):
+    def __init__(self, path, syncs=False):
         self.path = os.path.abspath(path)
-        self.records = os.path.join(self.path, "records")
+        self.records, self.plan = os.path.join(self.path, "records"), os.path.join(self.path, PLAN)
+        self.sockets, self.is_first = {}, False
         try:
-            os.makedirs(self.path, exist_ok=True)
-            self.file = os.open(os.path.join(self.path, "lock"), os.O_RDWR | os.O_CREAT, 0o600)
+            new = made(self.path, FOLDER_MODE)
+            check_own(self.path)
+            self.lock()
+            new += made(self.records, OWN_MODE)
         except (FileExistsError, NotADirectoryError):
             raise Refused(f"{self.path} is no folder, and can't be made: choose another") from None
         except PermissionError:
             raise Refused(f"this account ({account_name(os.geteuid())}) may not write in {self.path}: choose another folder, or "
                           f"let the operator give it to this account") from None
+        except OSError as error:
+            raise Refused(f"{error.filename or self.path}: {error.strerror}") from None
+        check_own(self.records)
+        for it in new if syncs else ():
+            sync(os.path.dirname(it))
+
+    def lock(self):
+        """Locks the folder, and leaves the number of this process in the lock's file. A link isn't followed."""
+        path = os.path.join(self.path, "lock")
         try:
-            fcntl.flock(self.file, fcntl.LOCK_EX | fcntl.LOCK_NB)
-        except BlockingIOError:
-            other = os.pread(self.file, 20, 0).decode(errors="replace").strip()
-            raise Refused(f"{self.path} is served already, by process {other}: use its sockets, or stop it first") from None
+            self.file = os.open(path, os.O_RDWR | os.O_CREAT | os.O_NOFOLLOW, 0o600)
+        except OSError as error:
+            raise Refused(f"{path}: {error.strerror}: it is to be a file of serve's own, so remove it first") from None
+        end = time.monotonic() + LOCK_SECONDS
+        while True:
+            try:
+                fcntl.lockf(self.file, fcntl.LOCK_EX | fcntl.LOCK_NB)
+                break
+            except OSError:
+                if time.monotonic() > end:
+                    raise Refused(f"{self.path} is served already, by process {holder(self.path)}: use its sockets, or stop it "
+                                  f"first") from None
+                time.sleep(0.05)
         os.ftruncate(self.file, 0)
         os.pwrite(self.file, f"{os.getpid()}\n".encode(), 0)
-        os.makedirs(self.records, mode=0o700, exist_ok=True)
-        self.remove_sockets()
+
+    def plan_to_run(self, given):
+        """The path of the plan that the farm runs: at its first start a copy of the one that is given, and then always this
+        copy. A plan that says something else is refused."""
+        plan = contents(given)
+        try:
+            kept = None if os.path.islink(self.plan) else contents(self.plan)
+        except FileNotFoundError:
+            kept = None
+        self.is_first = kept is None
+        if kept is not None and meaning(kept) != meaning(plan):
+            raise Refused(f"the plan {given} isn't the one that this farm runs, which is {self.plan}. To go on as before: cp "
+                          f"{self.plan} {given}. To run the new plan from now on: cp {given} {self.plan}; then the users whose "
+                          f"part is the same keep what they have, and the records of others are refused")
+        if not self.is_first:
+            return self.plan
+        path = f"{self.plan}.new"
+        with contextlib.suppress(FileNotFoundError):
+            os.unlink(path)
+        with open(os.open(path, os.O_WRONLY | os.O_CREAT | os.O_EXCL, COPY_MODE), "wb") as it:
+            os.fchmod(it.fileno(), COPY_MODE)
+            it.write(plan)
+            os.fsync(it.fileno())
+        return path
+
+    def keep_plan(self):
+        """Keeps the copy that `live` has accepted."""
+        if self.is_first:
+            os.replace(f"{self.plan}.new", self.plan)
+            sync(self.path)
+            self.is_first = False
+
+    def remove_new_plan(self):
+        """Removes a copy that `live` hasn't accepted."""
+        if self.is_first:
+            with contextlib.suppress(FileNotFoundError):
+                os.unlink(f"{self.plan}.new")
 
     def remove_sockets(self):
-        """Removes the sockets, those that a killed `serve` left too."""
-        for entry in os.scandir(self.path):
-            if entry.name.endswith(".sock") and stat.S_ISSOCK(entry.stat(follow_symlinks=False).st_mode):
-                os.unlink(entry.path)
+        """Removes the sockets that this process has made, if they are there still."""
+        for path, made_as in self.sockets.items():
+            with contextlib.suppress(OSError):
+                if os.lstat(path).st_ino == made_as:
+                    os.unlink(path)
 
-    def show_plan(self, path):
-        """Leaves a link to the plan, by which terminals find it. A file of that name stays as it is, and the farm can do
-        without the link."""
-        place, plan = os.path.join(self.path, PLAN), os.path.realpath(path)
-        with contextlib.suppress(OSError):
-            if os.path.islink(place):
-                os.unlink(place)
-            os.symlink(plan, place)
+    def remove_dead(self, path):
+        """Removes the socket that a killed `serve` left at this path. Nothing else is removed: not one behind which
+        somebody listens, and no file."""
+        try:
+            it = os.lstat(path)
+        except FileNotFoundError:
+            return
+        if not stat.S_ISSOCK(it.st_mode):
+            raise Refused(f"{path} is there and no socket: a user's socket is to be there, so move it away")
+        with socket.socket(socket.AF_UNIX, socket.SOCK_STREAM) as one:
+            one.settimeout(LOCK_SECONDS)
+            try:
+                one.connect(path)
+            except ConnectionRefusedError:
+                os.unlink(path)
+                return
+            except OSError:
+                pass
+        raise Refused(f"another program listens at {path}: stop it, or choose another folder")
 
     def listen(self, name, mode, group):
         """The socket of this name. Until it has its mode and its group, no other account can open it."""
         path = socket_path(self.path, name)
+        self.remove_dead(path)
         one = socket.socket(socket.AF_UNIX, socket.SOCK_STREAM)
         before = os.umask(0o177)
         try:
             one.bind(path)
         finally:
             os.umask(before)
+        self.sockets[path] = os.lstat(path).st_ino
         if group is not None:
-            os.chown(path, -1, group_number(group.replace(USER_HERE, name)))
+            os.chown(path, -1, group)
         os.chmod(path, mode)
         one.setblocking(False)
         return one
@@ -172,8 +304,13 @@ def mode_of(word):
     return int(word, 8)
 
 
-def group_number(name):
+def group_number(pattern, user):
+    """The number of the group of a user's socket. A number is taken for a group's only if it was given as it is: a name that
+    was made of the user's is never taken for a number."""
+    name = pattern.replace(USER_HERE, user)
     try:
-        return int(name) if name.isdigit() else grp.getgrnam(name).gr_gid
+        return grp.getgrnam(name).gr_gid
     except KeyError:
+        if USER_HERE not in pattern and re.fullmatch("[0-9]+", name):
+            return int(name)
         raise Refused(f"there is no group {name}: make it (groupadd {name}), or leave --group out") from None

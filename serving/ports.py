@@ -36,3 +36,12 @@ def ports_of(folder, name):
         return next((ports for domain in domains if (ports := ports_in(domain, name))), None)
     except (OSError, ValueError, LookupError, TypeError, AttributeError, RecursionError):
         return None
+
+
+def users_in(path):
+    """The users of each domain of a plan, in its order; nobody if it can't be read."""
+    try:
+        with open(path, "rb") as it:
+            return [[user["name"] for user in domain.get("user", [domain])] for domain in tomllib.load(it)["domain"]]
+    except (OSError, ValueError, LookupError, TypeError, AttributeError):
+        return []

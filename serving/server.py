@@ -1,32 +1,60 @@
 """The sockets of a farm that stays up, round one `live`."""
 import argparse
 import asyncio
+import contextlib
 import logging
 import os
+import re
 import resource
 import signal
+import socket
+import struct
 import sys
 
 from . import running
-from .folder import OPERATOR, Folder, Refused, mode_of, program
-from .lines import PIECE
-from .speakers import Client, Operator, Speaker
+from .accepting import accept
+from .escapes import escaped
+from .folder import OPERATOR, Folder, Refused, account_name, group_number, mode_of, program, socket_path
+from .ports import users_in
+from .reports import Reports, open_streams
+from .speakers import Client, Operator, Speaker, shown
 
 # How long a farm may take to answer what waits when it is stopped.
 STOP_SECONDS = 60
-# So many connections of a socket are accepted before others have their turn, and so many wait.
-MOST_ACCEPTED, MOST_WAITING = 2, 128
+# How long `live` may answer nothing unless another time is given, and how often it is asked meanwhile.
+PATIENCE, WATCHES = 30, 3
+# So many connections wait before a socket.
+MOST_WAITING = 128
 # Clients of 64 users need so many open files at most.
 MOST_FILES = 4096
+# Who is at the other end of a socket, as the system says it: the numbers of a process, an account and a group.
+PEER = struct.Struct("@3i")
 
 
 class Server:
     """A farm, its speakers and their sockets."""
 
-    def __init__(self, words):
-        self.words, self.folder = words, Folder(words.DIR)
-        self.live, self.is_up, self.is_stopping = None, asyncio.Event(), False
-        self.starts, self.speakers, self.servers, self.serving = running.Starts(), {}, [], set()
+    def __init__(self, words, reports):
+        self.words, self.reports, self.folder = words, reports, Folder(words.DIR, words.sync)
+        self.plan = self.folder.plan_to_run(words.PLAN)
+        self.live, self.is_up, self.is_stopping = None, False, False
+        # set while lines are handed on, or refused since the farm is stopped
+        self.goes = asyncio.Event()
+        self.starts, self.speakers, self.accepting = running.Starts(), {}, []
+
+    def prepare(self):
+        """Takes the sockets away that a killed `serve` has left, and sees that each user has his group. A plan that can't be
+        read is left to `live`."""
+        names = [name for users in users_in(self.plan) for name in users]
+        for name in [*names, OPERATOR]:
+            with contextlib.suppress(Refused):
+                self.folder.remove_dead(socket_path(self.folder.path, name))
+        self.groups_of(names)
+
+    def groups_of(self, users):
+        """The number of the group of each user's socket; none if no group was given."""
+        it = self.words.group
+        return [None if it is None else group_number(it, name) for name in users]
 
     def call(self):
         """The words of `live`."""
@@ -34,44 +62,87 @@ class Server:
         more = [word for name in ("workers", "quantum") if (value := getattr(it, name)) is not None
                 for word in (f"--{name}", str(value))]
         more += ["--sync"] if it.sync else []
-        return [program("live"), *more, "--record", self.folder.records, "--resume", os.path.abspath(it.PLAN)]
+        return [program("live"), *more, "--record", self.folder.records, "--resume", self.plan]
 
-    async def open(self, users):
-        """A socket for each user and for the operator."""
+    def open(self, users):
+        """A socket for each user and for the operator. No socket is there before it is known that each has its group."""
         if OPERATOR in users:
             raise Refused(f"a user is called {OPERATOR}, as the operator's socket is: give him another name in the plan")
-        self.folder.show_plan(self.words.PLAN)
+        groups = self.groups_of(users)
         self.speakers = {name: Speaker(name) for name in users}
-        for speaker in self.speakers.values():
-            await self.open_socket(speaker, self.words.mode, self.words.group)
         self.speakers[OPERATOR] = Operator(OPERATOR, len(users))
-        await self.open_socket(self.speakers[OPERATOR], 0o600, None)
+        for speaker, group in zip(self.speakers.values(), groups):
+            self.open_socket(speaker, self.words.mode, group)
+        self.open_socket(self.speakers[OPERATOR], 0o600, None)
 
-    async def open_socket(self, speaker, mode, group):
+    def open_socket(self, speaker, mode, group):
         async def serve(reader, writer):
-            task = asyncio.current_task()
-            self.serving.add(task)
-            task.add_done_callback(self.serving.discard)
-            await Client(speaker, reader, writer).serve(self.send)
+            client = Client(speaker, reader, writer)
+            who = self.peer(writer) if speaker.name == OPERATOR else None
+            if who:
+                self.reports.say(f"serve: {who} has opened the operator's socket")
+            if not self.is_up:
+                client.tell(b"note: the farm isn't up yet. Lines are answered when it is\n")
+            await client.serve(self.send)
+            if who:
+                self.reports.say(f"serve: {who} has left the operator's socket")
+
+        def refused(error):
+            self.reports.say(f"serve: a connection of {speaker.name} can't be let in: {error.strerror}")
 
         one = self.folder.listen(speaker.name, mode, group)
-        self.servers.append(await asyncio.start_unix_server(serve, sock=one, limit=PIECE, backlog=MOST_ACCEPTED))
         one.listen(MOST_WAITING)
+        self.accepting.append(asyncio.ensure_future(accept(one, serve, refused)))
+
+    @staticmethod
+    def peer(writer):
+        """The process and the account at the other end."""
+        process, account, _ = PEER.unpack(writer.get_extra_info("socket").getsockopt(socket.SOL_SOCKET, socket.SO_PEERCRED, PEER.size))
+        return f"process {process} of {account_name(account)}"
 
     async def send(self, speaker, client, text):
-        """Sends a client's line as his speaker's, as soon as there is room and `live` is up, if he is there still."""
+        """Sends a client's line as his speaker's, as soon as there is room and `live` is up, if he is there still. A farm that
+        is stopped takes no more lines."""
+        if speaker.stops(text):
+            self.end()
+            return
         asked = await speaker.enter(text, client)
-        while not self.is_up.is_set():
-            await self.is_up.wait()
-        if client.is_gone():
+        await self.goes.wait()
+        if client.is_gone() or self.is_stopping:
             speaker.free(asked)
+            client.tell(b"error: the farm is stopped, so this is not done: " + shown(text) + b"\n")
             return
         speaker.sent(self.live.say(speaker.line(text)), asked)
 
     def tell_all(self, text):
-        running.report(f"serve: {text}\n".encode())
+        self.reports.say(f"serve: {text}")
         for speaker in self.speakers.values():
             speaker.tell(f"note: {text}\n".encode())
+
+    def hear_error(self, text):
+        """Hands on a line of the standard error of `live`: to the operator, and to whose domain is done again."""
+        self.reports.say(text)
+        if found := running.DONE_AGAIN.fullmatch(text):
+            self.tell_progress(*found.groups())
+        if OPERATOR in self.speakers:
+            self.speakers[OPERATOR].tell(f"note: {escaped(text)}\n".encode())
+
+    def tell_progress(self, record, far):
+        """Tells the users of a domain how far its record is done again. At the first start `live` has accepted the plan by
+        now, so the sockets are opened then."""
+        domains = users_in(self.plan)
+        if not self.speakers and domains:
+            try:
+                self.open([name for users in domains for name in users])
+            except (Refused, OSError):
+                # it is said when `live` is up
+                self.close_sockets()
+                return
+        for users in domains:
+            if re.fullmatch(rf"{re.escape(users[0])}(\.\d+)?", record):
+                for name in users:
+                    if name in self.speakers:
+                        self.speakers[name].tell(f"note: what your machine did is done again: {far}\n".encode())
 
     async def hear(self):
         """Hands on what `live` answers until its output ends. What a speaker is told at once is told in one piece."""
@@ -81,23 +152,41 @@ class Server:
                 name = OPERATOR if line.startswith(b"!") else line.partition(b" ")[0].decode(errors="replace")
                 speaker = self.speakers.get(name)
                 if speaker is None:
-                    running.report(f"serve: live said {line!r}\n".encode())
-                    continue
-                speaker.answered(line)
-                told.setdefault(speaker, []).append(speaker.told(line) + b"\n")
+                    self.reports.say(f"serve: live said {line!r}")
+                elif speaker.answered(line):
+                    told.setdefault(speaker, []).append(speaker.told(line) + b"\n")
             for speaker, answers in told.items():
                 speaker.tell(b"".join(answers))
                 speaker.rest()
 
+    async def watch(self):
+        """Ends a `live` that answers nothing any more, so that it is started again."""
+        pause = self.words.patience / WATCHES
+        while True:
+            await asyncio.sleep(pause)
+            live = self.live
+            if not self.is_up or self.is_stopping:
+                continue
+            is_answered = self.speakers[OPERATOR].watch(live)
+            for _ in range(WATCHES):
+                await asyncio.sleep(pause)
+                if is_answered() or live is not self.live or self.is_stopping:
+                    break
+            else:
+                self.tell_all(f"the farm has answered nothing for {self.words.patience:g} seconds")
+                live.kill()
+
     async def begin(self):
-        """Starts `live`, opens the sockets if it is the first, and says to whom lines go."""
-        self.live, users = await running.begin(self.call(), self.folder.records, self.begun)
+        """Starts `live`, opens the sockets if they aren't open yet, and says to whom lines go."""
+        self.live, users = await running.begin(self.call(), self.folder.records, self.begun, self.hear_error)
         if not self.speakers:
-            await self.open(users)
-            running.report(f"serve: {len(users)} user{'s' * (len(users) != 1)}, their sockets are in {self.folder.path}\n".encode())
+            self.open(users)
         elif users != [*self.speakers][:-1]:
             raise Refused("the plan has other users now: start serve again in a fresh folder, or give the plan as it was")
-        self.is_up.set()
+        self.folder.keep_plan()
+        self.plan = self.folder.plan
+        self.is_up = True
+        self.goes.set()
         if self.is_stopping:
             self.live.say(b"!stop\n")
 
@@ -108,23 +197,33 @@ class Server:
 
     async def keep(self):
         """Keeps the farm up until it is stopped; the status."""
-        await self.begin()
+        try:
+            await self.begin()
+        except OSError as error:
+            raise Refused(f"live can't be started: {error.filename or program('live')}: {error.strerror}") from None
+        self.reports.say(f"serve: {len(self.speakers) - 1} user{'s' * (len(self.speakers) != 2)}, their sockets are in "
+                         f"{self.folder.path}")
+        for speaker in self.speakers.values():
+            speaker.tell(b"note: the farm is up\n")
         while True:
             await self.hear()
             status = await self.live.end()
-            self.is_up.clear()
+            self.is_up = False
+            if not self.is_stopping:
+                self.goes.clear()
             for speaker in self.speakers.values():
                 speaker.forget()
-            if status == 0 or self.is_stopping or self.speakers[OPERATOR].has_stopped:
+            if status == 0 or self.is_stopping:
                 self.tell_all("the farm is stopped")
                 return 0 if status <= 0 else 1
             self.tell_all(f"the farm ended {running.how(status)} and is started again")
-            await self.go_on(status)
+            await self.go_on(running.how(status))
             self.tell_all("the farm goes on")
 
-    async def go_on(self, status):
-        """Starts `live` again, as often as is allowed."""
-        while (pause := self.starts.another()) is not None:
+    async def go_on(self, how):
+        """Starts `live` again, as often as is allowed. `how` tells why it ended."""
+        has_started = True
+        while (pause := self.starts.another(has_started)) is not None:
             await asyncio.sleep(pause)
             try:
                 await self.begin()
@@ -132,39 +231,63 @@ class Server:
             except running.Ended as ended:
                 if self.is_stopping:
                     raise
-                status = ended.status
-        raise Refused(f"live ended {running.MOST_STARTS + 1} times in a minute, the last time {running.how(status)}. What was "
-                      f"told is in {self.folder.records}. Look above for what live said, and start serve again after that")
+                how, has_started = running.how(ended.status), True
+            except OSError as error:
+                how, has_started = f"since it can't be started ({error.strerror})", False
+                self.reports.say(f"serve: live can't be started: {error.filename or program('live')}: {error.strerror}")
+        raise Refused(f"live ended {running.MOST_STARTS + 1} times in a minute, the last time {how}. What was told is in "
+                      f"{self.folder.records}. Look above for what live said, and start serve again after that")
+
+    def end(self):
+        """Stops the farm when all lines that wait are answered. A farm that isn't up yet, or doesn't end in time, is ended at
+        once."""
+        if self.is_stopping:
+            return
+        self.is_stopping = True
+        self.goes.set()
+        if self.is_up:
+            self.live.say(b"!stop\n")
+            asyncio.get_running_loop().call_later(STOP_SECONDS, self.kill)
+        else:
+            self.kill()
+
+    def kill(self):
+        if self.live is not None:
+            self.live.kill()
 
     def stop(self):
-        """Stops the farm when all lines that wait are answered; the second time at once."""
-        if self.is_stopping or not self.is_up.is_set():
-            if self.live is not None:
-                self.live.kill()
-        else:
-            self.live.say(b"!stop\n")
-            asyncio.get_running_loop().call_later(STOP_SECONDS, self.live.kill)
-        self.is_stopping = True
+        """Stops the farm by a signal; the second time at once."""
+        if self.is_stopping:
+            self.kill()
+        self.end()
+
+    def close_sockets(self):
+        for task in self.accepting:
+            task.cancel()
+        self.folder.remove_sockets()
+        closed, self.accepting, self.speakers = self.accepting, [], {}
+        return closed
 
     async def close(self):
         """Takes the sockets away and lets the clients read what they were told."""
-        for server in self.servers:
-            server.close()
-        self.folder.remove_sockets()
-        for speaker in self.speakers.values():
-            for client in [*speaker.clients]:
-                client.writer.close()
-        if self.serving:
-            await asyncio.wait(self.serving, timeout=1)
+        self.kill()
+        self.folder.remove_new_plan()
+        clients = [client for speaker in self.speakers.values() for client in speaker.clients]
+        closed = self.close_sockets()
+        for client in clients:
+            client.writer.close()
+        await asyncio.gather(*closed, return_exceptions=True)
 
 
-async def run(words):
-    server = Server(words)
+async def run(words, reports):
+    server = Server(words, reports)
     loop = asyncio.get_running_loop()
     for one in (signal.SIGTERM, signal.SIGINT, signal.SIGHUP):
         if signal.getsignal(one) != signal.SIG_IGN:
             loop.add_signal_handler(one, server.stop)
+    watching = asyncio.ensure_future(server.watch())
     try:
+        server.prepare()
         return await server.keep()
     except running.Ended as ended:
         if server.is_stopping:
@@ -175,9 +298,14 @@ async def run(words):
         server.tell_all(f"{refused}")
         return 1
     finally:
-        if server.live is not None:
-            server.live.kill()
+        watching.cancel()
         await server.close()
+
+
+def seconds_of(word):
+    if not re.fullmatch(r"[0-9]{1,6}(\.[0-9]+)?", word) or not float(word):
+        raise argparse.ArgumentTypeError("a number of seconds is wanted, such as 30")
+    return float(word)
 
 
 def words_of(given):
@@ -189,12 +317,17 @@ def words_of(given):
     it.add_argument("--mode", type=mode_of, default=0o600, metavar="M", help="the mode of the users' sockets, default 600")
     it.add_argument("--group", metavar="G", help="the group of the users' sockets; %%u in it stands for the user's name")
     it.add_argument("--sync", action="store_true", help="records are on the disk before an answer is told")
+    it.add_argument("--patience", type=seconds_of, default=PATIENCE, metavar="S",
+                    help=f"how many seconds live may answer nothing before it is started again, default {PATIENCE}")
     return it.parse_args(given)
 
 
 def main(given):
+    open_streams()
     words = words_of(given)
     logging.getLogger("asyncio").setLevel(logging.CRITICAL)
+    # what is made is for this account alone, unless a mode is given to it
+    os.umask(0o077)
     most = resource.getrlimit(resource.RLIMIT_NOFILE)[1]
     resource.setrlimit(resource.RLIMIT_NOFILE, (most if most in range(MOST_FILES) else MOST_FILES, most))
     try:
@@ -203,8 +336,14 @@ def main(given):
     except OSError as error:
         print(f"serve: the plan {words.PLAN} can't be read: {error.strerror}", file=sys.stderr)
         return 1
+    reports = Reports()
     try:
-        return asyncio.run(run(words))
-    except (Refused, OSError) as error:
-        print(f"serve: {error}", file=sys.stderr)
+        return asyncio.run(run(words, reports))
+    except Refused as error:
+        reports.say(f"serve: {error}")
         return 1
+    except OSError as error:
+        reports.say(f"serve: {error.filename or words.DIR}: {error.strerror}")
+        return 1
+    finally:
+        reports.end()

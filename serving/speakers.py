@@ -1,8 +1,10 @@
 """Who speaks to `live`: the users and the operator, each with his clients and the lines that aren't answered yet."""
 import asyncio
 import re
+import socket
 
-from .lines import MOST_LINE, Lines
+from .lines import MOST_LINE, PIECE, Lines
+from .pace import Pace
 from .verbs import goes_on
 
 # So many lines of a speaker may be on their way at once. `live` keeps 1,024 lines for a domain, which has four users at
@@ -15,12 +17,16 @@ BYTES_OF_ONE = 1 << 12
 # A client that lets more bytes than this wait for it is cut off.
 MOST_BACKLOG = 1 << 20
 MOST_CLIENTS = 16
+# So many bytes of a speaker's half lines are read at once, and then so many in a second.
+HALF_AT_ONCE, HALF_A_SECOND = 2 << 20, 1 << 20
 # So much of a line is told to its user if it wasn't answered.
 MOST_TOLD = 200
+# What `live` is asked now and then. The thread that reads answers it, without a lock.
+WATCHED = b"!words\n"
 
 
 class Asked:
-    """A line on its way: its text, who sent it, and as how many lines it counts."""
+    """A line on its way: its text, who sent it (nobody if `serve` itself asks), and as how many lines it counts."""
 
     def __init__(self, text, client, size):
         self.text, self.client, self.size = text, client, size
@@ -34,6 +40,7 @@ class Speaker:
         self.prefix = name.encode() + b" "
         self.clients, self.asked = set(), {}
         self.room, self.turn = asyncio.Semaphore(most), asyncio.Lock()
+        self.half_lines = Pace(HALF_AT_ONCE, HALF_A_SECOND)
 
     def line(self, text):
         """The line of `live` for a client's line."""
@@ -51,24 +58,31 @@ class Speaker:
                 await self.room.acquire()
         return Asked(text, client, size)
 
+    def stops(self, _):
+        """Whether a line stops the farm."""
+        return False
+
     def sent(self, number, asked):
         """The line is that of this number among the lines of this run of `live`."""
         self.asked[number] = asked
-        asked.client.waits += 1
+        if asked.client is not None:
+            asked.client.waits += 1
 
     def answered(self, answer):
         """Takes off the line that is answered: an error has its number, and all others are answered in their order. Of
-        several lines of one answer the last counts."""
+        several lines of one answer the last counts. Whether the clients are told of it."""
         if goes_on(self.told(answer).decode(errors="replace")):
-            return
+            return True
         error = re.fullmatch(rb"error (\d+) \w+", self.told(answer))
         self.take(int(error[1]) if error else next(iter(self.asked), None))
+        return True
 
     def take(self, number):
         asked = self.asked.pop(number, None)
         if asked is not None:
             self.free(asked)
-            asked.client.waits -= 1
+            if asked.client is not None:
+                asked.client.waits -= 1
         return asked
 
     def free(self, asked):
@@ -83,9 +97,9 @@ class Speaker:
     def forget(self):
         """Names the lines that weren't answered to the clients."""
         for number in [*self.asked]:
-            text = self.take(number).text
-            more = b".." if len(text) > MOST_TOLD else b""
-            self.tell(b"error: not answered, send it again if you want it: " + text[:MOST_TOLD] + more + b"\n")
+            asked = self.take(number)
+            if asked.client is not None:
+                self.tell(b"error: not answered, send it again if you want it: " + shown(asked.text) + b"\n")
         self.rest()
 
     def rest(self):
@@ -94,12 +108,18 @@ class Speaker:
             client.rest()
 
 
+def shown(text):
+    """A line as its user is told of it, cut if it is long."""
+    return text[:MOST_TOLD] + (b".." if len(text) > MOST_TOLD else b"")
+
+
 class Operator(Speaker):
-    """The operator, whose lines and answers begin with an exclamation mark."""
+    """The operator, whose lines and answers begin with an exclamation mark. `serve` asks as he does whether `live` still
+    answers."""
 
     def __init__(self, name, users):
         super().__init__(name, MOST_OF_OPERATOR)
-        self.prefix, self.users, self.heard, self.has_stopped = b"!", users, 0, False
+        self.prefix, self.users, self.heard = b"!", users, 0
 
     def line(self, text):
         return (b"" if text.startswith(b"!") else b"!") + text + b"\n"
@@ -107,33 +127,37 @@ class Operator(Speaker):
     def told(self, answer):
         return answer
 
-    def sent(self, number, asked):
-        """`!stop` is not answered."""
-        if self.words(asked) == [b"!stop"]:
-            self.has_stopped = True
-            self.free(asked)
-        else:
-            super().sent(number, asked)
-
-    def words(self, asked):
+    def words(self, text):
         """The words of a line as `live` gets it."""
-        return self.line(asked.text)[:-1].removesuffix(b"\r").split(b" ")
+        return self.line(text)[:-1].removesuffix(b"\r").split(b" ")
+
+    def stops(self, text):
+        return self.words(text) == [b"!stop"]
+
+    def watch(self, live):
+        """Asks whether `live` still answers, and returns how that is seen: the question is asked no longer."""
+        number = live.say(WATCHED)
+        self.asked[number] = Asked(WATCHED[:-1], None, 0)
+        return lambda: number not in self.asked
 
     def answered(self, answer):
         """`!users` has a line for each user; `!restart` is answered when its domain has begun anew."""
         words = answer.split(b" ")
         if words[:2] == [b"!", b"error"]:
-            self.take(int(words[2]))
-            return
+            return self.is_clients(self.take(int(words[2])))
         if words[0] == b"!users":
             self.heard = (self.heard + 1) % self.users
             if self.heard:
-                return
+                return True
         wanted = words[:2] if words[0] == b"!restart" else words[:1]
         for number, asked in self.asked.items():
-            if self.words(asked) == wanted:
-                self.take(number)
-                return
+            if self.words(asked.text) == wanted:
+                return self.is_clients(self.take(number))
+        return True
+
+    @staticmethod
+    def is_clients(asked):
+        return asked is None or asked.client is not None
 
     def forget(self):
         self.heard = 0
@@ -145,7 +169,7 @@ class Client:
 
     def __init__(self, speaker, reader, writer):
         self.speaker, self.writer = speaker, writer
-        self.lines = Lines(reader, MOST_LINE)
+        self.lines = Lines(reader, MOST_LINE, speaker.half_lines)
         self.waits, self.has_ended = 0, False
 
     def tell(self, text):
@@ -157,6 +181,12 @@ class Client:
             transport.abort()
             return
         self.writer.write(text)
+
+    async def read_no_more(self):
+        """Lets the client send nothing more. What is there is taken: else it couldn't read what it is told."""
+        self.writer.get_extra_info("socket").shutdown(socket.SHUT_RD)
+        while await self.lines.reader.read(PIECE):
+            pass
 
     def is_gone(self):
         """It was cut off, or has vanished: what it sent before isn't done any more."""
@@ -180,7 +210,10 @@ class Client:
                     if self.is_gone():
                         break
                     await send(self.speaker, self, line)
-            if self.lines.half():
+            if self.lines.is_long:
+                self.tell(b"error: a line has %d bytes at most, so no more is read of this connection\n" % MOST_LINE)
+                await self.read_no_more()
+            elif self.lines.half():
                 self.tell(b"error: the last line has no line feed, so it is not sent\n")
             self.has_ended = True
             self.rest()

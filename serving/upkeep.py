@@ -1,5 +1,6 @@
 """How the farms of a class are started and stopped: all side by side, each with what became of it."""
 import os
+import re
 import shlex
 import subprocess
 import threading
@@ -26,6 +27,8 @@ LAST_SECONDS = 5
 # How often a `serve` is begun that finds the folder in use for a moment.
 MOST_BEGUN = 3
 TAKEN = b"is served already"
+# The time with which a line of `serve` begins.
+TIME = re.compile(r"^\d{4}-\d\d-\d\d \d\d:\d\d:\d\d ")
 # How many bytes of the end of its log are looked at.
 LAST_BYTES = 4096
 # The status of a program that Ctrl-C has ended.
@@ -128,9 +131,9 @@ class Start(Work):
             return log.read()
 
     def told(self):
-        """The last line of that, behind a colon."""
+        """The last line of that without its time, behind a colon."""
         lines = self.said().decode(errors="surrogateescape").split("\n")
-        return next((f": {it}" for it in reversed(lines) if it), "")
+        return next((f": {TIME.sub('', it)}" for it in reversed(lines) if it), "")
 
     def next_steps(self):
         course = shlex.quote(self.course)

@@ -1,7 +1,6 @@
 """The trials of `class` and `connect` that take a second or two: farms that are locked, killed or stopped while they are started,
 and what comes from outside, at a terminal and in files of names."""
 import contextlib
-import fcntl
 import os
 import re
 import signal
@@ -28,6 +27,17 @@ sys.path.insert(0, {top!r})
 from serving import classes, upkeep
 upkeep.QUIET_SECONDS, upkeep.STOP_SECONDS, upkeep.LAST_SECONDS, upkeep.SAY_SECONDS = {bounds}
 sys.exit(classes.main(sys.argv[1:]))
+"""
+
+
+# Locks a file until its input ends.
+LOCKING = """
+import fcntl, os, sys
+file = os.open(sys.argv[1], os.O_RDWR | os.O_CREAT, 0o600)
+fcntl.flock(file, fcntl.LOCK_EX)
+fcntl.lockf(file, fcntl.LOCK_EX)
+print(flush=True)
+sys.stdin.read()
 """
 
 
@@ -72,13 +82,14 @@ class Course:
 
     @contextlib.contextmanager
     def locked(self, path):
-        """A file of the class that somebody has locked until the end of a block."""
-        file = os.open(f"{self.folder}/{path}", os.O_RDWR | os.O_CREAT, 0o600)
-        fcntl.flock(file, fcntl.LOCK_EX)
-        try:
-            yield
-        finally:
-            os.close(file)
+        """A file of the class that another program has locked until the end of a block, in both ways that there are."""
+        call = [sys.executable, "-c", LOCKING, f"{self.folder}/{path}"]
+        with subprocess.Popen(call, stdin=subprocess.PIPE, stdout=subprocess.PIPE) as other:
+            other.stdout.readline()
+            try:
+                yield
+            finally:
+                other.stdin.close()
 
 
 def ended(process, seconds=SECONDS):
@@ -99,6 +110,12 @@ SECOND = """#!/bin/sh
 while [ "$(ls "$0".* | wc -l)" -lt 2 ]; do sleep 0.02; done
 exec "{top}/serve" "$@"
 """
+
+
+def refusals(path):
+    """How often a `serve` with this log was refused since another had its folder."""
+    with open(path, encoding="utf-8") as log:
+        return log.read().count("is served already")
 
 
 def start_begins_what_has_ended(live, _):
@@ -130,8 +147,11 @@ def start_begins_what_has_ended(live, _):
             os.chmod(it.env[name.upper()], 0o755)
         starts = [it.begin("start") for _ in range(2)]
         wanted([ended(one) for one in starts], [("farm-1: up, 2 users\n", 0)] * 2)
-        with open(f"{it.folder}/farm-1/serve.log", encoding="utf-8") as log:
-            wanted(log.read().count("is served already"), 1)
+        # the second looks for a moment whether the folder gets free
+        end = time.monotonic() + SECONDS
+        while (told := refusals(f"{it.folder}/farm-1/serve.log")) == 0 and time.monotonic() < end:
+            time.sleep(0.05)
+        wanted(told, 1)
     return "killed, stopped, and begun by two at once"
 
 
@@ -247,18 +267,15 @@ def stop_ends_no_other_process(live, _):
                 told, status = ended(it.begin("stop", bounds=(120, 5, 0.1, 5)))
         wanted((status, told), (1, "farm-1: off\nfarm-2: it can't be asked to stop: what has locked "
                                     f"{place}/farm-2/lock is no serve that this account can see\n"))
-        # a serve of another class, which has not locked this folder
+        # the number of a serve of another class, which has not locked this folder: who has is known without the number
         it.must("start")
         other.must("start")
         with open(f"{it.folder}/farm-2/lock", "r+", encoding="ascii") as lock:
             lock.truncate()
             lock.write(f"{other.lock(1)}\n")
         os.rename(f"{it.folder}/farm-2/operator.sock", f"{it.folder}/farm-2/operator")
-        told, status = ended(it.begin("stop", bounds=(120, 5, 0.1, 5)))
-        wanted((status, told), (1, "farm-1: off\nfarm-2: it can't be asked to stop: what has locked "
-                                f"{place}/farm-2/lock is no serve that this account can see\n"))
-        os.rename(f"{it.folder}/farm-2/operator", f"{it.folder}/farm-2/operator.sock")
-        wanted(it.must("stop"), "farm-1: off\nfarm-2: off\n")
+        wanted(it.must("stop"), "farm-1: off\nfarm-2: off, a signal has ended it while it began\n")
+        os.unlink(f"{it.folder}/farm-2/operator")
         wanted(re.split("  +", other.must("status").splitlines()[1])[5], "quiet")
     return "six numbers"
 

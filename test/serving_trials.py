@@ -110,6 +110,10 @@ class Served:
         # pylint: disable-next=consider-using-with
         self.process = subprocess.Popen(self.call(*more), env=self.env, stdin=subprocess.DEVNULL, stdout=subprocess.DEVNULL,
                                         stderr=subprocess.PIPE)
+        self.await_start()
+
+    def await_start(self):
+        """Waits until the operator's socket is there."""
         end = time.monotonic() + START_SECONDS
         while True:
             try:
@@ -233,11 +237,13 @@ def talk(served, name, lines, half=b""):
     reading = threading.Thread(target=lambda: heard.append(client.lines.read()))
     reading.start()
     text, at, chance = b"".join(line + b"\n" for line in lines) + half, 0, random.Random(name)
-    while at < len(text):
-        size = chance.choice((1, 7, 100, 5000, 1 << 20))
-        client.stream.sendall(text[at:at + size])
-        at += size
-    client.stream.shutdown(socket.SHUT_WR)
+    # no more is read of a connection behind a line that is too long
+    with contextlib.suppress(BrokenPipeError):
+        while at < len(text):
+            size = chance.choice((1, 7, 100, 5000, 1 << 20))
+            client.stream.sendall(text[at:at + size])
+            at += size
+        client.stream.shutdown(socket.SHUT_WR)
     reading.join()
     client.leave()
     return heard[0]
@@ -272,9 +278,12 @@ def fuzzed(chance, count, name):
 
 
 def connections(chance, lines, most):
-    """The lines divided among connections, each with some bytes behind its last line feed."""
+    """The lines divided among connections, each with some bytes behind its last line feed. A line that is too long is the last
+    of its connection."""
     at = 0
     while at < len(lines):
-        count = chance.randrange(1, most)
-        yield lines[at:at + count], b"".join(chance.choices(PIECES, k=chance.randrange(3)))
-        at += count
+        some = lines[at:at + chance.randrange(1, most)]
+        long = next((place for place, line in enumerate(some) if len(line) >= LONG), None)
+        some = some if long is None else some[:long + 1]
+        yield some, b"".join(chance.choices(PIECES, k=chance.randrange(3))) if long is None else b""
+        at += len(some)
