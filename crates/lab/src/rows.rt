@@ -157,7 +157,7 @@ fn compare(text: &mut TextWriter, file: &str, answers: &[Answered]) -> bool {
             note_wrong(text, file, answered, expected);
         }
     }
-    text.push(file);
+    push_printable(text, file);
     text.push(": ");
     text.push_decimal(rows);
     text.push(" rows, ");
@@ -167,14 +167,28 @@ fn compare(text: &mut TextWriter, file: &str, answers: &[Answered]) -> bool {
 }
 
 fn note_wrong(text: &mut TextWriter, file: &str, answered: &Answered, expected: &str) {
-    text.push(file);
+    push_printable(text, file);
     text.push(":");
     text.push_decimal(answered.question.line);
     text.push(": ");
-    text.push(answered.question.text);
+    push_printable(text, answered.question.text);
     text.push(" = ");
-    text.push(answered.answer.as_str());
+    push_printable(text, answered.answer.as_str());
     text.push(", not ");
-    text.push(expected);
+    push_printable(text, expected);
     text.push("\n");
+}
+
+// Appends a text on which no terminal acts: what isn't printable is escaped.
+fn push_printable(text: &mut TextWriter, part: &str) {
+    for letter in part.chars() {
+        match letter {
+            '"' | '\'' | '\\' => text.push_letter(letter),
+            _ => {
+                for piece in letter.escape_debug() {
+                    text.push_letter(piece);
+                }
+            }
+        }
+    }
 }

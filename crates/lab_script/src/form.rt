@@ -54,6 +54,11 @@ pub struct HelpLine<'a> {
     pub rest: &'a str,
 }
 
+/// Whether a line's second word is the verb of a line that helps.
+pub fn is_help_line(line: &str) -> bool {
+    help_line(0, line).is_some()
+}
+
 /// The words of a line, if it helps.
 pub fn help_line(number: u64, line: &str) -> Option<HelpLine<'_>> {
     match line.split_once(' ') {

@@ -2,7 +2,7 @@
 
 use crate::asks::{AskedLine, UserLine};
 use crate::users::{PlanUser, names_of, user_called};
-use lab_script::{Expanded, LoadedFile, expanded_line};
+use lab_script::{Expanded, LoadedFile, expanded_line, is_help_line};
 use line_faults::tell_wrong_line;
 use line_mistakes::{NumberedLine, numbered_lines};
 use plan_checker::AcceptedPlan;
@@ -49,6 +49,39 @@ impl<'p> LineReader<'p> {
         };
         let user = user_called(self.plan, name)?;
         Some(NamedUser { name, user })
+    }
+
+    /// The user whose line this is in a text that has lines of the lab too. A user's name may begin such a line as well, as a
+    /// number does. Then the line is the lab's if its last word says who asks, as `@0`, or if its second word is no verb of a
+    /// user.
+    pub(crate) fn user_beside_lab<'a>(
+        &self,
+        line: &'a str,
+    ) -> Result<Option<NamedUser<'a>>, AllocError> {
+        let Some(user) = self.user_of(line.as_bytes()) else {
+            return Ok(None);
+        };
+        if begins_requests(user.name) && self.is_of_lab(line)? {
+            return Ok(None);
+        }
+        Ok(Some(user))
+    }
+
+    // Whether a line that begins with a user's name is no line of a user.
+    fn is_of_lab(&self, line: &str) -> Result<bool, AllocError> {
+        if is_help_line(line) {
+            return Ok(false);
+        }
+        if says_who_asks(line) {
+            return Ok(true);
+        }
+        let mut words = LineWords::of(line.as_bytes());
+        let _ = words.take();
+        match parse_request(self.alloc, words) {
+            Err(Unread::Faulty(LineFault::Verb)) => Ok(true),
+            Err(Unread::NoMemory) => Err(AllocError),
+            Ok(_) | Err(Unread::Faulty(_)) => Ok(false),
+        }
     }
 
     /// Adds what a line of this user asks: one line of the program, or those for which it stands if it helps. What is told of
@@ -120,6 +153,19 @@ impl<'p> LineReader<'p> {
             }
             Err(Unread::NoMemory) => Err(AllocError),
         }
+    }
+}
+
+// Whether a line of the lab may begin with this word.
+fn begins_requests(name: &str) -> bool {
+    name == "words" || name == "reopen" || name.bytes().all(|byte| byte.is_ascii_digit())
+}
+
+// Whether the last word of a line is `@` with what stands behind it.
+fn says_who_asks(line: &str) -> bool {
+    match line.rsplit_once(' ') {
+        Some((_, last)) => last.starts_with("@"),
+        None => false,
     }
 }
 

@@ -89,7 +89,8 @@ fn asked_part(line: &str) -> &str {
 
 /// Replays a text: for each of its farms, which stand between lines `===`, a plan, a line `---`, and lines that ask. All
 /// is read before any line asks; then each line has its answer, in order. A line that begins with the name of a user of the
-/// plan is a line of the program, which may load these files.
+/// plan is a line of the program, which may load these files. If that name is a number, `words` or `reopen`, a line with `@` and
+/// who asks as its last word, or with no verb of a user as its second, isn't his.
 ///
 /// # Errors
 ///
@@ -174,14 +175,21 @@ fn read_lines<'a>(
     files: &[LoadedFile<'_>],
 ) -> Result<FarmLines<'a>, ReplayFault> {
     let reader = LineReader::new(alloc, plan, files)?;
-    let is_mixed = questions
-        .iter()
-        .any(|it| reader.user_of(it.text.as_bytes()).is_some());
-    if is_mixed {
+    if has_users(&reader, questions)? {
         read_mixed(alloc, &reader, questions)
     } else {
         Ok(FarmLines::OfLab(read_requests(alloc, questions)?))
     }
+}
+
+// Whether some line is a user's.
+fn has_users(reader: &LineReader<'_>, questions: &[Question<'_>]) -> Result<bool, AllocError> {
+    for question in questions {
+        if reader.user_beside_lab(question.text)?.is_some() {
+            return Ok(true);
+        }
+    }
+    Ok(false)
 }
 
 fn read_requests(
@@ -231,7 +239,7 @@ fn read_line<'a>(
         number: question.line,
         text: question.text.as_bytes(),
     };
-    let Some(user) = reader.user_of(line.text) else {
+    let Some(user) = reader.user_beside_lab(question.text)? else {
         asked.push(AskedLine::OfLab(read_question(alloc, question)?))?;
         return Ok(());
     };
