@@ -1,22 +1,23 @@
 -- What a record kept, piece by piece.
-use Rattle.std.proofs.Common.{◌≡◌, ◌∙◌, ℕ, Bool, true, List, ◌++◌, sym, subst, vec_capacity, Option}
+use Rattle.std.proofs.Common.{rules, refl, sym, subst, append-nil, ◌≡◌, ◌∙◌, inl, inr, ℕ, Bool, true, false}
+use Rattle.std.proofs.Common.{List, [], ◌++◌, vec_capacity, Option, None, Some}
 use Rattle.std.specs.Io.KnownBytes.{Appends}
 use Rattle.std.proofs.KnownBytes.{Appends-trans}
 use Rattle.plan_rules.specs.Data.{DomainData}
 use Rattle.farm_records.specs.RecordText.{record_text, lines_of}
-use Rattle.record_keeping.specs.declared.record.DomainRecord.{DomainRecord}
+use Rattle.record_keeping.specs.declared.domain_record.DomainRecord.{DomainRecord}
 use Rattle.record_keeping.specs.Pieces.{entries_of, AreGained, EndWithRoom}
-use Rattle.record_keeping.specs.Keeping.{IsSameRecord}
-use Rattle.record_keeping.specs.KeptPieces.{KeepsPieces}
+use Rattle.record_keeping.specs.Keeping.{IsSameRecord, KeepsGained, KeepsSome}
+use Rattle.record_keeping.specs.KeptPieces.{KeepsPieces, KeepsNothing}
 use Rattle.record_keeping.specs.Writing.{stored_text}
 use Rattle.record_keeping.proofs.Pieces.{both_gained, all_end_with_room, text_of_both}
 
 -- pieces, and pieces behind them
-pub both_kept : {S : Type 0} (contents : S → Option (List ℕ)) (plan : List DomainData) (number : ℕ) (more : Bool)
-    (old between new : DomainRecord S) → vec_capacity between.room ≡ vec_capacity old.room
-    → KeepsPieces contents plan number true old between → KeepsPieces contents plan number more between new
-    → KeepsPieces contents plan number more old new
-both_kept contents plan number more old between new same first second =
+pub both_kept : {S : Type 0} {g : _} (whole : S → Option (List ℕ)) (plan : List DomainData) (number : ℕ) (more : Bool)
+    (old between new : DomainRecord S g) → vec_capacity between.room ≡ vec_capacity old.room
+    → KeepsPieces whole plan number true old between → KeepsPieces whole plan number more between new
+    → KeepsPieces whole plan number more old new
+both_kept whole plan number more old between new same first second =
     let places = vec_capacity old.room in
     let gained : AreGained plan number places between.mark second.pieces new.mark =
     subst (λ (n : ℕ). AreGained plan number n between.mark second.pieces new.mark) same second.gained in
@@ -30,18 +31,57 @@ both_kept contents plan number more old between new same first second =
           all_end_with_room places first.pieces second.pieces
           (subst (λ (n : ℕ). EndWithRoom n second.pieces) same (second.last done inside));
       text =
-          subst (λ (text : List ℕ). Appends (stored_text contents old.store) (stored_text contents new.store) text)
+          subst (λ (text : List ℕ). Appends (stored_text whole old.store) (stored_text whole new.store) text)
           (sym (text_of_both first.pieces second.pieces))
-          (Appends-trans (stored_text contents old.store) (stored_text contents between.store)
-          (stored_text contents new.store) (record_text (lines_of (entries_of first.pieces)))
+          (Appends-trans (stored_text whole old.store) (stored_text whole between.store)
+          (stored_text whole new.store) (record_text (lines_of (entries_of first.pieces)))
           (record_text (lines_of (entries_of second.pieces))) first.text second.text);
     }
 
 -- one record, and again the same
-pub still_same : {S : Type 0} (old between new : DomainRecord S) → IsSameRecord old between → IsSameRecord between new
-    → IsSameRecord old new
+pub still_same : {S : Type 0} {g : _} (old between new : DomainRecord S g) → IsSameRecord old between
+    → IsSameRecord between new → IsSameRecord old new
 still_same old between new first second = record {
   head = second.head ∙ first.head;
   places = second.places ∙ first.places;
   store = (λ some. first.store.0 (second.store.0 some), λ some. second.store.1 (first.store.1 some));
 }
+
+-- what stays gains nothing
+pub stays_whole : (before after : Option (List ℕ)) → after ≡ before → Appends before after []
+stays_whole None after same = tt
+stays_whole (Some xs) after same =
+    subst (λ (text : Option (List ℕ)). Appends (Some xs) text []) (sym same) (sym (append-nil xs))
+
+-- a record of which nothing more is whole kept no pieces
+pub nothing_kept : {S : Type 0} {g : _} (whole : S → Option (List ℕ)) (plan : List DomainData) (number : ℕ)
+    (old new : DomainRecord S g) → KeepsNothing whole old new → KeepsPieces whole plan number true old new
+nothing_kept whole plan number old new none = record {
+  pieces = [];
+  gained = none.mark;
+  last = λ more. absurd (search rules);
+  text = stays_whole (stored_text whole old.store) (stored_text whole new.store) none.text;
+}
+
+-- pieces behind the mark of a record that owes no other
+pub kept_behind : {S : Type 0} {g : _} (whole : S → Option (List ℕ)) (plan : List DomainData) (number : ℕ) (more : Bool)
+    (old new : DomainRecord S g) → new.owes_next ≡ false → KeepsPieces whole plan number more old new
+    → KeepsGained whole plan number false more old new
+kept_behind whole plan number more old new begun kept = record {
+  from = old.mark;
+  pieces = kept.pieces;
+  beginning = refl;
+  gained = kept.gained;
+  last = kept.last;
+  text = kept.text;
+  begun = begun;
+}
+
+-- a record that stays still owes what it owed
+pub still_owed : {S : Type 0} {g : _} (whole : S → Option (List ℕ)) (plan : List DomainData) (number : ℕ) (anew : Bool)
+    (old new : DomainRecord S g) → new.owes_next ≡ anew → KeepsNothing whole old new
+    → KeepsSome whole plan number anew old new
+still_owed whole plan number true old new owed none =
+    inl (record { is_anew = refl; owed = owed; mark = none.mark; text = none.text })
+still_owed whole plan number false old new owed none =
+    inr (kept_behind whole plan number true old new owed (nothing_kept whole plan number old new none))

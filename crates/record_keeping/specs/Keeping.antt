@@ -1,26 +1,39 @@
 -- What the record of a domain keeps.
-use Rattle.std.specs.Prelude.{◌≡◌, ◌<◌, ◌↔◌, ℕ, Bool, List, length, Option, IsSome, vec_capacity, string_bytes}
+use Rattle.std.specs.Prelude.{◌≡◌, ◌<◌, ◌↔◌, ◌⊎◌, ℕ, Bool, true, false, List, length, Option, IsSome, vec_capacity, string_bytes}
 use Rattle.plan_rules.specs.Data.{DomainData}
 use Rattle.domain_core.specs.declared.copying.Mark.{Mark}
 use Rattle.farm_records.specs.RecordText.{record_text, lines_of}
-use Rattle.record_keeping.specs.declared.record.DomainRecord.{DomainRecord}
+use Rattle.record_keeping.specs.declared.domain_record.DomainRecord.{DomainRecord}
 use Rattle.record_keeping.specs.Pieces.{JournalPiece, entries_of, AreGained, EndWithRoom, IsBeginning}
 use Rattle.record_keeping.specs.Writing.{IsWritten, stored_text}
 
 -- what no call changes of a record: its head, how many entries are copied at a time, and whether it has a store
-pub record IsSameRecord {S : Type 0} (old new : DomainRecord S) : Type 0 where
+pub record IsSameRecord {S : Type 0} {g : _} (old new : DomainRecord S g) : Type 0 where
   pub head : new.head ≡ old.head
   pub places : vec_capacity new.room ≡ vec_capacity old.room
   pub store : IsSome new.store ↔ IsSome old.store
 
--- a record kept what the journal of a domain of this number gained: pieces up to the mark that the record has now, of which the last leaves room;
--- and just the lines of their entries are written
-pub record KeepsGained {S : Type 0} (contents : S → Option (List ℕ)) (plan : List DomainData) (number : ℕ) (anew : Bool)
-    (old new : DomainRecord S) : Type 0 where
+-- a record kept what the journal of a domain of this number gained: pieces up to the mark that the record has now, of which the last leaves room,
+-- unless there may be more; and what is whole of it gained just the lines of their entries. If the journal began anew, so did the record
+pub record KeepsGained {S : Type 0} {g : _} (whole : S → Option (List ℕ)) (plan : List DomainData) (number : ℕ) (anew more : Bool)
+    (old new : DomainRecord S g) : Type 0 where
   pub from : Mark
   pub pieces : List JournalPiece
   pub beginning : IsBeginning anew old.mark from
   pub gained : AreGained plan number (vec_capacity old.room) from pieces new.mark
-  pub last : number < length plan → EndWithRoom (vec_capacity old.room) pieces
-  pub text : IsWritten anew (string_bytes old.head) (stored_text contents old.store) (stored_text contents new.store)
+  pub last : more ≡ false → number < length plan → EndWithRoom (vec_capacity old.room) pieces
+  pub text : IsWritten anew (string_bytes old.head) (stored_text whole old.store) (stored_text whole new.store)
       (record_text (lines_of (entries_of pieces)))
+  pub begun : new.owes_next ≡ false
+
+-- the next record is still owed to a journal that began anew: the mark and what is whole of the record stay
+pub record StillOwes {S : Type 0} {g : _} (whole : S → Option (List ℕ)) (anew : Bool) (old new : DomainRecord S g) : Type 0 where
+  pub is_anew : anew ≡ true
+  pub owed : new.owes_next ≡ true
+  pub mark : new.mark ≡ old.mark
+  pub text : stored_text whole new.store ≡ stored_text whole old.store
+
+-- after an error nothing that the journal gained is left out and nothing stands there twice: the record kept some pieces whole, and the mark is behind
+-- them, or the next record is still owed
+abbrev pub KeepsSome : {S : Type 0} {g : _} → (S → Option (List ℕ)) → List DomainData → ℕ → Bool → DomainRecord S g → DomainRecord S g → Type 0
+KeepsSome whole plan number anew old new = StillOwes whole anew old new ⊎ KeepsGained whole plan number anew true old new

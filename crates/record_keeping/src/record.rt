@@ -1,13 +1,13 @@
 //! The record of a domain: what it answered is written before it is told.
-ghost use Rattle.std.specs.Prelude.{◌≡◌, ◌↔◌, ◌<◌, [], false, None, Some, Ok, Err, IfOk, OnOk, IsErr, IsTrue, IsFalse, IsSome, length, vec_capacity, string_bytes};
+ghost use Rattle.std.specs.Prelude.{◌≡◌, ◌↔◌, ◌<◌, ◌||◌, ◌&&◌, [], false, true, not, None, Some, Ok, IfOk, OnOk, OnErr, IsErr, IsTrue, IsSome, IfSome, MatchResult, length, vec_capacity, string_bytes};
 ghost use Rattle.std.specs.Io.KnownBytes.{Appends};
 ghost use Rattle.farm_records.specs.RecordText.{record_text, lines_of};
-ghost use Rattle.record_keeping.specs.Keeping.{KeepsGained, IsSameRecord};
-ghost use Rattle.record_keeping.specs.KeptPieces.{KeepsPieces};
+ghost use Rattle.record_keeping.specs.Keeping.{KeepsGained, KeepsSome, IsSameRecord};
+ghost use Rattle.record_keeping.specs.KeptPieces.{KeepsPieces, KeepsNothing};
 ghost use Rattle.record_keeping.specs.Pieces.{IsAtStart};
-ghost use Rattle.record_keeping.specs.Writing.{Becomes, stored_text};
-ghost use Rattle.record_keeping.specs.declared.store.NotKept.TheVariants.{Failed};
+ghost use Rattle.record_keeping.specs.Writing.{Becomes, stored_text, IsAllWhole};
 
+use crate::domain_record::DomainRecord;
 use crate::store::{NotKept, RecordStore};
 use domain_core::{Entry, Journal, Mark, NoMemory};
 use farm_records::write_records_of;
@@ -17,32 +17,6 @@ use std::sync::Wait;
 
 /// The most entries that are copied under a domain's lock at a time.
 pub const PIECE: usize = 1024;
-
-/// The record of a domain, or none if nothing is recorded.
-pub struct DomainRecord<S: RecordStore> {
-    store: Option<S>,
-    head: String,
-    // How far the journal is recorded.
-    mark: Mark,
-    // Reserved, for what the journal gained.
-    room: Vec<Entry>,
-    text: String,
-    failed: bool,
-}
-
-// It is dropped by one call.
-impl<S: RecordStore> Drop for DomainRecord<S> {
-    fn drop(self) {
-        let DomainRecord {
-            store: _,
-            head: _,
-            mark: _,
-            room: _,
-            text: _,
-            failed: _,
-        } = self;
-    }
-}
 
 // The mark behind all that a journal has.
 fn end_of(journal: &Journal, room: &mut Vec<Entry>) -> Mark
@@ -64,7 +38,6 @@ impl<S: RecordStore> DomainRecord<S> {
     /// Nothing is recorded.
     pub fn none(alloc: Global) -> DomainRecord<S>
         ensures store { result.store ≡ None }
-        ensures failed { result.failed ≡ false }
     {
         DomainRecord {
             store: None,
@@ -73,20 +46,26 @@ impl<S: RecordStore> DomainRecord<S> {
             room: Vec::new(alloc),
             text: String::new(alloc),
             failed: false,
+            owes_next: false,
+            is_out: false,
+            is_bare: false,
         }
     }
 
     /// A store that holds this head, and behind it what this journal has.
+    // Six clauses: what the store holds, and with what the record begins.
     pub fn of(
         alloc: Global,
         store: S,
         head: String,
         journal: &Journal,
     ) -> Result<DomainRecord<S>, NoMemory>
+        requires whole { S.whole store ≡ S.contents store }
+        requires bare { journal.now ≡ [] → IfSome (S.contents store) (λ held. held ≡ string_bytes head) }
         ensures store { IfOk result (λ opened. opened.store ≡ Some store) }
         ensures head { IfOk result (λ opened. opened.head ≡ head) }
         ensures places { IfOk result (λ opened. vec_capacity opened.room ≡ PIECE) }
-        ensures failed { IfOk result (λ opened. opened.failed ≡ false) }
+        ensures kept { IfOk result (λ opened. (opened.failed ≡ false) × (opened.owes_next ≡ false)) }
     {
         let mut room = Vec::with_capacity(alloc, PIECE)?;
         let mark = end_of(journal, &mut room);
@@ -97,16 +76,46 @@ impl<S: RecordStore> DomainRecord<S> {
             room,
             text: String::new(alloc),
             failed: false,
+            owes_next: false,
+            is_out: false,
+            is_bare: journal.len() == 0,
+        })
+    }
+
+    /// A store whose record can't be taken, for a domain with this head: nothing is recorded until its journal begins anew.
+    pub fn out(alloc: Global, store: S, head: String) -> Result<DomainRecord<S>, NoMemory>
+        ensures store { IfOk result (λ opened. opened.store ≡ Some store) }
+        ensures head { IfOk result (λ opened. opened.head ≡ head) }
+        ensures places { IfOk result (λ opened. vec_capacity opened.room ≡ PIECE) }
+        ensures out { IfOk result (λ opened. opened.is_out ≡ true) }
+    {
+        let room = Vec::with_capacity(alloc, PIECE)?;
+        Ok(DomainRecord {
+            store: Some(store),
+            head,
+            mark: Mark::start(),
+            room,
+            text: String::new(alloc),
+            failed: true,
+            owes_next: true,
+            is_out: true,
+            is_bare: false,
         })
     }
 
     // Writes the lines of the entries that are in the room, if there are any.
+    // Eight clauses: a record that is written to, as in all that follow, what is whole then or after an error, and what stays.
     fn write_room(&mut self) -> Result<(), NotKept>
-        requires { IsSome self.old.store }
-        ensures text { OnOk result (Appends (stored_text S.contents self.old.store) (stored_text S.contents self.new.store)
+        requires store { IsSome self.old.store }
+        requires ready { IsAllWhole S.contents S.whole self.old.store }
+        requires failed { self.old.failed ≡ true }
+        ensures text { OnOk result (Appends (stored_text S.whole self.old.store) (stored_text S.whole self.new.store)
             (record_text (lines_of self.old.room.items))) }
+        ensures ready { OnOk result (IsAllWhole S.contents S.whole self.new.store) }
+        ensures err { OnErr result (stored_text S.whole self.new.store ≡ stored_text S.whole self.old.store) }
         ensures same { IsSameRecord self.old self.new }
-        ensures rest { (self.new.mark ≡ self.old.mark) × (self.new.room ≡ self.old.room) × (self.new.failed ≡ self.old.failed) }
+        ensures rest { (self.new.mark ≡ self.old.mark) × (self.new.room ≡ self.old.room) × (self.new.failed ≡ self.old.failed)
+            × (self.new.owes_next ≡ self.old.owes_next) × (self.new.is_out ≡ self.old.is_out) }
     {
         if self.room.is_empty() {
             return Ok(());
@@ -117,6 +126,7 @@ impl<S: RecordStore> DomainRecord<S> {
         self.text.clear();
         write_records_of(&mut self.text, self.room.as_slice())?;
         store.append(self.text.as_str())?;
+        self.is_bare = false;
         Ok(())
     }
 
@@ -127,17 +137,22 @@ impl<S: RecordStore> DomainRecord<S> {
         !self.room.is_empty() && self.room.len() == self.room.capacity()
     }
 
-    // Records the next piece that the journal gained; whether there may be more.
+    // Records the next piece that the journal gained; whether there may be more. After an error nothing of it is whole.
+    // Eight clauses: a record that is written to, what is kept then or after an error, and what stays.
     fn keep_piece<R: Wait>(
         &mut self,
         rt: &R,
         service: &Service,
         domain: u8,
     ) -> Result<bool, NotKept>
-        requires { IsSome self.old.store }
-        ensures kept { IfOk result (λ more. KeepsPieces S.contents service.now.plan domain more self.old self.new) }
+        requires store { IsSome self.old.store }
+        requires ready { IsAllWhole S.contents S.whole self.old.store }
+        requires failed { self.old.failed ≡ true }
+        ensures kept { IfOk result (λ more. KeepsPieces S.whole service.now.plan domain more self.old self.new) }
+        ensures ready { OnOk result (IsAllWhole S.contents S.whole self.new.store) }
+        ensures err { OnErr result (KeepsNothing S.whole self.old self.new) }
         ensures same { IsSameRecord self.old self.new }
-        ensures failed { self.new.failed ≡ self.old.failed }
+        ensures rest { (self.new.failed ≡ self.old.failed) × (self.new.owes_next ≡ self.old.owes_next) × (self.new.is_out ≡ self.old.is_out) }
     {
         self.room.clear();
         let Ok(mark) = service.copy_gained(rt, domain, self.mark, &mut self.room) else {
@@ -149,11 +164,16 @@ impl<S: RecordStore> DomainRecord<S> {
     }
 
     // Records all that the journal has gained by now.
+    // Eight clauses: a record that is written to, what is kept then or after an error, and what stays.
     fn keep_gained<R: Wait>(&mut self, rt: &R, service: &Service, domain: u8) -> Result<(), NotKept>
-        requires { IsSome self.old.store }
-        ensures kept { OnOk result (KeepsPieces S.contents service.now.plan domain false self.old self.new) }
+        requires store { IsSome self.old.store }
+        requires ready { IsAllWhole S.contents S.whole self.old.store }
+        requires failed { self.old.failed ≡ true }
+        ensures kept { OnOk result (KeepsPieces S.whole service.now.plan domain false self.old self.new) }
+        ensures ready { OnOk result (IsAllWhole S.contents S.whole self.new.store) }
+        ensures err { OnErr result (KeepsPieces S.whole service.now.plan domain true self.old self.new) }
         ensures same { IsSameRecord self.old self.new }
-        ensures failed { self.new.failed ≡ self.old.failed }
+        ensures rest { (self.new.failed ≡ self.old.failed) × (self.new.owes_next ≡ self.old.owes_next) × (self.new.is_out ≡ self.old.is_out) }
     {
         for _ in rt.forever() {
             if !self.keep_piece(rt, service, domain)? {
@@ -163,49 +183,120 @@ impl<S: RecordStore> DomainRecord<S> {
         Ok(())
     }
 
-    // Begins the next record, for a journal that began anew.
-    fn begin_anew(&mut self) -> Result<(), NotKept>
-        requires { IsSome self.old.store }
-        ensures mark { OnOk result (IsAtStart self.new.mark) }
-        ensures text { OnOk result (Becomes (stored_text S.contents self.old.store) (stored_text S.contents self.new.store)
+    // Begins the next record. One that holds its head alone serves again.
+    // Nine clauses: a record that is written to and not out, what is whole then or after an error, and what stays.
+    fn renew(&mut self) -> Result<(), NotKept>
+        requires store { IsSome self.old.store }
+        requires ready { IsAllWhole S.contents S.whole self.old.store }
+        requires failed { self.old.failed ≡ true }
+        requires out { self.old.is_out ≡ false }
+        ensures text { OnOk result (Becomes (stored_text S.whole self.old.store) (stored_text S.whole self.new.store)
             (string_bytes self.old.head)) }
+        ensures ready { OnOk result (IsAllWhole S.contents S.whole self.new.store) }
+        ensures err { OnErr result (stored_text S.whole self.new.store ≡ stored_text S.whole self.old.store) }
         ensures same { IsSameRecord self.old self.new }
-        ensures failed { self.new.failed ≡ self.old.failed }
+        ensures rest { (self.new.mark ≡ self.old.mark) × (self.new.failed ≡ self.old.failed)
+            × (self.new.owes_next ≡ self.old.owes_next) × (self.new.is_out ≡ self.old.is_out) }
     {
+        if self.is_bare {
+            return Ok(());
+        }
         let Some(store) = &mut self.store else {
             unreachable!()
         };
-        self.mark = Mark::start();
-        store.begin_next()?;
-        store.append(self.head.as_str())?;
+        store.begin_next(self.head.as_str())?;
+        self.is_bare = true;
         Ok(())
     }
 
-    // Records all that the domain has answered by now, in the next record if its journal began anew.
-    fn keep_all<R: Wait>(
-        &mut self,
-        rt: &R,
-        service: &Service,
-        domain: u8,
-        begins_anew: bool,
-    ) -> Result<(), NotKept>
-        requires { IsSome self.old.store }
-        ensures kept { OnOk result (KeepsGained S.contents service.now.plan domain begins_anew self.old self.new) }
+    // Begins the next record, for a journal that began anew.
+    // Eleven clauses: a record that is written to and not out, what is begun then or after an error, and what stays.
+    fn begin_next(&mut self) -> Result<(), NotKept>
+        requires store { IsSome self.old.store }
+        requires ready { IsAllWhole S.contents S.whole self.old.store }
+        requires failed { self.old.failed ≡ true }
+        requires out { self.old.is_out ≡ false }
+        ensures mark { OnOk result (IsAtStart self.new.mark) }
+        ensures text { OnOk result (Becomes (stored_text S.whole self.old.store) (stored_text S.whole self.new.store)
+            (string_bytes self.old.head)) }
+        ensures begun { OnOk result (self.new.owes_next ≡ false) }
+        ensures ready { OnOk result (IsAllWhole S.contents S.whole self.new.store) }
+        ensures err { OnErr result (KeepsNothing S.whole self.old self.new × (self.new.owes_next ≡ self.old.owes_next)) }
         ensures same { IsSameRecord self.old self.new }
-        ensures failed { self.new.failed ≡ self.old.failed }
+        ensures rest { (self.new.failed ≡ self.old.failed) × (self.new.is_out ≡ self.old.is_out) }
     {
-        if begins_anew {
-            self.begin_anew()?;
+        self.renew()?;
+        self.mark = Mark::start();
+        self.owes_next = false;
+        Ok(())
+    }
+
+    // Begins the next record if it is owed, and records all that the journal has gained by now.
+    // Nine clauses: a record that is written to and not out, what is kept then or after an error, and what stays.
+    fn keep_owed<R: Wait>(&mut self, rt: &R, service: &Service, domain: u8) -> Result<(), NotKept>
+        requires store { IsSome self.old.store }
+        requires ready { IsAllWhole S.contents S.whole self.old.store }
+        requires failed { self.old.failed ≡ true }
+        requires out { self.old.is_out ≡ false }
+        ensures kept { OnOk result (KeepsGained S.whole service.now.plan domain self.old.owes_next false self.old self.new) }
+        ensures ready { OnOk result (IsAllWhole S.contents S.whole self.new.store) }
+        ensures err { OnErr result (KeepsSome S.whole service.now.plan domain self.old.owes_next self.old self.new) }
+        ensures same { IsSameRecord self.old self.new }
+        ensures rest { (self.new.failed ≡ self.old.failed) × (self.new.is_out ≡ self.old.is_out) }
+    {
+        if self.owes_next {
+            self.begin_next()?;
         }
         self.keep_gained(rt, service, domain)
     }
 
-    /// Records all that the domain has answered by now, in the next record if its journal began anew. Where nothing is recorded,
-    /// nothing changes.
+    // Cuts off what isn't whole.
+    // Six clauses: a record that failed, what is whole then, and what stays.
+    fn cut_back(&mut self) -> Result<(), NotKept>
+        requires store { IsSome self.old.store }
+        requires failed { self.old.failed ≡ true }
+        ensures ready { OnOk result (IsAllWhole S.contents S.whole self.new.store) }
+        ensures stays { KeepsNothing S.whole self.old self.new × (self.new.owes_next ≡ self.old.owes_next) }
+        ensures same { IsSameRecord self.old self.new }
+        ensures rest { (self.new.failed ≡ self.old.failed) × (self.new.is_out ≡ self.old.is_out) }
+    {
+        let Some(store) = &mut self.store else {
+            unreachable!()
+        };
+        store.cut_back()?;
+        Ok(())
+    }
+
+    // Cuts off what isn't whole, and records what isn't recorded.
+    // Eight clauses: a record that failed and isn't out, what is kept then or after an error, and what stays.
+    fn mend_and_keep<R: Wait>(
+        &mut self,
+        rt: &R,
+        service: &Service,
+        domain: u8,
+    ) -> Result<(), NotKept>
+        requires store { IsSome self.old.store }
+        requires failed { self.old.failed ≡ true }
+        requires out { self.old.is_out ≡ false }
+        ensures kept { OnOk result (KeepsGained S.whole service.now.plan domain self.old.owes_next false self.old self.new) }
+        ensures ready { OnOk result (IsAllWhole S.contents S.whole self.new.store) }
+        ensures err { OnErr result (KeepsSome S.whole service.now.plan domain self.old.owes_next self.old self.new) }
+        ensures same { IsSameRecord self.old self.new }
+        ensures rest { (self.new.failed ≡ self.old.failed) × (self.new.is_out ≡ self.old.is_out) }
+    {
+        self.cut_back()?;
+        self.keep_owed(rt, service, domain)
+    }
+
+    /// Records all that the domain has answered by now, in the next record if its journal began anew. A record that holds no line
+    /// serves again then. Where nothing is recorded, nothing changes.
     ///
     /// # Errors
     ///
-    /// Why it isn't recorded. After an error nothing more is written, and each call is an error.
+    /// `Out` if the domain's record can't be taken, as long as its journal doesn't begin anew; nothing has changed then. Else why
+    /// it can't be written: what was recorded by then stays, and the next call cuts off what isn't whole and goes on behind it,
+    /// so that nothing is missing and nothing stands there twice.
+    // Eight clauses: what is kept then or after an error, of no store, of a record that is out, and what stays.
     pub fn keep<R: Wait>(
         &mut self,
         rt: &R,
@@ -213,34 +304,52 @@ impl<S: RecordStore> DomainRecord<S> {
         domain: u8,
         begins_anew: bool,
     ) -> Result<(), NotKept>
-        ensures kept { OnOk result (IsSome self.old.store → KeepsGained S.contents service.now.plan domain begins_anew self.old self.new) }
-        ensures none { self.old.store ≡ None → IsFalse self.old.failed → (result ≡ Ok tt) × (self.new ≡ self.old) }
-        ensures before { IsTrue self.old.failed → (result ≡ Err Failed) × (self.new ≡ self.old) }
+        ensures kept { OnOk result (IsSome self.old.store
+            → KeepsGained S.whole service.now.plan domain (self.old.owes_next || begins_anew) false self.old self.new) }
+        ensures all { OnOk result (IsAllWhole S.contents S.whole self.new.store) }
+        ensures err { OnErr result (KeepsSome S.whole service.now.plan domain (self.old.owes_next || begins_anew) self.old self.new) }
+        ensures none { self.old.store ≡ None → (result ≡ Ok tt) × (self.new ≡ self.old) }
         ensures failed { IsTrue self.new.failed ↔ IsErr result }
+        ensures out { self.new.is_out ≡ (self.old.is_out && not begins_anew) }
+        ensures still_out { IsTrue self.new.is_out → IsErr result × (self.new ≡ self.old) }
         ensures same { IsSameRecord self.old self.new }
     {
-        if self.failed {
-            return Err(NotKept::Failed);
-        }
         if self.store.is_none() {
             return Ok(());
         }
-        self.failed = true;
-        self.keep_all(rt, service, domain, begins_anew)?;
+        if self.is_out && !begins_anew {
+            return Err(NotKept::Out);
+        }
+        self.is_out = false;
+        self.owes_next = self.owes_next || begins_anew;
+        if self.failed {
+            self.mend_and_keep(rt, service, domain)?;
+        } else {
+            self.failed = true;
+            self.keep_owed(rt, service, domain)?;
+        }
         self.failed = false;
         Ok(())
     }
 
-    /// Whether something wasn't recorded.
+    /// Whether something isn't recorded.
     pub fn has_failed(&self) -> bool
         ensures { result ≡ self.now.failed }
     {
         self.failed
     }
 
-    /// Where the record is that is written to, if anything is recorded.
+    /// Whether the domain's record can't be taken, and the domain hasn't begun anew since.
+    pub fn is_out(&self) -> bool
+        ensures { result ≡ self.now.is_out }
+    {
+        self.is_out
+    }
+
+    /// Where the record is that is written to, or that will be if the next one is to be begun; nowhere if nothing is recorded.
     pub fn path(&self, alloc: Global) -> Result<Option<String>, NoMemory> {
         match &self.store {
+            Some(store) if self.owes_next => Ok(Some(store.next_path(alloc)?)),
             Some(store) => Ok(Some(store.path(alloc)?)),
             None => Ok(None),
         }

@@ -1,7 +1,6 @@
 //! Where records are written.
-ghost use Rattle.std.specs.Prelude.{◌≡◌, ℕ, List, [], None, Option, OnOk};
+ghost use Rattle.std.specs.Prelude.{◌≡◌, ℕ, List, None, Option, IfSome, OnOk, OnErr};
 ghost use Rattle.std.specs.Io.KnownBytes.{Appends};
-ghost use Rattle.std.specs.IoError.{error_kind};
 ghost use Rattle.record_keeping.specs.declared.store.NotKept.TheVariants.{Memory};
 ghost use Rattle.record_keeping.specs.Reasons.{reason_of};
 ghost use Rattle.record_keeping.specs.Writing.{Becomes};
@@ -12,39 +11,71 @@ use std::io;
 
 /// Where the record of a domain is written.
 ///
-/// Contracts see the text that the record holds which is written to, where that is known. Of a file nothing is known.
+/// Contracts see two texts, where they are known: what the record holds which is written to, and what of that is whole, which is
+/// what it held when a call had last succeeded. A call that fails may leave a part of its text in the record, until the record is
+/// cut back. Of a file nothing is known.
 pub trait RecordStore: Drop {
     // The text that the record holds which is written to, where it is known.
     ghost contents: { Self → Option (List ℕ) } = { λ _. None };
 
-    /// Appends whole lines. When the call returns they are with the system, and on the disk if that was asked for.
-    fn append(&mut self, lines: &str) -> io::Result<()>
-        ensures gained { OnOk result (Appends (contents self.old) (contents self.new) lines.now) };
+    // The text that the record held when a call had last succeeded, where it is known.
+    ghost whole: { Self → Option (List ℕ) } = { λ _. None };
 
-    /// Begins the next record of the domain, which holds nothing yet.
-    fn begin_next(&mut self) -> io::Result<()>
-        ensures begun { OnOk result (Becomes (contents self.old) (contents self.new) []) };
+    /// Appends whole lines. When the call returns they are with the system, and on the disk if that was asked for.
+    ///
+    /// # Errors
+    ///
+    /// The system's. What is whole stays.
+    fn append(&mut self, lines: &str) -> io::Result<()>
+        ensures gained { OnOk result (Appends (contents self.old) (contents self.new) lines.now) }
+        ensures all { OnOk result (whole self.new ≡ contents self.new) }
+        ensures err { OnErr result (whole self.new ≡ whole self.old) };
+
+    /// Begins the next record of the domain, which holds this head alone.
+    ///
+    /// # Errors
+    ///
+    /// The system's. The record before is still the one that is written to, and what is whole of it stays.
+    fn begin_next(&mut self, head: &str) -> io::Result<()>
+        ensures begun { OnOk result (Becomes (contents self.old) (contents self.new) head.now) }
+        ensures alone { OnOk result (IfSome (contents self.new) (λ held. held ≡ head.now)) }
+        ensures all { OnOk result (whole self.new ≡ contents self.new) }
+        ensures err { OnErr result (whole self.new ≡ whole self.old) };
+
+    /// Cuts off what isn't whole.
+    ///
+    /// # Errors
+    ///
+    /// The system's. What is whole stays.
+    fn cut_back(&mut self) -> io::Result<()>
+        ensures cut { OnOk result (contents self.new ≡ whole self.old) }
+        ensures stays { whole self.new ≡ whole self.old };
 
     /// Where the record is that is written to.
     fn path(&self, alloc: Global) -> Result<String, NoMemory>;
+
+    /// Where the next record will be.
+    fn next_path(&self, alloc: Global) -> Result<String, NoMemory>;
 }
 
 /// Why what a domain answered isn't recorded.
-#[derive(Clone, Copy)]
+#[derive(Drop)]
 pub enum NotKept {
-    /// It can't be written, now or from an earlier time on.
-    Failed,
+    /// It can't be written: the system's error.
+    Failed(io::Error),
     /// There is no memory for its text.
     Memory,
+    /// The domain's record can't be taken, and the domain hasn't begun anew since.
+    Out,
 }
 
 impl From<io::Error> for NotKept {
-    ghost from_gives = { λ error reason. reason ≡ reason_of (error_kind error) };
+    ghost from_gives = { λ error reason. reason ≡ reason_of error };
 
     fn from(error: io::Error) -> NotKept {
         match error.kind() {
             io::ErrorKind::OutOfMemory => NotKept::Memory,
-            _ => NotKept::Failed,
+            _ => NotKept::Failed(error),
         }
     }
 }

@@ -3,11 +3,11 @@ use Rattle.std.specs.Io.KnownBytes.{Appends}
 use Rattle.record_keeping.specs.Pieces.{JournalPiece}
 use Rattle.record_keeping.specs.Writing.{stored_text}
 use Rattle.record_keeping.proofs.Pieces.{one_gained, text_of_one}
-use Rattle.record_keeping.proofs.record.DomainRecord.keep_piece.Goals as goal
+use Rattle.record_keeping.proofs.domain_record.DomainRecord.keep_piece.Goals as goal
 
 pub returns-clause-kept : goal.returns-clause-kept
 returns-clause-kept g c =
-    let contents = g.S.RecordStore.contents in
+    let whole = g.S.RecordStore.whole in
     let old = c.args.self.now in
     let written = c.write_room.new.self in
     let piece : JournalPiece = record { entries = c.copy_gained.new.room.items; reached = c.in-Ok.mark } in
@@ -24,6 +24,6 @@ returns-clause-kept g c =
           c.is_room_full.ensures few (λ none. some (search rules)) in
           search rules;
       text =
-          subst (λ (text : List ℕ). Appends (stored_text contents old.store) (stored_text contents written.store) text)
+          subst (λ (text : List ℕ). Appends (stored_text whole old.store) (stored_text whole written.store) text)
           (text_of_one piece) c.in_ok-write_room.ensures.text;
     }

@@ -1,0 +1,47 @@
+//! The record of a domain, as it is kept between calls.
+ghost use Rattle.std.specs.Prelude.{◌≡◌, false, true, None, string_bytes};
+ghost use Rattle.std.proofs.Props.{props};
+ghost use Rattle.record_keeping.specs.Writing.{IsAllWhole, IsJust};
+
+use crate::store::RecordStore;
+use domain_core::{Entry, Mark};
+
+/// The record of a domain, or none if nothing is recorded.
+pub struct DomainRecord<S: RecordStore> {
+    pub(crate) store: Option<S>,
+    pub(crate) head: String,
+    // How far the journal is recorded.
+    pub(crate) mark: Mark,
+    // Reserved, for what the journal gained.
+    pub(crate) room: Vec<Entry>,
+    pub(crate) text: String,
+    // Whether the last call was an error, so that what isn't whole has to be cut off.
+    pub(crate) failed: bool,
+    // Whether the journal began anew, and the next record isn't begun yet.
+    pub(crate) owes_next: bool,
+    // Whether the record can't be taken, and the journal hasn't begun anew since.
+    pub(crate) is_out: bool,
+    // Whether it is known that the record holds its head alone.
+    pub(crate) is_bare: bool,
+    ghost ready: { failed ≡ false → IsAllWhole S.contents S.whole store },
+    ghost bare: { is_bare ≡ true → IsJust S.whole store (string_bytes head) } by { Prim.hlevel props },
+    ghost nothing: { store ≡ None → (failed ≡ false) × (is_out ≡ false) },
+    ghost out: { is_out ≡ true → (failed ≡ true) × (owes_next ≡ true) },
+}
+
+// It is dropped by one call.
+impl<S: RecordStore> Drop for DomainRecord<S> {
+    fn drop(self) {
+        let DomainRecord {
+            store: _,
+            head: _,
+            mark: _,
+            room: _,
+            text: _,
+            failed: _,
+            owes_next: _,
+            is_out: _,
+            is_bare: _,
+        } = self;
+    }
+}
