@@ -62,15 +62,16 @@ links = [2, 3, -1, -1]
 
 
 class Live:
-    """A running farm, and the lines that it prints as they come."""
+    """A running farm, and the lines that it prints as they come. `begun` is called in its process before it starts."""
 
-    def __init__(self, program, plan, workers="2", more=(), env=None):
+    def __init__(self, program, plan, workers="2", more=(), env=None, begun=None):
         self.folder = tempfile.TemporaryDirectory()
         self.plan = os.path.join(self.folder.name, "plan.toml")
         with open(self.plan, "w", encoding="utf-8") as it:
             it.write(plan)
         self.process = subprocess.Popen([program, "--workers", workers, *more, self.plan], stdin=subprocess.PIPE,
-                                        stdout=subprocess.PIPE, stderr=subprocess.PIPE, env={**os.environ, **(env or {})})
+                                        stdout=subprocess.PIPE, stderr=subprocess.PIPE, env={**os.environ, **(env or {})},
+                                        preexec_fn=begun, restore_signals=begun is None)
         self.told, self.errors = queue.Queue(), queue.Queue()
         for stream, lines in ((self.process.stdout, self.told), (self.process.stderr, self.errors)):
             threading.Thread(target=self.listen, args=(stream, lines), daemon=True).start()

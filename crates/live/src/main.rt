@@ -6,13 +6,13 @@ ghost use Rattle.live_lines.specs.LiveRanges.{IsInRange};
 use clap::error::ErrorKind;
 use farm_service::Histories;
 use live_farm::{
-    FileRecords, LiveFailure, Outlet, RecordFolder, SharedOutlet, no_records, run_live,
+    FileRecords, LiveFailure, Notices, Outlet, RecordFolder, SharedOutlet, no_records, run_live,
 };
 use live_lines::{LiveSettings, live_settings};
 use plan_checker::{AcceptedPlan, check, read_plan};
 use script_text::{ReadFault, read_whole, write_whole};
 use std::alloc::Global;
-use std::io::{self, BufRead, BufReader, Write};
+use std::io::{self, BufRead, BufReader};
 use std::process::ExitCode;
 use std::sync::{Mutex, Wait};
 use std::thread::Threads;
@@ -28,11 +28,11 @@ struct Start {
 
 fn main(rt: HostRuntime) -> ExitCode {
     let alloc = rt.alloc();
-    let mut errors = rt.stderr();
+    let errors = Mutex::new(rt.stderr());
     let outlet: Mutex<Outlet<_, 0>> = Mutex::new(Outlet::new(rt.stdout()));
     let ended = match (start_of(&rt), BufReader::new(alloc, rt.reader())) {
         (Ok(Some(start)), Ok(mut input)) => {
-            serve(&rt, &rt, alloc, start, &outlet, &mut input, &mut errors)
+            serve(&rt, &rt, alloc, start, &outlet, &mut input, &errors)
         }
         (Ok(Some(_)), Err(_)) => Err(LiveFailure::Memory),
         (Ok(None), _) => Ok(()),
@@ -40,19 +40,19 @@ fn main(rt: HostRuntime) -> ExitCode {
     };
     ExitCode::from(match ended {
         Ok(()) => 0,
-        Err(failure) => failure.report(alloc, &mut errors),
+        Err(failure) => failure.report(alloc, &mut *errors.lock(&rt)),
     })
 }
 
 // Answers the lines of an input on a farm of the plan, and records it if that is asked for.
-fn serve<R: Threads + Wait + Sync, I: BufRead + Send, O: SharedOutlet + Sync, E: Write + Send>(
+fn serve<R: Threads + Wait + Sync, I: BufRead + Send, O: SharedOutlet + Sync, N: Notices + Sync>(
     rt: &R,
     files: &HostRuntime,
     alloc: Global,
     start: Start,
     outlet: &O,
     input: &mut I,
-    errors: &mut E,
+    errors: &N,
 ) -> Result<(), LiveFailure> {
     let folder = match &start.settings.records {
         Some(records) => Some(RecordFolder::open(files, alloc, records)?),
@@ -62,20 +62,20 @@ fn serve<R: Threads + Wait + Sync, I: BufRead + Send, O: SharedOutlet + Sync, E:
 }
 
 // The same with the folder of the records, if there is one.
-fn serve_in<R: Threads + Wait + Sync, I: BufRead + Send, O: SharedOutlet + Sync, E: Write + Send>(
+fn serve_in<R: Threads + Wait + Sync, I: BufRead + Send, O: SharedOutlet + Sync, N: Notices + Sync>(
     rt: &R,
     alloc: Global,
     start: Start,
     folder: Option<&RecordFolder<'_, HostRuntime>>,
     outlet: &O,
     input: &mut I,
-    errors: &mut E,
+    errors: &N,
 ) -> Result<(), LiveFailure> {
     let Start { settings, plan } = start;
     let mut histories = Histories::open(alloc, plan)?;
     let resumes = settings.records.as_ref().is_some_and(|it| it.resumes);
     let records: FileRecords<'_, HostRuntime> = match folder {
-        Some(folder) => folder.open_records(&mut histories, resumes, errors)?,
+        Some(folder) => folder.open_records(rt, &mut histories, resumes, errors)?,
         None => no_records(alloc, histories.plan())?,
     };
     run_live(

@@ -12,6 +12,8 @@ use Rattle.live_farm.specs.declared.group.DomainUsers.{DomainUsers}
 use Rattle.live_farm.specs.declared.letter.Letter.{Letter}
 use Rattle.live_farm.specs.declared.letter.Matter.{Matter}
 use Rattle.live_farm.specs.declared.letter.Matter.TheVariants as matter
+use Rattle.live_farm.specs.declared.record.RecordState.{RecordState}
+use Rattle.live_farm.specs.declared.record.RecordState.TheVariants as state
 use Rattle.live_farm.specs.declared.texts.LiveAnswer.{LiveAnswer}
 use Rattle.live_farm.specs.declared.texts.Why.{Why}
 use Rattle.live_farm.specs.declared.texts.Why.TheVariants as why
@@ -100,6 +102,15 @@ abbrev pub asker_name : List ℕ → Matter → List ℕ
 asker_name name (matter.Asked request) = name
 asker_name name (matter.Wrong w) = name
 asker_name name matter.OperatorRestart = codes "!"
+
+-- a letter is answered if what was told before is recorded. A domain whose record can't be taken is asked nothing but to begin anew for the operator,
+-- and one of which something isn't recorded nothing at all
+abbrev pub may_be_answered : RecordState → Matter → Bool
+may_be_answered state.Kept m = true
+may_be_answered state.Unrecorded m = false
+may_be_answered state.Out (matter.Asked request) = false
+may_be_answered state.Out (matter.Wrong w) = false
+may_be_answered state.Out matter.OperatorRestart = true
 
 -- what cannot be recorded is told to who asked, and his line may have been done or not
 abbrev pub TellsUnrecorded : DomainUsers → Letter → List ℕ → Type 0

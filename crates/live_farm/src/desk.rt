@@ -4,6 +4,7 @@ use crate::crew::Crew;
 use crate::failure::Trouble;
 use crate::letter::Matter;
 use crate::mailbox::Sent;
+use crate::notices::Notices;
 use crate::operator::Operator;
 use crate::outlet::SharedOutlet;
 use crate::texts::{Why, error_answer, unknown_user_answer};
@@ -11,9 +12,9 @@ use live_lines::{
     InputLine, LiveFault, LiveLine, OperatorRequest, is_operators, next_line, parse_live_line,
 };
 use script_lines::{LineWords, user_named};
-use script_text::{is_passed_over, split_line, write_whole};
+use script_text::{is_passed_over, split_line};
 use std::alloc::Global;
-use std::io::{BufRead, Write};
+use std::io::BufRead;
 use std::sync::Wait;
 
 /// Who hands out lines to the users' domains.
@@ -106,12 +107,12 @@ impl Desk<'_, '_> {
     }
 
     // Hands out a line that asks something.
-    fn hand_out<R: Wait, O: SharedOutlet, E: Write>(
+    fn hand_out<R: Wait, O: SharedOutlet, N: Notices>(
         &self,
         rt: &R,
         outlet: &O,
         operator: &mut Operator<'_>,
-        errors: &mut E,
+        errors: &N,
         number: u64,
         line: &[u8],
     ) -> Result<Goes, Trouble> {
@@ -128,11 +129,11 @@ impl Desk<'_, '_> {
     }
 
     // Tells what is wrong with a line.
-    fn refuse<R: Wait, O: SharedOutlet, E: Write>(
+    fn refuse<R: Wait, O: SharedOutlet, N: Notices>(
         &self,
         rt: &R,
         outlet: &O,
-        errors: &mut E,
+        errors: &N,
         number: u64,
         fault: LiveFault,
     ) -> Result<(), Trouble> {
@@ -141,17 +142,17 @@ impl Desk<'_, '_> {
                 self.send(rt, outlet, user, number, Matter::Wrong(Why::Fault(fault)))
             }
             LiveFault::Operator(fault) => self.tell(rt, outlet, "!", number, Why::Fault(fault)),
-            LiveFault::UnknownUser => tell_unknown_user(self.alloc, errors, number),
+            LiveFault::UnknownUser => tell_unknown_user(rt, self.alloc, errors, number),
             LiveFault::NoMemory => Err(Trouble::Memory),
         }
     }
 
     // Tells whose line is too long, by its beginning.
-    fn refuse_long<R: Wait, O: SharedOutlet, E: Write>(
+    fn refuse_long<R: Wait, O: SharedOutlet, N: Notices>(
         &self,
         rt: &R,
         outlet: &O,
-        errors: &mut E,
+        errors: &N,
         number: u64,
         line: &[u8],
     ) -> Result<(), Trouble> {
@@ -164,7 +165,7 @@ impl Desk<'_, '_> {
         };
         match user {
             Some(user) => self.send(rt, outlet, user, number, Matter::Wrong(Why::Long)),
-            None => tell_unknown_user(self.alloc, errors, number),
+            None => tell_unknown_user(rt, self.alloc, errors, number),
         }
     }
 
@@ -180,13 +181,13 @@ impl Desk<'_, '_> {
     }
 
     // Reads a line and hands it out. Lines that ask nothing are passed over.
-    fn take_line<R: Wait, O: SharedOutlet, I: BufRead, E: Write>(
+    fn take_line<R: Wait, O: SharedOutlet, I: BufRead, N: Notices>(
         &self,
         rt: &R,
         outlet: &O,
         operator: &mut Operator<'_>,
         input: &mut I,
-        errors: &mut E,
+        errors: &N,
         number: u64,
     ) -> Result<Goes, Trouble> {
         let read = match next_line(self.alloc, input) {
@@ -213,13 +214,13 @@ impl Desk<'_, '_> {
     }
 
     /// Reads lines until the input ends or the operator stops the farm. They count from 1.
-    pub fn read_lines<R: Wait, O: SharedOutlet, I: BufRead, E: Write>(
+    pub fn read_lines<R: Wait, O: SharedOutlet, I: BufRead, N: Notices>(
         &self,
         rt: &R,
         outlet: &O,
         operator: &mut Operator<'_>,
         input: &mut I,
-        errors: &mut E,
+        errors: &N,
     ) -> Result<(), Trouble> {
         let mut number: u64 = 0;
         for _ in rt.forever() {
@@ -233,8 +234,13 @@ impl Desk<'_, '_> {
 }
 
 // Tells that a line is no user's. If standard error takes nothing the run goes on.
-fn tell_unknown_user<E: Write>(alloc: Global, errors: &mut E, number: u64) -> Result<(), Trouble> {
+fn tell_unknown_user<R: Wait, N: Notices>(
+    rt: &R,
+    alloc: Global,
+    errors: &N,
+    number: u64,
+) -> Result<(), Trouble> {
     let answer = unknown_user_answer(alloc, number)?;
-    let _ = write_whole(errors, answer.as_str().as_bytes());
+    errors.tell(rt, answer.as_str());
     Ok(())
 }

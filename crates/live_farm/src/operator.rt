@@ -3,6 +3,7 @@ ghost use Rattle.std.specs.Prelude.{◌≡◌, ◌<◌};
 ghost use Rattle.farm_service.specs.Services.{IsItsOperator};
 
 use crate::crew::{Crew, UserNumber};
+use crate::record::RecordState;
 use crate::texts::LiveAnswer;
 use domain_core::NoMemory;
 use farm_service::{DomainStatus, Service};
@@ -18,12 +19,22 @@ pub struct Operator<'a> {
     ghost its: { IsItsOperator service.now seat },
 }
 
+// What the line of a user has more, if what his domain answers isn't recorded.
+fn record_word(state: RecordState) -> &'static str {
+    match state {
+        RecordState::Kept => "",
+        RecordState::Unrecorded => " unrecorded",
+        RecordState::Out => " out",
+    }
+}
+
 // The line of a user.
 fn line_of(
     alloc: Global,
     name: &str,
     answered: u64,
     status: DomainStatus,
+    state: RecordState,
 ) -> Result<LiveAnswer, NoMemory> {
     let word = if status.is_quiet { "quiet" } else { "busy" };
     let DomainStatus {
@@ -31,7 +42,10 @@ fn line_of(
         limit,
         ..
     } = status;
-    LiveAnswer::line(format!(in alloc; "!users {name} {answered} {recorded} {limit} {word}")?)
+    let behind = record_word(state);
+    LiveAnswer::line(format!(in alloc;
+        "!users {name} {answered} {recorded} {limit} {word}{behind}"
+    )?)
 }
 
 impl<'a> Operator<'a> {
@@ -53,7 +67,7 @@ impl<'a> Operator<'a> {
         LiveAnswer::line(text)
     }
 
-    /// What a user has done: how many of his lines were answered, and how it is with his domain.
+    /// What a user has done: how many of his lines were answered, and how it is with his domain and its record.
     pub fn user<R: Wait>(
         &self,
         rt: &R,
@@ -69,7 +83,10 @@ impl<'a> Operator<'a> {
             return Ok(None);
         };
         match self.service.status(rt, domain) {
-            Ok(status) => Ok(Some(line_of(alloc, name, station.answered(user), status)?)),
+            Ok(status) => {
+                let (answered, state) = (station.answered(user), station.record_state());
+                Ok(Some(line_of(alloc, name, answered, status, state)?))
+            }
             Err(_) => Ok(None),
         }
     }

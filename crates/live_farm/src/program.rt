@@ -8,9 +8,10 @@ ghost use Rattle.live_lines.specs.LiveRanges.{IsInRange};
 
 use crate::crew::Crew;
 use crate::failure::{LiveFailure, Trouble};
+use crate::notices::Notices;
 use crate::operator::Operator;
 use crate::outlet::SharedOutlet;
-use crate::record::SharedRecord;
+use crate::record::{RecordState, SharedRecord, keep_and_tell};
 use crate::threads::run_crew;
 use domain_core::Refusal;
 use farm_service::{
@@ -18,9 +19,8 @@ use farm_service::{
 };
 use line_answers::Quantum;
 use live_lines::LiveSettings;
-use record_keeping::NotKept;
 use std::alloc::Global;
-use std::io::{BufRead, Write};
+use std::io::BufRead;
 use std::slice;
 use std::sync::Wait;
 use std::thread::Threads;
@@ -28,10 +28,9 @@ use switch_table::OperatorSeat;
 
 // Who reads the lines, and how that ended.
 #[derive(Drop)]
-struct LiveReader<'a, 'b, 'c, I: BufRead, E: Write> {
+struct LiveReader<'a, 'b, I: BufRead> {
     operator: Operator<'a>,
     input: &'b mut I,
-    errors: &'c mut E,
     ended: Result<(), Trouble>,
 }
 
@@ -41,7 +40,7 @@ fn run_all<
     K: SharedRecord + Sync,
     I: BufRead + Send,
     O: SharedOutlet + Sync,
-    E: Write + Send,
+    N: Notices + Sync,
 >(
     rt: &R,
     alloc: Global,
@@ -51,13 +50,14 @@ fn run_all<
     crew: &Crew<'_>,
     records: &[K],
     outlet: &O,
-    reader: &mut LiveReader<'_, '_, '_, I, E>,
+    reader: &mut LiveReader<'_, '_, I>,
+    errors: &N,
 ) -> Result<(), LiveFailure>
     requires steps { (1 ≤ steps) × (steps ≤ 4096) }
     requires passes { AreItsPasses service.now.plan service.now.queue passes.old.items }
     ensures passes { AreItsPasses service.now.plan service.now.queue passes.new.items }
 {
-    let act = |_place: usize, reader: &mut LiveReader<'_, '_, '_, I, E>| {
+    let act = |_place: usize, reader: &mut LiveReader<'_, '_, I>| {
         reader.ended = run_crew(
             rt,
             alloc,
@@ -66,7 +66,7 @@ fn run_all<
             outlet,
             &mut reader.operator,
             reader.input,
-            reader.errors,
+            errors,
         );
     };
     run_users_and_workers(
@@ -78,7 +78,7 @@ fn run_all<
         &act,
         slice::from_mut(reader),
     )?;
-    let kept = keep_rest(rt, alloc, service, records);
+    let kept = keep_rest(rt, alloc, service, records, errors);
     reader.ended?;
     kept
 }
@@ -89,7 +89,7 @@ fn serve_all<
     K: SharedRecord + Sync,
     I: BufRead + Send,
     O: SharedOutlet + Sync,
-    E: Write + Send,
+    N: Notices + Sync,
 >(
     rt: &R,
     alloc: Global,
@@ -99,7 +99,8 @@ fn serve_all<
     quantum: u16,
     records: &[K],
     outlet: &O,
-    reader: &mut LiveReader<'_, '_, '_, I, E>,
+    reader: &mut LiveReader<'_, '_, I>,
+    errors: &N,
 ) -> Result<Vec<UserPass>, LiveFailure>
     requires quantum { (1 ≤ quantum) × (quantum ≤ 4096) }
     requires passes { AreItsPasses service.now.plan service.now.queue passes.old.items }
@@ -116,24 +117,25 @@ fn serve_all<
         records,
         outlet,
         reader,
+        errors,
     )?;
     Ok(crew.end(alloc)?)
 }
 
 // Records what the domains answered since their last lines. All threads have ended. Of several records that aren't whole the
-// last is told.
-fn keep_rest<R: Wait, K: SharedRecord>(
+// last is told. Of a domain whose record can't be taken there is nothing to record.
+fn keep_rest<R: Wait, K: SharedRecord, N: Notices>(
     rt: &R,
     alloc: Global,
     service: &Service,
     records: &[K],
+    errors: &N,
 ) -> Result<(), LiveFailure> {
     let mut kept = Ok(());
     for (domain, record) in (0..service.plan().domains()).zip(records) {
-        match record.keep(rt, service, domain, false) {
-            Ok(()) => {}
-            Err(NotKept::Failed) => kept = Err(record.failure(rt, alloc)),
-            Err(NotKept::Memory) => return Err(LiveFailure::Memory),
+        let state = keep_and_tell(rt, alloc, service, domain, record, false, errors)?;
+        if state == RecordState::Unrecorded {
+            kept = Err(record.failure(rt, alloc));
         }
     }
     kept
@@ -145,7 +147,7 @@ fn serve_seated<
     K: SharedRecord + Sync,
     I: BufRead + Send,
     O: SharedOutlet + Sync,
-    E: Write + Send,
+    N: Notices + Sync,
 >(
     rt: &R,
     alloc: Global,
@@ -157,7 +159,7 @@ fn serve_seated<
     records: &[K],
     outlet: &O,
     input: &mut I,
-    errors: &mut E,
+    errors: &N,
 ) -> Result<Vec<UserPass>, LiveFailure>
     requires seat { IsItsOperator service.now seat }
     requires quantum { (1 ≤ quantum) × (quantum ≤ 4096) }
@@ -168,7 +170,6 @@ fn serve_seated<
     let mut reader = LiveReader {
         operator,
         input,
-        errors,
         ended: Ok(()),
     };
     serve_all(
@@ -181,6 +182,7 @@ fn serve_seated<
         records,
         outlet,
         &mut reader,
+        errors,
     )
 }
 
@@ -209,7 +211,7 @@ pub fn run_live<
     K: SharedRecord + Sync,
     I: BufRead + Send,
     O: SharedOutlet + Sync,
-    E: Write + Send,
+    N: Notices + Sync,
 >(
     rt: &R,
     alloc: Global,
@@ -218,7 +220,7 @@ pub fn run_live<
     records: &[K],
     outlet: &O,
     input: &mut I,
-    errors: &mut E,
+    errors: &N,
 ) -> Result<Closed, LiveFailure>
     requires { IsInRange settings.now }
     ensures domains { IfOk result (λ closed. AreDomainsOf histories.plan closed.domains.items) }

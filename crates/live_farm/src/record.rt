@@ -1,10 +1,24 @@
 //! The record of a domain, which threads share.
 use crate::failure::LiveFailure;
+use crate::notices::Notices;
+use crate::resuming::names_of;
 use domain_core::NoMemory;
 use farm_service::Service;
 use record_keeping::{DomainRecord, NotKept, RecordStore};
 use std::alloc::Global;
+use std::io;
 use std::sync::{Mutex, Wait};
+
+/// How it is with the record of a domain.
+#[derive(Clone, Copy, PartialEq, Eq)]
+pub enum RecordState {
+    /// What was told is recorded.
+    Kept,
+    /// Something isn't recorded, since it can't be written.
+    Unrecorded,
+    /// The record can't be taken, and the domain hasn't begun anew since.
+    Out,
+}
 
 // That a record isn't whole, with its place.
 fn failure_of<S: RecordStore>(record: &DomainRecord<S>, alloc: Global) -> LiveFailure {
@@ -25,8 +39,11 @@ pub trait SharedRecord {
         begins_anew: bool,
     ) -> Result<(), NotKept>;
 
-    /// Whether something wasn't recorded.
-    fn has_failed<R: Wait>(&self, rt: &R) -> bool;
+    /// How it is with the record.
+    fn state<R: Wait>(&self, rt: &R) -> RecordState;
+
+    /// As [`DomainRecord::path`].
+    fn path<R: Wait>(&self, rt: &R, alloc: Global) -> Result<Option<String>, NoMemory>;
 
     /// What the run says at its end of a record in which something is missing.
     fn failure<R: Wait>(&self, rt: &R, alloc: Global) -> LiveFailure;
@@ -43,11 +60,90 @@ impl<S: RecordStore> SharedRecord for Mutex<DomainRecord<S>> {
         self.lock(rt).keep(rt, service, domain, begins_anew)
     }
 
-    fn has_failed<R: Wait>(&self, rt: &R) -> bool {
-        self.lock(rt).has_failed()
+    fn state<R: Wait>(&self, rt: &R) -> RecordState {
+        let record = self.lock(rt);
+        if record.is_out() {
+            RecordState::Out
+        } else if record.has_failed() {
+            RecordState::Unrecorded
+        } else {
+            RecordState::Kept
+        }
+    }
+
+    fn path<R: Wait>(&self, rt: &R, alloc: Global) -> Result<Option<String>, NoMemory> {
+        self.lock(rt).path(alloc)
     }
 
     fn failure<R: Wait>(&self, rt: &R, alloc: Global) -> LiveFailure {
         failure_of(&self.lock(rt), alloc)
+    }
+}
+
+// Tells that the record of a domain can't be written, and why.
+fn tell_unwritten<R: Wait, K: SharedRecord, N: Notices>(
+    rt: &R,
+    alloc: Global,
+    service: &Service,
+    domain: u8,
+    record: &K,
+    error: &io::Error,
+    errors: &N,
+) -> Result<(), NoMemory> {
+    if let Some(path) = record.path(rt, alloc)? {
+        let names = names_of(alloc, service.plan(), domain)?;
+        let line = format!(in alloc;
+            "{path}: {error}: lines of {names} are answered record until it can be written\n"
+        )?;
+        errors.tell(rt, line.as_str());
+    }
+    Ok(())
+}
+
+// Tells that the record of a domain is written again.
+fn tell_written<R: Wait, K: SharedRecord, N: Notices>(
+    rt: &R,
+    alloc: Global,
+    record: &K,
+    errors: &N,
+) -> Result<(), NoMemory> {
+    if let Some(path) = record.path(rt, alloc)? {
+        let line = format!(in alloc; "{path}: it is written again, and nothing is missing\n")?;
+        errors.tell(rt, line.as_str());
+    }
+    Ok(())
+}
+
+/// Records what a domain answered by now, in the next record if its journal began anew; how it is with the record then. The
+/// operator is told when a record can't be written that was written before, and when it is written again.
+///
+/// # Errors
+///
+/// Want of memory.
+pub(crate) fn keep_and_tell<R: Wait, K: SharedRecord, N: Notices>(
+    rt: &R,
+    alloc: Global,
+    service: &Service,
+    domain: u8,
+    record: &K,
+    begins_anew: bool,
+    errors: &N,
+) -> Result<RecordState, NoMemory> {
+    let before = record.state(rt);
+    match record.keep(rt, service, domain, begins_anew) {
+        Ok(()) => {
+            if before == RecordState::Unrecorded {
+                tell_written(rt, alloc, record, errors)?;
+            }
+            Ok(RecordState::Kept)
+        }
+        Err(NotKept::Failed(error)) => {
+            if before != RecordState::Unrecorded {
+                tell_unwritten(rt, alloc, service, domain, record, &error, errors)?;
+            }
+            Ok(RecordState::Unrecorded)
+        }
+        Err(NotKept::Memory) => Err(NoMemory),
+        Err(NotKept::Out) => Ok(RecordState::Out),
     }
 }

@@ -1,17 +1,17 @@
 //! A domain's thread: it answers the lines that come to its mailbox.
-ghost use Rattle.std.specs.Prelude.{◌<◌, ◌⊎◌, length, IfOk, string_bytes};
-ghost use Rattle.live_farm.specs.Groups.{AnswersLetter, TellsUnrecorded};
+ghost use Rattle.std.specs.Prelude.{◌≡◌, ◌<◌, ◌⊎◌, false, length, IfOk, string_bytes};
+ghost use Rattle.live_farm.specs.Groups.{AllStay, AnswersLetter, TellsUnrecorded, may_be_answered};
 
 use crate::answering::answer_letter;
 use crate::group::DomainUsers;
 use crate::letter::{Letter, Matter};
 use crate::mailbox::Mailbox;
+use crate::notices::Notices;
 use crate::outlet::SharedOutlet;
-use crate::record::SharedRecord;
+use crate::record::{RecordState, SharedRecord, keep_and_tell};
 use crate::texts::{LiveAnswer, Why, error_answer};
 use domain_core::NoMemory;
 use live_lines::LiveRequest;
-use record_keeping::NotKept;
 use std::alloc::Global;
 use std::sync::atomic::{AtomicBool, AtomicU64, Ordering};
 use std::sync::{Mutex, Wait};
@@ -24,6 +24,9 @@ pub struct Station<'a> {
     group: Mutex<DomainUsers<'a>>,
     answered: Vec<AtomicU64>,
     out_of_memory: AtomicBool,
+    // How it is with its record: whether something isn't recorded, and whether the record can't be taken.
+    unrecorded: AtomicBool,
+    out: AtomicBool,
 }
 
 // It is dropped by one call.
@@ -34,6 +37,8 @@ impl Drop for Station<'_> {
             group: _,
             answered: _,
             out_of_memory: _,
+            unrecorded: _,
+            out: _,
         } = self;
     }
 }
@@ -47,6 +52,8 @@ impl<'a> Station<'a> {
             group: Mutex::new(group),
             answered,
             out_of_memory: AtomicBool::new(false),
+            unrecorded: AtomicBool::new(false),
+            out: AtomicBool::new(false),
         })
     }
 
@@ -63,6 +70,24 @@ impl<'a> Station<'a> {
         self.out_of_memory.load(Ordering::SeqCst)
     }
 
+    /// How it is with its record, as was noted last.
+    pub fn record_state(&self) -> RecordState {
+        if self.out.load(Ordering::SeqCst) {
+            RecordState::Out
+        } else if self.unrecorded.load(Ordering::SeqCst) {
+            RecordState::Unrecorded
+        } else {
+            RecordState::Kept
+        }
+    }
+
+    /// Notes how it is with its record.
+    pub fn note(&self, state: RecordState) {
+        self.out.store(state == RecordState::Out, Ordering::SeqCst);
+        self.unrecorded
+            .store(state == RecordState::Unrecorded, Ordering::SeqCst);
+    }
+
     /// The users, when the thread has ended.
     pub fn into_group(self) -> DomainUsers<'a> {
         let Station {
@@ -70,6 +95,8 @@ impl<'a> Station<'a> {
             group,
             answered: _,
             out_of_memory: _,
+            unrecorded: _,
+            out: _,
         } = self;
         group.into_inner()
     }
@@ -111,31 +138,91 @@ fn record_answer(
     }
 }
 
-// Answers a letter, and records what the domain answered by then before the answer is given to anybody. Once something wasn't
-// recorded nothing more is done.
-fn answer_and_keep<R: Wait, K: SharedRecord>(
-    rt: &R,
-    alloc: Global,
-    group: &mut DomainUsers<'_>,
-    letter: &Letter,
-    record: &K,
-) -> Result<LiveAnswer, NoMemory>
-    requires { letter.now.user < length group.old.sessions.items }
-    ensures { IfOk result (λ a. AnswersLetter group.old group.new letter.now a ⊎ TellsUnrecorded group.new letter.now (string_bytes a.text)) }
+// What a letter is answered, and what came of it.
+#[derive(Drop)]
+struct AnsweredLetter {
+    answer: LiveAnswer,
+    // Whether the domain was asked.
+    is_asked: bool,
+    state: RecordState,
+}
+
+// Whether a letter is answered, if it is so with the record.
+fn may_answer(state: RecordState, matter: &Matter) -> bool
+    ensures { result ≡ may_be_answered state matter.now }
 {
-    if record.has_failed(rt) {
-        return record_answer(alloc, group, letter);
-    }
-    let answer = answer_letter(rt, alloc, group, letter)?;
-    match record.keep(rt, group.service, group.domain, answer.begins_anew) {
-        Ok(()) => Ok(answer),
-        Err(NotKept::Failed) => record_answer(alloc, group, letter),
-        Err(NotKept::Memory) => Err(NoMemory),
+    match (state, matter) {
+        (RecordState::Kept, _) | (RecordState::Out, Matter::OperatorRestart) => true,
+        (RecordState::Unrecorded | RecordState::Out, _) => false,
     }
 }
 
-// Answers a letter, counts it, and writes the answer at once. Behind a line of a script the domain settles.
-fn serve_letter<R: Wait, K: SharedRecord, O: SharedOutlet>(
+// Answers a letter, and records what the domain answered by then before the answer is given to anybody. If it isn't so with the
+// record that it may be answered, the domain is asked nothing.
+fn answer_and_keep<R: Wait, K: SharedRecord, N: Notices>(
+    rt: &R,
+    alloc: Global,
+    state: RecordState,
+    group: &mut DomainUsers<'_>,
+    letter: &Letter,
+    record: &K,
+    errors: &N,
+) -> Result<AnsweredLetter, NoMemory>
+    requires { letter.now.user < length group.old.sessions.items }
+    ensures answer { IfOk result (λ a. AnswersLetter group.old group.new letter.now a.answer
+        ⊎ TellsUnrecorded group.new letter.now (string_bytes a.answer.text)) }
+    ensures not_asked { may_be_answered state letter.now.matter ≡ false
+        → IfOk result (λ a. AllStay group.old group.new × TellsUnrecorded group.new letter.now (string_bytes a.answer.text)) }
+{
+    if !may_answer(state, &letter.matter) {
+        return Ok(AnsweredLetter {
+            answer: record_answer(alloc, group, letter)?,
+            is_asked: false,
+            state,
+        });
+    }
+    let answer = answer_letter(rt, alloc, group, letter)?;
+    let state = keep_and_tell(
+        rt,
+        alloc,
+        group.service,
+        group.domain,
+        record,
+        answer.begins_anew,
+        errors,
+    )?;
+    let answer = if state == RecordState::Kept {
+        answer
+    } else {
+        record_answer(alloc, group, letter)?
+    };
+    Ok(AnsweredLetter {
+        answer,
+        is_asked: true,
+        state,
+    })
+}
+
+// How it is with the record of a domain before a letter is answered. What couldn't be written is tried once more.
+fn state_before<R: Wait, K: SharedRecord, N: Notices>(
+    rt: &R,
+    alloc: Global,
+    station: &Station<'_>,
+    group: &DomainUsers<'_>,
+    record: &K,
+    errors: &N,
+) -> Result<RecordState, NoMemory> {
+    match station.record_state() {
+        RecordState::Unrecorded => {
+            let service = group.service;
+            keep_and_tell(rt, alloc, service, group.domain, record, false, errors)
+        }
+        state => Ok(state),
+    }
+}
+
+// Answers a letter, counts it, and writes the answer at once. Behind a line of a script that was done the domain settles.
+fn serve_letter<R: Wait, K: SharedRecord, O: SharedOutlet, N: Notices>(
     rt: &R,
     alloc: Global,
     station: &Station<'_>,
@@ -143,49 +230,57 @@ fn serve_letter<R: Wait, K: SharedRecord, O: SharedOutlet>(
     letter: &Letter,
     record: &K,
     outlet: &O,
+    errors: &N,
 ) -> Result<(), NoMemory>
     requires { letter.now.user < length group.old.sessions.items }
 {
-    let answer = answer_and_keep(rt, alloc, group, letter, record)?;
+    let state = state_before(rt, alloc, station, group, record, errors)?;
+    let answered = answer_and_keep(rt, alloc, state, group, letter, record, errors)?;
+    station.note(answered.state);
     station.count(letter);
-    outlet.put_answer(rt, &answer);
+    outlet.put_answer(rt, &answered.answer);
     let user = usize::from(letter.user);
-    if matches!(letter.matter, Matter::Asked(LiveRequest::Script(_))) && user < group.users() {
+    if answered.is_asked
+        && matches!(letter.matter, Matter::Asked(LiveRequest::Script(_)))
+        && user < group.users()
+    {
         group.settle(rt, user)?;
     }
     Ok(())
 }
 
 // Takes the next letter and answers it; whether more may come. Once a write has failed nothing more is asked.
-fn serve_next<R: Wait, K: SharedRecord, O: SharedOutlet>(
+fn serve_next<R: Wait, K: SharedRecord, O: SharedOutlet, N: Notices>(
     rt: &R,
     alloc: Global,
     station: &Station<'_>,
     group: &mut DomainUsers<'_>,
     record: &K,
     outlet: &O,
+    errors: &N,
 ) -> Result<bool, NoMemory> {
     let Some(letter) = station.mailbox.take(rt) else {
         return Ok(false);
     };
     if usize::from(letter.user) < group.users() && !outlet.has_failed(rt) {
-        serve_letter(rt, alloc, station, group, &letter, record, outlet)?;
+        serve_letter(rt, alloc, station, group, &letter, record, outlet, errors)?;
     }
     Ok(true)
 }
 
 /// Answers letters, in their order, until the mailbox is closed and empty. Once a write has failed nothing more is asked. If
 /// there is no memory the thread says so and ends.
-pub fn serve<R: Wait, K: SharedRecord, O: SharedOutlet>(
+pub fn serve<R: Wait, K: SharedRecord, O: SharedOutlet, N: Notices>(
     rt: &R,
     alloc: Global,
     station: &Station<'_>,
     record: &K,
     outlet: &O,
+    errors: &N,
 ) {
     let mut group = station.group.lock(rt);
     for _ in rt.forever() {
-        match serve_next(rt, alloc, station, &mut group, record, outlet) {
+        match serve_next(rt, alloc, station, &mut group, record, outlet, errors) {
             Ok(true) => {}
             Ok(false) => break,
             Err(NoMemory) => {

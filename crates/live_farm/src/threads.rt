@@ -3,12 +3,13 @@
 use crate::crew::Crew;
 use crate::desk::Desk;
 use crate::failure::Trouble;
+use crate::notices::Notices;
 use crate::operator::Operator;
 use crate::outlet::SharedOutlet;
 use crate::record::SharedRecord;
 use crate::station::{Station, serve};
 use std::alloc::Global;
-use std::io::{BufRead, Write};
+use std::io::BufRead;
 use std::sync::Wait;
 use std::thread;
 use std::thread::Threads;
@@ -19,7 +20,7 @@ fn run_stations<
     K: SharedRecord + Sync,
     I: BufRead,
     O: SharedOutlet + Sync,
-    E: Write,
+    N: Notices + Sync,
 >(
     rt: &R,
     stations: &[Station<'_>],
@@ -28,14 +29,15 @@ fn run_stations<
     outlet: &O,
     operator: &mut Operator<'_>,
     input: &mut I,
-    errors: &mut E,
+    errors: &N,
 ) -> Result<(), Trouble> {
     let alloc = desk.alloc;
     thread::scope(thread::scope_env(), rt, |scope| {
         let mut started = true;
         for (station, record) in stations.iter().zip(records) {
+            station.note(record.state(rt));
             if scope
-                .spawn(move || serve(rt, alloc, station, record, outlet))
+                .spawn(move || serve(rt, alloc, station, record, outlet, errors))
                 .is_err()
             {
                 started = false;
@@ -54,14 +56,14 @@ fn run_stations<
     })
 }
 
-/// Answers all lines, each domain's with the record of its place, up to the end of the input, or until the operator stops. If a thread can't be started no line is read.
-/// All threads have ended when the call returns.
+/// Answers all lines, each domain's with the record of its place, up to the end of the input, or until the operator stops. If a thread can't
+/// be started no line is read. All threads have ended when the call returns.
 pub fn run_crew<
     R: Threads + Wait + Sync,
     K: SharedRecord + Sync,
     I: BufRead,
     O: SharedOutlet + Sync,
-    E: Write,
+    N: Notices + Sync,
 >(
     rt: &R,
     alloc: Global,
@@ -70,7 +72,7 @@ pub fn run_crew<
     outlet: &O,
     operator: &mut Operator<'_>,
     input: &mut I,
-    errors: &mut E,
+    errors: &N,
 ) -> Result<(), Trouble> {
     let desk = Desk { crew, alloc };
     run_stations(
