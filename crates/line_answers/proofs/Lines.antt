@@ -372,12 +372,11 @@ line_end c told gained s t (Err NoSuch) gains over fine = elim over [
   | inr unsettled ↦ inr unsettled
 ]
 line_end c told gained s t (Err JournalFull) gains over fine = elim over [
-  | inl ended ↦ inl
-      (
-        ended.0,
-        ended.1,
-        (subst (λ (v : SessionValue). IsTold v ended.0 (Err JournalFull)) gains.list ended.2, ended.3 refl),
-      )
+  | inl ended ↦ inl (
+    ended.0,
+    ended.1,
+    (subst (λ (v : SessionValue). IsTold v ended.0 (Err JournalFull)) gains.list ended.2, ended.3 refl),
+  )
   | inr unsettled ↦ inr unsettled
 ]
 line_end c told gained s t (Err NoMemory) gains over fine = absurd (fine refl)
