@@ -26,6 +26,39 @@ limit = 1099511627776
 memory = 4096
 links = [0, -1, -1, -1]
 """
+# The second of three domains has four users, a node and a host of his own for each: nodes at ports 0 to 3, hosts at 4 to 7.
+FOUR = ("bob", "cas", "dan", "eve")
+FOUR_PLAN = """version = 3
+
+[[domain]]
+user = [{ name = "ann", host = [7] }]
+range = [[0, 7]]
+limit = 1000000
+
+[[domain.node]]
+memory = 4096
+links = [0, -1, -1, -1]
+
+[[domain]]
+user = [{ name = "bob", host = [4] }, { name = "cas", host = [5] }, { name = "dan", host = [6] }, { name = "eve", host = [7] }]
+range = [[8, 15]]
+limit = 1000000
+node = [
+  { memory = 2048, links = [0, -1, -1, -1] },
+  { memory = 2048, links = [1, -1, -1, -1] },
+  { memory = 2048, links = [2, -1, -1, -1] },
+  { memory = 2048, links = [3, -1, -1, -1] },
+]
+
+[[domain]]
+user = [{ name = "fay", host = [1] }]
+range = [[16, 17]]
+limit = 1000000
+
+[[domain.node]]
+memory = 2048
+links = [0, -1, -1, -1]
+"""
 # bob's node, whose boot comes from his host: ajw 4, and j -2, two bytes that go round for ever.
 LOOP = ["config 01000703", "boot 0 b4600e"]
 # The same, but it ends after 2^24 rounds: ldc 16777216, stl 0, and then ldl 0, adc -1, stl 0, ldl 0, cj 2, j -8; stopp.
