@@ -201,6 +201,8 @@ class Folder:
         path = os.path.join(self.path, "lock")
         try:
             self.file = os.open(path, os.O_RDWR | os.O_CREAT | os.O_NOFOLLOW, 0o600)
+        except PermissionError:
+            raise
         except OSError as error:
             raise Refused(f"{path}: {error.strerror}: it is to be a file of serve's own, so remove it first") from None
         end = time.monotonic() + LOCK_SECONDS
