@@ -179,11 +179,11 @@ fn note_wrong(text: &mut TextWriter, file: &str, answered: &Answered, expected: 
     text.push("\n");
 }
 
-// Appends a text on which no terminal acts: what isn't printable is escaped.
+// Appends a text on which no terminal acts: what isn't printable is escaped, but for the line feeds of an answer of several lines.
 fn push_printable(text: &mut TextWriter, part: &str) {
     for letter in part.chars() {
         match letter {
-            '"' | '\'' | '\\' => text.push_letter(letter),
+            '"' | '\'' | '\\' | '\n' => text.push_letter(letter),
             _ => {
                 for piece in letter.escape_debug() {
                     text.push_letter(piece);
