@@ -274,7 +274,7 @@ def stop_ends_no_other_process(live, _):
             lock.truncate()
             lock.write(f"{other.lock(1)}\n")
         os.rename(f"{it.folder}/farm-2/operator.sock", f"{it.folder}/farm-2/operator")
-        wanted(it.must("stop"), "farm-1: off\nfarm-2: off, a signal has ended it while it began\n")
+        wanted(it.must("stop"), "farm-1: off\nfarm-2: off, ended by a signal\n")
         os.unlink(f"{it.folder}/farm-2/operator")
         wanted(re.split("  +", other.must("status").splitlines()[1])[5], "quiet")
     return "six numbers"
