@@ -297,5 +297,50 @@ def connections_wait(live, _):
     return f"{len(opened)} connections, ann's answers {took[50] * 1000:.1f} ms, at most {took[-1] * 1000:.1f} ms"
 
 
+def files_have_a_limit(live, _):
+    """A limit on the size of files is told as a record that can't be written, and ends nobody."""
+    with Served(live, plan_of_users(["ann", "bob"]), starts=False) as it:
+        # pylint: disable-next=consider-using-with
+        it.process = subprocess.Popen(["prlimit", "--fsize=20000", *it.call()], env=it.env, stdin=subprocess.DEVNULL,
+                                      stdout=subprocess.DEVNULL, stderr=subprocess.PIPE)
+        it.await_start()
+        ann, operator = it.client("ann"), it.client("operator")
+        while (answer := ann.ask("config " + "04" * 100)) == "config -":
+            pass
+        wanted(re.fullmatch(r"error \d+ record", answer) is not None, True)
+        must_say(operator.until("note: "), "ann.replay: File too large")
+        operator.say("users\n")
+        wanted([operator.until("!users ").split(" ")[5:] for _ in range(2)], [["quiet", "unrecorded"], ["quiet"]])
+        wanted(it.ask("bob", "look 0"), LOOKED)
+        it.stop()
+    return "20,000 bytes"
+
+
+def progress_is_told(live, _):
+    """While a long record is done again the sockets are there, and its user is told how far it is."""
+    with Served(live, plan_of_users(["ann", "bob"])) as it:
+        wanted(it.stop()[0], 0)
+        line = "0 look 0 @0 = booting overruns 0 0 0 0\n"
+        with open(f"{it.folder}/records/ann.replay", "a", encoding="utf-8") as file:
+            file.write(line * ((200 << 20) // len(line)))
+        starting = threading.Thread(target=it.start)
+        starting.start()
+        starting.join()
+        ann, bob = it.client("ann"), it.client("bob")
+        heard = [ann.hear() for _ in range(2)]
+        ann.say("look 0\n")
+        while heard[-1] != LOOKED:
+            heard.append(ann.hear())
+        wanted(heard[0], "note: the farm isn't up yet. Lines are answered when it is")
+        wanted([text for text in heard[1:-2] if not re.fullmatch(r"note: what your machine did is done again: \d+ of 200 MiB", text)],
+               [])
+        wanted(heard[-2:], ["note: the farm is up", LOOKED])
+        wanted([bob.hear() for _ in range(2)], [heard[0], "note: the farm is up"])
+        wanted(it.stop()[0], 0)
+    return f"{len(heard) - 3} times"
+
+
+# These take longer, or are about what other trials try too.
+LONG_ATTACKS = (files_have_a_limit, progress_is_told)
 ATTACKS = (numbers_are_no_groups, plans_are_kept, folders_of_others_are_refused, stops_stop, hung_farms_are_started_again,
            programs_come_back, nobody_need_read_reports, looking_takes_no_lock, reports_have_times, connections_wait)
