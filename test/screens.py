@@ -4,6 +4,7 @@ import os
 import pty
 import re
 import select
+import signal
 import struct
 import subprocess
 import termios
@@ -18,6 +19,13 @@ SECONDS = 20
 CONTROLS = re.compile(r"\x1b\[[?0-9;]*[a-zA-Z]|\x07")
 
 
+def at_terminal():
+    """Makes a process one that a person starts at a terminal: it has the terminal, and Ctrl-C reaches it, also if whoever runs
+    the trials passes over that."""
+    fcntl.ioctl(0, termios.TIOCSCTTY, 0)
+    signal.signal(signal.SIGINT, signal.SIG_DFL)
+
+
 class Screen:
     """A program, the keys that are pressed, and all that it has written by now."""
 
@@ -27,7 +35,7 @@ class Screen:
         # pylint: disable-next=consider-using-with,subprocess-popen-preexec-fn
         self.process = subprocess.Popen(call, stdin=other, stdout=other, stderr=other, start_new_session=True, cwd=folder,
                                         env={**os.environ, "TERM": "xterm", **variables},
-                                        preexec_fn=lambda: fcntl.ioctl(0, termios.TIOCSCTTY, 0))
+                                        preexec_fn=at_terminal)
         os.close(other)
         self.written, self.seen, self.has_ended = "", 0, False
 
