@@ -52,7 +52,8 @@ taken_text replies = behind_blank (decimal (length (filter is_written replies)))
 abbrev pub booted_text : List ℕ → List Reply → List ℕ
 booted_text code replies =
     if nat_lt (length code) 2 then codes " refused " ++ decimal (boot_fault_number TooShort)
-    else (if nat_lt 255 (length code) then codes " refused " ++ decimal (boot_fault_number TooLong) else taken_text replies)
+    else (if nat_lt 255 (length code) then codes " refused " ++ decimal (boot_fault_number TooLong)
+    else taken_text replies)
 
 -- ---- bytes of a host
 
@@ -108,5 +109,6 @@ outcome_text command replies (Err refusal) = behind_blank (unwrap_or (refusal_te
 -- the output line: the user's name, the verb, the number of a host or node, and what came of it
 abbrev pub line_text : {A : Type 0} → List ℕ → Command → List Reply → Result A Refusal → List ℕ
 line_text name command replies result =
-    name ++ behind_blank (name_of (verb_of command)) ++ option_map_or (λ place. behind_blank (decimal place)) (place_asked command) []
+    name ++ behind_blank (name_of (verb_of command))
+    ++ option_map_or (λ place. behind_blank (decimal place)) (place_asked command) []
     ++ outcome_text command replies result ++ codes "\n"

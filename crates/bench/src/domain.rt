@@ -108,48 +108,48 @@ fn opened(alloc: Global) -> Result<Plain, PlanFault> {
 }
 
 // Restarts the domain, and sends its switch the bytes.
-fn begin(domain: &mut Plain, bytes: &[u8]) -> Result<(), Refusal> {
+fn begin(alloc: Global, domain: &mut Plain, bytes: &[u8]) -> Result<(), Refusal> {
     domain.restart();
     for byte in bytes {
-        domain.apply(ANN, Event::Config(*byte))?;
+        domain.apply(alloc, ANN, Event::Config(*byte))?;
     }
     Ok(())
 }
 
 // Restarts the domain, and sends both nodes the bytes, each by its own host.
-fn load(domain: &mut Plain, bytes: &[u8]) -> Result<(), Refusal> {
-    begin(domain, &NODES_JOINED)?;
-    send(domain, bytes)
+fn load(alloc: Global, domain: &mut Plain, bytes: &[u8]) -> Result<(), Refusal> {
+    begin(alloc, domain, &NODES_JOINED)?;
+    send(alloc, domain, bytes)
 }
 
 // Sends both nodes the bytes, each by its own host.
-fn send(domain: &mut Plain, bytes: &[u8]) -> Result<(), Refusal> {
+fn send(alloc: Global, domain: &mut Plain, bytes: &[u8]) -> Result<(), Refusal> {
     for byte in bytes {
-        domain.apply(ANN, Event::Write(0, *byte))?;
-        domain.apply(ANN, Event::Write(1, *byte))?;
+        domain.apply(alloc, ANN, Event::Write(0, *byte))?;
+        domain.apply(alloc, ANN, Event::Write(1, *byte))?;
         for port in [3, 2] {
-            domain.apply(By::Farm, Event::Move(port))?;
+            domain.apply(alloc, By::Farm, Event::Move(port))?;
         }
         for node in 0..2 {
-            domain.apply(By::Farm, Event::Step(node))?;
+            domain.apply(alloc, By::Farm, Event::Step(node))?;
         }
         for port in 0..2 {
-            domain.apply(By::Farm, Event::Move(port))?;
+            domain.apply(alloc, By::Farm, Event::Move(port))?;
         }
     }
     Ok(())
 }
 
 // Restarts the domain, writes node 1's last word, and lets both nodes loop.
-fn load_used(domain: &mut Plain) -> Result<(), Refusal> {
-    load(domain, &LAST_WORD_POKED)?;
-    send(domain, &LOOP)
+fn load_used(alloc: Global, domain: &mut Plain) -> Result<(), Refusal> {
+    load(alloc, domain, &LAST_WORD_POKED)?;
+    send(alloc, domain, &LOOP)
 }
 
 // Steps node 0 until a Step doesn't run, at most so many times; how many ran.
-fn steps(domain: &mut Plain, count: u64) -> u64 {
+fn steps(alloc: Global, domain: &mut Plain, count: u64) -> u64 {
     for done in 0..count {
-        let answer = domain.apply(By::Farm, Event::Step(0));
+        let answer = domain.apply(alloc, By::Farm, Event::Step(0));
         if !matches!(answer, Ok(Reply::Stepped(Stepped::Ran))) {
             return done;
         }
@@ -158,28 +158,31 @@ fn steps(domain: &mut Plain, count: u64) -> u64 {
 }
 
 // Moves the packet that waits at a port; whether it passed.
-fn passes(domain: &mut Plain, port: u8) -> bool {
-    let answer = domain.apply(By::Farm, Event::Move(port));
+fn passes(alloc: Global, domain: &mut Plain, port: u8) -> bool {
+    let answer = domain.apply(alloc, By::Farm, Event::Move(port));
     matches!(answer, Ok(Reply::Moved(Moved::Passed)))
 }
 
 // Sends a byte from host 0 to host 1, and its acknowledge back; whether it came.
-fn ping(domain: &mut Plain, byte: u8) -> bool {
-    let written = domain.apply(ANN, Event::Write(0, byte));
-    if !matches!(written, Ok(Reply::Written)) || !passes(domain, 3) || !passes(domain, 2) {
+fn ping(alloc: Global, domain: &mut Plain, byte: u8) -> bool {
+    let written = domain.apply(alloc, ANN, Event::Write(0, byte));
+    if !matches!(written, Ok(Reply::Written))
+        || !passes(alloc, domain, 3)
+        || !passes(alloc, domain, 2)
+    {
         return false;
     }
-    let read = domain.apply(ANN, Event::Read(1));
+    let read = domain.apply(alloc, ANN, Event::Read(1));
     matches!(read, Ok(Reply::Read(Some(came))) if came == byte)
 }
 
 // Pings until a byte doesn't come, at most so many times; how many came.
-fn pings(domain: &mut Plain, count: u64) -> Result<u64, Refusal> {
+fn pings(alloc: Global, domain: &mut Plain, count: u64) -> Result<u64, Refusal> {
     for done in 0..count {
         if done % ROUNDS == 0 {
-            begin(domain, &HOSTS_JOINED)?;
+            begin(alloc, domain, &HOSTS_JOINED)?;
         }
-        if !ping(domain, (done % 256) as u8) {
+        if !ping(alloc, domain, (done % 256) as u8) {
             return Ok(done);
         }
     }
@@ -187,24 +190,24 @@ fn pings(domain: &mut Plain, count: u64) -> Result<u64, Refusal> {
 }
 
 // Connects input 2 to output 5, and enquires it; whether that is answered.
-fn is_connected(domain: &mut Plain) -> bool {
+fn is_connected(alloc: Global, domain: &mut Plain) -> bool {
     for byte in [0, 2, 5, 2] {
-        let answer = domain.apply(ANN, Event::Config(byte));
+        let answer = domain.apply(alloc, ANN, Event::Config(byte));
         if !matches!(answer, Ok(Reply::Config(ConfigReply::Nothing))) {
             return false;
         }
     }
-    let answer = domain.apply(ANN, Event::Config(5));
+    let answer = domain.apply(alloc, ANN, Event::Config(5));
     matches!(answer, Ok(Reply::Config(ConfigReply::Answer(0x82))))
 }
 
 // Rounds of five configuration bytes, at most so many; how many were answered.
-fn configs(domain: &mut Plain, count: u64) -> Result<u64, Refusal> {
+fn configs(alloc: Global, domain: &mut Plain, count: u64) -> Result<u64, Refusal> {
     for done in 0..count {
         if done % ROUNDS == 0 {
-            begin(domain, &[])?;
+            begin(alloc, domain, &[])?;
         }
-        if !is_connected(domain) {
+        if !is_connected(alloc, domain) {
             return Ok(done);
         }
     }
@@ -212,9 +215,9 @@ fn configs(domain: &mut Plain, count: u64) -> Result<u64, Refusal> {
 }
 
 // Tickets of a node that are dropped at once.
-fn checkouts(domain: &Plain, node: u8, count: u64) -> Result<u64, Refusal> {
+fn checkouts(alloc: Global, domain: &Plain, node: u8, count: u64) -> Result<u64, Refusal> {
     for done in 0..count {
-        let ticket = domain.checkout(0, node)?;
+        let ticket = domain.checkout(alloc, 0, node)?;
         if ticket.number() != node {
             return Ok(done);
         }
@@ -223,14 +226,14 @@ fn checkouts(domain: &Plain, node: u8, count: u64) -> Result<u64, Refusal> {
 }
 
 // Tickets of a node that do Steps and are committed, until one doesn't do them all; how many did.
-fn turns(domain: &mut Plain, node: u8, count: u64) -> Result<u64, Refusal> {
+fn turns(alloc: Global, domain: &mut Plain, node: u8, count: u64) -> Result<u64, Refusal> {
     for done in 0..count {
-        let mut ticket = domain.checkout(0, node)?;
+        let mut ticket = domain.checkout(alloc, 0, node)?;
         ticket.burst(QUANTUM);
         if ticket.steps() != QUANTUM {
             return Ok(done);
         }
-        if domain.commit(ticket)? != Committed::Done {
+        if domain.commit(alloc, ticket)? != Committed::Done {
             return Ok(done);
         }
     }
@@ -238,29 +241,29 @@ fn turns(domain: &mut Plain, node: u8, count: u64) -> Result<u64, Refusal> {
 }
 
 // Does so many rounds of a work, in a domain that is restarted for it; how many were done.
-fn done(domain: &mut Plain, work: TimedWork, count: u64) -> Result<u64, Refusal> {
+fn done(alloc: Global, domain: &mut Plain, work: TimedWork, count: u64) -> Result<u64, Refusal> {
     match work {
-        TimedWork::Pings => pings(domain, count),
-        TimedWork::Configs => configs(domain, count),
+        TimedWork::Pings => pings(alloc, domain, count),
+        TimedWork::Configs => configs(alloc, domain, count),
         TimedWork::Steps => {
-            load(domain, &LOOP)?;
-            Ok(steps(domain, count))
+            load(alloc, domain, &LOOP)?;
+            Ok(steps(alloc, domain, count))
         }
         TimedWork::Checkouts(node) => {
-            load(domain, &LOOP)?;
-            checkouts(domain, node, count)
+            load(alloc, domain, &LOOP)?;
+            checkouts(alloc, domain, node, count)
         }
         TimedWork::Turns(node) => {
-            load(domain, &LOOP)?;
-            turns(domain, node, count)
+            load(alloc, domain, &LOOP)?;
+            turns(alloc, domain, node, count)
         }
         TimedWork::CheckoutsUsed => {
-            load_used(domain)?;
-            checkouts(domain, 1, count)
+            load_used(alloc, domain)?;
+            checkouts(alloc, domain, 1, count)
         }
         TimedWork::TurnsUsed => {
-            load_used(domain)?;
-            turns(domain, 1, count)
+            load_used(alloc, domain)?;
+            turns(alloc, domain, 1, count)
         }
     }
 }
@@ -268,20 +271,26 @@ fn done(domain: &mut Plain, work: TimedWork, count: u64) -> Result<u64, Refusal>
 // The same, with the name of the work and how many rounds were done.
 fn print_done(
     rt: &impl Print,
+    alloc: Global,
     domain: &mut Plain,
     name: &str,
     work: TimedWork,
     count: u64,
 ) -> io::Result<()> {
-    let done = done(domain, work, count).map_err(refused)?;
+    let done = done(alloc, domain, work, count).map_err(refused)?;
     println!(rt; "{name}: {done}")
 }
 
 // Does COUNT rounds of each of those that are asked for, on this domain.
-fn measure_on(rt: &impl Print, domain: &mut Plain, selection: Selection<'_>) -> io::Result<()> {
+fn measure_on(
+    rt: &impl Print,
+    alloc: Global,
+    domain: &mut Plain,
+    selection: Selection<'_>,
+) -> io::Result<()> {
     for (name, work) in WORKS {
         if selection.runs(name) {
-            print_done(rt, domain, name, work, selection.count)?;
+            print_done(rt, alloc, domain, name, work, selection.count)?;
         }
     }
     Ok(())
@@ -290,5 +299,5 @@ fn measure_on(rt: &impl Print, domain: &mut Plain, selection: Selection<'_>) -> 
 /// Does COUNT rounds of each of those that are asked for.
 pub fn measure(rt: &impl Print, alloc: Global, selection: Selection<'_>) -> io::Result<()> {
     let mut domain = opened(alloc).map_err(failed)?;
-    measure_on(rt, &mut domain, selection)
+    measure_on(rt, alloc, &mut domain, selection)
 }

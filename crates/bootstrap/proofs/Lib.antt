@@ -1,5 +1,9 @@
 pub mod Before
+pub mod Boots
 pub mod Counting
+pub mod Delivering
+pub mod Pokes
 pub mod Resting
 pub mod Running
 pub mod Sizes
+pub mod Stored

@@ -4,7 +4,7 @@ use Rattle.std.proofs.Common.{Option, Some, None, if◌then◌else◌, refl, ◌
 use Rattle.node_memory.specs.declared.fault.Fault.{Fault}
 use Rattle.node_memory.specs.Effect as effect
 use Rattle.node_memory.specs.Marks.{not_process}
-use Rattle.node_memory.specs.Queue.{after_take}
+use Rattle.process_queue.specs.Queue.{after_take}
 use Rattle.link_channels.specs.declared.link.FourLinks.{FourLinks}
 use Rattle.link_channels.specs.declared.number.LinkNumber.{LinkNumber}
 use Rattle.link_channels.specs.Links.{at, any_has_work}

@@ -7,8 +7,8 @@ use Rattle.node_memory.specs.Marks.{not_process}
 use Rattle.node_memory.specs.Words.{◌⊕◌}
 use Rattle.node_memory.specs.declared.fault.Fault.{Fault}
 use Rattle.node_memory.specs.Laws.{WordKeepsTheSize, ByteKeepsTheSize, CopyKeepsTheSize}
-use Rattle.node_memory.specs.declared.queue.Queue.{Queue}
-use Rattle.node_memory.specs.Queue.{after_put, after_take}
+use Rattle.process_queue.specs.declared.queue.Queue.{Queue}
+use Rattle.process_queue.specs.Queue.{after_put, after_take}
 use Rattle.link_channels.specs.declared.link.Link.{Link}
 use Rattle.link_channels.specs.declared.link.FourLinks.{FourLinks}
 use Rattle.link_channels.specs.declared.number.LinkNumber.{LinkNumber}

@@ -14,7 +14,8 @@ QuietStepChangesNothing = (n : Node) → is_quiet n ≡ true → (node_step n).0
 
 -- a fault leaves a node that has halted by it
 abbrev pub FaultHalts : Type 0
-FaultHalts = (n : Node) (fault : Fault) → (node_step n).1 ≡ code.Fault fault → (node_step n).0.state ≡ Halted fault
+FaultHalts =
+    (n : Node) (fault : Fault) → (node_step n).1 ≡ code.Fault fault → (node_step n).0.state ≡ Halted fault
 
 -- a Step that isn't quiet is recorded
 abbrev pub BusyStepIsRecorded : Type 0
@@ -22,7 +23,9 @@ BusyStepIsRecorded = (n : Node) → is_quiet n ≡ false → is_step_recorded n 
 
 -- a recorded Step that leaves a node whose next Step is recorded too answered Ran
 abbrev pub RecordedStepRan : Type 0
-RecordedStepRan = (n : Node) → is_step_recorded n ≡ true → is_step_recorded (node_step n).0 ≡ true → (node_step n).1 ≡ code.Ran
+RecordedStepRan =
+    (n : Node) → is_step_recorded n ≡ true → is_step_recorded (node_step n).0 ≡ true
+    → (node_step n).1 ≡ code.Ran
 
 -- the last answer of later Steps, or of those before them if there are no later ones
 abbrev pub later_or : Option Stepped → Option Stepped → Option Stepped
@@ -35,7 +38,9 @@ StepsAddUp = (x y z : Node) (j k : ℕ) → IsAfter x j y → IsAfter y k z → 
 
 -- the last answer of j + k Steps is that of the k later ones, or else that of the j before
 abbrev pub LastAnswersAddUp : Type 0
-LastAnswersAddUp = (x y : Node) (j k : ℕ) → IsAfter x j y → last_answer (j + k) x ≡ later_or (last_answer k y) (last_answer j x)
+LastAnswersAddUp =
+    (x y : Node) (j k : ℕ) → IsAfter x j y
+    → last_answer (j + k) x ≡ later_or (last_answer k y) (last_answer j x)
 
 -- no Step changes how many bytes memory has
 abbrev pub StepKeepsTheSize : Type 0

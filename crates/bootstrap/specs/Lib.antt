@@ -6,6 +6,7 @@ pub mod Seen
 pub mod Messages
 pub mod Steps
 pub mod Laws
+pub mod LinkNumbers
+pub mod Delivered
 -- what only helps contracts
 pub mod Examined
-pub mod LinkNumbers

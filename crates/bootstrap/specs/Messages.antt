@@ -1,5 +1,5 @@
 -- The messages to a node that boots. Transputer Reference Manual, bootstrapping, peek and poke.
-use Rattle.std.specs.Prelude.{◌≡◌, ℕ, ◌/◌, ◌%◌, ◌^◌, ◌<◌, ◌≤◌, List, [], ◌∷◌, length, Result, Ok, Err, Vec}
+use Rattle.std.specs.Prelude.{◌≡◌, ℕ, ◌/◌, ◌%◌, ◌^◌, ◌<◌, ◌≤◌, List, [], ◌∷◌, ◌++◌, length, Result, Ok, Err, Vec}
 use Rattle.std.specs.declared.alloc.Global.{Global}
 use Rattle.bootstrap.specs.declared.messages.BootFault.{BootFault}
 use Rattle.bootstrap.specs.declared.messages.BootFault.TheVariants.{TooShort, TooLong, NoMemory}
@@ -8,9 +8,17 @@ use Rattle.bootstrap.specs.declared.messages.BootFault.TheVariants.{TooShort, To
 abbrev pub bytes_of_word : ℕ → List ℕ
 bytes_of_word w = w % 2 ^ 8 ∷ w / 2 ^ 8 % 2 ^ 8 ∷ w / 2 ^ 16 % 2 ^ 8 ∷ w / 2 ^ 24 % 2 ^ 8 ∷ []
 
--- a message is the length and the code, and a refusal has its cause
+-- the message that stores a word at an address: 0, the address and the word
+abbrev pub poke_bytes : ℕ → ℕ → List ℕ
+poke_bytes address word = 0 ∷ bytes_of_word address ++ bytes_of_word word
+
+-- the message that loads code and runs it: the length, and the code
+abbrev pub boot_bytes : List ℕ → List ℕ
+boot_bytes code = length code ∷ code
+
+-- code of 2 to 255 bytes has its message, and a refusal has its cause
 abbrev pub booted : Result (Vec ℕ Global) BootFault → List ℕ → Type 0
-booted (Ok message) code = (message.items ≡ length code ∷ code) × ((2 ≤ length code) × (length code ≤ 255))
+booted (Ok message) code = (message.items ≡ boot_bytes code) × ((2 ≤ length code) × (length code ≤ 255))
 booted (Err TooShort) code = length code < 2
 booted (Err TooLong) code = 255 < length code
 booted (Err NoMemory) code = (2 ≤ length code) × (length code ≤ 255)

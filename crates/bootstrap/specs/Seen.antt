@@ -20,7 +20,8 @@ activity_of (Halted fault) = activity.Halted fault
 -- how many bytes each link has dropped, links in their order
 abbrev pub overruns_of : FourLinks → List ℕ
 overruns_of ls =
-    ls.zero.end.input.overruns ∷ ls.one.end.input.overruns ∷ ls.two.end.input.overruns ∷ ls.three.end.input.overruns ∷ []
+    ls.zero.end.input.overruns ∷ ls.one.end.input.overruns ∷ ls.two.end.input.overruns
+    ∷ ls.three.end.input.overruns ∷ []
 
 -- what a look shows of a node
 abbrev pub seen : Node → Seen

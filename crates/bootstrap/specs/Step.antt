@@ -50,7 +50,8 @@ abbrev pub poked : ℕ → ℕ → ℕ → ℕ → LinkNumber → Node → Node
 poked left address word byte link n =
     if nat_lt 4 left then record n { state = Takes link (Poke (left - 1) (shifted_down byte address) word) }
     else (if nat_lt 1 left then record n { state = Takes link (Poke (left - 1) address (shifted_down byte word)) }
-    else record n { memory = or_kept (with_word n.memory address (shifted_down byte word)) n.memory; state = WantsControl })
+    else record n
+    { memory = or_kept (with_word n.memory address (shifted_down byte word)) n.memory; state = WantsControl })
 
 -- a peek gets a byte of its address: with the last the word is read and its first byte posted
 abbrev pub peeked : ℕ → ℕ → ℕ → LinkNumber → Node → Node
@@ -67,7 +68,8 @@ loaded_to left end link m n =
 
 -- a load gets a byte, which is stored
 abbrev pub loaded : ℕ → ℕ → ℕ → LinkNumber → Node → Node
-loaded left address byte link n = loaded_to left (address ⊕ 1) link (or_kept (with_byte n.memory address byte) n.memory) n
+loaded left address byte link n =
+    loaded_to left (address ⊕ 1) link (or_kept (with_byte n.memory address byte) n.memory) n
 
 -- a task gets a byte
 abbrev pub given : Task → ℕ → LinkNumber → Node → Node

@@ -7,7 +7,8 @@ ghost use Rattle.bootstrap.specs.Boot.{or_kept, freed, begun, shifted_down};
 use crate::node::Node;
 use crate::state::{NodeState, Task};
 use link_channels::LinkNumber;
-use node_memory::{MEMORY_START, Memory, NOT_PROCESS};
+use node_memory::{MEMORY_START, Memory};
+use process_queue::NOT_PROCESS;
 use t414_step::{Cpu, Stepped};
 
 /// MemStart, where code is loaded: the first word that isn't the processor's own. T414 data sheet, memory map.

@@ -8,6 +8,7 @@ mod burst;
 mod examined;
 mod laws;
 mod link_numbers;
+mod message_laws;
 mod messages;
 mod node;
 mod seen;
@@ -20,6 +21,7 @@ pub use crate::laws::{
     fault_halts, quiet_step_changes_nothing, recorded_step_ran, steps_add_up, steps_keep_the_size,
 };
 pub use crate::link_numbers::{link_of, number_of};
+pub use crate::message_laws::{boot_loads_the_code, poke_stores_the_word};
 pub use crate::messages::{BootFault, boot_message, peek_message, poke_message, word_of};
 pub use crate::node::Node;
 pub use crate::seen::{Activity, Seen};

@@ -1,8 +1,8 @@
 //! The messages to a node that boots.
 
-ghost use Rattle.std.specs.Prelude.{◌≡◌, ◌∷◌, ◌++◌};
+ghost use Rattle.std.specs.Prelude.{◌≡◌, ◌∷◌};
 ghost use Rattle.node_memory.specs.Bytes.{word_from};
-ghost use Rattle.bootstrap.specs.Messages.{bytes_of_word, booted, boot_fault_number};
+ghost use Rattle.bootstrap.specs.Messages.{bytes_of_word, poke_bytes, booted, boot_fault_number};
 
 use std::alloc::Global;
 use thiserror::Error;
@@ -60,7 +60,7 @@ pub fn peek_message(address: u32) -> [u8; 5]
 ///
 /// Source: Transputer Reference Manual, poke.
 pub fn poke_message(address: u32, word: u32) -> [u8; 9]
-    ensures answer { result ≡ 0 ∷ bytes_of_word address ++ bytes_of_word word }
+    ensures answer { result ≡ poke_bytes address word }
 {
     let [a, b, c, d] = bytes_of(address);
     let [e, f, g, h] = bytes_of(word);

@@ -56,11 +56,11 @@ impl Node {
     }
 
     /// An equal node. `NoMemory` where its memory can't be allocated.
-    pub fn copy(&self) -> Result<Node, NoMemory>
+    pub fn copy(&self, alloc: Global) -> Result<Node, NoMemory>
         ensures answer { IfOk result (λ node. node ≡ self.now) }
     {
         Ok(Node {
-            memory: self.memory.copy()?,
+            memory: self.memory.copy(alloc)?,
             links: self.links.copy(),
             state: self.state,
         })
@@ -82,7 +82,7 @@ impl Node {
     }
 
     /// Whether two nodes are equal, whatever led to them.
-    pub fn equals(&self, other: &Node) -> bool
+    pub fn same(&self, other: &Node) -> bool
         ensures equal { IsTrue result → self.now ≡ other.now }
         ensures different { self.now ≡ other.now → IsTrue result }
     {

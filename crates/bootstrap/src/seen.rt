@@ -4,7 +4,8 @@ ghost use Rattle.std.specs.Prelude.{◌≡◌};
 
 use crate::node::Node;
 use crate::state::NodeState;
-use node_memory::{Fault, NOT_PROCESS};
+use node_memory::Fault;
+use process_queue::NOT_PROCESS;
 
 /// What a node is seen to do.
 #[derive(Clone, Copy, PartialEq, Eq)]

@@ -4,7 +4,7 @@ ghost use Rattle.std.specs.Prelude.{◌≡◌, None};
 
 use crate::node::Node;
 use crate::state::{NodeState, Task};
-use node_memory::NOT_PROCESS;
+use process_queue::NOT_PROCESS;
 use t414_step::{Stepped, idle_where_it_rests, step};
 
 impl Node {

@@ -1,7 +1,6 @@
 -- words and the switch that they say
 pub mod Below
 pub mod Words
-mod Counting
 pub mod Switching
 -- ports and their numbers
 pub mod Numberings

@@ -1,5 +1,5 @@
 -- What the operations leave of a row.
-use Rattle.std.specs.Prelude.{ℕ, zero, suc, true, false, List, [], ◌∷◌, Option, Some, slice_index, slice_set}
+use Rattle.std.specs.Prelude.{ℕ, zero, suc, true, List, [], ◌∷◌, Option, slice_set}
 use Rattle.std.specs.Option.{option_map}
 use Rattle.crossbar.specs.declared.word.Word.{Word}
 use Rattle.crossbar.specs.declared.word.Connection.{Connection}
@@ -28,10 +28,6 @@ row_with row output word = record row { words = slice_set row.words output word 
 -- the row once this is set at an output
 abbrev pub row_after : Row → ℕ → Option Connection → Row
 row_after row output connection = record row { words = words_after row.words output connection }
-
--- the row once a virtual input drives an output, which isn't ready
-abbrev pub row_connected : Row → ℕ → ℕ → Row
-row_connected row input output = row_after row output (Some (record { input = slice_index row.ports input; ready = false }))
 
 -- the row once each connection is changed so
 abbrev pub row_each : (Option Connection → Option Connection) → Row → Row

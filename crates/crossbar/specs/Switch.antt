@@ -23,14 +23,6 @@ connected s input output = record { pairs = map.insert s.pairs output input; rea
 abbrev pub disconnected : Switch → ℕ → Switch
 disconnected s output = record { pairs = map.remove s.pairs output; ready = set.remove s.ready output }
 
--- two links are connected in both directions: configuration message 1
-abbrev pub both_ways : Switch → ℕ → ℕ → Switch
-both_ways s first second = connected (connected s first second) second first
-
--- nothing drives the outputs of two links: configuration message 6
-abbrev pub both_freed : Switch → ℕ → ℕ → Switch
-both_freed s first second = disconnected (disconnected s first) second
-
 -- each connected output is ready: configuration message 3
 abbrev pub all_ready : Switch → Switch
 all_ready s = record { pairs = s.pairs; ready = set.from_list (map.keys s.pairs) }

@@ -38,9 +38,11 @@ SaysOther old new = new.bits % 256 ≢ old.bits % 256
 -- the count is greater, or the words are one, or both counts stay at the greatest
 abbrev pub IsAtLeastAsNew : Word → Word → Type 0
 IsAtLeastAsNew new old =
-    (changes_of old < changes_of new) ⊎ (new ≡ old) ⊎ ((changes_of new ≡ most_changes) × (changes_of old ≡ most_changes))
+    (changes_of old < changes_of new) ⊎ (new ≡ old)
+    ⊎ ((changes_of new ≡ most_changes) × (changes_of old ≡ most_changes))
 
 -- if bits 0 to 7 change the count rises by one up to the greatest, and else the word stays
 abbrev pub CountsChange : Word → Word → Type 0
 CountsChange old new =
-    MatchBool (old.bits % 256 == new.bits % 256) (new ≡ old) (changes_of new ≡ min (changes_of old + 1) most_changes)
+    MatchBool (old.bits % 256 == new.bits % 256) (new ≡ old)
+    (changes_of new ≡ min (changes_of old + 1) most_changes)

@@ -1,10 +1,20 @@
 //! Laws of private switches, of the numbers of ports and of rows of words.
-ghost use Rattle.crossbar.specs.Laws.{SwitchLaws, ClearedIsPrivate, UnchangedCountsNothing, NumberingsAreFew, RowTakesAWord, UnusedIsCleared, WordsAreASwitch};
+ghost use Rattle.crossbar.specs.Laws.{SwitchLaws, InputsHaveNumbers, BothCountOnce, ClearedIsPrivate, UnchangedCountsNothing, NumberingsAreFew, RowTakesAWord, UnusedIsCleared, WordsAreASwitch};
 
 /// What a private switch says of its outputs, and whose number a port has.
 pub fn switches_say_their_words()
     ensures laws { SwitchLaws }
     ensures cleared { ClearedIsPrivate }
+{}
+
+/// What a private switch says of physical inputs, which have numbers there.
+pub fn inputs_have_numbers()
+    ensures { InputsHaveNumbers }
+{}
+
+/// Two outputs that are set count their changes once each.
+pub fn both_count_once()
+    ensures { BothCountOnce }
 {}
 
 /// Words that stay count no change.

@@ -1,12 +1,12 @@
 //! What a switch does to the words of outputs.
-ghost use Rattle.std.specs.Prelude.{◌≡◌, ◌<◌, ℕ, ◌&&◌, ◌==◌, if◌then◌else◌, length, IfSome};
+ghost use Rattle.std.specs.Prelude.{◌≡◌, ◌<◌, ℕ, ◌&&◌, ◌==◌, if◌then◌else◌, length, Contains, Some, false};
 ghost use Rattle.std.specs.Int.{bit_at};
 ghost use Rattle.std.specs.FinMap as pairs;
 ghost use Rattle.std.specs.FinSet as ready;
 ghost use Rattle.crossbar.specs.Kept.{IsKept};
 ghost use Rattle.crossbar.specs.Row.{IsRow, InputIsIn, switch_of, private_switch, input_of, is_ready};
-ghost use Rattle.crossbar.specs.Changed.{row_after, row_connected, row_each, ready_of};
-ghost use Rattle.crossbar.specs.Switch.{connected, both_ways, disconnected, both_freed, all_ready, cleared, drives, names};
+ghost use Rattle.crossbar.specs.Changed.{row_after, row_each, ready_of};
+ghost use Rattle.crossbar.specs.Switch.{connected, disconnected, all_ready, cleared, drives, names};
 ghost use Rattle.crossbar.specs.Word.{connection_of};
 
 use crate::outputs::Outputs;
@@ -26,16 +26,17 @@ fn set<O: Outputs>(outputs: &mut O, output: u8, connection: Option<Connection>)
     }
 }
 
-/// Connects an input to an output, both by their virtual numbers, in place of what drove it. The
-/// output isn't ready. No other output changes (IMS C004 data sheet, configuration message 0).
-pub fn connect<O: Outputs>(outputs: &mut O, input: u8, output: u8)
-    requires input { input < length (O.seen outputs.old).ports }
+/// Connects a physical input to an output in place of what drove it. The output isn't ready. No other
+/// output changes (IMS C004 data sheet, configuration message 0).
+///
+/// The input is one of the outputs' ports (condition).
+pub fn connect<O: Outputs>(outputs: &mut O, port: u8, output: u8)
+    requires input { Contains (O.seen outputs.old).ports port }
     requires output { output < length (O.seen outputs.old).ports }
-    ensures words { O.seen outputs.new ≡ row_connected (O.seen outputs.old) input output }
-    ensures switch { private_switch (O.seen outputs.new) ≡ connected (private_switch (O.seen outputs.old)) input output }
+    ensures words { O.seen outputs.new ≡ row_after (O.seen outputs.old) output (Some (record { input = port; ready = false })) }
+    ensures switch { switch_of (O.seen outputs.new).words ≡ connected (switch_of (O.seen outputs.old).words) port output }
     ensures kept { IsKept (O.seen outputs.old) (O.seen outputs.new) }
 {
-    let port = outputs.physical(input);
     set(
         outputs,
         output,
@@ -44,18 +45,6 @@ pub fn connect<O: Outputs>(outputs: &mut O, input: u8, output: u8)
             ready: false,
         }),
     );
-}
-
-/// Connects two links in both directions (IMS C004 data sheet, configuration message 1).
-pub fn connect_both<O: Outputs>(outputs: &mut O, first: u8, second: u8)
-    requires first { first < length (O.seen outputs.old).ports }
-    requires second { second < length (O.seen outputs.old).ports }
-    ensures words { O.seen outputs.new ≡ row_connected (row_connected (O.seen outputs.old) first second) second first }
-    ensures switch { private_switch (O.seen outputs.new) ≡ both_ways (private_switch (O.seen outputs.old)) first second }
-    ensures kept { IsKept (O.seen outputs.old) (O.seen outputs.new) }
-{
-    connect(outputs, first, second);
-    connect(outputs, second, first);
 }
 
 /// Disconnects the output, and no other (IMS C004 data sheet, configuration message 5).
@@ -68,33 +57,8 @@ pub fn disconnect<O: Outputs>(outputs: &mut O, output: u8)
     set(outputs, output, None);
 }
 
-/// Disconnects the outputs of two links (IMS C004 data sheet, configuration message 6).
-pub fn disconnect_both<O: Outputs>(outputs: &mut O, first: u8, second: u8)
-    requires first { first < length (O.seen outputs.old).ports }
-    requires second { second < length (O.seen outputs.old).ports }
-    ensures words { O.seen outputs.new ≡ row_after (row_after (O.seen outputs.old) first None) second None }
-    ensures switch { private_switch (O.seen outputs.new) ≡ both_freed (private_switch (O.seen outputs.old)) first second }
-    ensures kept { IsKept (O.seen outputs.old) (O.seen outputs.new) }
-{
-    disconnect(outputs, first);
-    disconnect(outputs, second);
-}
-
-/// The virtual input that drives the output, below 32, or `None` (IMS C004 data sheet, configuration
-/// message 2).
+/// The physical input that drives the output, or `None` (IMS C004 data sheet, configuration message 2).
 pub fn enquire<O: Outputs>(outputs: &mut O, output: u8) -> Option<u8>
-    requires { output < length (O.seen outputs.old).ports }
-    ensures input { result ≡ pairs.get (private_switch (O.seen outputs.old)).pairs output }
-    ensures below { IfSome result (λ input. input < 32) }
-    ensures unchanged { O.seen outputs.new ≡ O.seen outputs.old }
-    ensures row { IsRow (O.seen outputs.new) }
-{
-    let port = driver_of(outputs, output)?;
-    outputs.virtual_of(port)
-}
-
-/// The physical input that drives the output.
-fn driver_of<O: Outputs>(outputs: &mut O, output: u8) -> Option<u8>
     requires { output < length (O.seen outputs.old).ports }
     ensures input { result ≡ pairs.get (switch_of (O.seen outputs.old).words).pairs output }
     ensures unchanged { O.seen outputs.new ≡ O.seen outputs.old }
@@ -165,17 +129,15 @@ pub fn clear<O: Outputs>(outputs: &mut O)
     }
 }
 
-/// The outputs that the virtual input drives, as a mask: bit q is output q.
-pub fn driven_by<O: Outputs>(outputs: &mut O, input: u8) -> u32
-    requires { input < length (O.seen outputs.old).ports }
-    ensures bits { (q : ℕ) → bit_at result q ≡ (if drives (private_switch (O.seen outputs.old)) input q then 1 else 0) }
+/// The outputs that the physical input drives, as a mask: bit q is output q.
+pub fn driven_by<O: Outputs>(outputs: &mut O, port: u8) -> u32
+    ensures bits { (q : ℕ) → bit_at result q ≡ (if drives (switch_of (O.seen outputs.old).words) port q then 1 else 0) }
     ensures unchanged { O.seen outputs.new ≡ O.seen outputs.old }
     ensures row { IsRow (O.seen outputs.new) }
 {
-    let port = outputs.physical(input);
     let mut driven = 0;
     for output in 0..outputs.count() {
-        let on = is_driver(driver_of(outputs, output), port);
+        let on = is_driver(enquire(outputs, output), port);
         driven = marked(driven, output, on);
     }
     driven

@@ -1,4 +1,4 @@
--- A history that is so many Steps of one node longer, for `Domain::commit_lent` and `Moment::burst`.
+-- A history that is so many Steps of one node longer, for `Domain::commit_in_place` and `Moment::burst`.
 use Rattle.std.proofs.Common.{◌≡◌, ◌≢◌, ℕ, zero, suc, ◌+◌, ◌^◌, ◌<◌, ◌≤◌, List, [], ◌∷◌, ◌++◌, length, Bool, true}
 use Rattle.std.proofs.Common.{Option, Some, Ok, refl, sym, ap, ◌∙◌, arith, subst, append_assoc, add-zero}
 use Rattle.std.proofs.Common.{if◌then◌else◌, set, replicate}
@@ -178,14 +178,14 @@ room_for before steps limit room now same long is = omega (arith, room, long, is
 
 -- a domain to which a ticket was committed is still its journal
 pub meant_committed : RecordedStepRan → (d : DomainValue) (t : TicketValue) (other_machine : MachineValue)
-    (entries : List Entry)
+    (entries : List Entry) (reserved : ℕ)
     → IsMeant d → IsTicket t → is_there d.machine.part (step_of t.number) ≡ true
     → slice_get d.machine.devices.nodes t.number ≡ Some t.start
     → length (expanded d.journal) + t.steps ≤ d.machine.part.limit
     → other_machine ≡ record d.machine { devices = with_node t.number t.node d.machine.devices }
     → expanded entries ≡ expanded d.journal ++ steps_told t.number t.steps t.last
-    → IsMeant (record { machine = other_machine; journal = entries })
-meant_committed law d t other_machine entries meant ticket there at room machine gains =
+    → IsMeant (record { machine = other_machine; journal = entries; reserved = reserved })
+meant_committed law d t other_machine entries reserved meant ticket there at room machine gains =
     let part : other_machine.part ≡ d.machine.part = ap (λ (v : MachineValue). v.part) machine in
     let long : length (expanded entries) ≡ length (expanded d.journal) + t.steps =
     ap length gains ∙ length-append (expanded d.journal) (steps_told t.number t.steps t.last)
@@ -194,7 +194,7 @@ meant_committed law d t other_machine entries meant ticket there at room machine
     history_steps law d.machine.part (expanded d.journal) (state_of d) t.number t.steps t.start there at meant.history
     room ticket.node.recorded in
     let state : stepped_on (state_of d) t.number t.start t.steps
-    ≡ state_of (record { machine = other_machine; journal = entries }) =
+    ≡ state_of (record { machine = other_machine; journal = entries; reserved = reserved }) =
     ap (λ (n : Node).
     with_nodes (state_of d) (set d.machine.devices.nodes t.number n) (length (expanded d.journal) + t.steps))
     ticket.node.node

@@ -8,6 +8,7 @@ pub mod Kept
 pub mod CopiedEntries
 -- tickets
 pub mod Tickets
+pub mod Periods
 -- devices, packets and switch words
 pub mod Joined
 pub mod Tables

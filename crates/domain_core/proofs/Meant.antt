@@ -1,5 +1,5 @@
 -- A domain that has answered one event more is still its journal, or has refused it, for `Domain::apply`, `move_port`,
--- `commit_lent` and `Moment::burst`.
+-- `commit_in_place` and `Moment::burst`.
 use Rattle.std.proofs.Common.{◌≡◌, ◌≢◌, ℕ, ◌+◌, ◌^◌, ◌<◌, ◌≤◌, ◌==◌, List, [], ◌∷◌, ◌++◌, length, Bool, true, false}
 use Rattle.std.proofs.Common.{not, Ok, Err, refl, sym, ap, ◌∙◌, arith, subst, if◌then◌else◌}
 use Rattle.std.proofs.lemmas.Bool.Decides.{nat_tests}
@@ -77,19 +77,22 @@ counted : (recorded : Bool) (n m : ℕ) → recorded ≡ true → m ≡ n + 1 �
 counted recorded n m is more = rw (is, more) refl
 
 -- what the farm that holds the domain alone does with an event that is recorded
-record Told (d : DomainValue) (call : Call) (m : MachineValue) (reply : Reply) (entries : List Entry) : Type 0 where
+record Told (d : DomainValue) (call : Call) (m : MachineValue) (reply : Reply) (entries : List Entry)
+    (reserved : ℕ) : Type 0 where
   answer : (next d.machine.part (state_of d) call).1 ≡ Ok reply
-  state : (next d.machine.part (state_of d) call).0 ≡ state_of (record { machine = m; journal = entries })
+  state : (next d.machine.part (state_of d) call).0 ≡ state_of
+      (record { machine = m; journal = entries; reserved = reserved })
   long : length (expanded entries) ≡ length (expanded d.journal) + 1
 
 told_recorded : (d : DomainValue) (call : Call) (other_machine : MachineValue) (reply : Reply) (entries : List Entry)
+    (reserved : ℕ)
     → is_there d.machine.part call ≡ true → length (expanded d.journal) ≢ d.machine.part.limit
     → machine_of other_machine ≡ (acted d.machine.part (machine_of d.machine) call.event).0
     → reply ≡ (acted d.machine.part (machine_of d.machine) call.event).1
     → is_recorded d.machine.part (machine_of d.machine) call.event ≡ true
     → expanded entries ≡ expanded d.journal ++ record { call = call; reply = reply } ∷ []
-    → Told d call other_machine reply entries
-told_recorded d call other_machine reply entries there below machine replies recorded gains =
+    → Told d call other_machine reply entries reserved
+told_recorded d call other_machine reply entries reserved there below machine replies recorded gains =
     let s : State = state_of d in
     let P : PartData = d.machine.part in
     let one : AnsweredCall = record { call = call; reply = reply } in
@@ -113,20 +116,20 @@ told_recorded d call other_machine reply entries there below machine replies rec
 
 -- a domain that answered a call and recorded it is what its journal says, if it was before
 pub meant_recorded : (d : DomainValue) (call : Call) (other_machine : MachineValue) (reply : Reply)
-    (entries : List Entry)
+    (entries : List Entry) (reserved : ℕ)
     → IsMeant d → is_there d.machine.part call ≡ true → length (expanded d.journal) ≢ d.machine.part.limit
     → machine_of other_machine ≡ (acted d.machine.part (machine_of d.machine) call.event).0
     → reply ≡ (acted d.machine.part (machine_of d.machine) call.event).1
     → other_machine.part ≡ d.machine.part
     → is_recorded d.machine.part (machine_of d.machine) call.event ≡ true
     → expanded entries ≡ expanded d.journal ++ record { call = call; reply = reply } ∷ []
-    → IsMeant (record { machine = other_machine; journal = entries })
-meant_recorded d call other_machine reply entries meant there below machine replies part recorded gains =
+    → IsMeant (record { machine = other_machine; journal = entries; reserved = reserved })
+meant_recorded d call other_machine reply entries reserved meant there below machine replies part recorded gains =
     let s : State = state_of d in
     let P : PartData = d.machine.part in
     let one : AnsweredCall = record { call = call; reply = reply } in
-    let told : Told d call other_machine reply entries =
-    told_recorded d call other_machine reply entries there below machine replies recorded gains in
+    let told : Told d call other_machine reply entries reserved =
+    told_recorded d call other_machine reply entries reserved there below machine replies recorded gains in
     let history : IsHistory P (expanded d.journal ++ one ∷ []) (next P s call).0 =
     longer P (expanded d.journal) s call reply meant.history told.answer in
     record {
@@ -143,20 +146,20 @@ meant_recorded d call other_machine reply entries meant there below machine repl
 
 -- such a domain has answered the call as the private farm does, and become what that becomes
 pub called_recorded : (d : DomainValue) (call : Call) (other_machine : MachineValue) (reply : Reply)
-    (entries : List Entry)
+    (entries : List Entry) (reserved : ℕ)
     → is_there d.machine.part call ≡ true → length (expanded d.journal) ≢ d.machine.part.limit
     → machine_of other_machine ≡ (acted d.machine.part (machine_of d.machine) call.event).0
     → reply ≡ (acted d.machine.part (machine_of d.machine) call.event).1
     → is_recorded d.machine.part (machine_of d.machine) call.event ≡ true
     → expanded entries ≡ expanded d.journal ++ record { call = call; reply = reply } ∷ []
     → AllZip CountsChange d.machine.switch.words other_machine.switch.words
-    → IsCalled call (Ok reply) d (record { machine = other_machine; journal = entries })
-called_recorded d call other_machine reply entries there below machine replies recorded gains counts =
+    → IsCalled call (Ok reply) d (record { machine = other_machine; journal = entries; reserved = reserved })
+called_recorded d call other_machine reply entries reserved there below machine replies recorded gains counts =
     let s : State = state_of d in
     let P : PartData = d.machine.part in
     let one : AnsweredCall = record { call = call; reply = reply } in
-    let told : Told d call other_machine reply entries =
-    told_recorded d call other_machine reply entries there below machine replies recorded gains in
+    let told : Told d call other_machine reply entries reserved =
+    told_recorded d call other_machine reply entries reserved there below machine replies recorded gains in
     let said : Answer = Ok reply in
     let gain : gained P s call said ≡ one ∷ [] = rw recorded refl in
     record {
@@ -169,17 +172,17 @@ called_recorded d call other_machine reply entries there below machine replies r
 
 -- a domain that answered an event and didn't record it is what its journal says, if it was before
 pub meant_unrecorded : QuietStepChangesNothing
-    → (d : DomainValue) (event : Event) (other_machine : MachineValue) (entries : List Entry)
+    → (d : DomainValue) (event : Event) (other_machine : MachineValue) (entries : List Entry) (reserved : ℕ)
     → IsMeant d
     → machine_of other_machine ≡ (acted d.machine.part (machine_of d.machine) event).0
     → other_machine.part ≡ d.machine.part
     → is_recorded d.machine.part (machine_of d.machine) event ≡ false
     → entries ≡ d.journal
-    → IsMeant (record { machine = other_machine; journal = entries })
-meant_unrecorded law d event other_machine entries meant machine part recorded same =
+    → IsMeant (record { machine = other_machine; journal = entries; reserved = reserved })
+meant_unrecorded law d event other_machine entries reserved meant machine part recorded same =
     let still : machine_of other_machine ≡ machine_of d.machine =
     machine ∙ unrecorded law d.machine.part (machine_of d.machine) event recorded in
-    let state : state_of (record { machine = other_machine; journal = entries }) ≡ state_of d =
+    let state : state_of (record { machine = other_machine; journal = entries; reserved = reserved }) ≡ state_of d =
     ap (λ (x : Machine). let y : State = record { machine = x; recorded = length (expanded entries) } in y) still
     ∙ ap (λ (l : List Entry).
     let y : State = record { machine = machine_of d.machine; recorded = length (expanded l) } in
@@ -263,15 +266,15 @@ uncounted recorded n is = rw is refl
 
 -- a domain that answered an event and didn't record it has answered the call, if its journal stays
 pub called_unrecorded : (d : DomainValue) (call : Call) (other_machine : MachineValue) (reply : Reply)
-    (entries : List Entry)
+    (entries : List Entry) (reserved : ℕ)
     → is_there d.machine.part call ≡ true → length (expanded d.journal) ≢ d.machine.part.limit
     → machine_of other_machine ≡ (acted d.machine.part (machine_of d.machine) call.event).0
     → reply ≡ (acted d.machine.part (machine_of d.machine) call.event).1
     → is_recorded d.machine.part (machine_of d.machine) call.event ≡ false
     → entries ≡ d.journal
     → AllZip CountsChange d.machine.switch.words other_machine.switch.words
-    → IsCalled call (Ok reply) d (record { machine = other_machine; journal = entries })
-called_unrecorded d call other_machine reply entries there below machine replies recorded same counts =
+    → IsCalled call (Ok reply) d (record { machine = other_machine; journal = entries; reserved = reserved })
+called_unrecorded d call other_machine reply entries reserved there below machine replies recorded same counts =
     let s : State = state_of d in
     let P : PartData = d.machine.part in
     let said : Answer = Ok reply in

@@ -25,7 +25,8 @@ or_else (Some device) other = Some device
 -- the first host at a port, of hosts whose first has this number
 abbrev pub host_at_port : ℕ → List HostPart → ℕ → Option Device
 host_at_port number [] port = None
-host_at_port number (h ∷ hosts) port = if h.port == port then Some (Host number) else host_at_port (number + 1) hosts port
+host_at_port number (h ∷ hosts) port =
+    if h.port == port then Some (Host number) else host_at_port (number + 1) hosts port
 
 -- the device if its link is wired to the port, or else the other
 abbrev pub is_wired_to : Option ℕ → ℕ → Option Device → Option Device → Option Device
@@ -44,7 +45,8 @@ link_of_four number _ port = None
 -- the first link at a port, of nodes whose first has this number
 abbrev pub link_at_port : ℕ → List NodePart → ℕ → Option Device
 link_at_port number [] port = None
-link_at_port number (n ∷ nodes) port = or_else (link_of_four number n.links port) (link_at_port (number + 1) nodes port)
+link_at_port number (n ∷ nodes) port =
+    or_else (link_of_four number n.links port) (link_at_port (number + 1) nodes port)
 
 -- the device that is joined to a port, hosts before links
 abbrev pub device_at : PartData → ℕ → Option Device
@@ -75,7 +77,8 @@ with_host number h d = record d { hosts = slice_set d.hosts number h }
 
 -- nodes and hosts as they are opened
 abbrev pub opened_devices : PartData → DeviceStates
-opened_devices part = record { nodes = map (λ n. opened_node n.memory) part.nodes; hosts = map (λ h. opened_host) part.hosts }
+opened_devices part =
+    record { nodes = map (λ n. opened_node n.memory) part.nodes; hosts = map (λ h. opened_host) part.hosts }
 
 -- the packet that leaves a device next
 abbrev pub packet_waiting : DeviceStates → Device → Option Packet
@@ -85,12 +88,14 @@ packet_waiting d (Link number link) = next_of (at link (node_at d number).links)
 -- it is taken
 abbrev pub taken_from_device : Device → DeviceStates → DeviceStates
 taken_from_device (Host number) d = with_host number (packet_left (host_at d number)) d
-taken_from_device (Link number link) d = with_node number (record (node_at d number) { links = packet_taken link (node_at d number).links }) d
+taken_from_device (Link number link) d =
+    with_node number (record (node_at d number) { links = packet_taken link (node_at d number).links }) d
 
 -- a packet arrives at a device
 abbrev pub arrived_at_device : Packet → Device → DeviceStates → DeviceStates
 arrived_at_device packet (Host number) d = with_host number (delivered packet (host_at d number)) d
-arrived_at_device packet (Link number link) d = with_node number (record (node_at d number) { links = packet_arrived link packet (node_at d number).links }) d
+arrived_at_device packet (Link number link) d =
+    with_node number (record (node_at d number) { links = packet_arrived link packet (node_at d number).links }) d
 
 -- the device is one of these
 abbrev pub HasDevice : DeviceStates → Device → Type 0
@@ -103,7 +108,8 @@ memories d = map (λ n. length n.memory) d.nodes
 
 -- nodes and hosts as they are opened, each node with the memory that it has
 abbrev pub reopened : DeviceStates → DeviceStates
-reopened d = record { nodes = map (λ n. opened_node (length n.memory)) d.nodes; hosts = map (λ h. opened_host) d.hosts }
+reopened d =
+    record { nodes = map (λ n. opened_node (length n.memory)) d.nodes; hosts = map (λ h. opened_host) d.hosts }
 
 -- no Step of a node would be recorded
 abbrev pub AreQuiet : DeviceStates → Type 0

@@ -10,12 +10,22 @@ use Rattle.domain_core.specs.declared.journal.Entry.{Entry}
 use Rattle.domain_core.specs.Machine.{Machine, is_recorded}
 use Rattle.domain_core.specs.MachineValue.{MachineValue, machine_of}
 use Rattle.domain_core.specs.PrivateFarm.{State, Answer, Call, next}
-use Rattle.domain_core.specs.Journal.{AnsweredCall, expanded, IsHistory}
+use Rattle.domain_core.specs.Journal.{AnsweredCall, JournalValue, expanded, IsHistory}
 
--- what contracts see of a domain
+-- what contracts see of a domain: its machine, its journal, and for how many entries of the journal in all memory is
+-- reserved
 pub record DomainValue : Type 0 where
   pub machine : MachineValue
   pub journal : List Entry
+  pub reserved : ℕ
+
+-- the domain with this machine and this journal
+abbrev pub domain_of : MachineValue → JournalValue → DomainValue
+domain_of machine journal = record { machine = machine; journal = journal.entries; reserved = journal.reserved }
+
+-- no memory is reserved for one entry more
+abbrev pub IsOutOfRoom : DomainValue → Type 0
+IsOutOfRoom d = d.reserved ≤ length d.journal
 
 -- what the domain stands for: its machine, and how many events its journal has
 abbrev pub state_of : DomainValue → State
@@ -40,12 +50,13 @@ UnlessNoMemory (Err NoSuch) P = P
 UnlessNoMemory (Err JournalFull) P = P
 UnlessNoMemory (Err NoMemory) P = Unit {0}
 
--- the domain answers as a farm does that holds it alone, with the same refusal if that refuses, becomes what it would become alone, and its journal
--- gains what is recorded
+-- the domain answers as a farm does that holds it alone, with the same refusal if that refuses, becomes what it would
+-- become alone, and its journal gains what is recorded
 pub record IsCalled (call : Call) (told : Answer) (old new : DomainValue) : Type 0 where
   pub answer : UnlessNoMemory told (told ≡ (next old.machine.part (state_of old) call).1)
   pub state : UnlessNoMemory told (state_of new ≡ (next old.machine.part (state_of old) call).0)
-  pub refused : OnErr (next old.machine.part (state_of old) call).1 (told ≡ (next old.machine.part (state_of old) call).1)
+  pub refused : OnErr (next old.machine.part (state_of old) call).1
+      (told ≡ (next old.machine.part (state_of old) call).1)
   pub journal : expanded new.journal ≡ expanded old.journal ++ gained old.machine.part (state_of old) call told
   pub counts : AllZip CountsChange old.machine.switch.words new.machine.switch.words
 

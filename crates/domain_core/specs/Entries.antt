@@ -1,5 +1,5 @@
 -- How a journal keeps its entries: small ones, and apart from them what looks saw.
-use Rattle.std.specs.Prelude.{ℕ, ◌<◌, Bool, true, false, List, [], length, slice_index_or}
+use Rattle.std.specs.Prelude.{ℕ, ◌<◌, ◌≤◌, Bool, true, false, List, [], length, slice_index_or}
 use Rattle.bootstrap.specs.declared.seen.Activity.TheVariants.{Booting}
 use Rattle.bootstrap.specs.declared.seen.Seen.{Seen}
 use Rattle.domain_core.specs.declared.entries.SmallEntry.{SmallEntry}
@@ -12,12 +12,25 @@ use Rattle.domain_core.specs.declared.event.Reply.{Reply}
 use Rattle.domain_core.specs.declared.event.Reply.TheVariants as reply
 use Rattle.domain_core.specs.declared.journal.Entry.{Entry}
 use Rattle.domain_core.specs.declared.journal.Entry.TheVariants as entry
+use Rattle.domain_core.specs.Journal.{JournalValue}
 
--- what contracts see of the entries: themselves, and for how many more entries and how many more looks there is room
+-- what contracts see of the entries: themselves, for how many more entries and how many more looks there is room, and
+-- for how many entries in all memory is reserved, whether they are looks or not
 pub record EntriesValue : Type 0 where
   pub entries : List Entry
   pub room : ℕ
   pub look_room : ℕ
+  pub reserved : ℕ
+
+-- the journal that has these entries
+abbrev pub journal_of : EntriesValue → JournalValue
+journal_of e = record { entries = e.entries; reserved = e.reserved }
+
+-- memory is reserved for so many entries, each of which may be a look: there are no more looks than entries
+pub record AreReserved (reserved entries looks entry_capacity look_capacity : ℕ) : Type 0 where
+  pub for_entries : reserved ≤ entry_capacity
+  pub for_looks : reserved ≤ look_capacity
+  pub fewer : looks ≤ entries
 
 -- the reply that a small one stands for
 abbrev pub reply_of : SmallReply → Reply

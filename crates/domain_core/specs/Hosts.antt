@@ -45,7 +45,8 @@ host_written byte h = if is_full h.sending then h else sending_on (record h { se
 -- the byte in the buffer goes into the receiving queue and is acknowledged, if there is room
 abbrev pub held_received : Option ℕ → HostState → HostState
 held_received None h = h
-held_received (Some byte) h = if is_full h.received then h else record h { received = h.received ++ byte ∷ []; end = emptied h.end }
+held_received (Some byte) h =
+    if is_full h.received then h else record h { received = h.received ++ byte ∷ []; end = emptied h.end }
 
 -- the byte in the buffer is received, if there is one and room for it
 abbrev pub receiving : HostState → HostState

@@ -11,6 +11,11 @@ use Rattle.domain_core.specs.declared.journal.Entry.{Entry}
 use Rattle.domain_core.specs.declared.journal.Entry.TheVariants.{One, Run}
 use Rattle.domain_core.specs.PrivateFarm.{State, Answer, Call, answers, after, opening}
 
+-- what contracts see of a journal: its entries, and for how many entries in all memory is reserved
+pub record JournalValue : Type 0 where
+  pub entries : List Entry
+  pub reserved : ℕ
+
 -- an event, with who asked and the reply
 pub record AnsweredCall : Type 0 where
   pub call : Call
@@ -28,7 +33,8 @@ steps by node (suc count) last = replicate count (answered_step by node Ran) ++ 
 -- what the entries stand for
 abbrev pub expanded : List Entry → List AnsweredCall
 expanded [] = []
-expanded (One by event reply ∷ entries) = record { call = record { by = by; event = event }; reply = reply } ∷ expanded entries
+expanded (One by event reply ∷ entries) =
+    record { call = record { by = by; event = event }; reply = reply } ∷ expanded entries
 expanded (Run by node count last ∷ entries) = steps by node count last ++ expanded entries
 
 -- the calls of a history

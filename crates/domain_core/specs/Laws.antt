@@ -15,7 +15,8 @@ use Rattle.domain_core.specs.Domain.{DomainValue, Fits}
 -- a domain that fits goes on fitting while its part and its ports stay
 abbrev pub FittingStays : Type 0
 FittingStays =
-    (plan : List DomainData) (number : ℕ) (d e : DomainValue) → Fits plan number d → e.machine.part ≡ d.machine.part → e.machine.switch.ports ≡ d.machine.switch.ports
+    (plan : List DomainData) (number : ℕ) (d e : DomainValue) → Fits plan number d
+    → e.machine.part ≡ d.machine.part → e.machine.switch.ports ≡ d.machine.switch.ports
     → Fits plan number e
 
 -- a journal and what was appended to it expand one after the other
@@ -24,18 +25,24 @@ JournalsAddUp = (journal later : List Entry) → expanded (journal ++ later) ≡
 
 -- what comes next after a history is the last answer to some list of calls
 abbrev pub NextIsAnAnswer : Type 0
-NextIsAnAnswer = (part : PartData) (history : List AnsweredCall) (s : State) (call : Call) → IsHistory part history s → IsAnswer part call (next part s call).1
+NextIsAnAnswer =
+    (part : PartData) (history : List AnsweredCall) (s : State) (call : Call) → IsHistory part history s
+    → IsAnswer part call (next part s call).1
 
 -- a history and the next reply are a history, which leads to the next state
 abbrev pub HistoriesGrow : Type 0
 HistoriesGrow =
-    (part : PartData) (history : List AnsweredCall) (s : State) (call : Call) (reply : Reply) → IsHistory part history s → (next part s call).1 ≡ Ok reply
+    (part : PartData) (history : List AnsweredCall) (s : State) (call : Call) (reply : Reply)
+    → IsHistory part history s → (next part s call).1 ≡ Ok reply
     → IsHistory part (history ++ record { call = call; reply = reply } ∷ []) (next part s call).0
 
 -- a user's commands of two histories stand one after the other
 abbrev pub OwnCommandsAddUp : Type 0
-OwnCommandsAddUp = (user : ℕ) (history later : List AnsweredCall) → own_commands user (history ++ later) ≡ own_commands user history ++ own_commands user later
+OwnCommandsAddUp =
+    (user : ℕ) (history later : List AnsweredCall)
+    → own_commands user (history ++ later) ≡ own_commands user history ++ own_commands user later
 
 -- Steps of a node are no command of any user
 abbrev pub StepsAreNobodys : Type 0
-StepsAreNobodys = (user : ℕ) (by : By) (node count : ℕ) (last : Stepped) → own_commands user (steps by node count last) ≡ []
+StepsAreNobodys =
+    (user : ℕ) (by : By) (node count : ℕ) (last : Stepped) → own_commands user (steps by node count last) ≡ []

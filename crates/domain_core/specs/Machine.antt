@@ -36,9 +36,13 @@ acted part m (Write host byte) = (
   with_devices (with_host host (host_written byte (host_at m.devices host)) m.devices) m,
   (if is_full (host_at m.devices host).sending then reply.Full else reply.Written),
 )
-acted part m (Read host) =
-    (with_devices (with_host host (host_read (host_at m.devices host)) m.devices) m, reply.Read (front (host_at m.devices host).received))
-acted part m (Reset node) = (with_devices (with_node node (restarted (node_at m.devices node)) m.devices) m, reply.Reset)
+acted part m (Read host) = (
+  with_devices (with_host host (host_read (host_at m.devices host)) m.devices) m,
+  reply.Read
+      (front (host_at m.devices host).received),
+)
+acted part m (Reset node) =
+    (with_devices (with_node node (restarted (node_at m.devices node)) m.devices) m, reply.Reset)
 acted part m (Look node) = (m, reply.Look (seen (node_at m.devices node)))
 acted part m (Step node) =
     let s = node_step (node_at m.devices node) in (with_devices (with_node node s.0 m.devices) m, reply.Stepped s.1)

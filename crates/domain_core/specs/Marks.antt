@@ -19,7 +19,8 @@ pub record StandsIn (journal : List Entry) (mark : Mark) : Type 0 where
   pub entries : mark.entries ≤ length journal
   pub events : mark.events ≤ length (expanded (take 1 (drop mark.entries journal)))
 
--- entries were put behind others, and stand for the events of the journal from one mark up to another, which stands in the journal as the first does
+-- entries were put behind others, and stand for the events of the journal from one mark up to another, which stands in
+-- the journal as the first does
 pub record Copies (journal : List Entry) (from to : Mark) (old new : List Entry) : Type 0 where
   pub copied : List Entry
   pub behind : new ≡ old ++ copied

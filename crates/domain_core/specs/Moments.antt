@@ -16,4 +16,5 @@ state_at m = record { machine = machine_of m.machine; recorded = m.recorded }
 
 -- whatever history led to the one state, that history and these answered calls lead to the other
 abbrev pub LeadsOn : PartData → State → List AnsweredCall → State → Type 0
-LeadsOn part s gain t = (history : List AnsweredCall) → IsHistory part history s → IsHistory part (history ++ gain) t
+LeadsOn part s gain t =
+    (history : List AnsweredCall) → IsHistory part history s → IsHistory part (history ++ gain) t

@@ -1,6 +1,6 @@
--- A Move of a port: the packet that waits at its device goes through the switch. It is written of any store of devices, so that it is
--- the same for one domain as for all domains of a farm. IMS C004 data sheet, link switching; what is lost, what stays and the order
--- of copies are our choice.
+-- A Move of a port: the packet that waits at its device goes through the switch. It is written of any store of devices,
+-- so that it is the same for one domain as for all domains of a farm. IMS C004 data sheet, link switching; what is
+-- lost, what stays and the order of copies are our choice.
 use Rattle.std.specs.Prelude.{ℕ, Bool, List, [], ◌∷◌, filter, Option, Some, None, if◌then◌else◌}
 use Rattle.std.specs.List.{list_all, range_with_len}
 use Rattle.std.specs.FinSet as set
@@ -12,7 +12,8 @@ use Rattle.domain_core.specs.declared.event.Moved.{Moved}
 use Rattle.domain_core.specs.declared.event.Moved.TheVariants.{Nothing, Lost, Stayed, Passed}
 use Rattle.domain_core.specs.Devices.{DeviceStates, device_at, packet_waiting, taken_from_device, arrived_at_device}
 
--- which devices are joined to the ports of a switch: S is what keeps the devices, and D is what says where in it one of them stands
+-- which devices are joined to the ports of a switch: S is what keeps the devices, and D is what says where in it one of
+-- them stands
 pub record Joining (S D : Type 0) : Type 0 where
   -- all ports, in the order in which copies arrive
   pub ports : List ℕ
@@ -49,7 +50,8 @@ delivered_at j packet (Some to) all = j.put to (arrived_at_device packet (j.devi
 -- a packet arrives at the devices of outputs, one after another
 abbrev pub copies_arrived : {S D : Type 0} → Joining S D → Packet → List ℕ → S → S
 copies_arrived j packet [] all = all
-copies_arrived j packet (output ∷ outputs) all = copies_arrived j packet outputs (delivered_at j packet (j.joined output) all)
+copies_arrived j packet (output ∷ outputs) all =
+    copies_arrived j packet outputs (delivered_at j packet (j.joined output) all)
 
 -- what becomes of a packet, by the outputs that its port drives
 abbrev pub outcome : Switch → List ℕ → Moved

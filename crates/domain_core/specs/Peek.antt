@@ -96,7 +96,8 @@ byte_back r = Move r.link_port ∷ Move r.host_port ∷ Step r.node ∷ []
 
 -- the five bytes of the message, and the four of the word
 abbrev pub peek_calls : By → PeekRoute → List Call
-peek_calls by r = map (λ event. record { by = by; event = event }) (repeated 5 (byte_there r) ++ repeated 4 (byte_back r))
+peek_calls by r =
+    map (λ event. record { by = by; event = event }) (repeated 5 (byte_there r) ++ repeated 4 (byte_back r))
 
 -- ---- what comes of them
 
@@ -111,7 +112,8 @@ node_ran = Ok (reply.Stepped Ran)
 -- the answers to the 27 events
 abbrev pub peek_answers : List Answer
 peek_answers =
-    repeated 5 (packet_passed ∷ node_ran ∷ packet_passed ∷ []) ++ repeated 4 (packet_passed ∷ packet_passed ∷ node_ran ∷ [])
+    repeated 5 (packet_passed ∷ node_ran ∷ packet_passed ∷ [])
+    ++ repeated 4 (packet_passed ∷ packet_passed ∷ node_ran ∷ [])
 
 -- a link end at which nothing waits, is buffered or is awaited, with the overruns that it has
 abbrev pub at_rest : LinkEnd → LinkEnd
@@ -135,14 +137,17 @@ abbrev pub after_peek : PeekRoute → ℕ → Machine → Machine
 after_peek r address m =
     let n = node_at m.devices r.node in
     let h = host_at m.devices r.host in
-    with_devices (with_host r.host (host_after_peek (word_bytes n address) h) (with_node r.node (quieted r.link n) m.devices)) m
+    with_devices
+    (with_host r.host (host_after_peek (word_bytes n address) h) (with_node r.node (quieted r.link n) m.devices)) m
 
 -- the events leave just that, each is recorded, and no packet is lost or stays
 pub record Peeks (part : PartData) (by : By) (r : PeekRoute) (address : ℕ) (s : State) : Type 0 where
-  pub state : after part s (peek_calls by r) ≡ record { machine = after_peek r address s.machine; recorded = s.recorded + 27 }
+  pub state : after part s (peek_calls by r)
+      ≡ record { machine = after_peek r address s.machine; recorded = s.recorded + 27 }
   pub answers : answers part s (peek_calls by r) ≡ peek_answers
 
 -- a host that asks a node which listens is told the word, whoever asks for the events
 abbrev pub PeekAnswersTheWord : Type 0
 PeekAnswersTheWord =
-    (part : PartData) (by : By) (r : PeekRoute) (address : ℕ) (s : State) → is_known part by ≡ true → CanPeek part r address s → Peeks part by r address s
+    (part : PartData) (by : By) (r : PeekRoute) (address : ℕ) (s : State) → is_known part by ≡ true
+    → CanPeek part r address s → Peeks part by r address s

@@ -9,7 +9,8 @@ use Rattle.domain_core.specs.Machine.{Machine}
 use Rattle.domain_core.specs.Moves.{moved}
 use Rattle.domain_core.specs.Routes.{Marks}
 
--- the packet that leaves the port's device next, the outputs that the port drives, and what a Move of the port would come to
+-- the packet that leaves the port's device next, the outputs that the port drives, and what a Move of the port would
+-- come to
 pub record IsPortState (part : PartData) (m : Machine) (port : ℕ) (state : PortState) : Type 0 where
   pub packet : state.packet ≡ option_and_then (packet_waiting m.devices) (device_at part port)
   pub drives_is : Marks state.drives (drives m.switch port)

@@ -61,14 +61,17 @@ answered part s event = record {
   recorded = if is_recorded part s.machine event then s.recorded + 1 else s.recorded;
 }
 
--- a call whose target isn't there for him who asks is refused, and so is each call of a farm that is full; else this is done
+-- a call whose target isn't there for him who asks is refused, and so is each call of a farm that is full; else this is
+-- done
 abbrev pub unless_refused : {S : Type 0} → Bool → Bool → S → S × Reply → S × Answer
-unless_refused there full s done = if there then (if full then (s, Err JournalFull) else (done.0, Ok done.1)) else (s, Err NoSuch)
+unless_refused there full s done =
+    if there then (if full then (s, Err JournalFull) else (done.0, Ok done.1)) else (s, Err NoSuch)
 
 -- the next state, and the answer
 abbrev pub next : PartData → State → Call → State × Answer
 next part s call =
-    unless_refused (is_there part call) (s.recorded == part.limit) s (answered part s call.event, (acted part s.machine call.event).1)
+    unless_refused (is_there part call) (s.recorded == part.limit) s
+    (answered part s call.event, (acted part s.machine call.event).1)
 
 -- the answer to each event, in order
 abbrev pub answers : PartData → State → List Call → List Answer

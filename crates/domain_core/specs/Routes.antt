@@ -39,7 +39,8 @@ route_leaves part route.Nothing d = d
 route_leaves part route.Stayed d = d
 route_leaves part (route.Lost device) d = taken_from_device device d
 route_leaves part (route.Passed device packet outputs) d =
-    copies_arrived (joining_of part) packet (marked_by outputs (range_with_len 0 part.count)) (taken_from_device device d)
+    copies_arrived (joining_of part) packet (marked_by outputs (range_with_len 0 part.count))
+    (taken_from_device device d)
 
 -- the device from which the packet goes is there
 abbrev pub HasItsDevice : DeviceStates → Route → Type 0

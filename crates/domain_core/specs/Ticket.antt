@@ -34,7 +34,8 @@ pub record IsTicket (t : TicketValue) : Type 0 where
 
 -- a ticket at its checkout, with no Step done
 abbrev pub fresh_ticket : ℕ → ℕ → Node → TicketValue
-fresh_ticket domain number node = record { domain = domain; number = number; start = node; node = node; steps = 0; last = None }
+fresh_ticket domain number node =
+    record { domain = domain; number = number; start = node; node = node; steps = 0; last = None }
 
 -- the copy did just the Steps up to the nth, to the first that would not be recorded, or to the most of a ticket
 pub record Bursts (n : ℕ) (t u : TicketValue) : Type 0 where
@@ -63,3 +64,4 @@ pub record Commits (d : DomainValue) (t : TicketValue) (e : DomainValue) : Type 
   pub journal : expanded e.journal ≡ expanded d.journal ++ steps_told t.number t.steps t.last
   pub switch : e.machine.switch ≡ d.machine.switch
   pub part : e.machine.part ≡ d.machine.part
+  pub reserved : e.reserved ≡ d.reserved

@@ -1,4 +1,5 @@
--- Which device the part names for a port. By a part's rules it is one at most, and it is the device that is joined there.
+-- Which device the part names for a port. By a part's rules it is one at most, and it is the device that is joined
+-- there.
 use Rattle.std.specs.Prelude.{◌≡◌, ◌↔◌, ℕ, length, Some, slice_get, All}
 use Rattle.link_channels.specs.declared.number.LinkNumber.{LinkNumber}
 use Rattle.link_channels.specs.declared.number.LinkNumber.TheVariants.{Zero, One, Two, Three}
@@ -37,7 +38,9 @@ Names part (Link number link) port = IsLinkAt part number link port
 abbrev pub HaveFourLinks : PartData → Type 0
 HaveFourLinks part = All (λ n. length n.links ≡ 4) part.nodes
 
--- in the part of an accepted domain, whose nodes have four links each, a device is joined to a port exactly if the part names the port for it
+-- in the part of an accepted domain, whose nodes have four links each, a device is joined to a port exactly if the part
+-- names the port for it
 abbrev pub DevicesAreWhereNamed : Type 0
 DevicesAreWhereNamed =
-    (part : PartData) (port : ℕ) (device : Device) → IsPart part → HaveFourLinks part → (device_at part port ≡ Some device) ↔ Names part device port
+    (part : PartData) (port : ℕ) (device : Device) → IsPart part → HaveFourLinks part
+    → (device_at part port ≡ Some device) ↔ Names part device port

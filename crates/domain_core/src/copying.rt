@@ -65,9 +65,9 @@ impl Journal {
     ///
     /// A mark past the journal's end, as after a restart, copies nothing and stays.
     pub fn copy_since(&self, mark: Mark, room: &mut Vec<Entry>) -> Mark
-        ensures copies { Copies self.now mark result room.old.items room.new.items }
-        ensures all { length self.now + vec_len room.old ≤ mark.entries + vec_capacity room.old → events_from result self.now ≡ [] }
-        ensures past { length self.now ≤ mark.entries → (result ≡ mark) × (room.new.items ≡ room.old.items) }
+        ensures copies { Copies self.now.entries mark result room.old.items room.new.items }
+        ensures all { length self.now.entries + vec_len room.old ≤ mark.entries + vec_capacity room.old → events_from result self.now.entries ≡ [] }
+        ensures past { length self.now.entries ≤ mark.entries → (result ≡ mark) × (room.new.items ≡ room.old.items) }
         ensures capacity { vec_capacity room.new ≡ vec_capacity room.old }
     {
         let mut reached = mark;

@@ -74,7 +74,7 @@ fn copy_nodes(alloc: Global, nodes: &[Node]) -> Result<Vec<Node>, NoMemory>
 {
     let mut copies = Vec::with_capacity(alloc, nodes.len())?;
     for node in nodes {
-        copies.push(node.copy()?)?;
+        copies.push(node.copy(alloc)?)?;
     }
     Ok(copies)
 }

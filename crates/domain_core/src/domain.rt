@@ -1,5 +1,5 @@
 //! A domain: its machine, with the journal of what it answered.
-ghost use Rattle.std.specs.Prelude.{◌≡◌, ◌≢◌, ◌<◌, ◌+◌, [], None, Some, Ok, Err, length, IfErr, IfOk, IfSome, OnErr, IsTrue, ◌↔◌, slice_get, true, not};
+ghost use Rattle.std.specs.Prelude.{◌≡◌, ◌≢◌, ◌<◌, ◌+◌, [], None, Some, Ok, Err, length, IfErr, IfOk, IfSome, OnOk, OnErr, IsTrue, ◌↔◌, slice_get, true, not};
 ghost use Rattle.std.specs.List.{AllZip};
 ghost use Rattle.std.specs.Option.{option_copied};
 ghost use Rattle.crossbar.specs.Row.{switch_of, IsRow, number_among};
@@ -10,12 +10,13 @@ ghost use Rattle.domain_core.specs.declared.domain.Committed.TheVariants.{Done, 
 ghost use Rattle.domain_core.specs.declared.event.By.TheVariants.{Farm};
 ghost use Rattle.domain_core.specs.declared.event.Event.{Event as SpecEvent};
 ghost use Rattle.domain_core.specs.declared.event.Refusal.TheVariants.{NoSuch, JournalFull};
+ghost use Rattle.domain_core.specs.declared.event.Refusal.TheVariants as refusal_of;
 ghost use Rattle.domain_core.specs.declared.event.Reply.TheVariants.{Look};
 ghost use Rattle.domain_core.specs.Machine.{is_recorded};
 ghost use Rattle.domain_core.specs.MachineValue.{machine_of};
 ghost use Rattle.domain_core.specs.PrivateFarm.{is_there, opening};
 ghost use Rattle.domain_core.specs.Journal.{expanded};
-ghost use Rattle.domain_core.specs.Domain.{state_of, IsMeant, IsCalled, IsPastLimit, Fits, IsQuiet};
+ghost use Rattle.domain_core.specs.Domain.{state_of, IsMeant, IsCalled, IsOutOfRoom, IsPastLimit, Fits, IsQuiet};
 ghost use Rattle.domain_core.specs.PortStates.{IsPortState};
 ghost use Rattle.domain_core.specs.Ticket.{IsCurrent, Commits, fresh_ticket};
 
@@ -47,6 +48,9 @@ pub enum Committed {
 /// A domain: a switch over its outputs, its nodes and its hosts, and the journal of the events that
 /// it answered. At every moment it is what its journal says: the state to which a farm that holds the
 /// domain alone comes by the same events, which it answers alike.
+///
+/// A call that may take memory takes `alloc` first. The copies of a ticket are made by it; the journal grows by the allocator that
+/// the domain was opened with.
 pub struct Domain<O: Outputs> {
     machine: RunningMachine<O>,
     journal: Journal,
@@ -66,14 +70,15 @@ impl<O: Outputs + Drop> Drop for Domain<O> {
 
 impl<O: Outputs> Model for Domain<O> {
     ghost use Rattle.std.specs.Prelude.{◌≡◌, length};
-    ghost use Rattle.domain_core.specs.Domain.{DomainValue, IsMeant};
+    ghost use Rattle.domain_core.specs.Domain.{DomainValue, domain_of, IsMeant};
     ghost use Rattle.domain_core.specs.Journal.{expanded};
 
     ghost Value = { DomainValue };
 
-    ghost view = { λ d. record { machine = d.machine; journal = d.journal } };
+    ghost view = { λ d. domain_of d.machine d.journal };
 
-    ghost invariant = { λ d. IsMeant (record { machine = d.machine; journal = d.journal }) × (d.recorded ≡ length (expanded d.journal)) };
+    ghost invariant = { λ d. IsMeant (domain_of d.machine d.journal)
+        × (d.recorded ≡ length (expanded d.journal.entries)) };
 }
 
 impl<O: Outputs + Drop> Domain<O> {
@@ -81,12 +86,13 @@ impl<O: Outputs + Drop> Domain<O> {
     ///
     /// The outputs are as many as the part's ports, and all are disconnected. `NoMemory` where
     /// memories or queues can't be allocated.
-    // Six clauses: two of the outputs, and one for each part of the domain.
+    // Seven clauses: two of the outputs, and one for each part of the domain.
     pub fn open(alloc: Global, part: Part, outputs: O) -> Result<Domain<O>, NoMemory>
         requires count { length (O.seen outputs).ports ≡ part.count }
         requires cleared { switch_of (O.seen outputs).words ≡ cleared }
         ensures state { IfOk result (λ d. state_of d ≡ opening part) }
         ensures journal { IfOk result (λ d. d.journal ≡ []) }
+        ensures reserved { IfOk result (λ d. d.reserved ≡ 0) }
         ensures part { IfOk result (λ d. d.machine.part ≡ part) }
         ensures row { IfOk result (λ d. row_of d.machine.switch ≡ O.seen outputs) }
     {
@@ -122,11 +128,14 @@ impl<O: Outputs + Drop> Domain<O> {
     /// Answers an event as a farm does that holds the domain alone.
     ///
     /// `NoSuch` where there is no such user, host, node or port, or the host isn't the user's; else
-    /// `JournalFull` where the recorded events number the limit; else `NoMemory` where the journal
-    /// can't grow. After a refusal nothing has changed.
-    // Each kind of event has a copy of the code, in which its tests are known.
-    pub fn apply(&mut self, by: By, event: Event) -> Result<Reply, Refusal>
+    /// `JournalFull` where the recorded events number the limit; else `NoMemory` where no memory is
+    /// reserved for one more entry of the journal and the system has none. After a refusal nothing has changed.
+    // Six clauses: what is answered, when memory is wanted, and what stays. Each kind of event has a copy of the code, in
+    // which its tests are known.
+    pub fn apply(&mut self, _alloc: Global, by: By, event: Event) -> Result<Reply, Refusal>
         ensures called { IsCalled (record { by = by; event = event }) result self.old self.new }
+        ensures memory { result ≡ Err refusal_of.NoMemory → IsOutOfRoom self.old }
+        ensures reserved { self.new.reserved ≡ self.old.reserved }
         ensures err { OnErr result (self.new ≡ self.old) }
         ensures part { self.new.machine.part ≡ self.old.machine.part }
         ensures ports { self.new.machine.switch.ports ≡ self.old.machine.switch.ports }
@@ -143,10 +152,13 @@ impl<O: Outputs + Drop> Domain<O> {
     }
 
     // Answers an event of any kind.
+    // Six clauses: those of `apply`.
     #[inline(always)]
     #[tactic(auto, using(crate::proofs::Unchanged::counts_itself))]
     fn answer(&mut self, by: By, event: Event) -> Result<Reply, Refusal>
         ensures called { IsCalled (record { by = by; event = event }) result self.old self.new }
+        ensures memory { result ≡ Err refusal_of.NoMemory → IsOutOfRoom self.old }
+        ensures reserved { self.new.reserved ≡ self.old.reserved }
         ensures err { OnErr result (self.new ≡ self.old) }
         ensures part { self.new.machine.part ≡ self.old.machine.part }
         ensures ports { self.new.machine.switch.ports ≡ self.old.machine.switch.ports }
@@ -177,7 +189,7 @@ impl<O: Outputs + Drop> Domain<O> {
     }
 
     // Answers a look by what is seen. That is large, so that the other events are answered without it.
-    // Seven clauses: two of when it is asked, and those of `apply`, of which one is of a look and one of a refusal.
+    // Nine clauses: two of when it is asked, and those of `apply`, of which one is of a look and two of a refusal.
     #[inline(never)]
     #[tactic(auto, using(crate::proofs::Unchanged::counts_itself))]
     fn answer_look(&mut self, by: By, node: u8) -> Result<Seen, Refusal>
@@ -185,6 +197,8 @@ impl<O: Outputs + Drop> Domain<O> {
         requires room { length (expanded self.old.journal) ≢ self.old.machine.part.limit }
         ensures called { IfOk result (λ seen. IsCalled (record { by = by; event = SpecEvent.Look node }) (Ok (Look seen)) self.old self.new) }
         ensures refused { IfErr result (λ refusal. IsCalled (record { by = by; event = SpecEvent.Look node }) (Err refusal) self.old self.new) }
+        ensures memory { OnErr result (IsOutOfRoom self.old) }
+        ensures reserved { self.new.reserved ≡ self.old.reserved }
         ensures err { OnErr result (self.new ≡ self.old) }
         ensures part { self.new.machine.part ≡ self.old.machine.part }
         ensures ports { self.new.machine.switch.ports ≡ self.old.machine.switch.ports }
@@ -203,11 +217,13 @@ impl<O: Outputs + Drop> Domain<O> {
 
     /// As [`Domain::apply`] of a Move of a port of the domain, for which the farm asks. The packet's way is found once, and
     /// where nothing waits the journal isn't asked for room.
-    // Six clauses: one of the port, those of `apply`, and one of the refusals.
+    // Eight clauses: one of the port, those of `apply`, and one of the refusals.
     #[tactic(auto, using(crate::proofs::Unchanged::counts_itself))]
-    pub fn move_port(&mut self, port: u8) -> Result<Reply, Refusal>
+    pub fn move_port(&mut self, _alloc: Global, port: u8) -> Result<Reply, Refusal>
         requires { port < self.old.machine.part.count }
         ensures called { IsCalled (record { by = Farm; event = SpecEvent.Move port }) result self.old self.new }
+        ensures memory { result ≡ Err refusal_of.NoMemory → IsOutOfRoom self.old }
+        ensures reserved { self.new.reserved ≡ self.old.reserved }
         ensures no_such { result ≢ Err NoSuch }
         ensures err { OnErr result (self.new ≡ self.old) }
         ensures part { self.new.machine.part ≡ self.old.machine.part }
@@ -282,10 +298,31 @@ impl<O: Outputs + Drop> Domain<O> {
             && self.machine.is_at(plan.ports(number))
     }
 
-    /// Makes the domain as it was opened, with an empty journal. Change counts go on.
+    /// Reserves memory for so many entries of the journal in all, whether they are looks or not. It isn't touched before it is
+    /// needed.
+    ///
+    /// `NoMemory` where the system doesn't give so much. Nothing has changed then.
+    pub fn reserve(&mut self, _alloc: Global, entries: usize) -> Result<(), NoMemory>
+        ensures ok { OnOk result (self.new ≡ record self.old { reserved = entries }) }
+        ensures err { OnErr result (self.new ≡ self.old) }
+    {
+        self.journal.reserve(entries)
+    }
+
+    /// For how many entries of the journal in all memory is reserved.
+    pub fn reserved(&self) -> usize
+        ensures { result ≡ self.now.reserved }
+    {
+        self.journal.reserved()
+    }
+
+    /// Makes the domain as it was opened, with an empty journal, whose memory goes back to the system; as much as before is
+    /// reserved anew. Change counts go on.
+    // Six clauses: one for each part of the domain.
     pub fn restart(&mut self)
         ensures state { state_of self.new ≡ opening self.old.machine.part }
         ensures journal { self.new.journal ≡ [] }
+        ensures reserved { self.new.reserved ≡ self.old.reserved }
         ensures part { self.new.machine.part ≡ self.old.machine.part }
         ensures ports { self.new.machine.switch.ports ≡ self.old.machine.switch.ports }
         ensures counts { AllZip CountsChange self.old.machine.switch.words self.new.machine.switch.words }
@@ -304,14 +341,15 @@ impl<O: Outputs + Drop> Domain<O> {
 
     /// What the domain answered, in order.
     pub fn journal(&self) -> &Journal
-        ensures { result.now ≡ self.now.journal }
+        ensures entries { result.now.entries ≡ self.now.journal }
+        ensures reserved { result.now.reserved ≡ self.now.reserved }
     {
         &self.journal
     }
 
     /// What the domain answered, in order, at its end.
     pub fn into_journal(self) -> Journal
-        ensures { result ≡ self.journal }
+        ensures { result.entries ≡ self.journal }
     {
         let Domain {
             journal: answered,
@@ -356,18 +394,19 @@ impl<O: Outputs + Drop> Domain<O> {
     /// the ticket.
     ///
     /// `NoSuch` where there is no such node, and else `NoMemory` where it can't be copied.
-    pub fn checkout(&self, domain: u8, node: u8) -> Result<Ticket, Refusal>
+    pub fn checkout(&self, alloc: Global, domain: u8, node: u8) -> Result<Ticket, Refusal>
         ensures no_such { (result ≡ Err NoSuch) ↔ (slice_get self.now.machine.devices.nodes node ≡ None) }
         ensures ticket { IfOk result (λ t. (slice_get self.now.machine.devices.nodes node ≡ Some t.start) × (t ≡ fresh_ticket domain node t.start)) }
         ensures full { result ≢ Err JournalFull }
     {
-        Ok(Ticket::of(domain, node, self.home(node)?)?)
+        Ok(Ticket::of(alloc, domain, node, self.home(node)?)?)
     }
 
     /// As [`Domain::checkout`], but the ticket is put in a slot, where the memory of the one that lies
     /// there serves again if it is of the same size. After a refusal the slot is what it was.
     pub fn checkout_to(
         &self,
+        alloc: Global,
         slot: &mut Option<Ticket>,
         domain: u8,
         node: u8,
@@ -377,32 +416,39 @@ impl<O: Outputs + Drop> Domain<O> {
         ensures full { result ≢ Err JournalFull }
         ensures err { OnErr result (slot.new ≡ slot.old) }
     {
-        Ok(Ticket::put(slot, domain, node, self.home(node)?)?)
+        Ok(Ticket::put(alloc, slot, domain, node, self.home(node)?)?)
     }
 
     /// Puts a ticket's copy in its node's place, if the home node is still the ticket's start, and records its
     /// Steps, for which the farm asked. The ticket is spent in each case.
     ///
     /// `Stale` where the home node isn't the start or isn't there; else `JournalFull` where the
-    /// recorded events and the ticket's Steps pass the limit; else `NoMemory` where the journal can't
-    /// grow. In each of these nothing has changed.
-    pub fn commit(&mut self, mut ticket: Ticket) -> Result<Committed, Refusal>
+    /// recorded events and the ticket's Steps pass the limit; else `NoMemory` where no memory is reserved for
+    /// one more entry of the journal and the system has none. In each of these nothing has changed.
+    // Seven clauses: when each outcome comes, and what changes then.
+    pub fn commit(&mut self, alloc: Global, mut ticket: Ticket) -> Result<Committed, Refusal>
         ensures stale { (result ≡ Ok Stale) ↔ ¬ IsCurrent self.old ticket }
         ensures full { (result ≡ Err JournalFull) ↔ (IsCurrent self.old ticket × IsPastLimit self.old ticket.steps) }
         ensures no_such { result ≢ Err NoSuch }
+        ensures memory { result ≡ Err refusal_of.NoMemory → IsOutOfRoom self.old }
         ensures done { result ≡ Ok Done → Commits self.old ticket self.new }
         ensures unchanged { result ≢ Ok Done → self.new ≡ self.old }
     {
-        self.commit_lent(&mut ticket)
+        self.commit_in_place(alloc, &mut ticket)
     }
 
     /// As [`Domain::commit`], but the ticket is lent. If it was committed it is a ticket of no Steps
     /// of its start, and else what it was.
-    // Six clauses: those of `commit`, and what becomes of the ticket.
-    pub fn commit_lent(&mut self, ticket: &mut Ticket) -> Result<Committed, Refusal>
+    // Eight clauses: those of `commit`, and what becomes of the ticket.
+    pub fn commit_in_place(
+        &mut self,
+        _alloc: Global,
+        ticket: &mut Ticket,
+    ) -> Result<Committed, Refusal>
         ensures stale { (result ≡ Ok Stale) ↔ ¬ IsCurrent self.old ticket.old }
         ensures full { (result ≡ Err JournalFull) ↔ (IsCurrent self.old ticket.old × IsPastLimit self.old ticket.old.steps) }
         ensures no_such { result ≢ Err NoSuch }
+        ensures memory { result ≡ Err refusal_of.NoMemory → IsOutOfRoom self.old }
         ensures done { result ≡ Ok Done → Commits self.old ticket.old self.new }
         ensures spent { result ≡ Ok Done → ticket.new ≡ fresh_ticket ticket.old.domain ticket.old.number ticket.old.start }
         ensures unchanged { result ≢ Ok Done → (self.new ≡ self.old) × (ticket.new ≡ ticket.old) }

@@ -1,10 +1,10 @@
 //! The entries of a journal as they are kept: 24 bytes each, and apart from them what looks saw.
-ghost use Rattle.std.specs.Prelude.{◌≡◌, ◌<◌, ◌≤◌, ◌+◌, ◌^◌, ◌++◌, ◌∷◌, [], ℕ, IsTrue, IfOk, MatchResult, length, slice_get, is_ok, if◌then◌else◌};
+ghost use Rattle.std.specs.Prelude.{◌≡◌, ◌<◌, ◌≤◌, ◌+◌, ◌^◌, ◌++◌, ◌∷◌, [], ℕ, IsTrue, IfOk, OnOk, OnErr, MatchResult, length, slice_get, is_ok, if◌then◌else◌};
 ghost use Rattle.std.specs.List.{All};
 ghost use Rattle.domain_core.specs.declared.entries.SmallEntry.TheVariants.{Run};
 ghost use Rattle.domain_core.specs.declared.event.Reply.TheVariants.{Look};
 ghost use Rattle.domain_core.specs.declared.journal.Entry.TheVariants.{One as SpecOne, Run as SpecRun};
-ghost use Rattle.domain_core.specs.Entries.{reply_of, entry_of, HasRoomToShow};
+ghost use Rattle.domain_core.specs.Entries.{reply_of, entry_of, HasRoomToShow, journal_of};
 ghost use Rattle.domain_core.specs.Journal.{expanded, steps};
 ghost use Rattle.domain_core.specs.Ticket.{steps_told};
 ghost use Rattle.t414_step.specs.declared.stepping.Stepped.TheVariants.{Ran};
@@ -17,6 +17,15 @@ use std::alloc::Global;
 use std::marker::Model;
 use t414_step::Stepped;
 use virtual_switch::ConfigReply;
+
+/// How many bytes an entry of a journal takes.
+pub const ENTRY_BYTES: u64 = 24;
+
+/// How many bytes more a look takes.
+pub const LOOK_BYTES: u64 = 28;
+
+/// How many bytes a command takes in the list of its user.
+pub const TOLD_BYTES: u64 = 36;
 
 // A reply that shows nothing of a node.
 #[derive(Clone, Copy)]
@@ -113,40 +122,100 @@ impl SmallEntry {
     }
 }
 
+// How many commands of users there are with an event for which this one asked.
+#[inline(always)]
+fn with_command(commands: usize, by: By) -> usize {
+    match by {
+        By::User(_) => commands.saturating_add(1),
+        By::Farm => commands,
+    }
+}
+
 /// The entries of a journal. What looks saw, which is large and seldom, is kept apart in the order of the looks.
 pub(crate) struct Entries {
     small: Vec<SmallEntry>,
     seen: Vec<Seen>,
+    // For how many entries in all memory is reserved.
+    reserved: usize,
+    // How many entries are users' commands.
+    commands: usize,
+    alloc: Global,
 }
 
 // It is dropped by one call.
 impl Drop for Entries {
     fn drop(self) {
-        let Entries { small: _, seen: _ } = self;
+        let Entries {
+            small: _,
+            seen: _,
+            reserved: _,
+            commands: _,
+            alloc: _,
+        } = self;
     }
 }
 
 impl Model for Entries {
     ghost use Rattle.std.specs.Prelude.{◌-◌, map, vec_len, vec_capacity};
     ghost use Rattle.std.specs.List.{All};
-    ghost use Rattle.domain_core.specs.Entries.{EntriesValue, entry_of, IsStored};
+    ghost use Rattle.domain_core.specs.Entries.{EntriesValue, entry_of, IsStored, AreReserved};
 
     ghost Value = { EntriesValue };
 
-    ghost view = { λ e. record { entries = map (entry_of e.seen.items) e.small.items; room = vec_capacity e.small - vec_len e.small; look_room = vec_capacity e.seen - vec_len e.seen } };
+    ghost view = { λ e. record { entries = map (entry_of e.seen.items) e.small.items; room = vec_capacity e.small - vec_len e.small; look_room = vec_capacity e.seen - vec_len e.seen; reserved = e.reserved } };
 
-    ghost invariant = { λ e. All (IsStored e.seen.items) e.small.items };
+    ghost invariant = { λ e. All (IsStored e.seen.items) e.small.items
+        × AreReserved e.reserved (vec_len e.small) (vec_len e.seen) (vec_capacity e.small) (vec_capacity e.seen) };
 }
 
 impl Entries {
     /// No entries.
     pub(crate) fn new(alloc: Global) -> Entries
-        ensures { result.entries ≡ [] }
+        ensures { journal_of result ≡ record { entries = []; reserved = 0 } }
     {
         Entries {
             small: Vec::new(alloc),
             seen: Vec::new(alloc),
+            reserved: 0,
+            commands: 0,
+            alloc,
         }
+    }
+
+    /// For how many entries in all memory is reserved.
+    pub(crate) fn reserved(&self) -> usize
+        ensures { result ≡ self.now.reserved }
+    {
+        self.reserved
+    }
+
+    /// How many of them are looks.
+    pub(crate) fn looks(&self) -> usize
+        ensures { result ≤ length self.now.entries }
+    {
+        self.seen.len()
+    }
+
+    /// How many bytes the entries take, with a place in the list of its user for each command.
+    pub(crate) fn bytes(&self) -> u64 {
+        let entries = (self.small.len() as u64).saturating_mul(ENTRY_BYTES);
+        let looks = (self.seen.len() as u64).saturating_mul(LOOK_BYTES);
+        let lists = (self.commands as u64).saturating_mul(TOLD_BYTES);
+        entries.saturating_add(looks).saturating_add(lists)
+    }
+
+    /// Reserves memory for so many entries in all, whether they are looks or not.
+    pub(crate) fn reserve_all(&mut self, count: usize) -> Result<(), NoMemory>
+        ensures ok { OnOk result (self.new.reserved ≡ count) }
+        ensures entries { self.new.entries ≡ self.old.entries }
+        ensures err { OnErr result (self.new.reserved ≡ self.old.reserved) }
+    {
+        self.small
+            .reserve_exact(count.saturating_sub(self.small.len()))?;
+        self.seen
+            .reserve_exact(count.saturating_sub(self.seen.len()))?;
+        self.reserved = count;
+        Ok(())
     }
 
     /// How many there are.
@@ -189,7 +258,8 @@ impl Entries {
     /// Reserves memory for one more entry that is no look.
     pub(crate) fn reserve(&mut self) -> Result<(), NoMemory>
         ensures room { IfOk result (λ _. 0 < self.new.room) }
-        ensures unchanged { self.new.entries ≡ self.old.entries }
+        ensures memory { OnErr result (self.old.reserved ≤ length self.old.entries) }
+        ensures unchanged { journal_of self.new ≡ journal_of self.old }
     {
         self.small.reserve(1)
     }
@@ -198,7 +268,8 @@ impl Entries {
     pub(crate) fn reserve_look(&mut self) -> Result<(), NoMemory>
         ensures room { IfOk result (λ _. 0 < self.new.room) }
         ensures look_room { IfOk result (λ _. 0 < self.new.look_room) }
-        ensures unchanged { self.new.entries ≡ self.old.entries }
+        ensures memory { OnErr result (self.old.reserved ≤ length self.old.entries) }
+        ensures unchanged { journal_of self.new ≡ journal_of self.old }
     {
         self.seen.reserve(1)?;
         self.small.reserve(1)
@@ -209,9 +280,11 @@ impl Entries {
     fn push_look(&mut self, by: By, event: Event, seen: Seen)
         requires room { 0 < self.old.room }
         requires look_room { 0 < self.old.look_room }
-        ensures { self.new.entries ≡ self.old.entries ++ SpecOne by event (Look seen) ∷ [] }
+        ensures entries { self.new.entries ≡ self.old.entries ++ SpecOne by event (Look seen) ∷ [] }
+        ensures reserved { self.new.reserved ≡ self.old.reserved }
     {
         let place = self.seen.len();
+        self.commands = with_command(self.commands, by);
         self.seen.push_reserved(seen);
         self.small
             .push_reserved(SmallEntry::Look { by, event, place });
@@ -221,8 +294,10 @@ impl Entries {
     #[inline(always)]
     fn push_small(&mut self, by: By, event: Event, reply: SmallReply)
         requires { 0 < self.old.room }
-        ensures { self.new.entries ≡ self.old.entries ++ SpecOne by event (reply_of reply) ∷ [] }
+        ensures entries { self.new.entries ≡ self.old.entries ++ SpecOne by event (reply_of reply) ∷ [] }
+        ensures reserved { self.new.reserved ≡ self.old.reserved }
     {
+        self.commands = with_command(self.commands, by);
         self.small
             .push_reserved(SmallEntry::One { by, event, reply });
     }
@@ -231,7 +306,8 @@ impl Entries {
     fn push_one(&mut self, by: By, event: Event, reply: Reply)
         requires room { 0 < self.old.room }
         requires look_room { HasRoomToShow reply self.old.look_room }
-        ensures { self.new.entries ≡ self.old.entries ++ SpecOne by event reply ∷ [] }
+        ensures entries { self.new.entries ≡ self.old.entries ++ SpecOne by event reply ∷ [] }
+        ensures reserved { self.new.reserved ≡ self.old.reserved }
     {
         match SmallReply::of(reply) {
             Ok(reply) => self.push_small(by, event, reply),
@@ -243,7 +319,8 @@ impl Entries {
     #[inline(never)]
     fn push_run(&mut self, by: By, node: u8, count: u64, last: Stepped)
         requires { 0 < self.old.room }
-        ensures { self.new.entries ≡ self.old.entries ++ SpecRun by node count last ∷ [] }
+        ensures entries { self.new.entries ≡ self.old.entries ++ SpecRun by node count last ∷ [] }
+        ensures reserved { self.new.reserved ≡ self.old.reserved }
     {
         self.small.push_reserved(SmallEntry::Run {
             by,
@@ -255,7 +332,9 @@ impl Entries {
 
     /// Appends an entry. After `NoMemory` they are what they were.
     pub(crate) fn push(&mut self, entry: Entry) -> Result<(), NoMemory>
-        ensures { self.new.entries ≡ (if is_ok result then self.old.entries ++ entry ∷ [] else self.old.entries) }
+        ensures entries { self.new.entries ≡ (if is_ok result then self.old.entries ++ entry ∷ [] else self.old.entries) }
+        ensures memory { OnErr result (self.old.reserved ≤ length self.old.entries) }
+        ensures reserved { self.new.reserved ≡ self.old.reserved }
     {
         self.seen.reserve(1)?;
         self.small.reserve(1)?;
@@ -277,6 +356,7 @@ impl Entries {
         requires some { 0 < count }
         requires few { length (expanded self.old.entries) + count ≤ 2 ^ 40 }
         ensures grown { IsTrue result → expanded self.new.entries ≡ expanded self.old.entries ++ steps by node count last }
+        ensures reserved { self.new.reserved ≡ self.old.reserved }
         ensures unchanged { ¬ IsTrue result → self.new ≡ self.old }
     {
         let Some(entry) = self.small.last_mut() else {
@@ -291,7 +371,8 @@ impl Entries {
     pub(crate) fn push_steps(&mut self, by: By, node: u8, count: u64, last: Stepped)
         requires room { 0 < self.old.room }
         requires few { length (expanded self.old.entries) + count ≤ 2 ^ 40 }
-        ensures { expanded self.new.entries ≡ expanded self.old.entries ++ steps by node count last }
+        ensures entries { expanded self.new.entries ≡ expanded self.old.entries ++ steps by node count last }
+        ensures reserved { self.new.reserved ≡ self.old.reserved }
     {
         if count == 0 || self.extend_last(by, node, count, last) {
             return;
@@ -305,7 +386,9 @@ impl Entries {
     pub(crate) fn push_answer(&mut self, by: By, event: Event, reply: SmallReply)
         requires room { 0 < self.old.room }
         requires few { length (expanded self.old.entries) < 2 ^ 40 }
-        ensures { expanded self.new.entries ≡ expanded self.old.entries ++ record { call = record { by = by; event = event }; reply = reply_of reply } ∷ [] }
+        ensures entries { expanded self.new.entries ≡ expanded self.old.entries
+            ++ record { call = record { by = by; event = event }; reply = reply_of reply } ∷ [] }
+        ensures reserved { self.new.reserved ≡ self.old.reserved }
     {
         match (event, reply) {
             (Event::Step(node), SmallReply::Stepped(last)) => self.push_steps(by, node, 1, last),
@@ -318,7 +401,9 @@ impl Entries {
     pub(crate) fn push_seen(&mut self, by: By, event: Event, seen: Seen)
         requires room { 0 < self.old.room }
         requires look_room { 0 < self.old.look_room }
-        ensures { expanded self.new.entries ≡ expanded self.old.entries ++ record { call = record { by = by; event = event }; reply = Look seen } ∷ [] }
+        ensures entries { expanded self.new.entries ≡ expanded self.old.entries
+            ++ record { call = record { by = by; event = event }; reply = Look seen } ∷ [] }
+        ensures reserved { self.new.reserved ≡ self.old.reserved }
     {
         self.push_look(by, event, seen);
     }
@@ -327,18 +412,41 @@ impl Entries {
     pub(crate) fn push_ticket(&mut self, node: u8, count: u64, last: Option<Stepped>)
         requires room { 0 < self.old.room }
         requires few { length (expanded self.old.entries) + count ≤ 2 ^ 40 }
-        ensures { expanded self.new.entries ≡ expanded self.old.entries ++ steps_told node count last }
+        ensures entries { expanded self.new.entries ≡ expanded self.old.entries ++ steps_told node count last }
+        ensures reserved { self.new.reserved ≡ self.old.reserved }
     {
         if let Some(last) = last {
             self.push_steps(By::Farm, node, count, last);
         }
     }
 
-    /// Makes it as it was when it was new.
-    pub(crate) fn clear(&mut self)
-        ensures { self.new.entries ≡ [] }
+    // No entries, with memory reserved for so many.
+    fn with_reserved(alloc: Global, count: usize) -> Result<Entries, NoMemory>
+        ensures { IfOk result (λ e. journal_of e ≡ record { entries = []; reserved = count }) }
     {
-        self.small.clear();
-        self.seen.clear();
+        let small = Vec::with_capacity(alloc, count)?;
+        let seen = Vec::with_capacity(alloc, count)?;
+        Ok(Entries {
+            small,
+            seen,
+            reserved: count,
+            commands: 0,
+            alloc,
+        })
+    }
+
+    /// Removes all entries, and gives the memory that they took back to the system. As much as before is reserved anew. If the
+    /// system hasn't that much beside what is given back, the memory stays.
+    pub(crate) fn clear(&mut self)
+        ensures { journal_of self.new ≡ record { entries = []; reserved = self.old.reserved } }
+    {
+        match Entries::with_reserved(self.alloc, self.reserved) {
+            Ok(fresh) => *self = fresh,
+            Err(NoMemory) => {
+                self.small.clear();
+                self.seen.clear();
+                self.commands = 0;
+            }
+        }
     }
 }

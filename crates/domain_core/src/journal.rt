@@ -1,5 +1,5 @@
 //! What a domain answered, in order.
-ghost use Rattle.std.specs.Prelude.{◌≡◌, ◌++◌, ◌∷◌, [], ◌↔◌, IsTrue, length, slice_get, is_ok, if◌then◌else◌};
+ghost use Rattle.std.specs.Prelude.{◌≡◌, ◌≤◌, ◌++◌, ◌∷◌, [], ◌↔◌, IsTrue, OnOk, OnErr, length, slice_get, is_ok, if◌then◌else◌};
 
 use crate::NoMemory;
 use crate::entries::Entries;
@@ -33,7 +33,8 @@ pub enum Entry {
     },
 }
 
-/// What a domain answered, in order: a list of entries. Each takes 24 bytes, and a look 28 more.
+/// What a domain answered, in order: a list of entries. Each takes 24 bytes, and a look 28 more. Memory may be reserved for a
+/// number of entries: as long as there are fewer, one more takes no memory from the system.
 pub struct Journal {
     pub(crate) entries: Entries,
 }
@@ -46,18 +47,18 @@ impl Drop for Journal {
 }
 
 impl Model for Journal {
-    ghost use Rattle.std.specs.Prelude.{List};
-    ghost use Rattle.domain_core.specs.declared.journal.Entry.{Entry};
+    ghost use Rattle.domain_core.specs.Entries.{journal_of};
+    ghost use Rattle.domain_core.specs.Journal.{JournalValue};
 
-    ghost Value = { List Entry };
+    ghost Value = { JournalValue };
 
-    ghost view = { λ j. j.entries.entries };
+    ghost view = { λ j. journal_of j.entries };
 }
 
 impl Journal {
     /// An empty journal. It takes no memory yet.
     pub fn new(alloc: Global) -> Journal
-        ensures { result ≡ [] }
+        ensures { result ≡ record { entries = []; reserved = 0 } }
     {
         Journal {
             entries: Entries::new(alloc),
@@ -66,34 +67,65 @@ impl Journal {
 
     /// How many entries it has.
     pub fn len(&self) -> usize
-        ensures { result ≡ length self.now }
+        ensures { result ≡ length self.now.entries }
     {
         self.entries.len()
     }
 
     /// Whether it has no entry.
     pub fn is_empty(&self) -> bool
-        ensures { IsTrue result ↔ (self.now ≡ []) }
+        ensures { IsTrue result ↔ (self.now.entries ≡ []) }
     {
         self.entries.len() == 0
     }
 
     /// The entry at a place, counted from 0, or `None` if it has fewer.
     pub fn get(&self, index: usize) -> Option<Entry>
-        ensures { result ≡ slice_get self.now index }
+        ensures { result ≡ slice_get self.now.entries index }
     {
         self.entries.get(index)
     }
 
-    /// Appends an entry. After `NoMemory` the journal is what it was.
+    /// How many of the entries are looks.
+    pub fn looks(&self) -> usize
+        ensures { result ≤ length self.now.entries }
+    {
+        self.entries.looks()
+    }
+
+    /// How many bytes the entries take, with a place in the list of its user for each command.
+    pub fn bytes(&self) -> u64 {
+        self.entries.bytes()
+    }
+
+    /// For how many entries in all memory is reserved, whether they are looks or not.
+    pub fn reserved(&self) -> usize
+        ensures { result ≡ self.now.reserved }
+    {
+        self.entries.reserved()
+    }
+
+    /// Reserves memory for so many entries in all. After `NoMemory` as much is reserved as before.
+    pub fn reserve(&mut self, count: usize) -> Result<(), NoMemory>
+        ensures ok { OnOk result (self.new.reserved ≡ count) }
+        ensures entries { self.new.entries ≡ self.old.entries }
+        ensures err { OnErr result (self.new ≡ self.old) }
+    {
+        self.entries.reserve_all(count)
+    }
+
+    /// Appends an entry. `NoMemory` only if no memory is reserved for one more; then the journal is what it was.
     pub fn push(&mut self, entry: Entry) -> Result<(), NoMemory>
-        ensures { self.new ≡ (if is_ok result then self.old ++ entry ∷ [] else self.old) }
+        ensures entries { self.new.entries ≡ (if is_ok result then self.old.entries ++ entry ∷ [] else self.old.entries) }
+        ensures memory { OnErr result (self.old.reserved ≤ length self.old.entries) }
+        ensures reserved { self.new.reserved ≡ self.old.reserved }
     {
         self.entries.push(entry)
     }
-    /// Makes it as it was when it was new.
+
+    /// Removes all entries, and gives the memory that they took back to the system if it can reserve as much anew.
     pub fn clear(&mut self)
-        ensures { self.new ≡ [] }
+        ensures { self.new ≡ record { entries = []; reserved = self.old.reserved } }
     {
         self.entries.clear();
     }

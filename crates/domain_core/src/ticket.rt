@@ -1,16 +1,23 @@
 //! A copy of a node, whose Steps are done outside the lock of its domain.
-ghost use Rattle.std.specs.Prelude.{◌≡◌, IfOk, IsTrue, OnErr, Some, ◌↔◌, min};
+ghost use Rattle.std.specs.Prelude.{◌≡◌, ◌<◌, ◌≤◌, IfOk, IsTrue, OnErr, Some, ◌↔◌, min};
 ghost use Rattle.bootstrap.specs.Laws.{later_or};
 ghost use Rattle.domain_core.specs.Ticket.{Bursts, fresh_ticket};
 
 use crate::NoMemory;
 use bootstrap::{Burst, Node};
+use std::alloc::Global;
 use std::marker::Model;
 use std::mem::swap;
 use t414_step::Stepped;
 
 /// The most Steps of one ticket.
-pub const MOST_STEPS: u64 = 1 << 40;
+pub const TICKET_STEPS: u64 = 1 << 40;
+
+// From how many Steps on a period of the node is looked for.
+const LEAST_FOR_PERIODS: u64 = 1 << 24;
+
+// How many Steps are done one by one, at most, to find a period.
+const PERIOD_STEPS: u64 = 1 << 14;
 
 /// A copy of a node, and the Steps that it has done since it was copied. The home node may change
 /// meanwhile: then the ticket is stale.
@@ -51,11 +58,11 @@ impl Ticket {
     ghost use Rattle.domain_core.specs.Ticket.{IsTicket};
 
     // A ticket of no Steps.
-    pub(crate) fn of(domain: u8, number: u8, home: &Node) -> Result<Ticket, NoMemory>
+    pub(crate) fn of(alloc: Global, domain: u8, number: u8, home: &Node) -> Result<Ticket, NoMemory>
         ensures { IfOk result (λ t. t ≡ fresh_ticket domain number home.now) }
     {
-        let start = home.copy()?;
-        let node = home.copy()?;
+        let start = home.copy(alloc)?;
+        let node = home.copy(alloc)?;
         Ok(Ticket {
             domain,
             number,
@@ -86,6 +93,7 @@ impl Ticket {
     // Makes the ticket of a slot one of no Steps of this node. It is made in place of the one that lies there if it can
     // be. After `NoMemory` the slot is what it was.
     pub(crate) fn put(
+        alloc: Global,
         slot: &mut Option<Ticket>,
         domain: u8,
         number: u8,
@@ -99,7 +107,7 @@ impl Ticket {
         {
             return Ok(());
         }
-        *slot = Some(Ticket::of(domain, number, home)?);
+        *slot = Some(Ticket::of(alloc, domain, number, home)?);
         Ok(())
     }
 
@@ -110,10 +118,72 @@ impl Ticket {
     {
         // Steps after Steps are as many as both.
         bootstrap::steps_add_up();
-        let most = at_most(n, MOST_STEPS - self.steps);
+        let most = at_most(n, TICKET_STEPS - self.steps);
         let Burst { steps, last } = self.node.burst(most);
         self.steps += steps;
         self.last = later_or(last, self.last);
+    }
+
+    /// Does the same as `burst`, but if the copy comes to be its start again, as it does in an endless loop, it counts whole
+    /// periods without doing them. A period is looked for only if n is 2^24 or more, and only among the next 16,384 Steps.
+    pub fn burst_by_periods(&mut self, n: u64)
+        ensures { Bursts n self.old self.new }
+    {
+        // Steps after Steps are as many as both.
+        bootstrap::steps_add_up();
+        let most = if n < LEAST_FOR_PERIODS {
+            0
+        } else {
+            PERIOD_STEPS
+        };
+        let tried = self.burst_to_start(most);
+        let skipped = self.skip_periods(n - tried);
+        // It is a ticket still.
+        self.stepped_law();
+        self.burst(n - tried - skipped);
+        self.stepped_law();
+    }
+
+    // Does Steps one by one, up to so many, until the copy is the start again. For how many it asked.
+    fn burst_to_start(&mut self, most: u64) -> u64
+        ensures few { result ≤ most }
+        ensures bursts { Bursts result self.old self.new }
+    {
+        // Steps after Steps are as many as both.
+        bootstrap::steps_add_up();
+        for tried in 0..most {
+            if self.is_start_again() {
+                return tried;
+            }
+            self.burst(1);
+            // It is a ticket still.
+            self.stepped_law();
+        }
+        most
+    }
+
+    // Whether the copy is its start again, after some Steps.
+    fn is_start_again(&self) -> bool
+        ensures { IsTrue result → (0 < self.now.steps) × (self.now.node ≡ self.now.start) }
+    {
+        self.steps > 0 && self.node.same(&self.start)
+    }
+
+    // Counts as many whole periods as fit, without doing them, if the copy is its start again: all Steps since the
+    // checkout are a period then. How many Steps it counted.
+    fn skip_periods(&mut self, most: u64) -> u64
+        ensures few { result ≤ most }
+        ensures bursts { Bursts result self.old self.new }
+    {
+        // Steps after Steps are as many as both.
+        bootstrap::steps_add_up();
+        if !self.is_start_again() {
+            return 0;
+        }
+        let room = at_most(most, TICKET_STEPS - self.steps);
+        let skipped = room / self.steps * self.steps;
+        self.steps += skipped;
+        skipped
     }
 
     /// The number of the domain that was written into the ticket at its checkout.
@@ -157,7 +227,7 @@ impl Ticket {
     pub(crate) fn starts_at(&self, home: &Node) -> bool
         ensures { IsTrue result ↔ (home.now ≡ self.now.start) }
     {
-        home.equals(&self.start)
+        home.same(&self.start)
     }
 
     // Puts the copy in the place of the home node, which is the start, and takes that for it: it is a ticket of no Steps then.

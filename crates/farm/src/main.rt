@@ -1,14 +1,8 @@
-//! The script program over a farm of T414 processors on a C004 link switch: words of the command
-//! line, a plan and a script in, one line of output for each script line out.
+//! The script program: it gives `run` of `farm_program` the words and the streams of the process.
 #![tactic(auto)]
 
-mod answering;
-mod farm;
-mod program;
-mod users;
-
-use crate::program::run;
 use farm_input::refuse_arguments;
+use farm_program::run;
 use std::process::ExitCode;
 use std::{env, io};
 
@@ -29,6 +23,5 @@ fn main(rt: HostRuntime) -> ExitCode {
         }
     };
     let words = words.as_slice();
-    let ending = run(&rt, alloc, words, &mut input, &mut output, &mut errors);
-    ExitCode::from(ending.status)
+    ExitCode::from(run(&rt, alloc, words, &mut input, &mut output, &mut errors))
 }

@@ -63,7 +63,9 @@ input_wait n number l =
 -- a byte was posted, and its acknowledge hasn't come
 abbrev pub output_wait : Node → LinkNumber → Link → Option OutputWait
 output_wait n number l =
-    if l.end.output.awaits then Some (record { process = waiter_at n.memory (output_channel number); behind = l.output_count }) else None
+    if l.end.output.awaits
+    then Some (record { process = waiter_at n.memory (output_channel number); behind = l.output_count })
+    else None
 
 -- an alternative is to be told of a byte
 abbrev pub watcher : Node → LinkNumber → Link → Option Process
@@ -83,7 +85,8 @@ link_waits n number = let l = at number n.links in record {
 abbrev pub IsLoaded : Node → Type 0
 IsLoaded n = (s : Cpu) × (n.state ≡ doing.Runs s)
 
--- the cause of a node. Runs: its next Step would be recorded. Rests: it would not, and this is what the links are waited for
+-- the cause of a node. Runs: its next Step would be recorded. Rests: it would not, and this is what the links are
+-- waited for
 abbrev pub IsCause : Node → Cause → Type 0
 IsCause n WantsControl = n.state ≡ doing.WantsControl
 IsCause n (Takes link task) = n.state ≡ doing.Takes link task
@@ -99,8 +102,8 @@ abbrev pub is_waiting : Result ℕ Fault → Bool
 is_waiting (Ok word) = word == waiting
 is_waiting (Err fault) = false
 
--- what the instruction does that ends with this byte, for a process whose word 12 below its workspace is this one: f7 is in, fb
--- out, fe outbyte and ff outword. Behind f4, the end of altwt, the word says whether it waits
+-- what the instruction does that ends with this byte, for a process whose word 12 below its workspace is this one: f7
+-- is in, fb out, fe outbyte and ff outword. Behind f4, the end of altwt, the word says whether it waits
 abbrev pub met_by : ℕ → Result ℕ Fault → Option Rendezvous
 met_by byte state =
     if byte == 0xF7 then Some Receives
@@ -120,7 +123,8 @@ meets_at m channel p (Err fault) = None
 
 -- who waits at the channel in this word, if its process stands behind an instruction that waits
 abbrev pub inside_wait_at : List ℕ → ℕ → Option InsideWait
-inside_wait_at m channel = option_and_then (λ p. meets_at m channel p (byte_at m (p.instruction ⊖ 1))) (waiter_at m channel)
+inside_wait_at m channel =
+    option_and_then (λ p. meets_at m channel p (byte_at m (p.instruction ⊖ 1))) (waiter_at m channel)
 
 -- the words that can be channels in memory, behind the nine of the links and of the event channel
 abbrev pub inside_channels : List ℕ

@@ -56,5 +56,6 @@ IsReached plan number m = (calls : List Call) × IsMomentAfter plan number calls
 -- a moment after calls that goes on by others is one after those and these
 abbrev pub MomentsGoOn : Type 0
 MomentsGoOn =
-    (plan : List DomainData) (number : ℕ) (before after : List Call) (m n : MomentValue) → IsMomentAfter plan number before m → MovesOn m after n
+    (plan : List DomainData) (number : ℕ) (before after : List Call) (m n : MomentValue)
+    → IsMomentAfter plan number before m → MovesOn m after n
     → IsMomentAfter plan number (before ++ after) n

@@ -53,15 +53,19 @@ end_at d (Link number link) = end_of_link link (slice_get d.nodes number)
 abbrev pub answer_of_move : PartData → Machine → ℕ → Moved
 answer_of_move part m port = (moved part m.switch m.devices port).1
 
--- where the byte is that the device sent last: it has no port; it waits there; or it left, and these outputs are driven now
+-- where the byte is that the device sent last: it has no port; it waits there; or it left, and these outputs are driven
+-- now
 abbrev pub IsSent : PartData → Machine → Device → SentByte → Type 0
 IsSent part m device sent.Unwired = IsPortOf part device None
 IsSent part m device (sent.Waits port moved) =
-    IsPortOf part device (Some port) × (is_some (end_at m.devices device).latch.byte ≡ true) × (moved ≡ answer_of_move part m port)
+    IsPortOf part device (Some port) × (is_some (end_at m.devices device).latch.byte ≡ true)
+    × (moved ≡ answer_of_move part m port)
 IsSent part m device (sent.Left port mask) =
-    IsPortOf part device (Some port) × (is_some (end_at m.devices device).latch.byte ≡ false) × Marks mask (drives m.switch port)
+    IsPortOf part device (Some port) × (is_some (end_at m.devices device).latch.byte ≡ false)
+    × Marks mask (drives m.switch port)
 
--- what became of a byte that came to an output: no device is there; it lies in the buffer; its acknowledge waits at the port; or neither
+-- what became of a byte that came to an output: no device is there; it lies in the buffer; its acknowledge waits at the
+-- port; or neither
 abbrev pub IsArrival : PartData → Machine → ℕ → Arrival → Type 0
 IsArrival part m output arrival.Nobody = device_at part output ≡ None
 IsArrival part m output (arrival.Held device) =
@@ -73,10 +77,12 @@ IsArrival part m output (arrival.Gone device) =
     (device_at part output ≡ Some device) × (is_some (end_at m.devices device).input.buffer ≡ false)
     × ((end_at m.devices device).latch.acknowledge ≡ false)
 
--- whence bytes come to a device: it has no port; no input drives its port's output; or this one does, with what waits there
+-- whence bytes come to a device: it has no port; no input drives its port's output; or this one does, with what waits
+-- there
 abbrev pub IsSupply : PartData → Machine → Device → Supply → Type 0
 IsSupply part m device supply.Unwired = IsPortOf part device None
 IsSupply part m device (supply.Undriven port) = IsPortOf part device (Some port) × IsInputOf part m port None
 IsSupply part m device (supply.Driven port input source packet moved) =
     IsPortOf part device (Some port) × IsInputOf part m port (Some input) × (source ≡ device_at part input)
-    × (packet ≡ option_and_then (packet_waiting m.devices) (device_at part input)) × (moved ≡ answer_of_move part m input)
+    × (packet ≡ option_and_then (packet_waiting m.devices) (device_at part input))
+    × (moved ≡ answer_of_move part m input)

@@ -7,7 +7,8 @@ ghost use Rattle.farm_causes.specs.Causes.{is_waiting, met_by, inside_wait_at, i
 use crate::cause::{Cause, InputWait, InsideWait, LinkWaits, OutputWait, Rendezvous};
 use bootstrap::{Node, NodeState};
 use link_channels::{Link, LinkNumber, Process, WAITING};
-use node_memory::{Fault, Memory, NOT_PROCESS, NoMemory};
+use node_memory::{Fault, Memory, NoMemory};
+use process_queue::NOT_PROCESS;
 use std::alloc::Global;
 
 /// The first word that can be a channel in memory, behind the nine of links and of the event channel.

@@ -55,7 +55,7 @@ impl Model for Follower {
 }
 
 /// Whether an answer is what a line says.
-pub fn is_told(alloc: Global, line: &RecordedLine, reply: Reply) -> Result<bool, NoMemory> {
+pub fn answer_matches(alloc: Global, line: &RecordedLine, reply: Reply) -> Result<bool, NoMemory> {
     let times = line.call.times;
     let Some(told) = line.answer else {
         return Ok(true);
@@ -184,7 +184,7 @@ impl Follower {
         ensures { IfOk result (λ reply. MovesOn self.old (calls_said line.now.call) self.new) }
     {
         let reply = self.follow_said(line.call, meter)?;
-        if is_told(self.alloc, line, reply)? {
+        if answer_matches(self.alloc, line, reply)? {
             Ok(reply)
         } else {
             Err(LineStop::Follow(FollowFault::Differs))

@@ -7,8 +7,9 @@ use crate::past::{FaultPast, Past};
 use bootstrap::{Node, NodeState, Task};
 use domain_core::{Event, Moment, Moved, NoMemory, Reply, device_at};
 use link_channels::Links;
-use node_memory::{Memory, NOT_PROCESS};
+use node_memory::Memory;
 use os_link::Packet;
+use process_queue::NOT_PROCESS;
 use t414_step::{Cpu, Stepped};
 
 /// What was seen before an event.
@@ -45,7 +46,7 @@ fn resumed(memory: &Memory, cpu: Cpu) -> Option<Cpu> {
 
 // The registers of a process that goes on once the links are served.
 fn served(memory: &Memory, links: &Links, cpu: Cpu) -> Result<Option<Cpu>, NoMemory> {
-    let mut memory = memory.copy()?;
+    let mut memory = memory.copy(memory.allocator())?;
     let mut links = links.copy();
     let mut cpu = cpu;
     Ok(match links.serve_all(&mut memory, &mut cpu.queue) {

@@ -22,7 +22,7 @@ pub use cause::{Cause, InputWait, InsideWait, LinkWaits, OutputWait, Rendezvous}
 pub use explaining::{explain_moment, explain_record};
 pub use fault::{FollowFault, LineStop, RecordStop, WhyFault};
 pub use finding::{cause_in, inside_waits};
-pub use following::{Follower, is_told};
+pub use following::{Follower, answer_matches};
 pub use glance::next_registers;
 pub use line::{RecordedLine, SaidCall};
 pub use lines::follow_record;

@@ -197,7 +197,7 @@ fn push_waiting(text: &mut TextWriter, source: Device, packet: Packet) {
     match packet {
         Packet::Byte(byte) => {
             text.push("Byte ");
-            text.push_byte(byte);
+            text.push_hex_byte(byte);
         }
         Packet::Ack => text.push("An acknowledge"),
     }

@@ -124,7 +124,7 @@ impl Scene<'_> {
                 let whole = came.wrapping_add(u32::from(left));
                 push_taken(text, " takes code by ", link, came, whole);
                 text.push(", as the control byte ");
-                text.push_byte((whole % 0x100) as u8);
+                text.push_hex_byte((whole % 0x100) as u8);
                 text.push(" asks");
             }
         }

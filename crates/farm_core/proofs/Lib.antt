@@ -1,13 +1,8 @@
--- one call in the whole farm, from the switch up
-pub mod OneOutputSet
-pub mod Messages
-pub mod Packets
-pub mod Steps
--- runs, and farms made of domains
-pub mod Runs
-pub mod MadeOfDomains
-pub mod Merging
+-- lists, and the domains that stand in them
+pub mod Lists
+-- the contracts of a farm without threads, and of a run
+pub mod Opened
+pub mod Plain
+pub mod Owners
 pub mod Wholes
--- plans
-pub mod Separation
-pub mod Plans
+pub mod AnswersOfRuns

@@ -1,108 +1,109 @@
--- What the words of domains say of the whole farms that are made of them, and domains that fit a plan: the laws
--- `each_word_is_of_its_output` and `fitting_domains_have_its_places`.
-use Rattle.std.proofs.Common.{◌≡◌, ℕ, ◌<◌, List, [], Option, Some, None, length, Contains, slice_get, option_map}
-use Rattle.std.proofs.Common.{All, sym, ap, ◌∙◌, arith, subst}
-use Rattle.std.proofs.lemmas.List.{ext_get_or, length-map}
-use Rattle.std.proofs.lemmas.Option.{slice_get_within, get_or_from_slice_get, slice_get-map, same_Some, none-some}
-use Rattle.std.specs.FinMap as fin
-use Rattle.crossbar.specs.declared.word.Word.{Word}
-use Rattle.crossbar.specs.declared.word.Connection.{Connection}
-use Rattle.crossbar.specs.Word.{connection_of}
-use Rattle.crossbar.specs.Row.{Row, IsRow, IsWordOf, InputIsIn, private_switch, input_of}
-use Rattle.crossbar.specs.Laws.{SwitchLaws}
-use Rattle.virtual_switch.specs.SwitchValue.{row_of}
-use Rattle.plan_rules.specs.Data.{DomainData}
-use Rattle.plan_rules.specs.Part.{part_with}
-use Rattle.domain_core.specs.Domain.{DomainValue, state_of, Fits}
-use Rattle.farm_core.specs.Places.{Place, place_of, places_of}
-use Rattle.farm_core.specs.Messages.{raised}
-use Rattle.farm_core.specs.Merges.{own_place}
-use Rattle.farm_core.specs.Values.{all_places, all_states}
-use Rattle.farm_core.specs.Words.{HasRow, EachWordSaysItsOutput}
-use Rattle.farm_core.specs.Words.{EachWholeIsAsWordsSay, EachMergeEndsAsWordsSay, FittingDomainsHaveItsPlaces}
-use Rattle.farm_core.proofs.MadeOfDomains.{each_output_is_of_its_domain, raised-number}
-use Rattle.farm_core.proofs.Merging.{there_is, each_merge_of_domains_is_a_run}
+-- That there is a whole farm made of the domains: one journal after another is a merge. For `PlainFarm::whole_law`.
+use Rattle.std.proofs.Common.{◌≡◌, ◌≢◌, inl, inr, ℕ, zero, suc, ◌+◌, ◌<◌, ◌≤◌, List, [], ◌∷◌, ◌++◌, Some, length}
+use Rattle.std.proofs.Common.{slice_get, get_or, map, All, refl, sym, ap, ◌∙◌, arith, subst, ◌==◌}
+use Rattle.std.proofs.lemmas.Bool.{cases_eq}
+use Rattle.std.proofs.lemmas.List.{map-append, append-nil}
+use Rattle.std.proofs.lemmas.List.Elements.{filter-append}
+use Rattle.std.proofs.lemmas.Option.{slice_get_past, slice_get-get_or, same_Some}
+use Rattle.domain_core.specs.Domain.{DomainValue, IsMeant}
+use Rattle.domain_core.specs.Journal.{AnsweredCall}
+use Rattle.whole_farm.specs.Places.{AreSeparatePlaces}
+use Rattle.whole_farm.specs.Projection.{own}
+use Rattle.whole_farm.specs.Merges.{journal_at, IsMerge, own_journal, EachMergeOfDomainsIsARun}
+use Rattle.whole_farm.specs.Values.{all_places}
+use Rattle.whole_farm.specs.Words.{HasRow}
+use Rattle.farm_core.specs.PlainFarm.{HaveAWhole}
+use Rattle.farm_core.proofs.Lists.{own-here, own-there}
 
--- the place at a domain's number is its own
-place_at : (domains : List DomainValue) (domain : ℕ) (d : DomainValue) → slice_get domains domain ≡ Some d
-    → slice_get (all_places domains) domain ≡ Some (own_place d)
-place_at domains domain d at = slice_get-map own_place domains domain ∙ ap (option_map own_place) at
+-- ---- one journal after another
 
--- the state at a domain's number is its own
-state_at : (domains : List DomainValue) (domain : ℕ) (d : DomainValue) → slice_get domains domain ≡ Some d
-    → slice_get (all_states domains) domain ≡ Some (state_of d)
-state_at domains domain d at = slice_get-map state_of domains domain ∙ ap (option_map state_of) at
+abbrev tagged : ℕ → List AnsweredCall → List (ℕ × AnsweredCall)
+tagged number journal = map (λ a. (number, a)) journal
 
--- ---- what the words say
+-- journals of which the first is the domain's of this number
+abbrev joined_from : ℕ → List (List AnsweredCall) → List (ℕ × AnsweredCall)
+joined_from number [] = []
+joined_from number (journal ∷ journals) = tagged number journal ++ joined_from (number + 1) journals
 
--- a word of a row is proper, and its input is one of the ports
-word_within : (row : Row) (output : ℕ) (word : Word) → IsRow row → slice_get row.words output ≡ Some word
-    → IsWordOf row.ports word
-word_within row output word is_row is =
-    subst (IsWordOf row.ports) (get_or_from_slice_get row.words output word word is)
-    (is_row.each output word (slice_get_within row.words output word is))
+own-append : (domain : ℕ) (xs ys : List (ℕ × AnsweredCall)) → own domain (xs ++ ys) ≡ own domain xs ++ own domain ys
+own-append domain xs ys =
+    ap (map (λ (x : ℕ × AnsweredCall). x.1)) (filter-append (λ (x : ℕ × AnsweredCall). x.0 == domain) xs ys)
+    ∙ map-append (λ (x : ℕ × AnsweredCall). x.1) _ _
 
-driver_is : SwitchLaws → (row : Row) (number : ℕ) (word : Word) → IsRow row → number < length row.ports
-    → slice_get row.words number ≡ Some word
-    → option_map (raised row.ports) (fin.get (private_switch row).pairs number) ≡ input_of (connection_of word)
-driver_is laws row number word is_row within has =
-    ap (option_map (raised row.ports)) (laws.driver row number word within has)
-    ∙ sym (raised-number laws row.ports (input_of (connection_of word)) is_row.one_to_one
-    (inside (connection_of word) (word_within row number word is_row has).within))
-  where
-    inside : (found : Option Connection) → InputIsIn row.ports found → (input : ℕ) → input_of found ≡ Some input
-        → Contains row.ports input
-    inside None in' input is = absurd (none-some input is)
-    inside (Some connection) in' input is = subst (Contains row.ports) (same_Some _ _ is) in'
+own_of_tagged : (number : ℕ) (journal : List AnsweredCall) → own number (tagged number journal) ≡ journal
+own_of_tagged number [] = refl
+own_of_tagged number (a ∷ journal) =
+    own-here number (number, a) (tagged number journal) refl ∙ ap (λ rest. a ∷ rest) (own_of_tagged number journal)
 
--- if a domain has a row of words, each of them says what its output is in every whole farm made of the domains
-pub each_word_says_its_output : SwitchLaws → EachWordSaysItsOutput
-each_word_says_its_output laws domains farm domain number output d word separate made at row port has =
-    let own = row_of d.machine.switch in
-    let within = slice_get_within own.ports number output port in
-    each_output_is_of_its_domain laws (all_places domains) farm (all_states domains) domain (own_place d) (state_of d)
-    number output separate made (place_at domains domain d at) (state_at domains domain d at) port
-    ∙ (λ i.
-    record {
-      driver = driver_is laws own number word row within has i;
-      ready = laws.readiness own number word within has i;
-    })
+none_of_tagged : (domain number : ℕ) (journal : List AnsweredCall) → number ≢ domain
+    → own domain (tagged number journal) ≡ []
+none_of_tagged domain number [] ne = refl
+none_of_tagged domain number (a ∷ journal) ne =
+    own-there domain (number, a) (tagged number journal) ne ∙ none_of_tagged domain number journal ne
 
-all_at : (P : DomainValue → Type 0) (domains : List DomainValue) (number : ℕ) (d : DomainValue)
-    → All P domains → slice_get domains number ≡ Some d
-    → P d
-all_at P domains number d all at =
-    subst P (get_or_from_slice_get domains number d d at) (all number d (slice_get_within domains number d at))
+none_before : (domain number : ℕ) (journals : List (List AnsweredCall)) → domain < number
+    → own domain (joined_from number journals) ≡ []
+none_before domain number [] less = refl
+none_before domain number (journal ∷ journals) less =
+    own-append domain (tagged number journal) (joined_from (number + 1) journals)
+    ∙ (λ i. none_of_tagged domain number journal (λ e. omega arith) i
+    ++ none_before domain (number + 1) journals (omega arith) i)
 
--- in every whole farm made of domains, an output is as the word of its owner says
-pub each_whole_is_as_words_say : SwitchLaws → EachWholeIsAsWordsSay
-each_whole_is_as_words_say laws domains farm separate rows made domain number output d word at =
-    each_word_says_its_output laws domains farm domain number output d word separate made at
-    (all_at HasRow domains domain d rows at)
+own_of_joined : (domain number k : ℕ) (journals : List (List AnsweredCall)) → domain ≡ number + k
+    → own domain (joined_from number journals) ≡ journal_at (slice_get journals k)
+own_of_joined domain number k [] is = ap journal_at (sym (slice_get_past [] k (omega arith)))
+own_of_joined domain number zero (journal ∷ journals) is =
+    let same : number ≡ domain = omega (arith, is) in
+    own-append domain (tagged number journal) (joined_from (number + 1) journals)
+    ∙ (λ i. (ap (λ d. own d (tagged number journal)) (sym same) ∙ own_of_tagged number journal) i
+    ++ none_before domain (number + 1) journals (omega (arith, is)) i)
+    ∙ append-nil journal
+own_of_joined domain number (suc k) (journal ∷ journals) is =
+    own-append domain (tagged number journal) (joined_from (number + 1) journals)
+    ∙ (λ i. none_of_tagged domain number journal (λ e. omega (arith, is, e)) i
+    ++ own_of_joined domain (number + 1) k journals (omega (arith, is)) i)
 
--- the same at the end of every merge of the domains' journals
-pub each_merge_ends_as_words_say : SwitchLaws → EachMergeEndsAsWordsSay
-each_merge_ends_as_words_say laws domains merge separate meant rows is =
-    each_whole_is_as_words_say laws domains _ separate rows
-    (each_merge_of_domains_is_a_run laws domains merge separate meant is).ends
+joined_merges : (journals : List (List AnsweredCall)) → IsMerge journals (joined_from 0 journals)
+joined_merges journals domain = own_of_joined domain 0 domain journals (omega arith)
 
--- ---- domains that fit a plan
+-- separate domains that are what their journals say are those of a whole farm
+pub have_a_whole : EachMergeOfDomainsIsARun → (domains : List DomainValue) → AreSeparatePlaces (all_places domains)
+    → All IsMeant domains
+    → HaveAWhole domains
+have_a_whole law domains separate meant = record {
+  merge = joined_from 0 (map own_journal domains);
+  merges = joined_merges (map own_journal domains);
+  run =
+      law domains (joined_from 0 (map own_journal domains)) separate meant (joined_merges (map own_journal domains));
+}
 
-no_place : Place
-no_place = record { part = part_with 0 0 0 [] []; ports = [] }
+-- ---- domain after domain
 
-fitting_place : (plan : List DomainData) (number : ℕ) (d : DomainValue) → Fits plan number d
-    → slice_get (places_of plan) number ≡ Some (own_place d)
-fitting_place plan number d fits =
-    slice_get-map place_of plan number ∙ ap (option_map place_of) fits.there
-    ∙ (λ i. Some (record { part = fits.part i; ports = fits.ports i }))
+-- the first domains are their journals, and have rows of words
+abbrev pub AreMeantBelow : List DomainValue → ℕ → Type 0
+AreMeantBelow domains count =
+    (k : ℕ) (d : DomainValue) → k < count → slice_get domains k ≡ Some d → IsMeant d × HasRow d
 
--- domains that fit a plan, each at its number, have its places
-pub fitting_domains_have_its_places : FittingDomainsHaveItsPlaces
-fitting_domains_have_its_places plan domains count fits =
-    ext_get_or no_place (all_places domains) (places_of plan)
-    (length-map domains own_place ∙ count ∙ sym (length-map plan place_of)) (λ number below.
-    let d = there_is domains number (omega (arith, below, length-map domains own_place)) in
-    get_or_from_slice_get (all_places domains) number (own_place d.0) no_place (place_at domains number d.0 d.1)
-    ∙ sym (get_or_from_slice_get (places_of plan) number (own_place d.0) no_place
-    (fitting_place plan number d.0 (fits number d.0 d.1))))
+-- if the first domains are what their journals say, and the next is, one more is
+pub one_meant_more : (domains : List DomainValue) (count : ℕ) (d : DomainValue)
+    → AreMeantBelow domains count → slice_get domains count ≡ Some d → IsMeant d → HasRow d
+    → AreMeantBelow domains (count + 1)
+one_meant_more domains count d before at meant row k e below there =
+    elim (cases_eq k count) [
+      | inl same ↦
+          let is : d ≡ e = same_Some _ _ (sym at ∙ ap (slice_get domains) (sym same) ∙ there) in
+          (subst IsMeant is meant, subst HasRow is row)
+      | inr ne ↦ before k e (omega arith) there
+    ]
+
+-- if that is so of as many as there are, each domain is what its journal says
+pub all_meant : (domains : List DomainValue) (count : ℕ) → length domains ≤ count → AreMeantBelow domains count
+    → All IsMeant domains
+all_meant domains count all meant k e less =
+    (meant k (get_or domains k e) (omega (arith, less, all)) (slice_get-get_or domains k e less)).0
+
+-- if that is so of as many as there are, each domain's words are a row of its ports
+pub all_rows : (domains : List DomainValue) (count : ℕ) → length domains ≤ count → AreMeantBelow domains count
+    → All HasRow domains
+all_rows domains count all meant k e less =
+    (meant k (get_or domains k e) (omega (arith, less, all)) (slice_get-get_or domains k e less)).1

@@ -1,4 +1,9 @@
-//! The whole farm as one machine, and the laws by which each domain of it is a farm of its own.
+//! All domains of a plan on one thread, and runs of a plan from its opening.
 #![tactic(auto)]
 
-pub mod laws;
+mod calls;
+mod farm;
+
+pub use calls::{Answers, run};
+pub use farm::PlainFarm;
+pub use whole_farm::laws;

@@ -25,7 +25,8 @@ use Rattle.farm_input.specs.Names.{all_names}
 
 -- a text is no plan's, for this fault; or the plan's smallest fault is this
 abbrev pub IsPlanFault : List ℕ → PlanFault → Type 0
-IsPlanFault text fault = ReadsPlan text (Err fault) ⊎ ((plan : List DomainData) × IsPlan text plan × IsSmallestFault plan fault)
+IsPlanFault text fault =
+    ReadsPlan text (Err fault) ⊎ ((plan : List DomainData) × IsPlan text plan × IsSmallestFault plan fault)
 
 -- a text is refused as a plan, for this fault. Want of memory is no fault of a text
 abbrev pub IsRefusedPlan : List ℕ → PlanFault → Type 0
@@ -45,7 +46,8 @@ IsScriptFailure names script_lines failure = ⊥
 
 -- a script is refused: the plan's text is accepted, and this is the first line that is wrong, the first being number 1
 abbrev pub IsRefusedScript : List ℕ → List ℕ → ℕ → LineFault → Type 0
-IsRefusedScript plan_text rest number fault = (plan : List DomainData) × IsAcceptedText plan_text plan × IsFirstFault (all_names plan) (lines rest) number fault
+IsRefusedScript plan_text rest number fault =
+    (plan : List DomainData) × IsAcceptedText plan_text plan × IsFirstFault (all_names plan) (lines rest) number fault
 
 -- why a text has no output. Of memory and of streams nothing is said
 abbrev pub IsFailure : List ℕ → FarmFailure → Type 0
@@ -98,10 +100,11 @@ failure_text Io = codes "io\n"
 
 -- a text is written: all of it, if the ending says so, and else a beginning of it
 pub record Tells (text : List ℕ) (ending : Ending) (before after : Option (List ℕ)) : Type 0 where
-  pub whole : ending.is_told ≡ true → Appends before after text
+  pub whole : ending.stderr_written ≡ true → Appends before after text
   pub begun : AppendsBeginning before after text
 
 -- a run ends by a failure: by its status, and by its text on standard error, or by a beginning of it if a write failed
-pub record EndsBy (failure : FarmFailure) (ending : Ending) (errors_before errors_after : Option (List ℕ)) : Type 0 where
+pub record EndsBy (failure : FarmFailure) (ending : Ending) (errors_before errors_after : Option (List ℕ))
+    : Type 0 where
   pub status_of : ending.status ≡ failure_status failure
   pub text_of : Tells (failure_text failure) ending errors_before errors_after

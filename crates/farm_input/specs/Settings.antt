@@ -17,16 +17,21 @@ pub record InRange (s : Settings) : Type 0 where
 -- an option `--name N` for numbers, with the text that stands for N where it isn't given
 abbrev pub number_option : Text → Text → ValueParser → Rule
 number_option name default numbers =
-    record (new_rule name) { long = Some name; action = Some Set; value_names = 1; defaults = default ∷ []; parser = Some numbers }
+    record (new_rule name)
+    { long = Some name; action = Some Set; value_names = 1; defaults = default ∷ []; parser = Some numbers }
 
 -- the program's command line: `--workers N`, 1 to 8, else 2, and `--quantum N`, 1 to 4096, else 256
 abbrev pub farm_command : App
-farm_command = with_rule (with_rule (new_app (codes "farm")) (number_option (codes "workers") (codes "2") (Signed (pos 1) (pos 8))))
+farm_command =
+    with_rule
+    (with_rule (new_app (codes "farm")) (number_option (codes "workers") (codes "2") (Signed (pos 1) (pos 8))))
     (number_option (codes "quantum") (codes "256") (Signed (pos 1) (pos 4096)))
 
 -- the words say this number for an option, or its default is this, as `clap` reads them
 abbrev pub IsSaid : List Text → Text → ℕ → Type 0
-IsSaid words name n = (text : Text) × (one_of name (matches_of farm_command words) ≡ Some text) × (n ≡ digits_value 10 (without_leading_plus text))
+IsSaid words name n =
+    (text : Text) × (one_of name (matches_of farm_command words) ≡ Some text)
+    × (n ≡ digits_value 10 (without_leading_plus text))
 
 -- the settings are those that the words say
 pub record AreSaid (words : List Text) (s : Settings) : Type 0 where

@@ -52,7 +52,7 @@ fn end_by_text<W: Write, E: Write>(
     match write_whole(output, text) {
         Ok(()) => Ending {
             status: 0,
-            is_told: true,
+            stderr_written: true,
         },
         Err(WriteFailed) => FarmFailure::Io.report(errors),
     }
@@ -64,7 +64,7 @@ fn refuse<E: Write>(text: &[u8], errors: &mut E) -> Ending
 {
     Ending {
         status: 2,
-        is_told: write_whole(errors, text).is_ok(),
+        stderr_written: write_whole(errors, text).is_ok(),
     }
 }
 

@@ -31,7 +31,7 @@ pub struct Ending {
     /// The status of the process.
     pub status: u8,
     /// Whether standard error took all that is told there.
-    pub is_told: bool,
+    pub stderr_written: bool,
 }
 
 // The word for what is wrong with a line.
@@ -84,7 +84,7 @@ impl FarmFailure {
     {
         Ending {
             status: self.status(),
-            is_told: self.write(errors).is_ok(),
+            stderr_written: self.write(errors).is_ok(),
         }
     }
 }

@@ -32,7 +32,7 @@ gains_nothing : (d : DomainValue) → GainsHistory [] d d
 gains_nothing d = record { history = sym (append-nil (expanded d.journal)); part = refl; ports = refl }
 
 -- it gains some, and then more
-gains_more : (xs ys : List AnsweredCall) (d e domain : DomainValue) → GainsHistory xs d e → GainsHistory ys e domain
+pub gains_more : (xs ys : List AnsweredCall) (d e domain : DomainValue) → GainsHistory xs d e → GainsHistory ys e domain
     → GainsHistory (xs ++ ys) d domain
 gains_more xs ys d e domain first next = record {
   history = next.history ∙ (ap (λ h. h ++ ys) first.history ∙ append_assoc (expanded d.journal) xs ys);

@@ -1,4 +1,5 @@
--- The head of a domain's record: a plan that has this domain alone, and the line `---`, as `lab rows` divides them (docs/LAB.md).
+-- The head of a domain's record: a plan that has this domain alone, and the line `---`, as `lab rows` divides them
+-- (docs/LAB.md).
 use Rattle.std.specs.Prelude.{◌≡◌, ℕ, List, [], ◌∷◌, codes, Some, slice_get}
 use Rattle.script_text.specs.Lines.{IsDivided}
 use Rattle.plan_rules.specs.Data.{UserData, DomainData}
@@ -7,7 +8,9 @@ use Rattle.plan_checker.specs.Document.{IsPlan}
 
 -- users of the same number have the same name
 abbrev pub AreNamedAlike : List UserData → List UserData → Type 0
-AreNamedAlike us ws = (user : ℕ) (u w : UserData) → slice_get us user ≡ Some u → slice_get ws user ≡ Some w → u.name ≡ w.name
+AreNamedAlike us ws =
+    (user : ℕ) (u w : UserData) → slice_get us user ≡ Some u → slice_get ws user ≡ Some w
+    → u.name ≡ w.name
 
 -- the domains have the same part, the same physical ports, and users of the same names
 pub record AreAlike (d e : DomainData) : Type 0 where

@@ -24,8 +24,10 @@ if_several times text = if nat_lt 1 times then text else []
 -- `0 step 2 @farm = ran`, or `3 times 0 step 2 @farm = 3 ran`
 abbrev pub record_line_text : RecordLine → List ℕ
 record_line_text l =
-    if_several l.times (decimal l.times ++ codes " times ") ++ codes "0 " ++ event_text l.answered.call.event ++ codes " " ++
-    user_text l.answered.call.by ++ codes " = " ++ if_several l.times (decimal l.times ++ codes " ") ++ reply_text l.answered.reply ++ codes "\n"
+    if_several l.times (decimal l.times ++ codes " times ")
+    ++ codes "0 " ++ event_text l.answered.call.event ++ codes " " ++ user_text l.answered.call.by
+    ++ codes " = " ++ if_several l.times (decimal l.times ++ codes " ") ++ reply_text l.answered.reply
+    ++ codes "\n"
 
 -- the text of lines
 abbrev pub record_text : List RecordLine → List ℕ
@@ -48,7 +50,8 @@ ran_lines by node (suc more) = record { times = suc more; answered = answered_st
 abbrev pub run_lines : By → ℕ → ℕ → Stepped → List RecordLine
 run_lines by node zero last = []
 run_lines by node (suc more) stepped.Ran = ran_lines by node (suc more)
-run_lines by node (suc more) last = ran_lines by node more ++ record { times = 1; answered = answered_step by node last } ∷ []
+run_lines by node (suc more) last =
+    ran_lines by node more ++ record { times = 1; answered = answered_step by node last } ∷ []
 
 -- the lines of an entry of a journal
 abbrev pub entry_lines : Entry → List RecordLine

@@ -14,6 +14,9 @@ use domain_core::{By, Committed, Domain, Event, Refusal, Reply, Ticket};
 use std::alloc::Global;
 use t414_step::Stepped;
 
+// How many Steps of a line the first burst has, at most.
+const FIRST_BURST: u64 = 1 << 16;
+
 /// What serves one line after another: a ticket for Steps, and a text to compare with.
 pub struct Redoing {
     alloc: Global,
@@ -54,6 +57,7 @@ impl From<Refusal> for RedoFault {
 
 // Does an event that is recorded.
 fn redo_event<O: Outputs + Drop>(
+    alloc: Global,
     domain: &mut Domain<O>,
     by: By,
     event: Event,
@@ -62,15 +66,16 @@ fn redo_event<O: Outputs + Drop>(
         GainsHistory (record { call = record { by = by; event = event }; reply = reply } ∷ []) domain.old domain.new) }
 {
     let before = domain.recorded();
-    let reply = domain.apply(by, event)?;
+    let reply = domain.apply(alloc, by, event)?;
     if domain.recorded() == before {
         return Err(RedoFault::Differs);
     }
     Ok(reply)
 }
 
-// Does Steps of a node in one burst. All of them ran.
-fn redo_steps<O: Outputs + Drop>(
+// Does Steps of a node in one burst, in which periods are counted. All of them ran.
+fn redo_burst<O: Outputs + Drop>(
+    alloc: Global,
     domain: &mut Domain<O>,
     slot: &mut Option<Ticket>,
     node: u8,
@@ -78,18 +83,44 @@ fn redo_steps<O: Outputs + Drop>(
 ) -> Result<(), RedoFault>
     ensures { OnOk result (GainsHistory (replicate times (answered_step Farm node Ran)) domain.old domain.new) }
 {
-    domain.checkout_to(slot, 0, node)?;
+    domain.checkout_to(alloc, slot, 0, node)?;
     let Some(ticket) = slot else {
         return Err(RedoFault::Differs);
     };
-    ticket.burst(times);
+    ticket.burst_by_periods(times);
     if ticket.steps() != times || ticket.last() != Some(Stepped::Ran) {
         return Err(RedoFault::Differs);
     }
-    match domain.commit_lent(ticket)? {
+    match domain.commit_in_place(alloc, ticket)? {
         Committed::Done => Ok(()),
         Committed::Stale => Err(RedoFault::Differs),
     }
+}
+
+// Does Steps of a node, at least one. The first burst is short, and each other has as many Steps as all before it. So where a
+// program comes to an endless loop a burst begins in the loop before the program has done twice as many Steps, and counts
+// its periods. All of them ran.
+#[tactic(auto, using(crate::proofs::Steps::more_steps))]
+fn redo_steps<O: Outputs + Drop>(
+    alloc: Global,
+    domain: &mut Domain<O>,
+    slot: &mut Option<Ticket>,
+    node: u8,
+    times: u64,
+) -> Result<(), RedoFault>
+    ensures { OnOk result (GainsHistory (replicate times (answered_step Farm node Ran)) domain.old domain.new) }
+{
+    if times == 0 {
+        return Err(RedoFault::Differs);
+    }
+    let mut done = times.min(FIRST_BURST);
+    redo_burst(alloc, domain, slot, node, done)?;
+    while done < times {
+        let more = done.min(times - done);
+        redo_burst(alloc, domain, slot, node, more)?;
+        done += more;
+    }
+    Ok(())
 }
 
 // Whether a user asks for a command, or the farm itself for a Step or a Move: no farm records another call.
@@ -103,6 +134,7 @@ fn is_rightly_asked(by: By, event: Event) -> bool {
 
 // Does a call as often as it was made. Only Steps stand together.
 fn redo_call<O: Outputs + Drop>(
+    alloc: Global,
     domain: &mut Domain<O>,
     slot: &mut Option<Ticket>,
     call: RecordedCall,
@@ -117,22 +149,23 @@ fn redo_call<O: Outputs + Drop>(
         return Err(RedoFault::NoLine);
     }
     match (times, by, event) {
-        (1, _, _) => redo_event(domain, by, event),
+        (1, _, _) => redo_event(alloc, domain, by, event),
         (_, By::Farm, Event::Step(node)) => {
-            redo_steps(domain, slot, node, times)?;
+            redo_steps(alloc, domain, slot, node, times)?;
             Ok(Reply::Stepped(Stepped::Ran))
         }
         _ => Err(RedoFault::NoLine),
     }
 }
 
-/// Does again what a line says, with its line feed, and compares what the domain answers. Steps that stand together are one burst.
+/// Does again what a line says, with its line feed, and compares what the domain answers. Steps that stand together are done
+/// in bursts, in which the periods of an endless loop are counted and not done.
 ///
 /// # Errors
 ///
 /// `NoLine` if it isn't a line of a record, as a command of the farm itself or a Step of a user isn't, or not in its only
 /// form, and `Differs` if the domain answers otherwise or doesn't record it; `Memory`. The domain may then have done what the
-/// line says.
+/// line says, or some of its Steps.
 pub fn redo_line<O: Outputs + Drop>(
     redoing: &mut Redoing,
     domain: &mut Domain<O>,
@@ -140,8 +173,9 @@ pub fn redo_line<O: Outputs + Drop>(
 ) -> Result<(), RedoFault>
     ensures { OnOk result (RedoesLine line.now domain.old domain.new) }
 {
-    let call = read_call(redoing.alloc, line)?;
-    let reply = redo_call(domain, &mut redoing.ticket, call)?;
+    let alloc = redoing.alloc;
+    let call = read_call(alloc, line)?;
+    let reply = redo_call(alloc, domain, &mut redoing.ticket, call)?;
     let text = &mut redoing.text;
     text.clear();
     write_line(text, call.times, call.by, call.event, reply)?;

@@ -9,7 +9,7 @@ use Rattle.bootstrap.specs.Step.{is_quiet}
 use Rattle.bootstrap.specs.Steps.{after_steps, last_answer, IsAfter}
 use Rattle.domain_core.specs.Domain.{DomainValue}
 use Rattle.domain_core.specs.Ticket.{TicketValue, Bursts, fresh_ticket, most_steps}
-use Rattle.plain_farm.specs.PlainFarm.{node_there}
+use Rattle.farm_core.specs.PlainFarm.{node_there}
 use Rattle.farm_replay.specs.Answering.{IsAtRest}
 
 -- just so many Steps more were done of a ticket

@@ -22,14 +22,14 @@ use Rattle.domain_core.specs.Journal.{AnsweredCall, answered_step, expanded, cal
 use Rattle.domain_core.specs.Journal as journal
 use Rattle.domain_core.specs.Ticket as ticket
 use Rattle.domain_core.specs.Ticket.{TicketValue}
-use Rattle.farm_core.specs.Places.{Place, AreSeparatePlaces}
-use Rattle.farm_core.specs.Whole.{Farm, whole_next, whole_after}
-use Rattle.farm_core.specs.Projection.{lowered_for}
-use Rattle.farm_core.specs.Domains.{IsMadeOf, EachCallIsPrivate}
-use Rattle.farm_core.specs.Laws.{caller_answers_from}
-use Rattle.farm_core.specs.Merges.{own_place}
-use Rattle.farm_core.specs.Values.{all_places, all_states}
-use Rattle.plain_farm.specs.PlainFarm.{recorded_there, OthersStay, IsCalledAt, IsCommittedAt}
+use Rattle.whole_farm.specs.Places.{Place, AreSeparatePlaces}
+use Rattle.whole_farm.specs.Whole.{Farm, whole_next, whole_after}
+use Rattle.whole_farm.specs.Projection.{lowered_for}
+use Rattle.whole_farm.specs.Domains.{IsMadeOf, EachCallIsPrivate}
+use Rattle.whole_farm.specs.Laws.{caller_answers_from}
+use Rattle.whole_farm.specs.Merges.{own_place}
+use Rattle.whole_farm.specs.Values.{all_places, all_states}
+use Rattle.farm_core.specs.PlainFarm.{recorded_there, OthersStay, IsCalledAt, IsCommittedAt}
 use Rattle.farm_replay.specs.Answering.{StayIfUnrecorded, step_calls, steps_answers}
 use Rattle.farm_replay.specs.Runs.{HaveRun}
 

@@ -3,10 +3,10 @@ use Rattle.std.proofs.Common.{◌≡◌, ◌+◌, ◌<◌, ℕ, List, [], ◌∷
 use Rattle.std.proofs.Common.{get_or, length}
 use Rattle.std.proofs.lemmas.List.{map-append, append-nil, take_more}
 use Rattle.domain_core.specs.Domain.{DomainValue}
-use Rattle.farm_core.specs.Places.{Place}
-use Rattle.farm_core.specs.Whole.{Farm, whole_opening}
-use Rattle.farm_core.specs.Domains.{IsMadeOf}
-use Rattle.farm_core.specs.Values.{all_places, all_states}
+use Rattle.whole_farm.specs.Places.{Place}
+use Rattle.whole_farm.specs.Whole.{Farm, whole_opening}
+use Rattle.whole_farm.specs.Domains.{IsMadeOf}
+use Rattle.whole_farm.specs.Values.{all_places, all_states}
 use Rattle.farm_replay.specs.declared.request.RepeatedRequest.{RepeatedRequest}
 use Rattle.farm_replay.specs.Plain.{asked_by, IsShownIn, AreLines, Asked, Calls, Looks, Opens, Else}
 use Rattle.farm_replay.specs.Runs.{IsRunTo, IsOpenedFarm, ShowsAsked}

@@ -18,12 +18,12 @@ use Rattle.domain_core.specs.declared.event.Refusal.TheVariants.{NoSuch, Journal
 use Rattle.domain_core.specs.declared.event.Reply.TheVariants as reply
 use Rattle.domain_core.specs.PrivateFarm.{Call, Answer}
 use Rattle.domain_core.specs.Domain.{UnlessNoMemory, DomainValue}
-use Rattle.farm_core.specs.Whole.{Farm, whole_after, whole_next}
-use Rattle.farm_core.specs.Domains.{IsMadeOf}
-use Rattle.farm_core.specs.Laws.{RunsAddUp}
-use Rattle.farm_core.specs.Places.{Place}
-use Rattle.farm_core.specs.Values.{all_places, all_states}
-use Rattle.plain_farm.specs.PlainFarm.{IsCallOfEachWhole}
+use Rattle.whole_farm.specs.Whole.{Farm, whole_after, whole_next}
+use Rattle.whole_farm.specs.Domains.{IsMadeOf}
+use Rattle.whole_farm.specs.Laws.{RunsAddUp}
+use Rattle.whole_farm.specs.Places.{Place}
+use Rattle.whole_farm.specs.Values.{all_places, all_states}
+use Rattle.farm_core.specs.PlainFarm.{IsCallOfEachWhole}
 use Rattle.farm_replay.specs.Kept.{KeptList, HoldsTexts}
 use Rattle.farm_replay.specs.Listing.{IsListing}
 use Rattle.farm_replay.specs.Plain.{Asked, Calls, Looks, Opens, Else, asked_times, answer_words, event_calls}

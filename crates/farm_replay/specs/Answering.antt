@@ -11,9 +11,9 @@ use Rattle.domain_core.specs.declared.event.Event.TheVariants.{Step}
 use Rattle.domain_core.specs.declared.event.Reply.TheVariants as reply
 use Rattle.domain_core.specs.PrivateFarm.{Answer, Call}
 use Rattle.domain_core.specs.Domain.{DomainValue}
-use Rattle.farm_core.specs.Places.{Place}
-use Rattle.farm_core.specs.Values.{all_states}
-use Rattle.plain_farm.specs.PlainFarm.{recorded_there, node_there}
+use Rattle.whole_farm.specs.Places.{Place}
+use Rattle.whole_farm.specs.Values.{all_states}
+use Rattle.farm_core.specs.PlainFarm.{recorded_there, node_there}
 use Rattle.farm_replay.specs.Kept.{KeptList, HoldsTexts}
 use Rattle.farm_replay.specs.Runs.{HaveRun, IsOpenedFarm}
 use Rattle.farm_replay.specs.declared.bursts.DoneSteps.{DoneSteps}
@@ -27,7 +27,9 @@ pub record ShowsCall (call : ℕ × Call) (old new : List DomainValue) (text : L
 
 -- the domain has recorded no more than before: then the domains stand for the states that they did
 abbrev pub StayIfUnrecorded : ℕ → List DomainValue → List DomainValue → Type 0
-StayIfUnrecorded domain old new = recorded_there (slice_get new domain) ≡ recorded_there (slice_get old domain) → all_states new ≡ all_states old
+StayIfUnrecorded domain old new =
+    recorded_there (slice_get new domain) ≡ recorded_there (slice_get old domain)
+    → all_states new ≡ all_states old
 
 -- so many Steps of a node for which the farm asks
 abbrev pub step_calls : ℕ → ℕ → ℕ → List (ℕ × Call)
@@ -41,7 +43,8 @@ steps_answers before last = replicate before (Ok (reply.Stepped Ran)) ++ Ok (rep
 abbrev pub HaveStepped : ℕ → ℕ → ℕ → Option DoneSteps → List DomainValue → List DomainValue → Type 0
 HaveStepped domain node most None old new = HaveRun old new [] []
 HaveStepped domain node most (Some done) old new =
-    (done.before < most) × HaveRun old new (step_calls domain node (done.before + 1)) (steps_answers done.before done.last)
+    (done.before < most)
+    × HaveRun old new (step_calls domain node (done.before + 1)) (steps_answers done.before done.last)
 
 -- the node is there, and its next Step would not be recorded
 abbrev pub IsAtRest : Option DomainValue → ℕ → Type 0
@@ -54,17 +57,21 @@ pub record HasAnswers (told : List Answer) (l : KeptList) : Type 0 where
   pub kept : HoldsTexts texts l
 
 -- domains are called so, and a list gains the answers
-pub record AnswersCalls (calls : List (ℕ × Call)) (old new : List DomainValue) (before after : KeptList) : Type 0 where
+pub record AnswersCalls (calls : List (ℕ × Call)) (old new : List DomainValue) (before after : KeptList)
+    : Type 0 where
   pub told : List Answer
   pub run : HaveRun old new calls told
   pub gains : (earlier : List Answer) → HasAnswers earlier before → HasAnswers (earlier ++ told) after
 
 -- an event is asked so often, and a list gains the answers
-abbrev pub AnswersTimes : ℕ → ℕ → By → Event → List DomainValue → List DomainValue → KeptList → KeptList → Type 0
-AnswersTimes times domain by event old new before after = AnswersCalls (repeat times (event_calls domain by (event ∷ []))) old new before after
+abbrev pub AnswersTimes : ℕ → ℕ → By → Event → List DomainValue → List DomainValue → KeptList
+    → KeptList → Type 0
+AnswersTimes times domain by event old new before after =
+    AnswersCalls (repeat times (event_calls domain by (event ∷ []))) old new before after
 
 -- what is asked does this to the domains, and to a list of answers
-abbrev pub AnswersAsked : List Place → Asked → List DomainValue → List DomainValue → KeptList → KeptList → Type 0
+abbrev pub AnswersAsked : List Place → Asked → List DomainValue → List DomainValue → KeptList → KeptList
+    → Type 0
 AnswersAsked plan (Calls calls) old new before after = AnswersCalls calls old new before after
 AnswersAsked plan Looks old new before after = new ≡ old
 AnswersAsked plan Opens old new before after = IsOpenedFarm plan new

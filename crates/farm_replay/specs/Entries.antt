@@ -9,4 +9,5 @@ use Rattle.answer_text.specs.Replies.{reply_text, stepped_text}
 -- one event; or Steps of a node that stand together: how many, and what the last of them came to
 abbrev pub entry_text : Entry → List ℕ
 entry_text (One by event reply) = user_text by ++ codes " " ++ event_text event ++ codes ": " ++ reply_text reply
-entry_text (Run by node count last) = user_text by ++ codes " run " ++ decimal node ++ codes " " ++ decimal count ++ codes ": " ++ stepped_text last
+entry_text (Run by node count last) =
+    user_text by ++ codes " run " ++ decimal node ++ codes " " ++ decimal count ++ codes ": " ++ stepped_text last

@@ -5,9 +5,9 @@ use Rattle.domain_core.specs.declared.event.By.{By}
 use Rattle.domain_core.specs.declared.event.Event.{Event}
 use Rattle.domain_core.specs.PrivateFarm.{Answer, Call}
 use Rattle.plan_rules.specs.Data.{DomainData}
-use Rattle.farm_core.specs.Places.{Place, places_of}
-use Rattle.farm_core.specs.Whole.{Farm, whole_after, whole_opening}
-use Rattle.farm_core.specs.Laws.{caller_answers_from}
+use Rattle.whole_farm.specs.Places.{Place, places_of}
+use Rattle.whole_farm.specs.Whole.{Farm, whole_after, whole_opening}
+use Rattle.whole_farm.specs.Laws.{caller_answers_from}
 use Rattle.answer_text.specs.Replies.{reply_text, refusal_text}
 use Rattle.farm_replay.specs.declared.request.DomainRequest.{DomainRequest}
 use Rattle.farm_replay.specs.declared.request.DomainRequest.TheVariants.{Quiet, Word, Recorded, Restart, Journal, Checkout, Burst, Commit, Settle}
@@ -20,7 +20,8 @@ use Rattle.farm_replay.specs.Listing.{IsListing}
 abbrev pub event_calls : ℕ → By → List Event → List (ℕ × Call)
 event_calls domain by events = map (λ event. (domain, record { by = by; event = event })) events
 
--- what is asked: calls, one after another; what is seen of the farm or done with tickets, which changes nothing of it; a fresh farm; or something else
+-- what is asked: calls, one after another; what is seen of the farm or done with tickets, which changes nothing of it;
+-- a fresh farm; or something else
 pub data Asked : Type 0 where
   Calls : List (ℕ × Call) → Asked
   Looks : Asked
@@ -73,8 +74,9 @@ pub record IsShownIn (line : List ℕ) (told : List Answer) : Type 0 where
   pub words : map answer_words told ≡ map Some texts
   pub listing : IsListing texts line
 
--- The lines that a whole farm answers: one that is asked for events shows what the farm answers to them, and the next asks the farm that this one left.
--- Nothing is said of what a line shows that only looks, and nothing at all from the first line on that asks for something else
+-- The lines that a whole farm answers: one that is asked for events shows what the farm answers to them, and the next
+-- asks the farm that this one left. Nothing is said of what a line shows that only looks, and nothing at all from the
+-- first line on that asks for something else
 abbrev pub AreLines : List Place → Farm → List Asked → List (List ℕ) → Type 0
 AreLines plan farm [] [] = ⊤
 AreLines plan farm [] (line ∷ lines) = ⊥
@@ -89,4 +91,5 @@ AreLines plan farm (Calls calls ∷ asked) (line ∷ lines) =
 
 -- the same of the farm of a plan, from its opening
 abbrev pub AreLinesOfPlan : List DomainData → List RepeatedRequest → List (List ℕ) → Type 0
-AreLinesOfPlan plan requests lines = AreLines (places_of plan) (whole_opening (places_of plan)) (map asked_by requests) lines
+AreLinesOfPlan plan requests lines =
+    AreLines (places_of plan) (whole_opening (places_of plan)) (map asked_by requests) lines

@@ -3,15 +3,16 @@ use Rattle.std.specs.Prelude.{◌≡◌, ℕ, List, All, ⊤}
 use Rattle.domain_core.specs.declared.event.By.TheVariants.{Farm as ByTheFarm}
 use Rattle.domain_core.specs.PrivateFarm.{Answer, Call}
 use Rattle.domain_core.specs.Domain.{DomainValue}
-use Rattle.farm_core.specs.Places.{Place}
-use Rattle.farm_core.specs.Whole.{Farm, whole_after, whole_opening}
-use Rattle.farm_core.specs.Domains.{IsMadeOf}
-use Rattle.farm_core.specs.Laws.{caller_answers_from}
-use Rattle.farm_core.specs.Values.{all_places, all_states, IsMadeOfDomains}
+use Rattle.whole_farm.specs.Places.{Place}
+use Rattle.whole_farm.specs.Whole.{Farm, whole_after, whole_opening}
+use Rattle.whole_farm.specs.Domains.{IsMadeOf}
+use Rattle.whole_farm.specs.Laws.{caller_answers_from}
+use Rattle.whole_farm.specs.Values.{all_places, all_states, IsMadeOfDomains}
 use Rattle.farm_replay.specs.Plain.{Asked, Calls, Looks, Opens, Else, IsShownIn}
 
 -- the whole farm answers calls so, and is then made of these domains
-pub record IsRunTo (plan : List Place) (farm : Farm) (calls : List (ℕ × Call)) (told : List Answer) (new : List DomainValue) : Type 0 where
+pub record IsRunTo (plan : List Place) (farm : Farm) (calls : List (ℕ × Call)) (told : List Answer)
+    (new : List DomainValue) : Type 0 where
   pub told_is : told ≡ caller_answers_from plan farm calls
   pub made : IsMadeOf plan (whole_after plan farm calls) (all_states new)
 

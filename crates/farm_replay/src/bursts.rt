@@ -6,10 +6,11 @@ ghost use Rattle.farm_replay.specs.Answering.{HaveStepped, IsAtRest};
 use crate::fault::{AskFault, FarmStop};
 use bootstrap::steps_add_up;
 use domain_core::{Committed, NoMemory, Refusal, Ticket};
-use farm_core::laws::each_call_is_private;
-use plain_farm::PlainFarm;
+use farm_core::PlainFarm;
+use std::alloc::Global;
 use step_meter::{StepMeter, StepsEnd};
 use t414_step::Stepped;
+use whole_farm::laws::each_call_is_private;
 
 /// Steps of a node for which the farm asked, one after another.
 #[derive(Clone, Copy)]
@@ -61,6 +62,7 @@ pub fn run_ticket<M: StepMeter>(
 /// many, and with `NoMemory` if the node can't be copied, or the journal can't grow; `Steps` if more Steps are wanted than the
 /// meter allows. Nothing has changed then.
 pub fn try_burst<M: StepMeter>(
+    alloc: Global,
     farm: &mut PlainFarm,
     domain: u8,
     node: u8,
@@ -75,10 +77,10 @@ pub fn try_burst<M: StepMeter>(
     each_call_is_private();
     // A domain is what its journal says, before and after.
     farm.whole_law();
-    let mut ticket = farm.checkout(domain, node)?;
+    let mut ticket = farm.checkout(alloc, domain, node)?;
     run_ticket(&mut ticket, most, meter)?;
     let (steps, last) = (ticket.steps(), ticket.last());
-    let Committed::Done = farm.commit(domain, ticket)? else {
+    let Committed::Done = farm.commit(alloc, domain, ticket)? else {
         return Ok(None);
     };
     farm.whole_law();
@@ -90,6 +92,7 @@ pub fn try_burst<M: StepMeter>(
 
 /// The same, if a refusal but for want of memory is none of the asker's business: `None` then, and nothing has changed.
 pub fn burst<M: StepMeter>(
+    alloc: Global,
     farm: &mut PlainFarm,
     domain: u8,
     node: u8,
@@ -98,7 +101,7 @@ pub fn burst<M: StepMeter>(
 ) -> Result<Option<DoneSteps>, FarmStop>
     ensures steps { IfOk result (λ done. HaveStepped domain node most done farm.old farm.new) }
 {
-    match try_burst(farm, domain, node, most, meter) {
+    match try_burst(alloc, farm, domain, node, most, meter) {
         Ok(done) => Ok(done),
         Err(AskFault::Refused(Refusal::NoMemory)) => Err(FarmStop::Memory(NoMemory)),
         Err(AskFault::Refused(_)) => Ok(None),

@@ -3,8 +3,8 @@ ghost use Rattle.std.specs.Prelude.{◌≡◌, ◌↔◌, ◌<◌, ◌≤◌, �
 ghost use Rattle.std.specs.Option.{unwrap_or};
 ghost use Rattle.answer_text.specs.Replies.{stepped_text};
 ghost use Rattle.domain_core.specs.Domain.{UnlessNoMemory};
-ghost use Rattle.farm_core.specs.Places.{places_of};
-ghost use Rattle.plain_farm.specs.PlainFarm.{journal_there};
+ghost use Rattle.whole_farm.specs.Places.{places_of};
+ghost use Rattle.farm_core.specs.PlainFarm.{journal_there};
 ghost use Rattle.farm_replay.specs.Plain.{event_calls, asked_once, asked_of_domain};
 ghost use Rattle.farm_replay.specs.Answering.{ShowsCall, StayIfUnrecorded, AnswersCalls, AnswersTimes, AnswersAsked, StaysIfLooked};
 ghost use Rattle.farm_replay.specs.Runs.{HasGoneOn, HaveRun, IsOpenedFarm};
@@ -17,13 +17,13 @@ use crate::request::{DomainRequest, Request};
 use answer_text::{write_refusal, write_reply, write_stepped};
 use crossbar::{PORTS, Word};
 use domain_core::{By, Committed, Entry, Event, NoMemory, Refusal, Reply, Ticket};
-use farm_core::laws::runs_add_up;
-use plain_farm::PlainFarm;
+use farm_core::PlainFarm;
 use plan_checker::AcceptedPlan;
 use script_text::TextWriter;
 use std::alloc::Global;
 use step_meter::StepMeter;
 use t414_step::Stepped;
+use whole_farm::laws::runs_add_up;
 
 /// A farm on one thread, and the tickets that it gave, each until it is spent.
 pub struct OpenFarm {
@@ -45,7 +45,7 @@ impl Drop for OpenFarm {
 }
 
 // The place of a ticket of the domain that isn't spent.
-fn held(
+fn ticket_of(
     tickets: &mut [Option<Ticket>],
     domain: u8,
     ticket: usize,
@@ -198,7 +198,14 @@ impl OpenFarm {
         if most < 2 {
             return Ok(0);
         }
-        let Some(DoneSteps { before, last }) = burst(&mut self.farm, domain, node, most, meter)?
+        let Some(DoneSteps { before, last }) = burst(
+            self.alloc,
+            &mut self.farm,
+            domain,
+            node,
+            most,
+            meter,
+        )?
         else {
             return Ok(0);
         };
@@ -257,7 +264,7 @@ impl OpenFarm {
         // A domain is what its journal says, before and after.
         self.farm.whole_law();
         let mut answer = String::new(self.alloc);
-        match self.farm.apply(domain, by, event) {
+        match self.farm.apply(self.alloc, domain, by, event) {
             Ok(reply) => write_reply(&mut answer, reply)?,
             Err(refusal) => write_refusal(&mut answer, refusal)?,
         }
@@ -320,7 +327,7 @@ impl OpenFarm {
     fn checkout(&mut self, domain: u8, node: u8, text: &mut TextWriter) -> Result<(), AskFault>
         ensures farm { self.new.farm ≡ self.old.farm }
     {
-        let ticket = self.farm.checkout(domain, node)?;
+        let ticket = self.farm.checkout(self.alloc, domain, node)?;
         text.push("ticket ");
         text.push_decimal(self.tickets.len() as u64);
         match self.tickets.push(Some(ticket)) {
@@ -339,7 +346,7 @@ impl OpenFarm {
     ) -> Result<(), AskFault>
         ensures farm { self.new.farm ≡ self.old.farm }
     {
-        let Some(ticket) = held(&mut self.tickets, domain, ticket)? else {
+        let Some(ticket) = ticket_of(&mut self.tickets, domain, ticket)? else {
             return Err(AskFault::Refused(Refusal::NoSuch));
         };
         run_ticket(ticket, steps, meter)?;
@@ -348,10 +355,10 @@ impl OpenFarm {
     }
 
     fn commit(&mut self, domain: u8, ticket: usize, text: &mut TextWriter) -> Result<(), AskFault> {
-        let Some(ticket) = held(&mut self.tickets, domain, ticket)?.take() else {
+        let Some(ticket) = ticket_of(&mut self.tickets, domain, ticket)?.take() else {
             return Err(AskFault::Refused(Refusal::NoSuch));
         };
-        match self.farm.commit(domain, ticket)? {
+        match self.farm.commit(self.alloc, domain, ticket)? {
             Committed::Done => text.push("done"),
             Committed::Stale => text.push("stale"),
         }
@@ -367,7 +374,7 @@ impl OpenFarm {
         ensures call { UnlessNoMemory result (HaveRun self.old.farm self.new.farm ((domain, record { by = by; event = event }) ∷ []) (result ∷ [])) }
         ensures unchanged { OnErr result (self.new.farm ≡ self.old.farm) }
     {
-        self.farm.apply(domain, by, event)
+        self.farm.apply(self.alloc, domain, by, event)
     }
 
     fn write_settled<M: StepMeter>(
@@ -448,7 +455,7 @@ impl OpenFarm {
         // A run of calls and then of others is the run of all.
         runs_add_up();
         for node in 0..=u8::MAX {
-            match try_burst(&mut self.farm, domain, node, quantum, meter) {
+            match try_burst(self.alloc, &mut self.farm, domain, node, quantum, meter) {
                 Ok(_) => {}
                 Err(AskFault::Refused(Refusal::NoSuch)) => break,
                 Err(fault) => return Err(fault),

@@ -1,7 +1,7 @@
 //! Reading a line.
 
 use crate::request::{DomainRequest, RepeatedRequest, Request};
-use domain_core::{By, Event, MOST_STEPS};
+use domain_core::{By, Event, TICKET_STEPS};
 use line_mistakes::{Wanted, WordForm, WordHint, WordRole};
 use line_words::{WordFault, Words, decimal_number};
 use std::alloc::{AllocError, Global};
@@ -104,7 +104,7 @@ fn read_times(words: &mut Words) -> u64 {
     if ahead.peek() != "times" {
         return 1;
     }
-    let times = words.decimal(WordRole::Times, MOST_STEPS);
+    let times = words.decimal(WordRole::Times, TICKET_STEPS);
     let _ = words.take_if("times");
     times
 }
@@ -112,7 +112,7 @@ fn read_times(words: &mut Words) -> u64 {
 // How often a line may ask this. Steps for which the farm asks may be as many as those of a ticket.
 fn most_times(request: &Request) -> u64 {
     match request.one_event() {
-        Some((_, By::Farm, Event::Step(_))) => MOST_STEPS,
+        Some((_, By::Farm, Event::Step(_))) => TICKET_STEPS,
         _ => MOST_TIMES,
     }
 }

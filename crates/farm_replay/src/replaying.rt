@@ -1,6 +1,6 @@
 //! Requests, one after another, and their lines.
 ghost use Rattle.std.specs.Prelude.{◌≡◌, length, IfOk, IfSome, map, string_bytes};
-ghost use Rattle.farm_core.specs.Places.{places_of};
+ghost use Rattle.whole_farm.specs.Places.{places_of};
 ghost use Rattle.farm_replay.specs.Plain.{asked_by, AreLinesOfPlan};
 ghost use Rattle.farm_replay.specs.Runs.{ShowsAsked};
 
@@ -9,10 +9,10 @@ use crate::fault::FarmStop;
 use crate::open_farm::OpenFarm;
 use crate::request::RepeatedRequest;
 use crossbar::{PORTS, Word};
-use farm_core::laws::runs_add_up;
 use plan_checker::AcceptedPlan;
 use std::alloc::Global;
 use step_meter::StepMeter;
+use whole_farm::laws::runs_add_up;
 
 /// What came of requests.
 #[derive(Drop)]

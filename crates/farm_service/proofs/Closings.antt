@@ -11,10 +11,10 @@ use Rattle.plan_rules.specs.Data.{DomainData}
 use Rattle.plan_rules.specs.Part.{physical_ports}
 use Rattle.domain_core.specs.Domain.{DomainValue, IsMeant}
 use Rattle.domain_core.specs.Journal.{AnsweredCall, expanded}
-use Rattle.farm_core.specs.Places.{Place, place_of, places_of, AreSeparatePlaces}
-use Rattle.farm_core.specs.Values.{all_places}
-use Rattle.farm_core.specs.Merges.{own_place, own_journal, IsMerge, EachMergeOfDomainsIsARun}
-use Rattle.farm_core.specs.Words.{HasRow, EachMergeEndsAsWordsSay}
+use Rattle.whole_farm.specs.Places.{Place, place_of, places_of, AreSeparatePlaces}
+use Rattle.whole_farm.specs.Values.{all_places}
+use Rattle.whole_farm.specs.Merges.{own_place, own_journal, IsMerge, EachMergeOfDomainsIsARun}
+use Rattle.whole_farm.specs.Words.{HasRow, EachMergeEndsAsWordsSay}
 use Rattle.farm_service.specs.declared.closed.ClosedDomain.{ClosedDomain}
 use Rattle.farm_service.specs.Closed.{history_of, EachMergeRuns}
 use Rattle.farm_service.specs.Endings.{IsEndOf}
@@ -55,7 +55,7 @@ length_more xs domain = omega (arith, length-append xs (domain ∷ []))
 one_more : (plan : List DomainData) (of : DomainData) (domains : List DomainValue) (d : DomainValue)
     (closed : List ClosedDomain) (c : ClosedDomain)
     → AreEnds plan domains closed → place_of of ≡ own_place d → IsMeant d → HasRow d → c.domain ≡ length plan
-    → c.journal ≡ d.journal → c.words.items ≡ d.machine.switch.words
+    → c.journal.entries ≡ d.journal → c.words.items ≡ d.machine.switch.words
     → AreEnds (plan ++ of ∷ []) (domains ++ d ∷ []) (closed ++ c ∷ [])
 one_more plan of domains d closed c before place meant row number journal words = record {
   places =

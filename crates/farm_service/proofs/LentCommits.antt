@@ -1,4 +1,4 @@
--- What becomes of a ticket that is lent and committed: the contract of `commit_lent`.
+-- What becomes of a ticket that is lent and committed: the contract of `commit_slot`.
 use Rattle.std.proofs.Common.{◌≡◌, ◌≢◌, ◌↔◌, Some, Result, Ok, Err, refl, ap}
 use Rattle.domain_core.specs.declared.domain.Committed.{Committed}
 use Rattle.domain_core.specs.declared.domain.Committed.TheVariants as committed

@@ -20,9 +20,10 @@ pub record IsStatusOf (d : DomainValue) (status : DomainStatus) : Type 0 where
   pub limit : status.limit ≡ d.machine.part.limit
   pub quiet : IsTrue status.is_quiet ↔ IsQuiet d.machine.part (machine_of d.machine)
 
--- entries of the journal of a domain of this number were put behind so many others, from a mark up to another: all from the mark on, if so many places
--- are enough; none, if the mark is past the journal's end
-pub record GainsCopies (plan : List DomainData) (number : ℕ) (from to : Mark) (old new : List Entry) (held places : ℕ) : Type 0 where
+-- entries of the journal of a domain of this number were put behind so many others, from a mark up to another: all from
+-- the mark on, if so many places are enough; none, if the mark is past the journal's end
+pub record GainsCopies (plan : List DomainData) (number : ℕ) (from to : Mark) (old new : List Entry)
+    (held places : ℕ) : Type 0 where
   pub domain : DomainValue
   pub found : IsFound plan number domain
   pub copies : Copies domain.journal from to old new

@@ -8,7 +8,8 @@ use Rattle.farm_service.specs.Commands.{commands_of}
 
 -- each domain is that of its place in a plan
 abbrev pub AreInPlaces : List DomainData → List DomainValue → Type 0
-AreInPlaces plan domains = (number : ℕ) (d : DomainValue) → slice_get domains number ≡ Some d → Fits plan number d
+AreInPlaces plan domains =
+    (number : ℕ) (d : DomainValue) → slice_get domains number ≡ Some d → Fits plan number d
 
 -- these are the domains of a plan, in its order
 pub record AreDomainsIn (plan : List DomainData) (domains : List DomainValue) : Type 0 where

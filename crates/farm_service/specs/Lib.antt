@@ -1,12 +1,13 @@
 -- what must be believed
 pub mod Passes
-pub mod Answers
 pub mod Services
 pub mod Commands
 pub mod Closed
 pub mod Restarts
 pub mod Histories
 pub mod Domains
+pub mod Answers
+pub mod Rooms
 -- what only helps contracts
 pub mod Endings
 pub mod PortMoves

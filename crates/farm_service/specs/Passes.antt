@@ -9,13 +9,14 @@ use Rattle.domain_core.specs.declared.event.Reply.{Reply}
 use Rattle.domain_core.specs.PrivateFarm.{Answer, Call}
 use Rattle.domain_core.specs.declared.event.Told.{Told}
 
--- whose it is, by the number of his domain in the plan and his number there; what he asked and was answered, in his order; and whether the journal of
--- his domain was full when he asked
+-- whose it is, by the number of his domain in the plan and his number there; what he asked and was answered, in his
+-- order; whether the journal of his domain was full when he asked; and for how many commands in all memory is reserved
 pub record UserPassValue : Type 0 where
   pub domain : ℕ
   pub user : ℕ
   pub told : List Told
   pub met_full : Bool
+  pub reserved : ℕ
 
 -- the plan of its service, and the user's pass
 pub record SessionValue : Type 0 where
@@ -26,7 +27,15 @@ pub record SessionValue : Type 0 where
 
 -- a pass before its user has asked anything
 abbrev pub fresh_pass : ℕ → ℕ → UserPassValue
-fresh_pass domain user = record { domain = domain; user = user; told = []; met_full = false }
+fresh_pass domain user = record { domain = domain; user = user; told = []; met_full = false; reserved = 0 }
+
+-- the pass as it was before its user asked anything
+abbrev pub pass_begun_anew : UserPassValue → UserPassValue
+pass_begun_anew pass = record pass { told = []; met_full = false }
+
+-- the pass with memory reserved for so many commands
+abbrev pub with_reserved : ℕ → UserPassValue → UserPassValue
+with_reserved count pass = record pass { reserved = count }
 
 -- the passes of so many users of a domain
 abbrev pub passes_opened : ℕ → ℕ → List UserPassValue

@@ -20,14 +20,16 @@ moves_of (suc port) = moves_of port ++ move_of port ∷ []
 -- what a journal gains by calls, in order
 abbrev pub all_gained : PartData → State → List Call → List AnsweredCall
 all_gained part s [] = []
-all_gained part s (call ∷ calls) = gained part s call (next part s call).1 ++ all_gained part (next part s call).0 calls
+all_gained part s (call ∷ calls) =
+    gained part s call (next part s call).1 ++ all_gained part (next part s call).0 calls
 
 -- whether there is any of it
 abbrev pub is_any : List AnsweredCall → Bool
 is_any [] = false
 is_any (a ∷ history) = true
 
--- calls were all answered; the domain is what they make of it, and its journal gained just what of them is recorded; and whether that was anything
+-- calls were all answered; the domain is what they make of it, and its journal gained just what of them is recorded;
+-- and whether that was anything
 pub record AreDone (calls : List Call) (d : DomainValue) (went : Bool) (e : DomainValue) : Type 0 where
   pub answered : All IsOk (answers d.machine.part (state_of d) calls)
   pub state : state_of e ≡ after d.machine.part (state_of d) calls
@@ -47,7 +49,8 @@ pub record StopsAt (port : ℕ) (d : DomainValue) (refusal : Refusal) (e : Domai
   pub refused : IsRefused (move_of port) e refusal
   pub below : port < d.machine.part.count
 
--- the Moves of all ports were done, and whether a packet went; or those of the ports before one were, whose Move was refused
+-- the Moves of all ports were done, and whether a packet went; or those of the ports before one were, whose Move was
+-- refused
 abbrev pub HaveMoved : DomainValue → Result Bool Refusal → DomainValue → Type 0
 HaveMoved d (Ok went) e = AreDone (moves_of d.machine.part.count) d went e
 HaveMoved d (Err refusal) e = (port : ℕ) × StopsAt port d refusal e

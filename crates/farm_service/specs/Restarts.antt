@@ -1,11 +1,13 @@
 -- A domain that is begun anew, with the sessions of all its users.
 use Rattle.std.specs.Prelude.{ℕ, ◌≡◌, List, length, Some, slice_get}
 use Rattle.plan_rules.specs.Data.{DomainData}
-use Rattle.farm_service.specs.Passes.{SessionValue, fresh_pass}
+use Rattle.farm_service.specs.Passes.{SessionValue, pass_begun_anew}
 
 -- each session is that of the user of its place in a domain
 abbrev pub AreInOrder : ℕ → List SessionValue → Type 0
-AreInOrder number sessions = (place : ℕ) (s : SessionValue) → slice_get sessions place ≡ Some s → (s.pass.domain ≡ number) × (s.pass.user ≡ place)
+AreInOrder number sessions =
+    (place : ℕ) (s : SessionValue) → slice_get sessions place ≡ Some s
+    → (s.pass.domain ≡ number) × (s.pass.user ≡ place)
 
 -- the sessions of all users of this domain of a plan, in their order
 pub record AreAllOf (plan : List DomainData) (number : ℕ) (sessions : List SessionValue) : Type 0 where
@@ -20,4 +22,4 @@ AreAllOfOne plan sessions = (number : ℕ) × AreAllOf plan number sessions
 
 -- the session of a user who hasn't asked anything
 abbrev pub begun_anew : SessionValue → SessionValue
-begun_anew s = record s { pass = fresh_pass s.pass.domain s.pass.user }
+begun_anew s = record s { pass = pass_begun_anew s.pass }

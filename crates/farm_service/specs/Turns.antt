@@ -14,10 +14,12 @@ use Rattle.farm_service.specs.PortMoves.{HaveMoved}
 
 -- the node is there, and a Step of it would be recorded, the limit aside
 abbrev pub has_step : DomainValue → ℕ → Bool
-has_step d node = nat_lt node (length d.machine.part.nodes) && is_recorded d.machine.part (machine_of d.machine) (Step node)
+has_step d node =
+    nat_lt node (length d.machine.part.nodes) && is_recorded d.machine.part (machine_of d.machine) (Step node)
 
--- the ticket that is checked out is committed, as `Domain::commit_lent` says
-pub record CommitsLent (d : DomainValue) (t : TicketValue) (told : Result Turned Refusal) (e : DomainValue) (left : Option TicketValue) : Type 0 where
+-- the ticket that is checked out is committed, as `Domain::commit_in_place` says
+pub record CommitsLent (d : DomainValue) (t : TicketValue) (told : Result Turned Refusal) (e : DomainValue)
+    (left : Option TicketValue) : Type 0 where
   pub stale : (told ≡ Ok Stale) ↔ ¬ IsCurrent d t
   pub full : (told ≡ Err JournalFull) ↔ (IsCurrent d t × IsPastLimit d t.steps)
   pub no_such : told ≢ Err NoSuch
@@ -26,20 +28,20 @@ pub record CommitsLent (d : DomainValue) (t : TicketValue) (told : Result Turned
   pub same : told ≢ Ok BurstRecorded → (e ≡ d) × (left ≡ Some t)
 
 -- the same of a slot, of which is said whether its ticket is checked out; if none is, nothing changes
-abbrev pub CommitsSlot : Bool → DomainValue → Option TicketValue → Result Turned Refusal → DomainValue → Option TicketValue → Type 0
+abbrev pub CommitsSlot : Bool → DomainValue → Option TicketValue → Result Turned Refusal → DomainValue
+    → Option TicketValue → Type 0
 CommitsSlot true d (Some t) told e left = CommitsLent d t told e left
 CommitsSlot true d None told e left = (told ≡ Ok NoStep) × (e ≡ d) × (left ≡ None)
 CommitsSlot false d slot told e left = (told ≡ Ok NoStep) × (e ≡ d) × (left ≡ slot)
 
 -- and then all ports move, unless the ticket was refused
-abbrev pub ThenMoves : DomainValue → Result Turned Refusal → Result TurnEnd Refusal → DomainValue → Type 0
-ThenMoves home (Ok turned) (Ok ended) e = (ended.turned ≡ turned) × HaveMoved home (Ok ended.moved) e
-ThenMoves home (Ok turned) (Err refusal) e = HaveMoved home (Err refusal) e
-ThenMoves home (Err first) told e = (told ≡ Err first) × (e ≡ home)
+abbrev pub ThenMoves : DomainValue → Result Turned Refusal → Result Bool Refusal → DomainValue → Type 0
+ThenMoves home (Ok turned) moved e = HaveMoved home moved e
+ThenMoves home (Err refusal) moved e = (moved ≡ Ok false) × (e ≡ home)
 
 -- the end of a turn: first the one and then the other
-pub record EndsTurn (checked_out : Bool) (d : DomainValue) (slot : Option TicketValue) (told : Result TurnEnd Refusal) (e : DomainValue) (left : Option TicketValue) : Type 0 where
-  pub came : Result Turned Refusal
+pub record EndsTurn (checked_out : Bool) (d : DomainValue) (slot : Option TicketValue) (ended : TurnEnd)
+    (e : DomainValue) (left : Option TicketValue) : Type 0 where
   pub home : DomainValue
-  pub first : CommitsSlot checked_out d slot came home left
-  pub moves : ThenMoves home came told e
+  pub first : CommitsSlot checked_out d slot ended.turned home left
+  pub moves : ThenMoves home ended.turned ended.moved e

@@ -34,7 +34,7 @@ fn is_rightly_asked(entry: &Entry) -> bool
 
 // Whether each entry of a journal is.
 fn are_rightly_asked(journal: &Journal) -> bool
-    ensures { result ≡ true → AreRightlyAsked (expanded journal.now) }
+    ensures { result ≡ true → AreRightlyAsked (expanded journal.now.entries) }
 {
     // What is appended to a journal comes after what it stands for.
     journals_add_up();

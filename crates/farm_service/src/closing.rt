@@ -1,6 +1,6 @@
 //! The end of a service's domains.
 ghost use Rattle.std.specs.Prelude.{◌≡◌, ◌<◌, ◌≤◌, [], length, IfOk, vec_capacity};
-ghost use Rattle.farm_core.specs.Places.{places_of};
+ghost use Rattle.whole_farm.specs.Places.{places_of};
 ghost use Rattle.farm_service.specs.Closed.{EachMergeRuns, AreDomainsOf};
 ghost use Rattle.farm_service.specs.Endings.{IsEndOf};
 
@@ -9,13 +9,13 @@ use crate::closed::ClosedDomain;
 use crate::locking::await_fitting;
 use crate::service::SeatedDomain;
 use crossbar::Word;
-use farm_core::laws::{
-    each_merge_is_a_run, each_word_is_of_its_output, numbered_domains_are_separate,
-};
 use plan_rules::AcceptedPlan;
 use std::alloc::Global;
 use std::sync::{Mutex, Wait};
 use token_queue::{PLACES, Token};
+use whole_farm::laws::{
+    each_merge_is_a_run, each_word_is_of_its_output, numbered_domains_are_separate,
+};
 
 // Room for the words of a domain.
 #[derive(Drop)]

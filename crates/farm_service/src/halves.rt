@@ -9,10 +9,11 @@ ghost use Rattle.farm_service.specs.Turns.{has_step, CommitsSlot, EndsTurn};
 use crate::moves::move_ports;
 use crate::service::SeatedDomain;
 use domain_core::{Committed, Refusal, Ticket};
+use std::alloc::Global;
 
 /// What became of the node of a turn.
 #[derive(Clone, Copy, PartialEq, Eq)]
-pub enum Turned {
+pub(crate) enum Turned {
     /// It was committed, and its Steps are in the journal.
     BurstRecorded,
     /// The home node had changed since it was copied, so that the burst is lost.
@@ -21,16 +22,17 @@ pub enum Turned {
     NoStep,
 }
 
-/// What became of a turn: of its node, and whether a packet moved after it.
+/// What became of a turn: of its node, and whether a packet moved after it. If the node's Steps were refused none did.
 #[derive(Clone, Copy)]
 pub(crate) struct TurnEnd {
-    pub(crate) turned: Turned,
-    pub(crate) moved: bool,
+    pub(crate) turned: Result<Turned, Refusal>,
+    pub(crate) moved: Result<bool, Refusal>,
 }
 
 /// Begins a turn: puts a ticket of the node in the slot, if a Step of it would be recorded, the limit aside; whether one
 /// would. The domain's number is only written into the ticket.
 pub(crate) fn begin_turn(
+    alloc: Global,
     domain: &SeatedDomain,
     number: u8,
     node: u8,
@@ -44,7 +46,7 @@ pub(crate) fn begin_turn(
     // A domain has as many nodes as its part.
     domain.meant_law();
     if usize::from(node) < domain.part().nodes().len() && !domain.node_is_quiet(node) {
-        domain.checkout_to(slot, number, node)?;
+        domain.checkout_to(alloc, slot, number, node)?;
         Ok(true)
     } else {
         Ok(false)
@@ -52,7 +54,8 @@ pub(crate) fn begin_turn(
 }
 
 /// Commits the ticket of a slot, if one is checked out, unless it is stale.
-pub(crate) fn commit_lent(
+pub(crate) fn commit_slot(
+    alloc: Global,
     domain: &mut SeatedDomain,
     checked_out: bool,
     slot: &mut Option<Ticket>,
@@ -60,7 +63,7 @@ pub(crate) fn commit_lent(
     ensures { CommitsSlot checked_out domain.old slot.old result domain.new slot.new }
 {
     match slot {
-        Some(ticket) if checked_out => match domain.commit_lent(ticket)? {
+        Some(ticket) if checked_out => match domain.commit_in_place(alloc, ticket)? {
             Committed::Done => Ok(Turned::BurstRecorded),
             Committed::Stale => Ok(Turned::Stale),
         },
@@ -68,15 +71,21 @@ pub(crate) fn commit_lent(
     }
 }
 
-/// Ends a turn: the ticket of the slot is committed, if one is checked out, and then all ports move, in order.
+/// Ends a turn: the ticket of the slot is committed, if one is checked out, and then all ports move, in order, unless it was
+/// refused.
 pub(crate) fn end_turn(
+    alloc: Global,
     domain: &mut SeatedDomain,
     checked_out: bool,
     slot: &mut Option<Ticket>,
-) -> Result<TurnEnd, Refusal>
+) -> TurnEnd
     ensures { EndsTurn checked_out domain.old slot.old result domain.new slot.new }
 {
-    let turned = commit_lent(domain, checked_out, slot)?;
-    let moved = move_ports(domain)?;
-    Ok(TurnEnd { turned, moved })
+    let turned = commit_slot(alloc, domain, checked_out, slot);
+    let moved = if turned.is_ok() {
+        move_ports(alloc, domain)
+    } else {
+        Ok(false)
+    };
+    TurnEnd { turned, moved }
 }

@@ -1,14 +1,16 @@
 //! The domains of a plan before a service has them, so that histories can be done again on them.
-ghost use Rattle.std.specs.Prelude.{◌≡◌, ◌++◌, ◌∷◌, [], length, map, replicate, All, IfOk, IsTrue, ◌↔◌};
+ghost use Rattle.std.specs.Prelude.{◌≡◌, ◌≤◌, ◌++◌, ◌∷◌, [], vec_capacity, length, map, replicate, All, IfOk, IsTrue, ◌↔◌};
 ghost use Rattle.domain_core.specs.Journal.{expanded};
 ghost use Rattle.switch_table.specs.Domains.{domains_of};
 ghost use Rattle.switch_table.specs.Seats.{table_of, surveyed_table, surveyed_domains, seen_words};
 ghost use Rattle.farm_service.specs.Commands.{commands_of};
 ghost use Rattle.farm_service.specs.Histories.{AreDomainsIn, with_history};
+ghost use Rattle.farm_service.specs.Rooms.{reserved_entries};
 
 use crate::NoMemory;
 use crate::opening::open_domains;
 use crate::pass::UserPass;
+use crate::room::Room;
 use crate::service::SeatedDomain;
 use crate::told::command_from;
 use domain_core::laws::journals_add_up;
@@ -26,6 +28,8 @@ pub struct Histories {
     pub domains: Vec<SeatedDomain>,
     pub(crate) table: SwitchTable,
     pub(crate) operator: OperatorSeat,
+    // How much memory each domain may take.
+    pub(crate) room: Room,
     ghost its_table: { surveyed_table operator ≡ table_of table },
     ghost its_domains: { surveyed_domains operator ≡ domains_of plan },
     ghost nothing_seen: { seen_words operator ≡ replicate 32 0 },
@@ -42,13 +46,31 @@ impl Histories {
         ensures domains { IfOk result (λ h. AreDomainsIn plan h.domains.items) }
         ensures journals { IfOk result (λ h. All (λ d. d.journal ≡ []) h.domains.items) }
     {
+        Histories::open_within(alloc, plan, Room::unbounded())
+    }
+
+    /// The same of domains that may take no more memory than this for their journals and for the lists of their users. It is
+    /// reserved, and not touched before it is needed.
+    ///
+    /// # Errors
+    ///
+    /// `NoMemory` where domains or the table can't be allocated, or the system doesn't give so much.
+    // Five clauses: one for each thing that is opened.
+    pub fn open_within(alloc: Global, plan: AcceptedPlan, room: Room) -> Result<Histories, NoMemory>
+        ensures plan { IfOk result (λ h. h.plan ≡ plan) }
+        ensures domains { IfOk result (λ h. AreDomainsIn plan h.domains.items) }
+        ensures journals { IfOk result (λ h. All (λ d. d.journal ≡ []) h.domains.items) }
+        ensures reserved { IfOk result (λ h. All (λ d. d.reserved ≡ reserved_entries room) h.domains.items) }
+        ensures room { IfOk result (λ h. h.room ≡ room) }
+    {
         let (table, seats, operator) = SwitchTable::open(alloc, &plan)?;
-        let domains = open_domains(alloc, &plan, seats)?;
+        let domains = open_domains(alloc, &plan, seats, room.entries())?;
         Ok(Histories {
             plan,
             domains,
             table,
             operator,
+            room,
         })
     }
 
@@ -84,7 +106,8 @@ fn are_domains_in(plan: &AcceptedPlan, domains: &[SeatedDomain]) -> bool
 
 // Adds what an entry has of a user's commands to his list.
 fn list_command(entry: &Entry, user: u8, told: &mut Vec<Told>) -> Result<(), NoMemory>
-    ensures { IfOk result (λ _. told.new.items ≡ told.old.items ++ commands_of user (expanded (entry.now ∷ []))) }
+    ensures listed { IfOk result (λ _. told.new.items ≡ told.old.items ++ commands_of user (expanded (entry.now ∷ []))) }
+    ensures capacity { vec_capacity told.old ≤ vec_capacity told.new }
 {
     if let Some(command) = command_from(user, entry) {
         told.push(command)?;
@@ -94,7 +117,8 @@ fn list_command(entry: &Entry, user: u8, told: &mut Vec<Told>) -> Result<(), NoM
 
 // Adds a user's commands in a journal to his list.
 fn list_commands(journal: &Journal, user: u8, told: &mut Vec<Told>) -> Result<(), NoMemory>
-    ensures { IfOk result (λ _. told.new.items ≡ told.old.items ++ commands_of user (expanded journal.now)) }
+    ensures listed { IfOk result (λ _. told.new.items ≡ told.old.items ++ commands_of user (expanded journal.now.entries)) }
+    ensures capacity { vec_capacity told.old ≤ vec_capacity told.new }
 {
     // What is appended to a journal comes after what it stands for.
     journals_add_up();

@@ -23,7 +23,7 @@ fn event_count(entry: &Entry) -> u64
 
 // How many events a journal stands for, none if that is past every limit.
 fn all_events(journal: &Journal) -> Option<u64>
-    ensures { IfSome result (λ n. n ≡ length (expanded journal.now)) }
+    ensures { IfSome result (λ n. n ≡ length (expanded journal.now.entries)) }
 {
     // What is appended to a journal comes after what it stands for.
     journals_add_up();
@@ -37,7 +37,7 @@ fn all_events(journal: &Journal) -> Option<u64>
 
 // Whether a journal has just as many events as this limit.
 fn is_at(journal: &Journal, limit: u64) -> bool
-    ensures { result ≡ true → length (expanded journal.now) ≡ limit }
+    ensures { result ≡ true → length (expanded journal.now.entries) ≡ limit }
 {
     match all_events(journal) {
         Some(events) => events == limit,

@@ -39,7 +39,7 @@ fn listed_after(entry: &Entry, user: u8, told: &[Told], listed: usize) -> Option
 
 // Whether a user's commands in a journal are those of a list.
 fn lists(journal: &Journal, user: u8, told: &[Told]) -> bool
-    ensures { result ≡ true → commands_of user (expanded journal.now) ≡ told.now }
+    ensures { result ≡ true → commands_of user (expanded journal.now.entries) ≡ told.now }
 {
     // What is appended to a journal comes after what it stands for.
     journals_add_up();

@@ -10,6 +10,7 @@ ghost use Rattle.farm_service.specs.PortMoves.{AreDone, HaveMoved, IsRefused, mo
 
 use crate::service::SeatedDomain;
 use domain_core::{Moved, Refusal, Reply};
+use std::alloc::Global;
 
 // Whether a packet went.
 fn is_recorded(reply: Reply) -> bool
@@ -19,24 +20,24 @@ fn is_recorded(reply: Reply) -> bool
 }
 
 // A Move of a port; whether a packet went.
-fn move_port(domain: &mut SeatedDomain, port: u8) -> Result<bool, Refusal>
+fn move_port(alloc: Global, domain: &mut SeatedDomain, port: u8) -> Result<bool, Refusal>
     requires { port < domain.old.machine.part.count }
     ensures done { IfOk result (λ went. AreDone (move_of port ∷ []) domain.old went domain.new) }
     ensures refused { IfErr result (IsRefused (move_of port) domain.old) }
     ensures no_such { result ≢ Err NoSuch }
     ensures err { OnErr result (domain.new ≡ domain.old) }
 {
-    Ok(is_recorded(domain.move_port(port)?))
+    Ok(is_recorded(domain.move_port(alloc, port)?))
 }
 
 /// Moves of all ports of a domain, in order; whether a packet went. The first refusal ends them.
-pub(crate) fn move_ports(domain: &mut SeatedDomain) -> Result<bool, Refusal>
+pub(crate) fn move_ports(alloc: Global, domain: &mut SeatedDomain) -> Result<bool, Refusal>
     ensures moved { HaveMoved domain.old result domain.new }
     ensures no_such { result ≢ Err NoSuch }
 {
     let mut went = false;
     for port in 0..domain.part().count() {
-        went |= move_port(domain, port)?;
+        went |= move_port(alloc, domain, port)?;
     }
     Ok(went)
 }
@@ -50,13 +51,13 @@ pub(crate) struct MovesEnd {
 }
 
 /// Ends a round: all ports of a domain move, in order, and then it is asked whether it is quiet.
-pub(crate) fn end_round(domain: &mut SeatedDomain) -> Result<MovesEnd, Refusal>
+pub(crate) fn end_round(alloc: Global, domain: &mut SeatedDomain) -> Result<MovesEnd, Refusal>
     ensures moved { IfOk result (λ e. HaveMoved domain.old (Ok e.moved) domain.new) }
     ensures quiet { IfOk result (λ e. IsTrue e.is_quiet ↔ IsQuiet domain.new.machine.part (machine_of domain.new.machine)) }
     ensures refused { IfErr result (λ refusal. HaveMoved domain.old (Err refusal) domain.new) }
     ensures no_such { result ≢ Err NoSuch }
 {
-    let moved = move_ports(domain)?;
+    let moved = move_ports(alloc, domain)?;
     let is_quiet = domain.quiet();
     Ok(MovesEnd { moved, is_quiet })
 }

@@ -94,6 +94,7 @@ impl Service {
             return Err(Refusal::NoSuch);
         };
         begin_anew(&mut seated, self.plan(), domain, sessions);
+        self.note_anew(domain);
         drop(seated);
         self.note_call(domain);
         Ok(())

@@ -5,16 +5,16 @@ ghost use Rattle.crossbar.specs.Word.{IsAtLeastAsNew};
 ghost use Rattle.domain_core.specs.declared.domain.Committed.TheVariants.{Stale};
 ghost use Rattle.domain_core.specs.declared.event.Refusal.TheVariants.{NoSuch, JournalFull};
 ghost use Rattle.domain_core.specs.declared.event.Refusal.TheVariants as refusal_of;
-ghost use Rattle.domain_core.specs.Domain.{Fits, UnlessNoMemory};
+ghost use Rattle.domain_core.specs.Domain.{Fits, UnlessNoMemory, IsOutOfRoom};
 ghost use Rattle.domain_core.specs.Ticket.{fresh_ticket};
-ghost use Rattle.farm_core.specs.Places.{places_of};
+ghost use Rattle.whole_farm.specs.Places.{places_of};
 ghost use Rattle.plan_rules.specs.Part.{part_of};
 ghost use Rattle.switch_table.specs.Domains.{domains_of};
 ghost use Rattle.switch_table.specs.Rule.{IsConfined, word_of};
 ghost use Rattle.switch_table.specs.Seats.{seen_words};
 ghost use Rattle.token_queue.specs.Passes.{AreItsPasses};
 ghost use Rattle.token_queue.specs.Tokens.{HasEachOnce};
-ghost use Rattle.farm_service.specs.Answers.{IsAnswerIn};
+ghost use Rattle.farm_service.specs.Answers.{IsAnswerIn, IsJournalOutOfRoom};
 ghost use Rattle.std.specs.Sync.Mutex.{mutex_guard_value};
 ghost use Rattle.farm_service.specs.Domains.{IsFound};
 ghost use Rattle.farm_service.specs.Closed.{AreDomainsOf, EachMergeRuns, AreListed, AllMetFullTruly, AllAreRightlyAsked};
@@ -30,6 +30,8 @@ use crate::lists::await_listed;
 use crate::locking::{await_fitting, take};
 use crate::opening::{Opened, lock_each};
 use crate::pass::UserPass;
+use crate::room::Room;
+use crate::waiting::block_forever;
 use crossbar::Word;
 use domain_core::laws::histories_grow;
 use domain_core::{By, Committed, Domain, Event, Refusal, Reply, Ticket};
@@ -57,6 +59,11 @@ pub struct Service {
     table: SwitchTable,
     tokens: TokenQueue,
     stopped: AtomicBool,
+    room: Room,
+    // The domains whose nodes and packets rest until they begin anew, since there was no memory.
+    halted: Vec<AtomicBool>,
+    // The domains of which it was told that they rest.
+    noted: Vec<AtomicBool>,
     // Which bursts are to be done next. Nobody relies on it: it spares bursts that would be stale, or too many.
     schedule: Schedule,
 }
@@ -70,6 +77,9 @@ impl Drop for Service {
             table: _,
             tokens: _,
             stopped: _,
+            room: _,
+            halted: _,
+            noted: _,
             schedule: _,
         } = self;
     }
@@ -89,6 +99,7 @@ impl Model for Service {
 
 // Asks a domain that is the plan's of this number.
 fn ask(
+    alloc: Global,
     domain: &mut SeatedDomain,
     plan: &AcceptedPlan,
     number: u8,
@@ -96,13 +107,38 @@ fn ask(
     event: Event,
 ) -> Result<Reply, Refusal>
     requires { Fits plan.now number domain.old }
-    ensures { UnlessNoMemory result (IsAnswerIn plan.now number (record { by = by; event = event }) result) }
+    ensures answer { UnlessNoMemory result (IsAnswerIn plan.now number (record { by = by; event = event }) result) }
+    ensures memory { result ≡ Err refusal_of.NoMemory → IsOutOfRoom domain.old }
 {
     // A domain is what its journal says.
     domain.meant_law();
     // A history with one more reply is a history.
     histories_grow();
-    domain.apply(by, event)
+    domain.apply(alloc, by, event)
+}
+
+// Asks a domain that is the plan's of this number. If that refuses for want of memory and no memory is reserved in it for so many
+// entries, which no run comes to, waits for ever.
+fn ask_reserved<R: Wait>(
+    rt: &R,
+    alloc: Global,
+    domain: &mut SeatedDomain,
+    plan: &AcceptedPlan,
+    number: u8,
+    by: By,
+    event: Event,
+    reserved: usize,
+) -> Result<Reply, Refusal>
+    requires found { IsFound plan.now number domain.old }
+    ensures answer { UnlessNoMemory result (IsAnswerIn plan.now number (record { by = by; event = event }) result) }
+    ensures memory { result ≡ Err refusal_of.NoMemory → IsJournalOutOfRoom plan.now number reserved }
+{
+    let there = domain.reserved();
+    let told = ask(alloc, domain, plan, number, by, event);
+    if matches!(told, Err(Refusal::NoMemory)) && there < reserved {
+        return block_forever(rt);
+    }
+    told
 }
 
 // Domains, each under a lock of its own, which bursts are to be done next, and the tokens of a plan with the passes of workers.
@@ -132,6 +168,15 @@ fn open_parts<R: Wait>(
     Ok((locks, schedule, tokens, passes))
 }
 
+// So many flags, none of which is set.
+fn none_of(alloc: Global, count: usize) -> Result<Vec<AtomicBool>, NoMemory> {
+    let mut flags = Vec::with_capacity(alloc, count)?;
+    for _flag in 0..count {
+        flags.push(AtomicBool::new(false))?;
+    }
+    Ok(flags)
+}
+
 impl Service {
     /// A service on the domains of a plan, which are put under locks, with the passes of its users.
     // Eight clauses: two of what is handed in, one for each thing that is opened, and when there is none.
@@ -156,7 +201,10 @@ impl Service {
             domains,
             table,
             operator,
+            room,
         } = histories;
+        let halted = none_of(alloc, domains.len())?;
+        let noted = none_of(alloc, domains.len())?;
         let (domains, schedule, tokens, passes) = open_parts(rt, alloc, &plan, domains, workers)?;
         Ok(Opened {
             service: Service {
@@ -165,6 +213,9 @@ impl Service {
                 table,
                 tokens,
                 stopped: AtomicBool::new(false),
+                room,
+                halted,
+                noted,
                 schedule,
             },
             passes,
@@ -184,6 +235,48 @@ impl Service {
     pub fn stop(&self) {
         self.stopped.store(true, Ordering::SeqCst);
         self.schedule.rest().wake_all();
+    }
+
+    /// How much memory each domain may take for its journal and for the lists of its users.
+    pub fn room(&self) -> Room {
+        self.room
+    }
+
+    /// Lets the nodes and packets of a domain rest until it begins anew, as if its room were used up.
+    pub fn halt(&self, domain: u8) {
+        self.note_halted(domain, true);
+    }
+
+    // Notes whether the nodes and packets of a domain rest whatever its room.
+    pub(crate) fn note_halted(&self, domain: u8, is_halted: bool) {
+        if let Some(flag) = self.halted.get(usize::from(domain)) {
+            flag.store(is_halted, Ordering::SeqCst);
+        }
+    }
+
+    // Notes that a domain rests; whether that wasn't noted before.
+    pub(crate) fn note_rest(&self, domain: u8) -> bool {
+        match self.noted.get(usize::from(domain)) {
+            Some(flag) => !flag.swap(true, Ordering::SeqCst),
+            None => false,
+        }
+    }
+
+    // Notes that a domain begins anew.
+    pub(crate) fn note_anew(&self, domain: u8) {
+        self.note_halted(domain, false);
+        if let Some(flag) = self.noted.get(usize::from(domain)) {
+            flag.store(false, Ordering::SeqCst);
+        }
+    }
+
+    // Whether nodes and packets of a domain rest: its room is used up, or there was no memory.
+    pub(crate) fn has_no_room(&self, number: u8, domain: &SeatedDomain) -> bool {
+        let is_halted = match self.halted.get(usize::from(number)) {
+            Some(flag) => flag.load(Ordering::SeqCst),
+            None => false,
+        };
+        is_halted || self.room.is_used_up(domain.journal())
     }
 
     // Whether workers are to end.
@@ -249,18 +342,31 @@ impl Service {
         Some(seated)
     }
 
-    // Asks a domain under its lock. If that one isn't the plan's, waits for ever.
+    // Asks a domain under its lock. If that one isn't the plan's, or has no memory though it has as many entries as this at the
+    // most and none is reserved for them, waits for ever.
     pub(crate) fn ask<R: Wait>(
         &self,
         rt: &R,
+        alloc: Global,
         domain: u8,
         by: By,
         event: Event,
+        reserved: usize,
     ) -> Result<Reply, Refusal>
-        ensures { UnlessNoMemory result (IsAnswerIn self.now.plan domain (record { by = by; event = event }) result) }
+        ensures answer { UnlessNoMemory result (IsAnswerIn self.now.plan domain (record { by = by; event = event }) result) }
+        ensures memory { result ≡ Err refusal_of.NoMemory → IsJournalOutOfRoom self.now.plan domain reserved }
     {
         let told = match self.hold_found(rt, domain) {
-            Some(mut seated) => ask(&mut seated, &self.plan, domain, by, event),
+            Some(mut seated) => ask_reserved(
+                rt,
+                alloc,
+                &mut seated,
+                &self.plan,
+                domain,
+                by,
+                event,
+                reserved,
+            ),
             None => Err(Refusal::NoSuch),
         };
         // A look gives no node work.
@@ -287,13 +393,19 @@ impl Service {
     ///
     /// `NoSuch` where there is no such domain or node, and else `NoMemory` where the node can't be
     /// copied; see [`Domain::checkout`], which is lent the guard.
-    pub fn checkout<R: Wait>(&self, rt: &R, domain: u8, node: u8) -> Result<Ticket, Refusal>
+    pub fn checkout<R: Wait>(
+        &self,
+        rt: &R,
+        alloc: Global,
+        domain: u8,
+        node: u8,
+    ) -> Result<Ticket, Refusal>
         ensures ticket { IfOk result (λ t. t ≡ fresh_ticket domain node t.start) }
         ensures elsewhere { length self.now.plan ≤ domain → result ≡ Err NoSuch }
         ensures full { result ≢ Err JournalFull }
     {
         match self.hold(rt, domain) {
-            Some(seated) => seated.checkout(domain, node),
+            Some(seated) => seated.checkout(alloc, domain, node),
             None => Err(Refusal::NoSuch),
         }
     }
@@ -306,13 +418,18 @@ impl Service {
     ///
     /// `JournalFull` where the ticket's Steps pass the domain's limit, and else `NoMemory` where the
     /// journal can't grow; see [`Domain::commit`], which is lent the guard. Nothing has changed then.
-    pub fn commit<R: Wait>(&self, rt: &R, ticket: Ticket) -> Result<Committed, Refusal>
+    pub fn commit<R: Wait>(
+        &self,
+        rt: &R,
+        alloc: Global,
+        ticket: Ticket,
+    ) -> Result<Committed, Refusal>
         ensures elsewhere { length self.now.plan ≤ ticket.domain → result ≡ Ok Stale }
         ensures no_such { result ≢ Err NoSuch }
     {
         let domain = ticket.domain();
         let committed = match self.hold(rt, domain) {
-            Some(mut seated) => seated.commit(ticket),
+            Some(mut seated) => seated.commit(alloc, ticket),
             None => Ok(Committed::Stale),
         };
         self.note_call(domain);
@@ -373,6 +490,9 @@ impl Service {
             table: _,
             tokens,
             stopped: _,
+            room: _,
+            halted: _,
+            noted: _,
             schedule: _,
         } = self;
         let ClosingMemory {

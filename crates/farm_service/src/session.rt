@@ -1,15 +1,16 @@
 //! A user's commands.
 
 ghost use Rattle.std.specs.Prelude.{◌≡◌, ◌≢◌, ◌<◌, ◌≤◌, Err, length};
-ghost use Rattle.domain_core.specs.declared.event.Refusal.TheVariants.{NoSuch};
+ghost use Rattle.domain_core.specs.declared.event.Refusal.TheVariants.{NoSuch, NoMemory};
 ghost use Rattle.domain_core.specs.declared.event.Event.TheVariants.{Config, Write, Read, Reset, Look};
-ghost use Rattle.farm_service.specs.Answers.{IsTold};
+ghost use Rattle.farm_service.specs.Answers.{IsTold, HasNoRoomLeft};
 ghost use Rattle.farm_service.specs.Passes.{Gains};
 ghost use Rattle.farm_service.specs.Restarts.{begun_anew};
 
 use crate::pass::UserPass;
 use crate::service::Service;
 use domain_core::{By, Event, Refusal, Reply, Told};
+use std::alloc::Global;
 use std::marker::Model;
 use std::sync::Wait;
 
@@ -91,15 +92,17 @@ impl Session<'_> {
     }
 
     // Asks the user's domain, lists what it answers, and notes a refusal.
-    fn ask<R: Wait>(&mut self, rt: &R, event: Event) -> Result<Reply, Refusal>
+    fn ask<R: Wait>(&mut self, rt: &R, alloc: Global, event: Event) -> Result<Reply, Refusal>
         ensures answer { IsTold self.old event result }
+        ensures memory { result ≡ Err NoMemory → HasNoRoomLeft self.old }
         ensures list { Gains self.old event result self.new }
     {
         let pass = &mut self.pass;
         pass.told.reserve(1)?;
+        let (domain, by) = (pass.domain, By::User(pass.user));
         let answer = self
             .service
-            .ask(rt, pass.domain, By::User(pass.user), event);
+            .ask(rt, alloc, domain, by, event, pass.reserved);
         match answer {
             Ok(reply) => pass.told.push_reserved(Told { event, reply }),
             Err(refusal) => pass.note_refusal(refusal),
@@ -111,13 +114,14 @@ impl Session<'_> {
     ///
     /// # Errors
     ///
-    /// Those of [`domain_core::Domain::apply`], and before them `NoMemory` where the pass's list can't
-    /// grow. Nothing has changed then, and nothing is listed.
-    pub fn configure<R: Wait>(&mut self, rt: &R, byte: u8) -> Result<Reply, Refusal>
+    /// Those of [`domain_core::Domain::apply`], and before them `NoMemory` if no memory is reserved for one more
+    /// command in the user's list and the system has none. Nothing has changed then, and nothing is listed.
+    pub fn configure<R: Wait>(&mut self, rt: &R, alloc: Global, byte: u8) -> Result<Reply, Refusal>
         ensures answer { IsTold self.old (Config byte) result }
+        ensures memory { result ≡ Err NoMemory → HasNoRoomLeft self.old }
         ensures list { Gains self.old (Config byte) result self.new }
     {
-        self.ask(rt, Event::Config(byte))
+        self.ask(rt, alloc, Event::Config(byte))
     }
 
     /// A byte is put in the sending queue of a host of the user's, by the host's number in the domain.
@@ -125,11 +129,18 @@ impl Session<'_> {
     /// # Errors
     ///
     /// As [`Session::configure`].
-    pub fn write<R: Wait>(&mut self, rt: &R, host: u8, byte: u8) -> Result<Reply, Refusal>
+    pub fn write<R: Wait>(
+        &mut self,
+        rt: &R,
+        alloc: Global,
+        host: u8,
+        byte: u8,
+    ) -> Result<Reply, Refusal>
         ensures answer { IsTold self.old (Write host byte) result }
+        ensures memory { result ≡ Err NoMemory → HasNoRoomLeft self.old }
         ensures list { Gains self.old (Write host byte) result self.new }
     {
-        self.ask(rt, Event::Write(host, byte))
+        self.ask(rt, alloc, Event::Write(host, byte))
     }
 
     /// The front byte of the receiving queue of a host of the user's is taken, by the host's number in
@@ -138,11 +149,12 @@ impl Session<'_> {
     /// # Errors
     ///
     /// As [`Session::configure`].
-    pub fn read<R: Wait>(&mut self, rt: &R, host: u8) -> Result<Reply, Refusal>
+    pub fn read<R: Wait>(&mut self, rt: &R, alloc: Global, host: u8) -> Result<Reply, Refusal>
         ensures answer { IsTold self.old (Read host) result }
+        ensures memory { result ≡ Err NoMemory → HasNoRoomLeft self.old }
         ensures list { Gains self.old (Read host) result self.new }
     {
-        self.ask(rt, Event::Read(host))
+        self.ask(rt, alloc, Event::Read(host))
     }
 
     /// A node of the domain is reset, by its number there.
@@ -150,11 +162,12 @@ impl Session<'_> {
     /// # Errors
     ///
     /// As [`Session::configure`].
-    pub fn reset<R: Wait>(&mut self, rt: &R, node: u8) -> Result<Reply, Refusal>
+    pub fn reset<R: Wait>(&mut self, rt: &R, alloc: Global, node: u8) -> Result<Reply, Refusal>
         ensures answer { IsTold self.old (Reset node) result }
+        ensures memory { result ≡ Err NoMemory → HasNoRoomLeft self.old }
         ensures list { Gains self.old (Reset node) result self.new }
     {
-        self.ask(rt, Event::Reset(node))
+        self.ask(rt, alloc, Event::Reset(node))
     }
 
     /// A node of the domain is looked at, by its number there.
@@ -162,11 +175,12 @@ impl Session<'_> {
     /// # Errors
     ///
     /// As [`Session::configure`].
-    pub fn look<R: Wait>(&mut self, rt: &R, node: u8) -> Result<Reply, Refusal>
+    pub fn look<R: Wait>(&mut self, rt: &R, alloc: Global, node: u8) -> Result<Reply, Refusal>
         ensures answer { IsTold self.old (Look node) result }
+        ensures memory { result ≡ Err NoMemory → HasNoRoomLeft self.old }
         ensures list { Gains self.old (Look node) result self.new }
     {
-        self.ask(rt, Event::Look(node))
+        self.ask(rt, alloc, Event::Look(node))
     }
 
     /// Rounds of the domain, up to so many, until it is quiet: in each round every node does up to
@@ -178,14 +192,20 @@ impl Session<'_> {
     ///
     /// The first refusal ends it, as `NoSuch` where the pass is of no domain of the plan. What was
     /// recorded before stands.
-    pub fn settle<R: Wait>(&self, rt: &R, quantum: u64, rounds: u64) -> Result<Settled, Refusal>
+    pub fn settle<R: Wait>(
+        &self,
+        rt: &R,
+        alloc: Global,
+        quantum: u64,
+        rounds: u64,
+    ) -> Result<Settled, Refusal>
         requires quantum { (1 ≤ quantum) × (quantum ≤ 4096) }
         ensures elsewhere { length self.now.plan ≤ self.now.pass.domain → result ≡ Err NoSuch }
         ensures there { self.now.pass.domain < length self.now.plan → result ≢ Err NoSuch }
     {
         let domain = self.pass.domain;
         self.service.schedule().begin_settling(domain);
-        let settled = self.service.settle(rt, domain, quantum, rounds);
+        let settled = self.service.settle(rt, alloc, domain, quantum, rounds);
         self.service.schedule().end_settling(domain);
         settled
     }

@@ -18,10 +18,21 @@ pub struct DomainStatus {
     pub limit: u64,
     /// Whether no Step and no Move would be recorded, the limit aside.
     pub is_quiet: bool,
+    /// How it is with its room.
+    pub room: RoomStatus,
+}
+
+/// How it is with the room of a domain.
+#[derive(Clone, Copy)]
+pub struct RoomStatus {
+    /// How many bytes of it are taken.
+    pub bytes: u64,
+    /// Whether nodes and packets of the domain rest until it begins anew: its room is used up, or it was halted.
+    pub rests: bool,
 }
 
 // How it is with a domain, which stays.
-fn status_of(domain: &mut SeatedDomain) -> DomainStatus
+fn status_of(domain: &mut SeatedDomain, room: RoomStatus) -> DomainStatus
     ensures status { IsStatusOf domain.old result }
     ensures unchanged { domain.new ≡ domain.old }
 {
@@ -29,10 +40,34 @@ fn status_of(domain: &mut SeatedDomain) -> DomainStatus
         recorded: domain.recorded(),
         limit: domain.part().limit(),
         is_quiet: domain.quiet(),
+        room,
     }
 }
 
 impl Service {
+    // How it is with the room of a domain that is held.
+    fn room_taken(&self, number: u8, domain: &SeatedDomain) -> RoomStatus {
+        RoomStatus {
+            bytes: domain.journal().bytes(),
+            rests: self.has_no_room(number, domain),
+        }
+    }
+
+    /// How it is with the room of a domain, under its lock.
+    ///
+    /// # Errors
+    ///
+    /// `NoSuch` if the plan has no such domain.
+    pub fn room_status<R: Wait>(&self, rt: &R, domain: u8) -> Result<RoomStatus, Refusal>
+        ensures no_such { (result ≡ Err NoSuch) ↔ (length self.now.plan ≤ domain) }
+        ensures err { IfErr result (λ refusal. refusal ≡ NoSuch) }
+    {
+        match self.hold(rt, domain) {
+            Some(seated) => Ok(self.room_taken(domain, &seated)),
+            None => Err(Refusal::NoSuch),
+        }
+    }
+
     /// How it is with a domain, under its lock.
     ///
     /// # Errors
@@ -47,7 +82,10 @@ impl Service {
         ensures err { IfErr result (λ refusal. refusal ≡ NoSuch) }
     {
         match self.hold_found(rt, domain) {
-            Some(mut seated) => Ok(status_of(&mut seated)),
+            Some(mut seated) => {
+                let room = self.room_taken(domain, &seated);
+                Ok(status_of(&mut seated, room))
+            }
             None => Err(Refusal::NoSuch),
         }
     }

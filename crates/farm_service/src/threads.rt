@@ -7,6 +7,7 @@ ghost use Rattle.token_queue.specs.Passes.{AreOf, AreItsPasses, HoldNone};
 use crate::NoMemory;
 use crate::service::Service;
 use crate::worker::{Gate, UNTIL_STOPPED, Worked, work};
+use std::alloc::Global;
 use std::sync::Wait;
 use std::sync::atomic::{AtomicBool, Ordering};
 use std::thread;
@@ -19,6 +20,7 @@ const MOST_WORKERS: usize = 8;
 // A thread for each pass. If one of them runs out of memory, it notes that and stops the service.
 fn work_each<R: Threads + Wait + Sync, G: Gate + Sync>(
     rt: &R,
+    alloc: Global,
     service: &Service,
     passes: &mut [WorkerPass],
     gate: &G,
@@ -37,7 +39,7 @@ fn work_each<R: Threads + Wait + Sync, G: Gate + Sync>(
         passes,
         MOST_WORKERS,
         &|_, pass| {
-            if work(rt, service, pass, gate, quantum, turns) == Worked::NoMemory {
+            if work(rt, alloc, service, pass, gate, quantum, turns) == Worked::NoMemory {
                 out_of_memory.store(true, Ordering::SeqCst);
                 service.stop();
             }
@@ -69,6 +71,7 @@ fn memory_result(out_of_memory: &AtomicBool) -> Result<(), NoMemory> {
 /// `NoMemory` if a worker ran out of memory. It stopped the service then.
 pub fn work_all<R: Threads + Wait + Sync, G: Gate + Sync>(
     rt: &R,
+    alloc: Global,
     service: &Service,
     passes: &mut Vec<WorkerPass>,
     gate: &G,
@@ -83,6 +86,7 @@ pub fn work_all<R: Threads + Wait + Sync, G: Gate + Sync>(
     note_cores(rt, service);
     work_each(
         rt,
+        alloc,
         service,
         passes.as_mut_slice(),
         gate,
@@ -126,6 +130,7 @@ pub fn run_users_and_workers<
     F: Fn(usize, &mut U) + Sync,
 >(
     rt: &R,
+    alloc: Global,
     service: &Service,
     passes: &mut Vec<WorkerPass>,
     gate: &G,
@@ -142,7 +147,7 @@ pub fn run_users_and_workers<
     let mut work = ||
         requires { AreItsPasses service.now.plan service.now.queue passes.now.items × (1 ≤ quantum) × (quantum ≤ 4096) }
         ensures { AreItsPasses service.entry.now.plan service.entry.now.queue passes.exit.now.items }
-    { work_all(rt, service, passes, gate, quantum, UNTIL_STOPPED) };
+    { work_all(rt, alloc, service, passes, gate, quantum, UNTIL_STOPPED) };
     let mut act_all = ||
         requires { AcceptsEach F.Fn act.now users.now }
         ensures { ChangesEach F.Fn act.entry.now users.entry.now users.exit.now }

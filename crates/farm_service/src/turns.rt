@@ -3,12 +3,13 @@
 ghost use Rattle.std.specs.Prelude.{◌≡◌, ◌≢◌, ◌<◌, ◌≤◌, Err, length};
 ghost use Rattle.domain_core.specs.declared.event.Refusal.TheVariants.{NoSuch};
 
-use crate::halves::{TurnEnd, Turned, begin_turn, commit_lent, end_turn};
+use crate::halves::{TurnEnd, Turned, begin_turn, commit_slot, end_turn};
 use crate::moves::{MovesEnd, end_round};
 use crate::service::Service;
 use crate::session::Settled;
 use crate::worker::Gate;
-use domain_core::{Refusal, Ticket};
+use domain_core::{Committed, Refusal, Ticket};
+use std::alloc::Global;
 use std::sync::Wait;
 use token_queue::Token;
 use turn_schedule::{BurstLength, Pace, RoundEnd};
@@ -24,7 +25,59 @@ fn burst(slot: &mut Option<Ticket>, steps: u64) -> u64 {
     }
 }
 
+// How a turn begins.
+#[derive(Clone, Copy, PartialEq, Eq)]
+enum Begun {
+    // The node was copied.
+    CheckedOut,
+    // The node has no Step to do.
+    NoStep,
+    // The domain has no room.
+    NoRoom,
+}
+
 impl TurnEnd {
+    // There was nothing to do.
+    fn nothing() -> TurnEnd {
+        TurnEnd {
+            turned: Ok(Turned::NoStep),
+            moved: Ok(false),
+        }
+    }
+
+    // The node's Steps were refused.
+    fn refused(refusal: Refusal) -> TurnEnd {
+        TurnEnd {
+            turned: Err(refusal),
+            moved: Ok(false),
+        }
+    }
+
+    // What became of the ticket. One of no Steps counts as committed.
+    fn committed(self) -> Result<Committed, Refusal> {
+        match self.turned {
+            Ok(Turned::Stale) => Ok(Committed::Stale),
+            Ok(Turned::BurstRecorded | Turned::NoStep) => Ok(Committed::Done),
+            Err(refusal) => Err(refusal),
+        }
+    }
+
+    // What was done, or the first refusal.
+    fn done(self) -> Result<TurnDone, Refusal> {
+        let turned = self.turned?;
+        let moved = self.moved?;
+        Ok(TurnDone { turned, moved })
+    }
+}
+
+// What was done in a turn: with its node, and whether a packet moved after it.
+#[derive(Clone, Copy)]
+struct TurnDone {
+    turned: Turned,
+    moved: bool,
+}
+
+impl TurnDone {
     // Whether there was anything to do.
     fn is_busy(self) -> bool {
         self.moved || self.turned != Turned::NoStep
@@ -32,17 +85,22 @@ impl TurnEnd {
 }
 
 impl Service {
-    // Begins a turn in one hold of the domain's lock.
+    // Begins a turn in one hold of the domain's lock. There is none if the domain has no room.
     fn begin<R: Wait>(
         &self,
         rt: &R,
+        alloc: Global,
         token: Token,
         slot: &mut Option<Ticket>,
-    ) -> Result<bool, Refusal>
+    ) -> Result<Begun, Refusal>
         ensures there { token.domain < length self.now.plan → result ≢ Err NoSuch }
     {
         match self.hold(rt, token.domain) {
-            Some(seated) => begin_turn(&seated, token.domain, token.node, slot),
+            Some(seated) if self.has_no_room(token.domain, &seated) => Ok(Begun::NoRoom),
+            Some(seated) if begin_turn(alloc, &seated, token.domain, token.node, slot)? => {
+                Ok(Begun::CheckedOut)
+            }
+            Some(_) => Ok(Begun::NoStep),
             None => Err(Refusal::NoSuch),
         }
     }
@@ -51,13 +109,17 @@ impl Service {
     fn end<R: Wait>(
         &self,
         rt: &R,
+        alloc: Global,
         token: Token,
         checked_out: bool,
         slot: &mut Option<Ticket>,
-    ) -> Result<TurnEnd, Refusal> {
+    ) -> TurnEnd {
         match self.hold(rt, token.domain) {
-            Some(mut seated) => end_turn(&mut seated, checked_out, slot),
-            None => Err(Refusal::NoSuch),
+            Some(seated) if !checked_out && self.has_no_room(token.domain, &seated) => {
+                TurnEnd::nothing()
+            }
+            Some(mut seated) => end_turn(alloc, &mut seated, checked_out, slot),
+            None => TurnEnd::refused(Refusal::NoSuch),
         }
     }
 
@@ -65,45 +127,47 @@ impl Service {
     fn turn_alone<R: Wait, G: Gate>(
         &self,
         rt: &R,
+        alloc: Global,
         token: Token,
         gate: &G,
         slot: &mut Option<Ticket>,
         steps: u64,
-    ) -> Result<TurnEnd, Refusal> {
-        let checked_out = self.begin(rt, token, slot)?;
+    ) -> Result<TurnDone, Refusal> {
+        let begun = self.begin(rt, alloc, token, slot)?;
+        if begun == Begun::NoRoom && self.note_rest(token.domain) {
+            gate.rests(rt, token.domain);
+        }
+        let checked_out = begun == Begun::CheckedOut;
         gate.begins(rt, token);
         let done = if checked_out { burst(slot, steps) } else { 0 };
         self.schedule().note_steps(token, done);
-        let ended = self.end(rt, token, checked_out, slot);
-        let turned = match ended {
-            Ok(ended) => Ok(ended.turned),
-            Err(refusal) => Err(refusal),
-        };
-        gate.ended(rt, token, &turned);
-        ended
+        let ended = self.end(rt, alloc, token, checked_out, slot);
+        gate.ended(rt, token, &ended.committed());
+        ended.done()
     }
 
     // The same, of so many quanta. If the journal has no room for them, the turn is done once more, with one.
     fn turn_of<R: Wait, G: Gate>(
         &self,
         rt: &R,
+        alloc: Global,
         token: Token,
         gate: &G,
         slot: &mut Option<Ticket>,
         quantum: u64,
         quanta: u64,
-    ) -> Result<TurnEnd, Refusal> {
-        let ended = self.turn_alone(rt, token, gate, slot, quantum.saturating_mul(quanta));
+    ) -> Result<TurnDone, Refusal> {
+        let ended = self.turn_alone(rt, alloc, token, gate, slot, quantum.saturating_mul(quanta));
         if quanta == 1 || !matches!(ended, Err(Refusal::JournalFull)) {
             return ended;
         }
         self.schedule().shorten(token);
-        self.turn_alone(rt, token, gate, slot, quantum)
+        self.turn_alone(rt, alloc, token, gate, slot, quantum)
     }
 
     // Notes what a turn found, which began after so many changes of its domain. A refusal for a full journal comes again
     // until the domain is changed.
-    fn note_turn(&self, token: Token, changes: u64, ended: &Result<TurnEnd, Refusal>) {
+    fn note_turn(&self, token: Token, changes: u64, ended: &Result<TurnDone, Refusal>) {
         let rest = self.schedule().rest();
         match ended {
             Ok(ended) if ended.is_busy() => {
@@ -122,6 +186,7 @@ impl Service {
     pub(crate) fn turn<R: Wait, G: Gate>(
         &self,
         rt: &R,
+        alloc: Global,
         token: Token,
         gate: &G,
         slot: &mut Option<Ticket>,
@@ -139,7 +204,7 @@ impl Service {
         } else {
             1
         };
-        let ended = self.turn_of(rt, token, gate, slot, length.quantum, quanta);
+        let ended = self.turn_of(rt, alloc, token, gate, slot, length.quantum, quanta);
         self.schedule().give_back(token, take);
         self.note_turn(token, changes, &ended);
         Ok(ended?.is_busy())
@@ -149,17 +214,18 @@ impl Service {
     fn burst_alone<R: Wait>(
         &self,
         rt: &R,
+        alloc: Global,
         token: Token,
         slot: &mut Option<Ticket>,
         steps: u64,
     ) -> Result<(), Refusal>
         ensures there { token.domain < length self.now.plan → result ≢ Err NoSuch }
     {
-        let checked_out = self.begin(rt, token, slot)?;
+        let checked_out = self.begin(rt, alloc, token, slot)? == Begun::CheckedOut;
         let done = if checked_out { burst(slot, steps) } else { 0 };
         self.schedule().note_steps(token, done);
         if checked_out && let Some(mut seated) = self.hold(rt, token.domain) {
-            commit_lent(&mut seated, true, slot)?;
+            commit_slot(alloc, &mut seated, true, slot)?;
         }
         Ok(())
     }
@@ -168,6 +234,7 @@ impl Service {
     fn burst_of_round<R: Wait>(
         &self,
         rt: &R,
+        alloc: Global,
         token: Token,
         slot: &mut Option<Ticket>,
         quantum: u64,
@@ -175,18 +242,19 @@ impl Service {
         ensures there { token.domain < length self.now.plan → result ≢ Err NoSuch }
     {
         let quanta = self.schedule().round_quanta(token.domain);
-        let done = self.burst_alone(rt, token, slot, quantum.saturating_mul(quanta));
+        let done = self.burst_alone(rt, alloc, token, slot, quantum.saturating_mul(quanta));
         if quanta == 1 || !matches!(done, Err(Refusal::JournalFull)) {
             return done;
         }
         self.schedule().shorten(token);
-        self.burst_alone(rt, token, slot, quantum)
+        self.burst_alone(rt, alloc, token, slot, quantum)
     }
 
     // The burst of a node in a round, if the schedule gives the node: a worker may be doing it.
     fn burst_free<R: Wait>(
         &self,
         rt: &R,
+        alloc: Global,
         token: Token,
         slot: &mut Option<Ticket>,
         quantum: u64,
@@ -196,7 +264,7 @@ impl Service {
         let Some(take) = self.schedule().take(token) else {
             return Ok(());
         };
-        let done = self.burst_of_round(rt, token, slot, quantum);
+        let done = self.burst_of_round(rt, alloc, token, slot, quantum);
         self.schedule().give_back(token, take);
         done
     }
@@ -206,6 +274,7 @@ impl Service {
     fn finish_burst<R: Wait>(
         &self,
         rt: &R,
+        alloc: Global,
         token: Token,
         slot: &mut Option<Ticket>,
         quantum: u64,
@@ -217,7 +286,7 @@ impl Service {
         if self.schedule().await_commit(token, steps) {
             Ok(())
         } else {
-            self.burst_of_round(rt, token, slot, quantum)
+            self.burst_of_round(rt, alloc, token, slot, quantum)
         }
     }
 
@@ -237,6 +306,7 @@ impl Service {
     fn bursts<R: Wait>(
         &self,
         rt: &R,
+        alloc: Global,
         domain: u8,
         nodes: u8,
         slot: &mut Option<Ticket>,
@@ -247,10 +317,10 @@ impl Service {
     {
         self.schedule().begin_round(domain, nodes, quanta);
         for node in 0..nodes {
-            self.burst_free(rt, Token { domain, node }, slot, quantum)?;
+            self.burst_free(rt, alloc, Token { domain, node }, slot, quantum)?;
         }
         for node in 0..nodes {
-            self.finish_burst(rt, Token { domain, node }, slot, quantum, quanta)?;
+            self.finish_burst(rt, alloc, Token { domain, node }, slot, quantum, quanta)?;
         }
         Ok(())
     }
@@ -259,6 +329,7 @@ impl Service {
     pub(crate) fn round<R: Wait>(
         &self,
         rt: &R,
+        alloc: Global,
         domain: u8,
         slot: &mut Option<Ticket>,
         quantum: u64,
@@ -269,9 +340,9 @@ impl Service {
         ensures there { domain < length self.now.plan → result ≢ Err NoSuch }
     {
         let nodes = self.nodes(domain);
-        self.bursts(rt, domain, nodes, slot, quantum, quanta)?;
+        self.bursts(rt, alloc, domain, nodes, slot, quantum, quanta)?;
         let MovesEnd { moved, is_quiet } = match self.hold(rt, domain) {
-            Some(mut seated) => end_round(&mut seated)?,
+            Some(mut seated) => end_round(alloc, &mut seated)?,
             None => return Err(Refusal::NoSuch),
         };
         Ok(RoundEnd {
@@ -282,11 +353,20 @@ impl Service {
         })
     }
 
+    // Whether nodes and packets of a domain rest since it has no room.
+    fn rests<R: Wait>(&self, rt: &R, domain: u8) -> bool {
+        match self.hold(rt, domain) {
+            Some(seated) => self.has_no_room(domain, &seated),
+            None => false,
+        }
+    }
+
     // Whether a domain is quiet after up to so many rounds of a quantum. As long as nothing moves, the bursts of a round are
     // twice as long as those before, and it counts as several.
     pub(crate) fn settle<R: Wait>(
         &self,
         rt: &R,
+        alloc: Global,
         domain: u8,
         quantum: u64,
         rounds: u64,
@@ -299,13 +379,14 @@ impl Service {
             return Ok(Settled::Quiet);
         }
         let mut slot = None;
-        self.settle_by(rt, domain, &mut slot, quantum, rounds)
+        self.settle_by(rt, alloc, domain, &mut slot, quantum, rounds)
     }
 
     // The same of a domain that isn't quiet, by bursts of the ticket in a slot.
     fn settle_by<R: Wait>(
         &self,
         rt: &R,
+        alloc: Global,
         domain: u8,
         slot: &mut Option<Ticket>,
         quantum: u64,
@@ -316,10 +397,10 @@ impl Service {
     {
         let mut pace = Pace::of(rounds, self.schedule().rest().changes(domain));
         for _round in 0..rounds {
-            if pace.is_over() {
+            if pace.is_over() || self.rests(rt, domain) {
                 break;
             }
-            let ended = self.round(rt, domain, slot, quantum, pace.quanta())?;
+            let ended = self.round(rt, alloc, domain, slot, quantum, pace.quanta())?;
             if ended.is_quiet {
                 return Ok(Settled::Quiet);
             }

@@ -3,9 +3,9 @@
 ghost use Rattle.std.specs.Prelude.{◌≡◌, ◌≤◌, []};
 ghost use Rattle.token_queue.specs.Tokens.{HasToken, without};
 
-use crate::halves::Turned;
 use crate::service::Service;
-use domain_core::{Refusal, Ticket};
+use domain_core::{Committed, Refusal, Ticket};
+use std::alloc::Global;
 use std::sync::Wait;
 use token_queue::{Token, WorkerPass};
 use turn_schedule::{BurstLength, Idleness};
@@ -20,9 +20,13 @@ pub trait Gate {
     /// before the burst. If the node couldn't be copied, or rests, nobody is told of the turn.
     fn begins<R: Wait>(&self, rt: &R, token: Token);
 
-    /// After the second hold of the domain's lock, with what became of the node in it before the domain's ports moved, or
-    /// with the refusal that ended the turn: of the node's Steps, or of a Move. What was recorded before it stands.
-    fn ended<R: Wait>(&self, rt: &R, token: Token, turned: &Result<Turned, Refusal>);
+    /// After the second hold of the domain's lock, with what became of the node's ticket in it: it was committed, also one of
+    /// no Steps, or it was stale, or why its Steps were refused.
+    fn ended<R: Wait>(&self, rt: &R, token: Token, committed: &Result<Committed, Refusal>);
+
+    /// A worker found first that nodes and packets of a domain rest since it has no room, outside of every lock. It comes once until
+    /// the domain begins anew.
+    fn rests<R: Wait>(&self, _rt: &R, _domain: u8) {}
 }
 
 /// Nobody is told.
@@ -31,7 +35,7 @@ pub struct NoGate;
 impl Gate for NoGate {
     fn begins<R: Wait>(&self, _rt: &R, _token: Token) {}
 
-    fn ended<R: Wait>(&self, _rt: &R, _token: Token, _turned: &Result<Turned, Refusal>) {}
+    fn ended<R: Wait>(&self, _rt: &R, _token: Token, _committed: &Result<Committed, Refusal>) {}
 }
 
 /// Why a worker came back.
@@ -41,7 +45,7 @@ pub enum Worked {
     Turns,
     /// The service was stopped.
     Stopped,
-    /// A node could not be copied, or a journal could not grow.
+    /// A node could not be copied, or a journal could not grow, and the domains have no rooms.
     NoMemory,
 }
 
@@ -57,6 +61,7 @@ fn give_back<R: Wait>(rt: &R, service: &Service, pass: &mut WorkerPass, token: T
 // One turn; whether there was anything to do. The token goes back in every case.
 fn turn<R: Wait, G: Gate>(
     rt: &R,
+    alloc: Global,
     service: &Service,
     pass: &mut WorkerPass,
     gate: &G,
@@ -69,7 +74,7 @@ fn turn<R: Wait, G: Gate>(
     match service.tokens().take(rt, pass) {
         None => Ok(false),
         Some(token) => {
-            let done = service.turn(rt, token, gate, slot, length);
+            let done = service.turn(rt, alloc, token, gate, slot, length);
             give_back(rt, service, pass, token);
             done
         }
@@ -79,6 +84,7 @@ fn turn<R: Wait, G: Gate>(
 // Works for so many turns, beside so many workers that came before.
 fn take_turns<R: Wait, G: Gate>(
     rt: &R,
+    alloc: Global,
     service: &Service,
     pass: &mut WorkerPass,
     gate: &G,
@@ -105,8 +111,8 @@ fn take_turns<R: Wait, G: Gate>(
         service
             .schedule()
             .make_way(rt, workers_before, &mut idleness, may_sleep);
-        match turn(rt, service, pass, gate, &mut slot, length) {
-            Err(Refusal::NoMemory) => {
+        match turn(rt, alloc, service, pass, gate, &mut slot, length) {
+            Err(Refusal::NoMemory) if !service.room().is_bounded() => {
                 worked = Worked::NoMemory;
                 break;
             }
@@ -120,7 +126,8 @@ fn take_turns<R: Wait, G: Gate>(
 /// outside the lock of its domain, the packets of the domain's ports move, and the token goes back. A worker
 /// for [`UNTIL_STOPPED`] turns does up to 256 quanta in a turn while nothing moves, but never more than 65,536 Steps. A
 /// turn that finds no token is spent all the same, and so is one of a node that rests, since nothing has changed in its
-/// domain since it had nothing to do; `JournalFull` ends a turn alone.
+/// domain since it had nothing to do; `JournalFull` ends a turn alone, and so does `NoMemory` if the domains have rooms. Of a
+/// domain whose room is used up no turn does anything.
 ///
 /// The pass holds no token before the call and none after it, whatever it answers. Users go first: a thread with
 /// nothing to do gives its core away, and while somebody settles in a domain, his round and the workers do one
@@ -129,6 +136,7 @@ fn take_turns<R: Wait, G: Gate>(
 /// workers are awake.
 pub fn work<R: Wait, G: Gate>(
     rt: &R,
+    alloc: Global,
     service: &Service,
     pass: &mut WorkerPass,
     gate: &G,
@@ -142,7 +150,16 @@ pub fn work<R: Wait, G: Gate>(
     ensures pass { pass.new ≡ pass.old }
 {
     let workers_before = service.schedule().rest().begin_work();
-    let worked = take_turns(rt, service, pass, gate, quantum, turns, workers_before);
+    let worked = take_turns(
+        rt,
+        alloc,
+        service,
+        pass,
+        gate,
+        quantum,
+        turns,
+        workers_before,
+    );
     service.schedule().rest().end_work();
     worked
 }

@@ -20,7 +20,7 @@ pub const NO_MEMORY: u8 = 5;
 /// The status if a file can't be read, or a stream fails.
 pub const NOT_READ: u8 = 6;
 
-const MOST_STEPS: u8 = 7;
+const OUT_OF_STEPS: u8 = 7;
 
 /// What is wrong with words that the parser takes.
 #[derive(Clone, Copy, Debug, Error)]
@@ -114,7 +114,7 @@ impl LabFailure {
 
     /// As many Steps were done as may be.
     pub fn of_steps(alloc: Global, end: StepsEnd) -> LabFailure {
-        LabFailure::of_line(alloc, &end, MOST_STEPS)
+        LabFailure::of_line(alloc, &end, OUT_OF_STEPS)
     }
 
     /// The same, with the name of the file of which it is told.

@@ -96,7 +96,7 @@ fn write_labels(lines: &[ProgramLine], address: u32, text: &mut TextWriter) {
 // Writes the bytes of an instruction in their column.
 fn write_bytes(bytes: &[u8], text: &mut TextWriter) {
     for byte in bytes {
-        text.push_byte(*byte);
+        text.push_hex_byte(*byte);
         text.push(" ");
     }
     for _ in bytes.len()..COLUMN {

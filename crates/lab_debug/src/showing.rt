@@ -7,9 +7,9 @@ use farm_causes::RecordedLine;
 use farm_replay::{write_event, write_user};
 use lab_timeline::Timeline;
 use link_channels::LinkNumber;
-use node_memory::{LINK_BELOW, NOT_PROCESS};
 use node_trace::{write_all_registers, write_link_fields, write_packet};
 use plan_views::write_device;
+use process_queue::{LINK_BELOW, NOT_PROCESS};
 use script_text::TextWriter;
 use std::collections::VecDeque;
 
@@ -279,7 +279,7 @@ fn write_bytes(queue: &VecDeque<u8>, text: &mut TextWriter) {
         text.push("-");
     }
     for byte in queue.iter().take(MOST_BYTES) {
-        text.push_byte(*byte);
+        text.push_hex_byte(*byte);
     }
     if queue.len() > MOST_BYTES {
         text.push("..");

@@ -52,7 +52,7 @@ pub fn write_next_step(
     lines: &[ProgramLine],
     text: &mut TextWriter,
 ) -> Result<(), NoMemory> {
-    let mut copy = node.copy()?;
+    let mut copy = node.copy(node.memory().allocator())?;
     text.push("node ");
     text.push_decimal(u64::from(number));
     text.push(" ");

@@ -120,7 +120,7 @@ fn is_loss(past: &Past, event: u64) -> bool {
 
 // Behind how many of so many Steps of a node, all of which run, a goal is met.
 fn steps_to(goal: Goal, node: &Node, most: u64, taken: Taken) -> Result<Option<u64>, AllocError> {
-    let mut copy = node.copy()?;
+    let mut copy = node.copy(node.memory().allocator())?;
     let mut before = goal.seen_in(&copy)?;
     let mut found = None;
     for done in 0..most {

@@ -31,9 +31,11 @@ node_told m number = option_map node_frame (slice_get (state_at m).machine.devic
 -- the hosts of the domain are shown from this number on
 abbrev pub ShowsHosts : MomentValue → ℕ → List (Option HostFrame) → Type 0
 ShowsHosts m number [] = Unit {0}
-ShowsHosts m number (f ∷ more) = ShowsHostOf (slice_get (state_at m).machine.devices.hosts number) f × ShowsHosts m (number + 1) more
+ShowsHosts m number (f ∷ more) =
+    ShowsHostOf (slice_get (state_at m).machine.devices.hosts number) f × ShowsHosts m (number + 1) more
 
--- a frame has the number of recorded events, the words of the outputs, and the nodes and the hosts of the state at the moment
+-- a frame has the number of recorded events, the words of the outputs, and the nodes and the hosts of the state at the
+-- moment
 pub record Shows (m : MomentValue) (f : Frame) : Type 0 where
   pub recorded : f.recorded ≡ (state_at m).recorded
   pub words : f.words.items ≡ take m.machine.part.count m.machine.switch.words

@@ -218,7 +218,7 @@ fn node_change(
 
 fn hexadecimal(alloc: Global, bytes: &[u8]) -> Result<String, NoMemory> {
     let mut text = TextWriter::new(alloc);
-    text.push_bytes(bytes);
+    text.push_hex_bytes(bytes);
     text.finish()
 }
 

@@ -89,7 +89,7 @@ impl KnownCode {
             return Ok(None);
         }
         let mut text = TextWriter::new(alloc);
-        text.push_bytes(bytes.as_slice());
+        text.push_hex_bytes(bytes.as_slice());
         Ok(Some(CodeBytes {
             offset: start as u64,
             bytes: text.finish()?,

@@ -68,7 +68,7 @@ pub fn digits_of(alloc: Global, quoted: &str) -> Result<Option<String>, AllocErr
         match meant_by(escape, *byte) {
             EscapeStep::Escape(begun) => escape = begun,
             EscapeStep::Byte(byte) => {
-                digits.push_byte(byte);
+                digits.push_hex_byte(byte);
                 escape = Escape::No;
             }
             EscapeStep::Wrong => is_wrong = true,

@@ -88,7 +88,7 @@ fn boot_line(alloc: Global, user: &str, host: &str, code: &[u8]) -> Result<Strin
     line.push(" boot ");
     line.push(host);
     line.push(" ");
-    line.push_bytes(code);
+    line.push_hex_bytes(code);
     line.push("\n");
     line.finish()
 }

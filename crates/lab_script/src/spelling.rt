@@ -42,8 +42,8 @@ fn spell_join(expansion: &mut Expansion, line: HelpLine<'_>) {
         (Some(first), Some(second)) => {
             expansion.text.push(line.user);
             expansion.text.push(" config 01");
-            expansion.text.push_byte(first);
-            expansion.text.push_byte(second);
+            expansion.text.push_hex_byte(first);
+            expansion.text.push_hex_byte(second);
             expansion.text.push("03\n");
         }
         (None, _) => refuse(&mut expansion.wrong, line, first, NO_PORT),

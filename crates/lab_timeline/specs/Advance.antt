@@ -24,20 +24,24 @@ GoesOn old new = (lines : List SaidCall) → GoesOnIn lines old new
 
 -- what is done of a record by then leads to the moment after its first so many events
 abbrev pub ComesTo : List SaidCall → ℕ → Progress → Progress → Type 0
-ComesTo lines event old new = (plan : List DomainData) → IsProgress plan lines old → IsMomentAt plan lines event new.follower
+ComesTo lines event old new =
+    (plan : List DomainData) → IsProgress plan lines old → IsMomentAt plan lines event new.follower
 
 -- if this and all that were kept are of a record, so are all that are kept then
 abbrev pub KeepsOf : Progress → List Progress → List Progress → Type 0
 KeepsOf p old new =
-    (plan : List DomainData) (lines : List SaidCall) → IsProgress plan lines p → All (IsProgress plan lines) old → All (IsProgress plan lines) new
+    (plan : List DomainData) (lines : List SaidCall) → IsProgress plan lines p → All (IsProgress plan lines) old
+    → All (IsProgress plan lines) new
 
 -- if an opening and all that were kept are of a record, so is this
 abbrev pub IsOfKept : Progress → List Progress → Progress → Type 0
 IsOfKept opening kept p =
-    (plan : List DomainData) (lines : List SaidCall) → IsProgress plan lines opening → All (IsProgress plan lines) kept → IsProgress plan lines p
+    (plan : List DomainData) (lines : List SaidCall) → IsProgress plan lines opening
+    → All (IsProgress plan lines) kept → IsProgress plan lines p
 
 -- a timeline begins at the opening, has kept moments of its record, and shows one of it, if it was led there
-pub record IsTimeline (plan : List DomainData) (lines : List SaidCall) (opening : Progress) (kept : List Progress) (is_led : Bool) (here : Progress) : Type 0 where
+pub record IsTimeline (plan : List DomainData) (lines : List SaidCall) (opening : Progress) (kept : List Progress)
+    (is_led : Bool) (here : Progress) : Type 0 where
   pub one : length plan ≡ 1
   pub opening_is : IsProgress plan lines opening
   pub from : opening.follower.recorded ≡ 0
@@ -47,4 +51,5 @@ pub record IsTimeline (plan : List DomainData) (lines : List SaidCall) (opening 
 -- a beginning at this moment if it was led there, or at a kept one
 abbrev pub Begins : Bool → Progress → Progress → Progress → Type 0
 Begins is_led here near begun =
-    (plan : List DomainData) (lines : List SaidCall) → (is_led ≡ true → IsProgress plan lines here) → IsProgress plan lines near → IsProgress plan lines begun
+    (plan : List DomainData) (lines : List SaidCall) → (is_led ≡ true → IsProgress plan lines here)
+    → IsProgress plan lines near → IsProgress plan lines begun

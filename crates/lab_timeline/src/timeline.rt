@@ -10,7 +10,7 @@ ghost use Rattle.lab_timeline.specs.Advance.{IsProgress, GoesOn, KeepsOf, IsOfKe
 use crate::progress::Progress;
 use domain_core::{Event, NoMemory, PortState};
 use farm_causes::{
-    FollowFault, Follower, LineStop, Record, RecordStop, RecordedLine, SaidCall, is_told,
+    FollowFault, Follower, LineStop, Record, RecordStop, RecordedLine, SaidCall, answer_matches,
     read_record,
 };
 use plan_checker::AcceptedPlan;
@@ -148,7 +148,7 @@ impl Keeping {
         let Some(reply) = told else {
             return Err(LineStop::Follow(FollowFault::NoEvent));
         };
-        if is_told(alloc, line, reply)? {
+        if answer_matches(alloc, line, reply)? {
             Ok(())
         } else {
             Err(LineStop::Follow(FollowFault::Differs))

@@ -51,11 +51,14 @@ next_config bytes told = option_map event.Config (slice_get bytes (length told))
 -- bytes for a host: each, until the host is full
 abbrev pub next_write : ℕ → List ℕ → List Told → Option Event
 next_write host bytes told =
-    if list_any had_no_room (write_replies told) then None else option_map (event.Write host) (slice_get bytes (length (write_replies told)))
+    if list_any had_no_room (write_replies told) then None
+    else option_map (event.Write host) (slice_get bytes (length (write_replies told)))
 
 -- bytes of a host: so many, until none has come
 abbrev pub next_read : ℕ → ℕ → List Told → Option Event
-next_read host count told = if list_all is_byte (read_replies told) && nat_lt (length (read_replies told)) count then Some (event.Read host) else None
+next_read host count told =
+    if list_all is_byte (read_replies told) && nat_lt (length (read_replies told)) count then Some (event.Read host)
+    else None
 
 -- bytes of a host: all, until none has come
 abbrev pub next_collect : ℕ → List Told → Option Event
@@ -68,7 +71,8 @@ once e told = None
 
 -- code for a host, behind its length, if a boot message can hold it
 abbrev pub next_boot : ℕ → List ℕ → List Told → Option Event
-next_boot host code told = if nat_le 2 (length code) && nat_le (length code) 255 then next_write host (length code ∷ code) told else None
+next_boot host code told =
+    if nat_le 2 (length code) && nat_le (length code) 255 then next_write host (length code ∷ code) told else None
 
 -- ---- a line
 
@@ -77,8 +81,10 @@ abbrev pub next_event : Command → List Told → Option Event
 next_event (command.Config bytes) told = next_config bytes.items told
 next_event (command.Write host bytes) told = next_write host bytes.items told
 next_event (command.Boot host code) told = next_boot host code.items told
-next_event (command.Poke host address word) told = next_write host (0 ∷ bytes_of_word address ++ bytes_of_word word) told
-next_event (command.Peek host address) told = option_or (next_write host (1 ∷ bytes_of_word address) told) (next_read host 4 told)
+next_event (command.Poke host address word) told =
+    next_write host (0 ∷ bytes_of_word address ++ bytes_of_word word) told
+next_event (command.Peek host address) told =
+    option_or (next_write host (1 ∷ bytes_of_word address) told) (next_read host 4 told)
 next_event (command.Collect host) told = next_collect host told
 next_event (command.Reset node) told = once (event.Reset node) told
 next_event (command.Look node) told = once (event.Look node) told

@@ -28,12 +28,16 @@ abbrev pub GainsSome : SessionValue → SessionValue → Type 0
 GainsSome s t = (told : List Told) × HasGained s t told
 
 -- nothing more is asked, or what is asked next is refused; if it is for a full journal, the user has met it
-abbrev pub HasEnded : {A : Type 0} → (List Told → Option Event) → List Told → SessionValue → Result A Refusal → Type 0
+abbrev pub HasEnded : {A : Type 0} → (List Told → Option Event) → List Told → SessionValue → Result A Refusal
+    → Type 0
 HasEnded next told t (Ok done) = next told ≡ None
-HasEnded next told t (Err refusal) = (event : Event) × (next told ≡ Some event) × IsTold t event (Err refusal) × (refusal ≡ JournalFull → HasMetFull t)
+HasEnded next told t (Err refusal) =
+    (event : Event) × (next told ≡ Some event) × IsTold t event (Err refusal)
+    × (refusal ≡ JournalFull → HasMetFull t)
 
 -- a session asks just this, up to its end
-pub record AsksJust {A : Type 0} (next : List Told → Option Event) (s : SessionValue) (result : Result A Refusal) (t : SessionValue) : Type 0 where
+pub record AsksJust {A : Type 0} (next : List Told → Option Event) (s : SessionValue) (result : Result A Refusal)
+    (t : SessionValue) : Type 0 where
   pub told : List Told
   pub gains : HasGained s t told
   pub asked : AreAsked next [] told
@@ -42,10 +46,12 @@ pub record AsksJust {A : Type 0} (next : List Told → Option Event) (s : Sessio
 -- a line asks nothing more, or what it asks next is refused, or it is a peek that can't settle
 abbrev pub IsOver : {A : Type 0} → Command → List Told → SessionValue → Result A Refusal → Type 0
 IsOver command told t (Ok done) = HasEnded (next_event command) told t (Ok done)
-IsOver {A} command told t (Err refusal) = HasEnded {A = A} (next_event command) told t (Err refusal) ⊎ IsUnsettled command told refusal
+IsOver {A} command told t (Err refusal) =
+    HasEnded {A = A} (next_event command) told t (Err refusal) ⊎ IsUnsettled command told refusal
 
 -- a session asks what a line asks, up to its end
-pub record AsksLine {A : Type 0} (command : Command) (s : SessionValue) (result : Result A Refusal) (t : SessionValue) : Type 0 where
+pub record AsksLine {A : Type 0} (command : Command) (s : SessionValue) (result : Result A Refusal) (t : SessionValue)
+    : Type 0 where
   pub told : List Told
   pub gains : HasGained s t told
   pub asked : AreAsked (next_event command) [] told
@@ -60,7 +66,8 @@ pub record IsAnswered (name : List ℕ) (command : Command) (s t : SessionValue)
   pub text : more ≡ screen ++ line
 
 -- lines are answered, one after another: his screen shows their output lines
-pub record AreAnswered (name : List ℕ) (commands : List Command) (s t : SessionValue) (screen : List ℕ) : Type 0 where
+pub record AreAnswered (name : List ℕ) (commands : List Command) (s t : SessionValue) (screen : List ℕ)
+    : Type 0 where
   pub told : List Told
   pub gains : HasGained s t told
   pub lines : AreAnsweredLines (HasMetFull t) s name commands told screen

@@ -33,13 +33,14 @@ fn is_byte(reply: Reply) -> bool
 // Bytes for the switch.
 pub(crate) fn configure_all<R: Wait>(
     rt: &R,
+    alloc: Global,
     session: &mut Session<'_>,
     bytes: &[u8],
 ) -> Result<(), Refusal>
     ensures { AsksJust (next_config bytes.now) session.old result session.new }
 {
     for byte in bytes {
-        session.configure(rt, *byte)?;
+        session.configure(rt, alloc, *byte)?;
     }
     Ok(())
 }
@@ -47,6 +48,7 @@ pub(crate) fn configure_all<R: Wait>(
 // Bytes for a host, until it is full.
 pub(crate) fn write_all<R: Wait>(
     rt: &R,
+    alloc: Global,
     session: &mut Session<'_>,
     host: u8,
     bytes: &[u8],
@@ -54,7 +56,7 @@ pub(crate) fn write_all<R: Wait>(
     ensures { AsksJust (next_write host bytes.now) session.old result session.new }
 {
     for byte in bytes {
-        if had_no_room(session.write(rt, host, *byte)?) {
+        if had_no_room(session.write(rt, alloc, host, *byte)?) {
             return Ok(());
         }
     }
@@ -64,6 +66,7 @@ pub(crate) fn write_all<R: Wait>(
 // Bytes of a host, so many, until none has come.
 pub(crate) fn read_up_to<R: Wait>(
     rt: &R,
+    alloc: Global,
     session: &mut Session<'_>,
     host: u8,
     count: usize,
@@ -71,7 +74,7 @@ pub(crate) fn read_up_to<R: Wait>(
     ensures { AsksJust (next_read host count) session.old result session.new }
 {
     for _index in 0..count {
-        if !is_byte(session.read(rt, host)?) {
+        if !is_byte(session.read(rt, alloc, host)?) {
             return Ok(());
         }
     }
@@ -79,11 +82,16 @@ pub(crate) fn read_up_to<R: Wait>(
 }
 
 // Bytes of a host, until none has come.
-pub(crate) fn read_all<R: Wait>(rt: &R, session: &mut Session<'_>, host: u8) -> Result<(), Refusal>
+pub(crate) fn read_all<R: Wait>(
+    rt: &R,
+    alloc: Global,
+    session: &mut Session<'_>,
+    host: u8,
+) -> Result<(), Refusal>
     ensures { AsksJust (next_collect host) session.old result session.new }
 {
     for _ in rt.forever() {
-        if !is_byte(session.read(rt, host)?) {
+        if !is_byte(session.read(rt, alloc, host)?) {
             break;
         }
     }
@@ -105,18 +113,28 @@ fn without_reply(answer: Result<Reply, Refusal>) -> Result<(), Refusal>
 /// # Errors
 ///
 /// The first refusal of a Step or Move: `JournalFull` if the journal is full, or has no room for a quantum of Steps of a node.
-pub fn settle<R: Wait>(rt: &R, session: &Session<'_>, quantum: Quantum) -> Result<(), Refusal>
+pub fn settle<R: Wait>(
+    rt: &R,
+    alloc: Global,
+    session: &Session<'_>,
+    quantum: Quantum,
+) -> Result<(), Refusal>
     ensures { session.now.pass.domain < length session.now.plan → result ≢ Err NoSuch }
 {
-    let _ = session.settle(rt, quantum.steps(), ROUNDS)?;
+    let _ = session.settle(rt, alloc, quantum.steps(), ROUNDS)?;
     Ok(())
 }
 
 // Settles before a peek reads. A pass is of a domain of the plan, so there is one.
-fn settle_to_read<R: Wait>(rt: &R, session: &Session<'_>, quantum: Quantum) -> Result<(), Refusal>
+fn settle_to_read<R: Wait>(
+    rt: &R,
+    alloc: Global,
+    session: &Session<'_>,
+    quantum: Quantum,
+) -> Result<(), Refusal>
     ensures { IfErr result (λ refusal. refusal ≢ NoSuch) }
 {
-    match settle(rt, session, quantum) {
+    match settle(rt, alloc, session, quantum) {
         Err(Refusal::JournalFull) => Err(Refusal::JournalFull),
         Err(Refusal::NoMemory) => Err(Refusal::NoMemory),
         Ok(()) | Err(Refusal::NoSuch) => Ok(()),
@@ -126,6 +144,7 @@ fn settle_to_read<R: Wait>(rt: &R, session: &Session<'_>, quantum: Quantum) -> R
 // The word at an address: the bytes of the message, and when the node has done what it can, those of its answer.
 fn peek<R: Wait>(
     rt: &R,
+    alloc: Global,
     session: &mut Session<'_>,
     quantum: Quantum,
     host: u8,
@@ -133,9 +152,9 @@ fn peek<R: Wait>(
 ) -> Result<(), Refusal>
     ensures { AsksLine (Peek host address) session.old result session.new }
 {
-    write_all(rt, session, host, &peek_message(address))?;
-    settle_to_read(rt, session, quantum)?;
-    read_up_to(rt, session, host, 4)
+    write_all(rt, alloc, session, host, &peek_message(address))?;
+    settle_to_read(rt, alloc, session, quantum)?;
+    read_up_to(rt, alloc, session, host, 4)
 }
 
 // Code for the node that a host is joined to, if a boot message can hold it.
@@ -149,7 +168,7 @@ fn boot<R: Wait>(
     ensures { AsksJust (next_boot host code.now) session.old result session.new }
 {
     match boot_message(alloc, code) {
-        Ok(message) => write_all(rt, session, host, message.as_slice()),
+        Ok(message) => write_all(rt, alloc, session, host, message.as_slice()),
         Err(BootFault::NoMemory) => Err(Refusal::NoMemory),
         Err(BootFault::TooShort | BootFault::TooLong) => Ok(()),
     }
@@ -172,17 +191,17 @@ pub(crate) fn ask_line<R: Wait>(
     ensures { AsksLine command.now session.old result session.new }
 {
     match command {
-        Command::Config(bytes) => configure_all(rt, session, bytes.as_slice()),
-        Command::Write { host, bytes } => write_all(rt, session, *host, bytes.as_slice()),
+        Command::Config(bytes) => configure_all(rt, alloc, session, bytes.as_slice()),
+        Command::Write { host, bytes } => write_all(rt, alloc, session, *host, bytes.as_slice()),
         Command::Boot { host, code } => boot(rt, alloc, session, *host, code.as_slice()),
         Command::Poke {
             host,
             address,
             word,
-        } => write_all(rt, session, *host, &poke_message(*address, *word)),
-        Command::Peek { host, address } => peek(rt, session, quantum, *host, *address),
-        Command::Collect { host } => read_all(rt, session, *host),
-        Command::Reset { node } => without_reply(session.reset(rt, *node)),
-        Command::Look { node } => without_reply(session.look(rt, *node)),
+        } => write_all(rt, alloc, session, *host, &poke_message(*address, *word)),
+        Command::Peek { host, address } => peek(rt, alloc, session, quantum, *host, *address),
+        Command::Collect { host } => read_all(rt, alloc, session, *host),
+        Command::Reset { node } => without_reply(session.reset(rt, alloc, *node)),
+        Command::Look { node } => without_reply(session.look(rt, alloc, *node)),
     }
 }

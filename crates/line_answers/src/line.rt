@@ -56,7 +56,7 @@ pub fn answer_lines<R: Wait>(
 {
     for command in commands {
         answer_line(rt, alloc, session, quantum, name, command, screen)?;
-        if matches!(settle(rt, session, quantum), Err(Refusal::NoMemory)) {
+        if matches!(settle(rt, alloc, session, quantum), Err(Refusal::NoMemory)) {
             return Err(NoMemory);
         }
     }

@@ -5,4 +5,5 @@ use Rattle.std.specs.Prelude.{ℕ, List, [], ◌∷◌, ◌&&◌, ◌==◌, if�
 abbrev pub expected_lines : List ℕ → List ℕ
 expected_lines [] = []
 expected_lines (a ∷ []) = a ∷ []
-expected_lines (a ∷ b ∷ rest) = if (a == 59) && (b == 32) then 10 ∷ expected_lines rest else a ∷ expected_lines (b ∷ rest)
+expected_lines (a ∷ b ∷ rest) =
+    if (a == 59) && (b == 32) then 10 ∷ expected_lines rest else a ∷ expected_lines (b ∷ rest)

@@ -2,7 +2,6 @@
 #![tactic(auto)]
 
 mod fault;
-mod hexadecimal;
 mod names;
 mod numbers;
 mod questions;
@@ -10,7 +9,6 @@ mod utf8;
 mod words;
 
 pub use fault::{NumberedLineFault, WordFault};
-pub use hexadecimal::{HexFault, bytes_of};
 pub use names::value_named;
 pub use numbers::{decimal_number, hexadecimal_word};
 pub use questions::{Answered, Question, read_questions};

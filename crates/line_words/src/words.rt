@@ -2,12 +2,12 @@
 ghost use Rattle.std.specs.Prelude.{◌≤◌};
 
 use crate::fault::WordFault;
-use crate::hexadecimal::{HexFault, bytes_of};
 use crate::names::value_named;
 use crate::numbers::{decimal_number, hexadecimal_word};
 use line_mistakes::{
     MetText, ShownWord, Wanted, WordForm, WordHint, WordMistake, WordRole, column_at,
 };
+use script_text::{HexFault, bytes_of};
 use std::alloc::{AllocError, Global};
 
 /// A place of a line: a word and what stands behind it, or the line's end.

@@ -5,7 +5,7 @@ use Rattle.std.proofs.Common.{Result, Ok, Err, if◌then◌else◌, refl, arith,
 use Rattle.node_memory.specs.declared.fault.Fault.{Fault}
 use Rattle.node_memory.specs.Bytes.{word_at}
 use Rattle.node_memory.specs.Effect.{Effect, Gave, Halted, ◌>>=◌, tried, perform, beside, effect_with}
-use Rattle.node_memory.specs.declared.queue.Queue.{Queue}
+use Rattle.process_queue.specs.declared.queue.Queue.{Queue}
 use Rattle.link_channels.specs.declared.link.Link.{Link}
 use Rattle.link_channels.specs.declared.link.FourLinks.{FourLinks}
 use Rattle.link_channels.specs.declared.number.LinkNumber.{LinkNumber}

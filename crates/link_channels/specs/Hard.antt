@@ -60,7 +60,9 @@ link_disable p channel offset l m = do
 -- resetch on an output channel: the byte that waits is withdrawn, count 0, both flags clear
 abbrev pub output_reset : Link → Link
 output_reset l = record l {
-  end = record l.end { latch = record l.end.latch { byte = None }; output = record { awaits = false; acknowledged = false } };
+  end =
+      record l.end
+      { latch = record l.end.latch { byte = None }; output = record { awaits = false; acknowledged = false } };
   output_count = 0;
 }
 

@@ -3,7 +3,7 @@
 use Rattle.std.specs.Prelude.{ℕ, Bool, List}
 use Rattle.node_memory.specs.Effect.{Effect, Gave, Halted, ◌>>=◌, perform}
 use Rattle.node_memory.specs.declared.fault.Fault.TheVariants.{WrongChannel}
-use Rattle.node_memory.specs.declared.queue.Queue.{Queue}
+use Rattle.process_queue.specs.declared.queue.Queue.{Queue}
 use Rattle.link_channels.specs.declared.channel.Channel.{Channel}
 use Rattle.link_channels.specs.declared.channel.Channel.TheVariants.{Soft, LinkOutput, LinkInput, Event}
 use Rattle.link_channels.specs.declared.link.Link.{Link}
@@ -29,7 +29,8 @@ abbrev pub with_queue : Queue → Effect Turn FourLinks → Effect (Turn × Queu
 with_queue q r = do (turn, ls, m) ← perform r; Gave (turn, q) ls m
 
 -- in, by the kind of the channel
-abbrev pub input_at : Channel → Process → Transfer → FourLinks → Queue → List ℕ → Effect (Turn × Queue) FourLinks
+abbrev pub input_at : Channel → Process → Transfer → FourLinks → Queue → List ℕ
+    → Effect (Turn × Queue) FourLinks
 input_at Soft p t ls q m = soft_input p t ls q m
 input_at (LinkInput n) p t ls q m = with_queue q (within n ls (link_input p t (at n ls) m))
 input_at (LinkOutput n) p t ls q m = wrong_channel ls m
@@ -40,7 +41,8 @@ abbrev pub input : Process → Transfer → FourLinks → Queue → List ℕ →
 input p t ls q m = input_at (kind_of t.channel) p t ls q m
 
 -- out, by the kind of the channel
-abbrev pub output_at : Channel → Process → Transfer → FourLinks → Queue → List ℕ → Effect (Turn × Queue) FourLinks
+abbrev pub output_at : Channel → Process → Transfer → FourLinks → Queue → List ℕ
+    → Effect (Turn × Queue) FourLinks
 output_at Soft p t ls q m = soft_output p t ls q m
 output_at (LinkInput n) p t ls q m = wrong_channel ls m
 output_at (LinkOutput n) p t ls q m = with_queue q (within n ls (link_output p t (at n ls) m))

@@ -5,8 +5,8 @@ use Rattle.node_memory.specs.Effect.{Effect, Gave, Halted, ◌>>=◌, tried, loa
 use Rattle.node_memory.specs.Marks.{not_process, enabling, waiting, ready}
 use Rattle.node_memory.specs.Words.{◌⊕◌}
 use Rattle.node_memory.specs.declared.fault.Fault.{Fault}
-use Rattle.node_memory.specs.Queue.{put}
-use Rattle.node_memory.specs.declared.queue.Queue.{Queue}
+use Rattle.process_queue.specs.Queue.{put}
+use Rattle.process_queue.specs.declared.queue.Queue.{Queue}
 use Rattle.os_link.specs.End.{emptied, posted}
 use Rattle.link_channels.specs.declared.link.Link.{Link}
 use Rattle.link_channels.specs.declared.link.FourLinks.{FourLinks}
@@ -33,7 +33,8 @@ complete channel l q m = do
 -- the byte was stored: it is taken, the pointer goes up and the count down, and at 0 the input is complete
 abbrev pub input_stored : ℕ → Link → Queue → List ℕ → LinkService
 input_stored channel l q m =
-    let k : Link = record l { end = emptied l.end; input_pointer = l.input_pointer ⊕ 1; input_count = l.input_count - 1 } in
+    let k : Link =
+    record l { end = emptied l.end; input_pointer = l.input_pointer ⊕ 1; input_count = l.input_count - 1 } in
     if k.input_count == 0 then marked_acted (complete channel k q m) else Gave (true, q) k m
 
 -- the byte in the buffer, if there is one and a process waits for it, is stored at the pointer

@@ -3,8 +3,8 @@
 use Rattle.std.specs.Prelude.{ℕ, ◌==◌, ◌||◌, Bool, true, false, List, Option, Some, None, if◌then◌else◌}
 use Rattle.node_memory.specs.Effect.{Effect, Gave, ◌>>=◌, tried, load, store, copy}
 use Rattle.node_memory.specs.Marks.{not_process, enabling, waiting, ready, none_selected}
-use Rattle.node_memory.specs.Queue.{put}
-use Rattle.node_memory.specs.declared.queue.Queue.{Queue}
+use Rattle.process_queue.specs.Queue.{put}
+use Rattle.process_queue.specs.declared.queue.Queue.{Queue}
 use Rattle.link_channels.specs.declared.process.Process.{Process}
 use Rattle.link_channels.specs.declared.process.Transfer.{Transfer}
 use Rattle.link_channels.specs.declared.process.TransferDirection.{TransferDirection}
@@ -22,7 +22,8 @@ wait_there p t ls q m = do
   Gave (Waits, q) ls m
 
 -- the bytes are copied, the channel becomes NotProcess, and the other process is put
-abbrev pub exchange : {L : Type 0} → ℕ → ℕ → ℕ → Transfer → L → Queue → List ℕ → Effect (Turn × Queue) L
+abbrev pub exchange : {L : Type 0} → ℕ → ℕ → ℕ → Transfer → L → Queue → List ℕ
+    → Effect (Turn × Queue) L
 exchange from to v t ls q m = do
   m ← copy ls m t.count from to
   m ← store ls m t.channel not_process
@@ -30,39 +31,46 @@ exchange from to v t ls q m = do
   Gave (GoesOn, q) ls m
 
 -- in, by who waits at the channel: the other's pointer lies 12 below its workspace
-abbrev pub input_from : {L : Type 0} → Option ℕ → Process → Transfer → L → Queue → List ℕ → Effect (Turn × Queue) L
+abbrev pub input_from : {L : Type 0} → Option ℕ → Process → Transfer → L → Queue → List ℕ
+    → Effect (Turn × Queue) L
 input_from None p t ls q m = wait_there p t ls q m
 input_from (Some v) p t ls q m = do
   source ← load ls m (state_address v)
   exchange source t.pointer v t ls q m
 
 -- in, at a soft channel
-unfoldable pub soft_input : {L : Type 0} → Process → Transfer → L → Queue → List ℕ → Effect (Turn × Queue) L
+unfoldable pub soft_input : {L : Type 0} → Process → Transfer → L → Queue → List ℕ
+    → Effect (Turn × Queue) L
 soft_input p t ls q m = do
   other ← tried (waiting_at m t.channel) ls m
   input_from other p t ls q m
 
 -- out to an alternative, which becomes ready, and runs if it waited: the message waits for its input
-abbrev pub message_told : {L : Type 0} → Bool → ℕ → Process → Transfer → L → Queue → List ℕ → Effect (Turn × Queue) L
+abbrev pub message_told : {L : Type 0} → Bool → ℕ → Process → Transfer → L → Queue → List ℕ
+    → Effect (Turn × Queue) L
 message_told waits v p t ls q m = do
   m ← store ls m (state_address v) ready
   if waits then (do (q, m) ← put ls q m v; wait_there p t ls q m) else wait_there p t ls q m
 
--- out to a process that waits, by the word 12 below its workspace: the state of an alternative, or the pointer of an input
-abbrev pub soft_output_by_state : {L : Type 0} → ℕ → ℕ → Process → Transfer → L → Queue → List ℕ → Effect (Turn × Queue) L
+-- out to a process that waits, by the word 12 below its workspace: the state of an alternative, or the pointer of an
+-- input
+abbrev pub soft_output_by_state : {L : Type 0} → ℕ → ℕ → Process → Transfer → L → Queue → List ℕ
+    → Effect (Turn × Queue) L
 soft_output_by_state s v p t ls q m =
     if s == enabling || s == ready then message_told false v p t ls q m
     else (if s == waiting then message_told true v p t ls q m else exchange t.pointer s v t ls q m)
 
 -- out, by who waits at the channel
-abbrev pub output_to : {L : Type 0} → Option ℕ → Process → Transfer → L → Queue → List ℕ → Effect (Turn × Queue) L
+abbrev pub output_to : {L : Type 0} → Option ℕ → Process → Transfer → L → Queue → List ℕ
+    → Effect (Turn × Queue) L
 output_to None p t ls q m = wait_there p t ls q m
 output_to (Some v) p t ls q m = do
   s ← load ls m (state_address v)
   soft_output_by_state s v p t ls q m
 
 -- out, at a soft channel
-unfoldable pub soft_output : {L : Type 0} → Process → Transfer → L → Queue → List ℕ → Effect (Turn × Queue) L
+unfoldable pub soft_output : {L : Type 0} → Process → Transfer → L → Queue → List ℕ
+    → Effect (Turn × Queue) L
 soft_output p t ls q m = do
   other ← tried (waiting_at m t.channel) ls m
   output_to other p t ls q m

@@ -7,8 +7,8 @@ use Rattle.node_memory.specs.Marks.{not_process}
 use Rattle.node_memory.specs.Words.{◌⊖◌, aligned}
 use Rattle.node_memory.specs.declared.fault.Fault.{Fault}
 use Rattle.node_memory.specs.declared.fault.Fault.TheVariants.{HighPriority}
-use Rattle.node_memory.specs.Queue.{put}
-use Rattle.node_memory.specs.declared.queue.Queue.{Queue}
+use Rattle.process_queue.specs.Queue.{put}
+use Rattle.process_queue.specs.declared.queue.Queue.{Queue}
 use Rattle.link_channels.specs.declared.process.Process.{Process}
 
 -- the own descriptor: the workspace, with the bit of low priority

@@ -7,7 +7,8 @@ ghost use Rattle.node_memory.specs.Effect.{effect_of};
 use crate::link::Link;
 use crate::process::{Process, Transfer, Turn};
 use crate::waiting::READY;
-use node_memory::{Fault, Memory, NOT_PROCESS};
+use node_memory::{Fault, Memory};
+use process_queue::NOT_PROCESS;
 
 impl Process {
     // Waits for bytes from a link.

@@ -4,8 +4,9 @@ ghost use Rattle.std.specs.Prelude.{◌≡◌};
 
 use crate::link::{FourLinks, Link};
 use crate::number::LinkNumber;
-use node_memory::{Fault, Memory, Queue};
+use node_memory::{Fault, Memory};
 use os_link::Packet;
+use process_queue::Queue;
 use std::marker::Model;
 
 /// The links of a node: four link ends, each with what a process has asked of it.

@@ -6,12 +6,13 @@ use crate::channel::Channel;
 use crate::links::Links;
 use crate::number::LinkNumber;
 use crate::process::{Process, Transfer, TransferDirection, Turn};
-use node_memory::{Fault, Memory, Queue};
+use node_memory::{Fault, Memory};
+use process_queue::Queue;
 
 impl Process {
     ghost use Rattle.link_channels.specs.Hard.{link_input, link_output};
     ghost use Rattle.link_channels.specs.Links.{at, within};
-    ghost use Rattle.link_channels.specs.Messages.{transferred, enable, disable};
+    ghost use Rattle.link_channels.specs.Messages.{input, output, transferred, enable, disable};
     ghost use Rattle.node_memory.specs.Effect.{effect_of, effect_with};
 
     // Waits for a message from the link of a number. It is apart from soft channels, and takes the address of nothing that
@@ -56,7 +57,8 @@ impl Process {
     /// `Fault::WrongChannel` comes before all else, for the event channel and for a link's channel of the other direction;
     /// `HighPriority` where a process of high priority waits at a soft channel; `OutsideMemory` where a word or
     /// a byte lies outside. What was written before a fault stays, in memory and in the links; the queue is unchanged.
-    // A message through a soft channel is done where it is asked for, without a call.
+    // A message through a soft channel is done where it is asked for, without a call. The loop of steps asks for both
+    // directions in one place, so that it has the message once.
     #[inline(always)]
     pub fn transfer(
         &self,
@@ -79,6 +81,44 @@ impl Process {
             }
             _ => Err(Fault::WrongChannel),
         }
+    }
+
+    /// Takes a message from a channel, or waits for the other side: instruction set handbook, in.
+    ///
+    /// `Fault::WrongChannel` comes before all else, for the event channel and for a link's output channel;
+    /// `HighPriority` where a process of high priority waits at a soft channel; `OutsideMemory` where a word or a byte
+    /// lies outside. What was written before a fault stays, in memory and in the links; the queue is unchanged.
+    #[inline(always)]
+    pub fn input(
+        &self,
+        memory: &mut Memory,
+        links: &mut Links,
+        queue: &mut Queue,
+        transfer: Transfer,
+    ) -> Result<Turn, Fault>
+        ensures answer { effect_with result queue.new links.new memory.new ≡ input self.now transfer links.old queue.old memory.old }
+        ensures queue_unchanged { OnErr result (queue.new ≡ queue.old) }
+    {
+        self.transfer(memory, links, queue, TransferDirection::Input, transfer)
+    }
+
+    /// Gives a message to a channel, or waits for the other side: instruction set handbook, out.
+    ///
+    /// `Fault::WrongChannel` comes before all else, for the event channel and for a link's input channel;
+    /// `HighPriority` where a process of high priority waits at a soft channel; `OutsideMemory` where a word or a byte
+    /// lies outside. What was written before a fault stays, in memory and in the links; the queue is unchanged.
+    #[inline(always)]
+    pub fn output(
+        &self,
+        memory: &mut Memory,
+        links: &mut Links,
+        queue: &mut Queue,
+        transfer: Transfer,
+    ) -> Result<Turn, Fault>
+        ensures answer { effect_with result queue.new links.new memory.new ≡ output self.now transfer links.old queue.old memory.old }
+        ensures queue_unchanged { OnErr result (queue.new ≡ queue.old) }
+    {
+        self.transfer(memory, links, queue, TransferDirection::Output, transfer)
     }
 
     /// Names a channel that the process is ready to take from, its guard not being 0: instruction set handbook, enbc.

@@ -8,7 +8,8 @@ ghost use Rattle.link_channels.specs.declared.link.Link.{Link};
 use crate::link::{FourLinks, Link};
 use crate::number::LinkNumber;
 use crate::waiting::{ENABLING, READY, WAITING, schedule, waiting_at};
-use node_memory::{Fault, Memory, NOT_PROCESS, Queue};
+use node_memory::{Fault, Memory};
+use process_queue::{NOT_PROCESS, Queue};
 
 // A transfer is done: its channel is free, and its process goes on.
 fn complete(memory: &mut Memory, queue: &mut Queue, channel: u32) -> Result<(), Fault>

@@ -8,7 +8,8 @@ ghost use Rattle.link_channels.specs.Soft.{message_told, chosen, soft_disable, s
 
 use crate::process::{Process, Transfer, TransferDirection, Turn};
 use crate::waiting::{ENABLING, NONE_SELECTED, READY, WAITING, waiting_at};
-use node_memory::{Fault, Memory, NOT_PROCESS, Queue};
+use node_memory::{Fault, Memory};
+use process_queue::{NOT_PROCESS, Queue};
 
 impl Process {
     // Waits at the channel: its pointer lies where the other finds it, and its place is saved.

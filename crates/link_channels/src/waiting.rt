@@ -5,7 +5,8 @@ ghost use Rattle.node_memory.specs.Effect.{effect_with};
 ghost use Rattle.link_channels.specs.Waiting.{waiting_at, scheduled};
 ghost use Rattle.link_channels.specs.declared.link.Link.{Link};
 
-use node_memory::{Fault, Memory, NOT_PROCESS, Queue};
+use node_memory::{Fault, Memory};
+use process_queue::{NOT_PROCESS, Queue};
 
 /// The state of an alternative that enables its guards, in the word 12 below its workspace.
 pub const ENABLING: u32 = 0x8000_0001;

@@ -4,7 +4,7 @@
 ghost use Rattle.live_lines.specs.LiveRanges.{IsInRange};
 
 use clap::error::ErrorKind;
-use farm_service::Histories;
+use farm_service::{Histories, Room};
 use live_farm::{
     FileRecords, LiveFailure, Notices, Outlet, RecordFolder, SharedOutlet, no_records, run_live,
 };
@@ -12,6 +12,7 @@ use live_lines::{LiveSettings, live_settings};
 use plan_checker::{AcceptedPlan, check, read_plan};
 use script_text::{ReadFault, read_whole, write_whole};
 use std::alloc::Global;
+use std::fs::File;
 use std::io::{self, BufRead, BufReader};
 use std::process::ExitCode;
 use std::sync::{Mutex, Wait};
@@ -32,7 +33,8 @@ fn main(rt: HostRuntime) -> ExitCode {
     let outlet: Mutex<Outlet<_, 0>> = Mutex::new(Outlet::new(rt.stdout()));
     let ended = match (start_of(&rt), BufReader::new(alloc, rt.reader())) {
         (Ok(Some(start)), Ok(mut input)) => {
-            serve(&rt, &rt, alloc, start, &outlet, &mut input, &errors)
+            let gauge = fs::open(&rt, "/proc/self/statm").ok();
+            serve(&rt, &rt, alloc, start, &outlet, &mut input, &errors, gauge)
         }
         (Ok(Some(_)), Err(_)) => Err(LiveFailure::Memory),
         (Ok(None), _) => Ok(()),
@@ -53,12 +55,22 @@ fn serve<R: Threads + Wait + Sync, I: BufRead + Send, O: SharedOutlet + Sync, N:
     outlet: &O,
     input: &mut I,
     errors: &N,
+    gauge: Option<File>,
 ) -> Result<(), LiveFailure> {
     let folder = match &start.settings.records {
         Some(records) => Some(RecordFolder::open(files, alloc, records)?),
         None => None,
     };
-    serve_in(rt, alloc, start, folder.as_ref(), outlet, input, errors)
+    serve_in(
+        rt,
+        alloc,
+        start,
+        folder.as_ref(),
+        outlet,
+        input,
+        errors,
+        gauge,
+    )
 }
 
 // The same with the folder of the records, if there is one.
@@ -70,9 +82,11 @@ fn serve_in<R: Threads + Wait + Sync, I: BufRead + Send, O: SharedOutlet + Sync,
     outlet: &O,
     input: &mut I,
     errors: &N,
+    gauge: Option<File>,
 ) -> Result<(), LiveFailure> {
     let Start { settings, plan } = start;
-    let mut histories = Histories::open(alloc, plan)?;
+    let room = Room::of(settings.room);
+    let mut histories = Histories::open_within(alloc, plan, room)?;
     let resumes = settings.records.as_ref().is_some_and(|it| it.resumes);
     let records: FileRecords<'_, HostRuntime> = match folder {
         Some(folder) => folder.open_records(rt, &mut histories, resumes, errors)?,
@@ -87,6 +101,7 @@ fn serve_in<R: Threads + Wait + Sync, I: BufRead + Send, O: SharedOutlet + Sync,
         outlet,
         input,
         errors,
+        gauge,
     )?;
     Ok(())
 }

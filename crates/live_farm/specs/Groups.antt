@@ -15,6 +15,7 @@ use Rattle.live_farm.specs.declared.letter.Matter.TheVariants as matter
 use Rattle.live_farm.specs.declared.record.RecordState.{RecordState}
 use Rattle.live_farm.specs.declared.record.RecordState.TheVariants as state
 use Rattle.live_farm.specs.declared.texts.LiveAnswer.{LiveAnswer}
+use Rattle.live_farm.specs.declared.texts.RestState.{RestState}
 use Rattle.live_farm.specs.declared.texts.Why.{Why}
 use Rattle.live_farm.specs.declared.texts.Why.TheVariants as why
 use Rattle.live_farm.specs.LiveTexts.{error_text, rest_text, restart_text, why_text, no_node_text, operator_restart_text}
@@ -49,48 +50,60 @@ BeginsIf false before after = AllStay before after
 
 -- a user is told whether his domain is at rest
 abbrev pub AnswersRest : DomainUsers → ℕ → List ℕ → Type 0
-AnswersRest group user text = (name : Bor (List ℕ)) × (quiet : Bool) × IsNamedSo group user name × (text ≡ rest_text name.now quiet)
+AnswersRest group user text =
+    (name : Bor (List ℕ)) × (state : RestState) × IsNamedSo group user name × (text ≡ rest_text name.now state)
 
 -- a user who is alone in his domain begins it anew; or he is told that only the operator may
 abbrev pub AnswersRestart : DomainUsers → DomainUsers → ℕ → Bool → List ℕ → Type 0
 AnswersRestart before after user done text =
-    (name : Bor (List ℕ)) × IsNamedSo before user name × (text ≡ restart_text name.now done) × BeginsIf done before after
+    (name : Bor (List ℕ)) × IsNamedSo before user name × (text ≡ restart_text name.now done)
+    × BeginsIf done before after
     × (done ≡ true → length before.sessions.items ≡ 1)
 
 -- the domain has no node of the number that is asked for
 abbrev pub LacksNode : DomainUsers → Option ℕ → List ℕ → List ℕ → Type 0
 LacksNode group None name text = ⊥
 LacksNode group (Some node) name text =
-    IfSome (slice_get group.service.now.plan group.domain) (λ d. length d.nodes ≤ node) × (text ≡ no_node_text name node)
+    IfSome (slice_get group.service.now.plan group.domain) (λ d. length d.nodes ≤ node)
+    × (text ≡ no_node_text name node)
 
--- a user is told why the nodes of his domain, or one of them, do no more than they do: in lines of which each begins with his name, and of which the
--- last says that it is the end; or that there is no such node; or, by the number of his line, that what the domain answered can't be done again
+-- a user is told why the nodes of his domain, or one of them, do no more than they do: in lines of which each begins
+-- with his name, and of which the last says that it is the end; or that there is no such node; or, by the number of his
+-- line, that what the domain answered can't be done again
 abbrev pub AnswersWhy : DomainUsers → ℕ → ℕ → Option ℕ → List ℕ → Type 0
 AnswersWhy group user number node text =
     (name : Bor (List ℕ)) × IsNamedSo group user name
-    × (((told : List ℕ) × (text ≡ why_text name.now told)) ⊎ (LacksNode group node name.now text ⊎ (text ≡ error_text name.now number why.Journal)))
+    × (((told : List ℕ) × (text ≡ why_text name.now told))
+    ⊎ (LacksNode group node name.now text ⊎ (text ≡ error_text name.now number why.Journal)))
 
--- the domain of a user begins anew, as the operator asked in the line of this number; or nothing changes, and he is told so
+-- the domain of a user begins anew, as the operator asked in the line of this number; or nothing changes, and he is
+-- told so
 abbrev pub AnswersOperator : DomainUsers → DomainUsers → ℕ → ℕ → Bool → List ℕ → Type 0
 AnswersOperator before after user number done text =
     (name : Bor (List ℕ)) × IsNamedSo before user name × BeginsIf done before after
-    × (text ≡ (if done then operator_restart_text name.now else error_text (codes "!") number (why.Fault fault.User)))
+    × (text
+    ≡ (if done then operator_restart_text name.now else error_text (codes "!") number (why.Fault fault.User)))
 
 -- a wrong line is told to its user, and asks nothing
 abbrev pub AnswersWrong : DomainUsers → DomainUsers → ℕ → ℕ → Why → List ℕ → Type 0
 AnswersWrong before after user number w text =
-    (name : Bor (List ℕ)) × IsNamedSo before user name × (text ≡ error_text name.now number w) × AllStay before after
+    (name : Bor (List ℕ)) × IsNamedSo before user name × (text ≡ error_text name.now number w)
+    × AllStay before after
 
 -- what a line is answered, and whether the domain begins anew thereby
 abbrev pub AnswersMatter : DomainUsers → DomainUsers → ℕ → ℕ → Matter → Bool → List ℕ → Type 0
-AnswersMatter before after user number (matter.Asked (request.Script command)) anew text = AnswersLine before after user command text × (anew ≡ false)
+AnswersMatter before after user number (matter.Asked (request.Script command)) anew text =
+    AnswersLine before after user command text × (anew ≡ false)
 AnswersMatter before after user number (matter.Asked (request.Domain whole.Rest)) anew text =
     AnswersRest before user text × AllStay before after × (anew ≡ false)
-AnswersMatter before after user number (matter.Asked (request.Domain whole.Restart)) anew text = AnswersRestart before after user anew text
+AnswersMatter before after user number (matter.Asked (request.Domain whole.Restart)) anew text =
+    AnswersRestart before after user anew text
 AnswersMatter before after user number (matter.Asked (request.Domain (whole.Why node))) anew text =
     AnswersWhy before user number node text × AllStay before after × (anew ≡ false)
-AnswersMatter before after user number (matter.Wrong w) anew text = AnswersWrong before after user number w text × (anew ≡ false)
-AnswersMatter before after user number matter.OperatorRestart anew text = AnswersOperator before after user number anew text
+AnswersMatter before after user number (matter.Wrong w) anew text =
+    AnswersWrong before after user number w text × (anew ≡ false)
+AnswersMatter before after user number matter.OperatorRestart anew text =
+    AnswersOperator before after user number anew text
 
 -- what a letter is answered
 abbrev pub AnswersLetter : DomainUsers → DomainUsers → Letter → LiveAnswer → Type 0
@@ -103,8 +116,8 @@ asker_name name (matter.Asked request) = name
 asker_name name (matter.Wrong w) = name
 asker_name name matter.OperatorRestart = codes "!"
 
--- a letter is answered if what was told before is recorded. A domain whose record can't be taken is asked nothing but to begin anew for the operator,
--- and one of which something isn't recorded nothing at all
+-- a letter is answered if what was told before is recorded. A domain whose record can't be taken is asked nothing but
+-- to begin anew for the operator, and one of which something isn't recorded nothing at all
 abbrev pub may_be_answered : RecordState → Matter → Bool
 may_be_answered state.Kept m = true
 may_be_answered state.Unrecorded m = false
@@ -115,4 +128,11 @@ may_be_answered state.Out matter.OperatorRestart = true
 -- what cannot be recorded is told to who asked, and his line may have been done or not
 abbrev pub TellsUnrecorded : DomainUsers → Letter → List ℕ → Type 0
 TellsUnrecorded group letter text =
-    (name : Bor (List ℕ)) × IsNamedSo group letter.user name × (text ≡ error_text (asker_name name.now letter.matter) letter.number why.Record)
+    (name : Bor (List ℕ)) × IsNamedSo group letter.user name
+    × (text ≡ error_text (asker_name name.now letter.matter) letter.number why.Record)
+
+-- a letter for which the domain has no room is answered so
+abbrev pub TellsFull : DomainUsers → Letter → List ℕ → Type 0
+TellsFull group letter text =
+    (name : Bor (List ℕ)) × IsNamedSo group letter.user name
+    × (text ≡ error_text (asker_name name.now letter.matter) letter.number why.Full)

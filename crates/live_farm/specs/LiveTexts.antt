@@ -4,6 +4,8 @@ use Rattle.std.specs.Fmt.{decimal}
 use Rattle.std.specs.List.{flat_map}
 use Rattle.std.specs.Str.Lines.{lines}
 use Rattle.script_lines.specs.declared.fault.LineFault.TheVariants as fault
+use Rattle.live_farm.specs.declared.texts.RestState.{RestState}
+use Rattle.live_farm.specs.declared.texts.RestState.TheVariants as rest
 use Rattle.live_farm.specs.declared.texts.Why.{Why}
 use Rattle.live_farm.specs.declared.texts.Why.TheVariants as why
 
@@ -17,6 +19,8 @@ reason_word why.Long = codes "long"
 reason_word why.Busy = codes "busy"
 reason_word why.Record = codes "record"
 reason_word why.Journal = codes "journal"
+reason_word why.Full = codes "full"
+reason_word why.Memory = codes "memory"
 
 -- a line of this number isn't done; the operator is called `!`
 abbrev pub error_text : List ℕ → ℕ → Why → List ℕ
@@ -26,9 +30,19 @@ error_text name number w = name ++ codes " error " ++ decimal number ++ codes " 
 abbrev pub unknown_user_text : ℕ → List ℕ
 unknown_user_text number = codes "error " ++ decimal number ++ codes " user" ++ codes "\n"
 
--- whether a user's domain is at rest
-abbrev pub rest_text : List ℕ → Bool → List ℕ
-rest_text name quiet = name ++ codes " rest " ++ (if quiet then codes "quiet" else codes "busy") ++ codes "\n"
+-- whether a domain is at rest, or its room is used up
+abbrev pub rest_word : RestState → List ℕ
+rest_word rest.Quiet = codes "quiet"
+rest_word rest.Busy = codes "busy"
+rest_word rest.Full = codes "full"
+
+-- so it is with a user's domain
+abbrev pub rest_text : List ℕ → RestState → List ℕ
+rest_text name state = name ++ codes " rest " ++ rest_word state ++ codes "\n"
+
+-- the domain of a user rests, since so many bytes of its room of so many are used
+abbrev pub note_text : List ℕ → ℕ → ℕ → List ℕ
+note_text name used room = name ++ codes " note rests " ++ decimal used ++ codes " " ++ decimal room ++ codes "\n"
 
 -- whether a user's domain begins anew: if others share it only the operator may ask for that
 abbrev pub restart_text : List ℕ → Bool → List ℕ

@@ -7,7 +7,7 @@ use crate::causes::told_of;
 use crate::group::DomainUsers;
 use crate::letter::{Letter, Matter};
 use crate::texts::{
-    LiveAnswer, Why, error_answer, no_node_answer, operator_restart_answer, rest_answer,
+    LiveAnswer, RestState, Why, error_answer, no_node_answer, operator_restart_answer, rest_answer,
     restart_answer, why_answer,
 };
 use domain_core::{NoMemory, Refusal};
@@ -64,10 +64,10 @@ impl DomainUsers<'_> {
     /// # Errors
     ///
     /// `NoMemory` if that met want of memory.
-    pub(crate) fn settle<R: Wait>(&self, rt: &R, user: usize) -> Result<(), NoMemory>
+    pub(crate) fn settle<R: Wait>(&self, rt: &R, alloc: Global, user: usize) -> Result<(), NoMemory>
         requires { user < length self.now.sessions.items }
     {
-        match settle(rt, &self.sessions[user], self.quantum) {
+        match settle(rt, alloc, &self.sessions[user], self.quantum) {
             Err(Refusal::NoMemory) => Err(NoMemory),
             _ => Ok(()),
         }
@@ -84,11 +84,12 @@ impl DomainUsers<'_> {
             .is_ok()
     }
 
-    // Whether no Step and no Move of the domain would be recorded.
-    fn is_quiet<R: Wait>(&self, rt: &R) -> bool {
+    // Whether the domain is at rest.
+    fn rest_state<R: Wait>(&self, rt: &R) -> RestState {
         match self.service.status(rt, self.domain) {
-            Ok(status) => status.is_quiet,
-            Err(_) => false,
+            Ok(status) if status.is_quiet => RestState::Quiet,
+            Ok(status) if status.room.rests => RestState::Full,
+            Ok(_) | Err(_) => RestState::Busy,
         }
     }
 
@@ -103,8 +104,8 @@ impl DomainUsers<'_> {
         ensures rest { IfOk result (λ a. AnswersRest self.now user (string_bytes a.text)) }
         ensures anew { IfOk result (λ a. a.begins_anew ≡ false) }
     {
-        self.settle(rt, user)?;
-        rest_answer(alloc, self.name(user), self.is_quiet(rt))
+        self.settle(rt, alloc, user)?;
+        rest_answer(alloc, self.name(user), self.rest_state(rt))
     }
 
     // Begins the domain anew for a user who is alone in it.

@@ -5,7 +5,7 @@ ghost use Rattle.farm_causes.specs.Following.{IsReached};
 use domain_core::{Entry, Mark, NoMemory};
 use farm_causes::laws::moments_go_on;
 use farm_causes::{FollowFault, Follower, explain_moment};
-use farm_service::Service;
+use farm_service::{DomainStatus, RoomStatus, Service};
 use plan_checker::AcceptedPlan;
 use record_keeping::PIECE;
 use std::alloc::Global;
@@ -114,13 +114,14 @@ impl Shadow {
         alloc: Global,
         service: &Service,
         domain: u8,
-        recorded: u64,
+        status: DomainStatus,
         node: Option<u8>,
     ) -> Result<String, FollowFault>
         requires { IsReached service.now.plan domain self.old.follower }
     {
-        self.follow_journal(rt, service, domain, recorded)?;
-        Ok(tell(alloc, &self.follower, recorded, node)?)
+        self.follow_journal(rt, service, domain, status.recorded)?;
+        let room = service.room().bytes();
+        Ok(tell(alloc, &self.follower, status, room, node)?)
     }
 }
 
@@ -128,18 +129,38 @@ impl Shadow {
 fn tell(
     alloc: Global,
     follower: &Follower,
-    recorded: u64,
+    status: DomainStatus,
+    room: u64,
     node: Option<u8>,
 ) -> Result<String, NoMemory> {
+    let recorded = status.recorded;
     let done = follower.recorded();
     let causes = explain_moment(alloc, follower, node)?;
+    let rest = tell_rest(alloc, status, room)?;
     if done < recorded {
         format!(in alloc;
-            "after {done} of {recorded} events: more aren't done again at once\n{causes}"
+            "after {done} of {recorded} events: more aren't done again at once\n{rest}{causes}"
         )
     } else {
-        format!(in alloc; "after {done} events\n{causes}")
+        format!(in alloc; "after {done} events\n{rest}{causes}")
     }
+}
+
+// Why a domain does nothing more until it begins anew, if that is so.
+fn tell_rest(alloc: Global, status: DomainStatus, room: u64) -> Result<String, NoMemory> {
+    let RoomStatus { bytes, rests } = status.room;
+    if status.recorded == status.limit {
+        let limit = status.limit;
+        return format!(in alloc;
+            "the journal is full: {limit} events are recorded. Nothing more is done until restart begins the domain anew\n"
+        );
+    }
+    if !rests {
+        return Ok(String::new(alloc));
+    }
+    format!(in alloc;
+        "the domain rests: {bytes} of {room} bytes of its room are used. No Step and no Move is done until restart begins it anew\n"
+    )
 }
 
 /// Says why the nodes of a domain, or one of them, do no more than they do. The domain is asked nothing: what it answered up to now
@@ -159,5 +180,5 @@ pub(crate) fn told_of<R: Wait>(
         return Err(FollowFault::NoSuch);
     };
     let mut shadow = Shadow::open(alloc, service.plan(), domain)?;
-    shadow.tell_of_journal(rt, alloc, service, domain, status.recorded, node)
+    shadow.tell_of_journal(rt, alloc, service, domain, status, node)
 }

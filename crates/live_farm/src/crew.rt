@@ -7,7 +7,7 @@ use crate::letter::{Letter, Matter};
 use crate::mailbox::Sent;
 use crate::station::Station;
 use domain_core::NoMemory;
-use farm_service::{Service, UserPass};
+use farm_service::{Committed, Gate, Refusal, Service, Token, UserPass};
 use line_answers::Quantum;
 use plan_checker::AcceptedPlan;
 use std::alloc::Global;
@@ -92,9 +92,10 @@ fn add_stations<'a>(
     alloc: Global,
     groups: Vec<DomainUsers<'a>>,
     crew: &mut Crew<'a>,
+    record_room: u64,
 ) -> Result<(), NoMemory> {
     for group in groups {
-        add_station(alloc, group, crew)?;
+        add_station(alloc, group, crew, record_room)?;
     }
     Ok(())
 }
@@ -104,8 +105,9 @@ fn add_station<'a>(
     alloc: Global,
     group: DomainUsers<'a>,
     crew: &mut Crew<'a>,
+    record_room: u64,
 ) -> Result<(), NoMemory> {
-    let station = Station::new(alloc, group)?;
+    let station = Station::new(alloc, group, record_room)?;
     crew.stations.push(station)?;
     Ok(())
 }
@@ -123,13 +125,32 @@ fn join_all<'a>(
     Ok(())
 }
 
+/// Wakes the thread of a domain that begins to rest.
+#[derive(Drop)]
+pub(crate) struct RestGate<'a, 'b> {
+    pub(crate) crew: &'b Crew<'a>,
+}
+
+impl Gate for RestGate<'_, '_> {
+    fn begins<R: Wait>(&self, _rt: &R, _token: Token) {}
+
+    fn ended<R: Wait>(&self, _rt: &R, _token: Token, _committed: &Result<Committed, Refusal>) {}
+
+    fn rests<R: Wait>(&self, rt: &R, domain: u8) {
+        if let Some(station) = self.crew.stations.get(usize::from(domain)) {
+            station.mailbox.wake(rt);
+        }
+    }
+}
+
 impl<'a> Crew<'a> {
-    /// The users of a service, by the passes of its opening.
+    /// The users of a service, by the passes of its opening. The records of a domain may take so many bytes.
     pub fn new(
         alloc: Global,
         service: &'a Service,
         users: Vec<UserPass>,
         quantum: Quantum,
+        record_room: u64,
     ) -> Result<Crew<'a>, NoMemory> {
         let mut groups = groups_of(alloc, service, quantum)?;
         let mut crew = Crew {
@@ -138,7 +159,7 @@ impl<'a> Crew<'a> {
             stations: Vec::new(alloc),
         };
         join_all(service, &mut groups, &mut crew, users)?;
-        add_stations(alloc, groups, &mut crew)?;
+        add_stations(alloc, groups, &mut crew, record_room)?;
         Ok(crew)
     }
 

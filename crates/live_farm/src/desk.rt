@@ -65,7 +65,7 @@ impl Desk<'_, '_> {
         match self.crew.send(rt, user, number, matter) {
             Sent::Waits => Ok(()),
             Sent::Full => self.tell(rt, outlet, name, number, Why::Busy),
-            Sent::NoMemory => Err(Trouble::Memory),
+            Sent::NoMemory => self.tell(rt, outlet, name, number, Why::Memory),
         }
     }
 
@@ -83,6 +83,7 @@ impl Desk<'_, '_> {
                 outlet.put_answer(rt, &operator.words(self.alloc)?);
             }
             OperatorRequest::Users => self.tell_users(rt, outlet, operator)?,
+            OperatorRequest::Memory => outlet.put_answer(rt, &operator.memory(self.alloc)?),
             OperatorRequest::Restart { user } => {
                 self.send(rt, outlet, user, number, Matter::OperatorRestart)?;
             }
@@ -143,28 +144,34 @@ impl Desk<'_, '_> {
             }
             LiveFault::Operator(fault) => self.tell(rt, outlet, "!", number, Why::Fault(fault)),
             LiveFault::UnknownUser => tell_unknown_user(rt, self.alloc, errors, number),
-            LiveFault::NoMemory => Err(Trouble::Memory),
+            LiveFault::NoMemory { user } => {
+                self.send(rt, outlet, user, number, Matter::Wrong(Why::Memory))
+            }
         }
     }
 
-    // Tells whose line is too long, by its beginning.
-    fn refuse_long<R: Wait, O: SharedOutlet, N: Notices>(
+    // Tells why a line isn't done of which only the beginning is known, to whom that names. Lines that ask nothing are passed over.
+    fn refuse_beginning<R: Wait, O: SharedOutlet, N: Notices>(
         &self,
         rt: &R,
         outlet: &O,
         errors: &N,
         number: u64,
         line: &[u8],
+        why: Why,
     ) -> Result<(), Trouble> {
+        if is_passed_over(line) {
+            return Ok(());
+        }
         if is_operators(line) {
-            return self.tell(rt, outlet, "!", number, Why::Long);
+            return self.tell(rt, outlet, "!", number, why);
         }
         let user = match LineWords::of(line).take() {
             Some(name) => user_named(self.crew.names.as_slice(), name),
             None => None,
         };
         match user {
-            Some(user) => self.send(rt, outlet, user, number, Matter::Wrong(Why::Long)),
+            Some(user) => self.send(rt, outlet, user, number, Matter::Wrong(why)),
             None => tell_unknown_user(rt, self.alloc, errors, number),
         }
     }
@@ -205,9 +212,11 @@ impl Desk<'_, '_> {
                 self.hand_out(rt, outlet, operator, errors, number, line)
             }
             InputLine::Long(bytes) => {
-                if !is_passed_over(bytes.as_slice()) {
-                    self.refuse_long(rt, outlet, errors, number, bytes.as_slice())?;
-                }
+                self.refuse_beginning(rt, outlet, errors, number, bytes.as_slice(), Why::Long)?;
+                Ok(Goes::On)
+            }
+            InputLine::NoMemory(bytes) => {
+                self.refuse_beginning(rt, outlet, errors, number, bytes.as_slice(), Why::Memory)?;
                 Ok(Goes::On)
             }
         }

@@ -3,6 +3,7 @@ ghost use Rattle.std.specs.Prelude.{◌≤◌};
 ghost use Rattle.std.specs.VecDeque.{deque_len};
 
 use crate::letter::Letter;
+use domain_core::NoMemory;
 use std::alloc::Global;
 use std::collections::VecDeque;
 use std::sync::{Condvar, Mutex, Wait};
@@ -14,6 +15,8 @@ pub const MOST_WAITING: usize = 1024;
 #[derive(Drop)]
 struct Letters {
     waiting: VecDeque<Letter>,
+    // Whether there is something to be told.
+    has_news: bool,
     closed: bool,
     ghost bounded: { deque_len waiting ≤ 1024 },
 }
@@ -27,6 +30,17 @@ pub enum Sent {
     Full,
     /// There is no memory for it.
     NoMemory,
+}
+
+/// What a thread takes from its mailbox.
+#[derive(Drop)]
+pub enum Mail {
+    /// A line.
+    Letter(Letter),
+    /// There is something to be told.
+    News,
+    /// The mailbox is closed and empty.
+    End,
 }
 
 /// The lines that wait for a thread, at most `MOST_WAITING`.
@@ -46,15 +60,16 @@ impl Drop for Mailbox {
 }
 
 impl Mailbox {
-    /// An empty mailbox.
-    pub fn new(alloc: Global) -> Mailbox {
-        Mailbox {
+    /// An empty mailbox. It has memory for all lines that may wait.
+    pub fn new(alloc: Global) -> Result<Mailbox, NoMemory> {
+        Ok(Mailbox {
             letters: Mutex::new(Letters {
-                waiting: VecDeque::new(alloc),
+                waiting: VecDeque::with_capacity(alloc, MOST_WAITING)?,
+                has_news: false,
                 closed: false,
             }),
             changed: Condvar::new(),
-        }
+        })
     }
 
     /// Puts a letter at the end, if fewer wait than may.
@@ -70,6 +85,13 @@ impl Mailbox {
         Sent::Waits
     }
 
+    /// Wakes the thread, since there is something to be told.
+    pub fn wake<R: Wait>(&self, rt: &R) {
+        let mut letters = self.letters.lock(rt);
+        letters.has_news = true;
+        self.changed.notify_one();
+    }
+
     /// Says that no more letters come.
     pub fn close<R: Wait>(&self, rt: &R) {
         let mut letters = self.letters.lock(rt);
@@ -77,13 +99,20 @@ impl Mailbox {
         self.changed.notify_all();
     }
 
-    /// Waits for a letter, and takes it; `None` once the mailbox is closed and empty.
-    pub fn take<R: Wait>(&self, rt: &R) -> Option<Letter> {
+    /// Waits for a letter or for news, and takes it.
+    pub fn take<R: Wait>(&self, rt: &R) -> Mail {
         let mut letters = self
             .changed
             .wait_while(rt, self.letters.lock(rt), |letters| {
-                letters.waiting.is_empty() && !letters.closed
+                letters.waiting.is_empty() && !letters.has_news && !letters.closed
             });
-        letters.waiting.pop_front()
+        if letters.has_news {
+            letters.has_news = false;
+            return Mail::News;
+        }
+        match letters.waiting.pop_front() {
+            Some(letter) => Mail::Letter(letter),
+            None => Mail::End,
+        }
     }
 }

@@ -4,10 +4,13 @@ ghost use Rattle.farm_service.specs.Services.{IsItsOperator};
 
 use crate::crew::{Crew, UserNumber};
 use crate::record::RecordState;
+use crate::station::Station;
 use crate::texts::LiveAnswer;
 use domain_core::NoMemory;
-use farm_service::{DomainStatus, Service};
+use farm_service::{DomainStatus, RoomStatus, Service};
 use std::alloc::Global;
+use std::fs::File;
+use std::os::unix::fs::FileExt;
 use std::sync::Wait;
 use switch_table::OperatorSeat;
 
@@ -16,6 +19,7 @@ use switch_table::OperatorSeat;
 pub struct Operator<'a> {
     service: &'a Service,
     seat: OperatorSeat,
+    gauge: Option<File>,
     ghost its: { IsItsOperator service.now seat },
 }
 
@@ -28,32 +32,64 @@ fn record_word(state: RecordState) -> &'static str {
     }
 }
 
-// The line of a user.
+// The line of a user: what his domain has done, how it is with it, and how much it takes of its room and of that of its records.
 fn line_of(
     alloc: Global,
     name: &str,
     answered: u64,
     status: DomainStatus,
-    state: RecordState,
+    room: u64,
+    station: &Station<'_>,
 ) -> Result<LiveAnswer, NoMemory> {
     let word = if status.is_quiet { "quiet" } else { "busy" };
     let DomainStatus {
         recorded,
         limit,
+        room: RoomStatus { bytes, rests },
         ..
     } = status;
-    let behind = record_word(state);
+    let state = record_word(station.record_state());
+    let rest = if rests { " rests" } else { "" };
+    let (records, record_room) = (station.record_bytes(), station.record_room());
     LiveAnswer::line(format!(in alloc;
-        "!users {name} {answered} {recorded} {limit} {word}{behind}"
+        "!users {name} {answered} {recorded} {limit} {word}{state}{rest} {bytes} {room} {records} {record_room}"
     )?)
 }
 
+/// How many bytes a page of memory has.
+const PAGE_BYTES: u64 = 4096;
+
+// How many bytes of memory the program has, as the system says in the second word of a gauge, in pages.
+fn resident_bytes(gauge: &File) -> Option<u64> {
+    let mut bytes = [0u8; 128];
+    let count = gauge.read_at(&mut bytes, 0).ok()?;
+    let text = std::str::from_utf8(bytes.get(..count)?).ok()?;
+    let pages = text.split(' ').nth(1)?.parse::<u64>().ok()?;
+    pages.checked_mul(PAGE_BYTES)
+}
+
 impl<'a> Operator<'a> {
-    /// The operator with a seat of this service.
-    pub fn new(service: &'a Service, seat: OperatorSeat) -> Operator<'a>
+    /// The operator with a seat of this service. The gauge is the file in which the system says how many pages of memory the
+    /// program has.
+    pub fn new(service: &'a Service, seat: OperatorSeat, gauge: Option<File>) -> Operator<'a>
         requires { IsItsOperator service.now seat }
     {
-        Operator { service, seat }
+        Operator {
+            service,
+            seat,
+            gauge,
+        }
+    }
+
+    /// How many bytes of memory the program has, and how many all rooms may take together.
+    pub fn memory(&self, alloc: Global) -> Result<LiveAnswer, NoMemory> {
+        let resident = match &self.gauge {
+            Some(gauge) => resident_bytes(gauge).unwrap_or(0),
+            None => 0,
+        };
+        let domains = u64::from(self.service.plan().domains());
+        let rooms = domains.saturating_mul(self.service.room().bytes());
+        LiveAnswer::line(format!(in alloc; "!memory {resident} {rooms}")?)
     }
 
     /// The words of all outputs, each with the output's number, by one atomic load each.
@@ -84,8 +120,8 @@ impl<'a> Operator<'a> {
         };
         match self.service.status(rt, domain) {
             Ok(status) => {
-                let (answered, state) = (station.answered(user), station.record_state());
-                Ok(Some(line_of(alloc, name, answered, status, state)?))
+                let (answered, room) = (station.answered(user), self.service.room().bytes());
+                Ok(Some(line_of(alloc, name, answered, status, room, station)?))
             }
             Err(_) => Ok(None),
         }

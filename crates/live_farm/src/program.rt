@@ -1,12 +1,12 @@
 //! A farm that stays up, from its opening to its end.
 ghost use Rattle.std.specs.Prelude.{◌≡◌, ◌≤◌, IfOk, OnOk, length};
 ghost use Rattle.token_queue.specs.Passes.{AreItsPasses};
-ghost use Rattle.farm_core.specs.Places.{places_of};
+ghost use Rattle.whole_farm.specs.Places.{places_of};
 ghost use Rattle.farm_service.specs.Closed.{AreDomainsOf, EachMergeRuns};
 ghost use Rattle.farm_service.specs.Services.{IsItsOperator};
 ghost use Rattle.live_lines.specs.LiveRanges.{IsInRange};
 
-use crate::crew::Crew;
+use crate::crew::{Crew, RestGate};
 use crate::failure::{LiveFailure, Trouble};
 use crate::notices::Notices;
 use crate::operator::Operator;
@@ -15,11 +15,12 @@ use crate::record::{RecordState, SharedRecord, keep_and_tell};
 use crate::threads::run_crew;
 use domain_core::Refusal;
 use farm_service::{
-    Closed, Histories, NoGate, Opened, Service, UserPass, WorkerPass, run_users_and_workers,
+    Closed, Histories, Opened, Service, UserPass, WorkerPass, run_users_and_workers,
 };
 use line_answers::Quantum;
 use live_lines::LiveSettings;
 use std::alloc::Global;
+use std::fs::File;
 use std::io::BufRead;
 use std::slice;
 use std::sync::Wait;
@@ -71,9 +72,10 @@ fn run_all<
     };
     run_users_and_workers(
         rt,
+        alloc,
         service,
         passes,
-        &NoGate,
+        &RestGate { crew },
         steps,
         &act,
         slice::from_mut(reader),
@@ -96,23 +98,24 @@ fn serve_all<
     service: &Service,
     passes: &mut Vec<WorkerPass>,
     users: Vec<UserPass>,
-    quantum: u16,
+    settings: &LiveSettings,
     records: &[K],
     outlet: &O,
     reader: &mut LiveReader<'_, '_, I>,
     errors: &N,
 ) -> Result<Vec<UserPass>, LiveFailure>
-    requires quantum { (1 ≤ quantum) × (quantum ≤ 4096) }
+    requires settings { IsInRange settings.now }
     requires passes { AreItsPasses service.now.plan service.now.queue passes.old.items }
     ensures passes { OnOk result (AreItsPasses service.now.plan service.now.queue passes.new.items) }
 {
-    let crew = Crew::new(alloc, service, users, Quantum::of(quantum))?;
+    let quantum = Quantum::of(settings.quantum);
+    let crew = Crew::new(alloc, service, users, quantum, settings.record_room)?;
     run_all(
         rt,
         alloc,
         service,
         passes,
-        u64::from(quantum),
+        u64::from(settings.quantum),
         &crew,
         records,
         outlet,
@@ -153,20 +156,21 @@ fn serve_seated<
     alloc: Global,
     service: &Service,
     seat: OperatorSeat,
+    gauge: Option<File>,
     passes: &mut Vec<WorkerPass>,
     users: Vec<UserPass>,
-    quantum: u16,
+    settings: &LiveSettings,
     records: &[K],
     outlet: &O,
     input: &mut I,
     errors: &N,
 ) -> Result<Vec<UserPass>, LiveFailure>
     requires seat { IsItsOperator service.now seat }
-    requires quantum { (1 ≤ quantum) × (quantum ≤ 4096) }
+    requires settings { IsInRange settings.now }
     requires passes { AreItsPasses service.now.plan service.now.queue passes.old.items }
     ensures passes { OnOk result (AreItsPasses service.now.plan service.now.queue passes.new.items) }
 {
-    let operator = Operator::new(service, seat);
+    let operator = Operator::new(service, seat, gauge);
     let mut reader = LiveReader {
         operator,
         input,
@@ -178,7 +182,7 @@ fn serve_seated<
         service,
         passes,
         users,
-        quantum,
+        settings,
         records,
         outlet,
         &mut reader,
@@ -205,7 +209,8 @@ fn close<R: Wait>(
 }
 
 /// Opens a farm on histories, answers the lines of an input as they come, and closes the farm when the input ends or the
-/// operator stops it. What each domain answers is recorded, in the record of its place, before it is told.
+/// operator stops it. What each domain answers is recorded, in the record of its place, before it is told. The gauge is where the
+/// system says how much memory the program has.
 pub fn run_live<
     R: Threads + Wait + Sync,
     K: SharedRecord + Sync,
@@ -221,6 +226,7 @@ pub fn run_live<
     outlet: &O,
     input: &mut I,
     errors: &N,
+    gauge: Option<File>,
 ) -> Result<Closed, LiveFailure>
     requires { IsInRange settings.now }
     ensures domains { IfOk result (λ closed. AreDomainsOf histories.plan closed.domains.items) }
@@ -242,9 +248,10 @@ pub fn run_live<
         alloc,
         &service,
         operator,
+        gauge,
         &mut passes,
         users,
-        settings.quantum,
+        settings,
         records,
         outlet,
         input,

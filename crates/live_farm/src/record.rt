@@ -28,6 +28,22 @@ fn failure_of<S: RecordStore>(record: &DomainRecord<S>, alloc: Global) -> LiveFa
     }
 }
 
+/// How many bytes the records of a domain take.
+#[derive(Clone, Copy)]
+pub struct RecordSizes {
+    /// The one that is written to.
+    pub newest: u64,
+    /// Those before it.
+    pub older: u64,
+}
+
+impl RecordSizes {
+    /// All of them.
+    pub fn all(self) -> u64 {
+        self.newest.saturating_add(self.older)
+    }
+}
+
 /// A record that a domain's thread uses, and at the end who closes the farm.
 pub trait SharedRecord {
     /// As [`DomainRecord::keep`].
@@ -41,6 +57,12 @@ pub trait SharedRecord {
 
     /// How it is with the record.
     fn state<R: Wait>(&self, rt: &R) -> RecordState;
+
+    /// How many bytes the domain's records take.
+    fn sizes<R: Wait>(&self, rt: &R) -> RecordSizes;
+
+    /// As [`DomainRecord::remove_oldest`].
+    fn remove_oldest<R: Wait>(&self, rt: &R) -> io::Result<Option<String>>;
 
     /// As [`DomainRecord::path`].
     fn path<R: Wait>(&self, rt: &R, alloc: Global) -> Result<Option<String>, NoMemory>;
@@ -69,6 +91,18 @@ impl<S: RecordStore> SharedRecord for Mutex<DomainRecord<S>> {
         } else {
             RecordState::Kept
         }
+    }
+
+    fn sizes<R: Wait>(&self, rt: &R) -> RecordSizes {
+        let record = self.lock(rt);
+        RecordSizes {
+            newest: record.bytes(),
+            older: record.older_bytes(),
+        }
+    }
+
+    fn remove_oldest<R: Wait>(&self, rt: &R) -> io::Result<Option<String>> {
+        self.lock(rt).remove_oldest()
     }
 
     fn path<R: Wait>(&self, rt: &R, alloc: Global) -> Result<Option<String>, NoMemory> {
@@ -146,4 +180,37 @@ pub(crate) fn keep_and_tell<R: Wait, K: SharedRecord, N: Notices>(
         Err(NotKept::Memory) => Err(NoMemory),
         Err(NotKept::Out) => Ok(RecordState::Out),
     }
+}
+
+/// Removes older records of a domain, the oldest first, as long as all together take more than their room. The newest stays. The
+/// operator is told of each.
+///
+/// # Errors
+///
+/// Want of memory.
+pub(crate) fn trim_and_tell<R: Wait, K: SharedRecord, N: Notices>(
+    rt: &R,
+    alloc: Global,
+    record: &K,
+    room: u64,
+    errors: &N,
+) -> Result<(), NoMemory> {
+    for _ in 0..record.sizes(rt).older {
+        if record.sizes(rt).all() <= room {
+            break;
+        }
+        let line = match record.remove_oldest(rt) {
+            Ok(Some(path)) => format!(in alloc;
+                "{path}: removed, since the records of its domain take more than {room} bytes\n"
+            )?,
+            Ok(None) => break,
+            Err(error) => {
+                let line = format!(in alloc; "an older record can't be removed: {error}\n")?;
+                errors.tell(rt, line.as_str());
+                break;
+            }
+        };
+        errors.tell(rt, line.as_str());
+    }
+    Ok(())
 }

@@ -3,6 +3,7 @@
 use domain_core::NoMemory;
 use record_keeping::{DomainRecord, RecordStore};
 use std::alloc::Global;
+use std::collections::VecDeque;
 use std::fs::{self, File, Files, OpenOptions};
 use std::io::{self, Write};
 use std::sync::Mutex;
@@ -43,6 +44,17 @@ pub struct RecordFile<'a, F: Files<File = File>> {
     whole: u64,
     // The file of the next record, from when it is made until its head is whole.
     begun: Option<File>,
+    // The records before it that are there, the oldest first.
+    older: VecDeque<OlderRecord>,
+}
+
+/// A record of a domain before the newest.
+#[derive(Clone, Copy)]
+pub(crate) struct OlderRecord {
+    /// Its number, from 1.
+    pub(crate) number: u64,
+    /// How many bytes it has.
+    pub(crate) bytes: u64,
 }
 
 // It is dropped by one call.
@@ -54,6 +66,7 @@ impl<F: Files<File = File>> Drop for RecordFile<'_, F> {
             file: _,
             whole: _,
             begun: _,
+            older: _,
         } = self;
     }
 }
@@ -102,12 +115,13 @@ impl<'a, F: Files<File = File>> RecordPlace<'a, F> {
 }
 
 impl<'a, F: Files<File = File>> RecordFile<'a, F> {
-    /// A record that is there, of which so many bytes are whole.
+    /// A record that is there, of which so many bytes are whole, with those before it.
     pub(crate) fn found(
         place: RecordPlace<'a, F>,
         number: u64,
         file: File,
         whole: u64,
+        older: VecDeque<OlderRecord>,
     ) -> RecordFile<'a, F> {
         RecordFile {
             place,
@@ -115,17 +129,23 @@ impl<'a, F: Files<File = File>> RecordFile<'a, F> {
             file: Some(file),
             whole,
             begun: None,
+            older,
         }
     }
 
-    /// A place at which the records up to this number are left as they are. The next one is begun behind them.
-    pub(crate) fn behind(place: RecordPlace<'a, F>, number: u64) -> RecordFile<'a, F> {
+    /// A place at which the records up to this number are left as they are. The next one is begun after them.
+    pub(crate) fn behind(
+        place: RecordPlace<'a, F>,
+        number: u64,
+        older: VecDeque<OlderRecord>,
+    ) -> RecordFile<'a, F> {
         RecordFile {
             place,
             number,
             file: None,
             whole: 0,
             begun: None,
+            older,
         }
     }
 }
@@ -142,11 +162,19 @@ impl<'a, F: Files<File = File>> RecordStore for RecordFile<'a, F> {
 
     fn begin_next(&mut self, head: &str) -> io::Result<()> {
         let number = self.number.saturating_add(1);
+        self.older.reserve(1)?;
         if self.begun.is_none() {
             self.begun = Some(self.place.create(number)?);
         }
         if let Some(file) = &self.begun {
             self.place.begin(file, head)?;
+        }
+        if self.file.is_some() {
+            let before = OlderRecord {
+                number: self.number,
+                bytes: self.whole,
+            };
+            self.older.push_back(before)?;
         }
         self.file = self.begun.take();
         self.number = number;
@@ -159,6 +187,32 @@ impl<'a, F: Files<File = File>> RecordStore for RecordFile<'a, F> {
             Some(file) => file.set_len(self.whole),
             None => Ok(()),
         }
+    }
+
+    fn bytes(&self) -> u64 {
+        self.whole
+    }
+
+    fn older_bytes(&self) -> u64 {
+        let mut bytes = 0u64;
+        for record in &self.older {
+            bytes = bytes.saturating_add(record.bytes);
+        }
+        bytes
+    }
+
+    fn remove_oldest(&mut self) -> io::Result<Option<String>> {
+        let Some(oldest) = self.older.front() else {
+            return Ok(None);
+        };
+        let path = self.place.path(oldest.number)?;
+        match fs::remove_file(self.place.files, path.as_str()) {
+            Ok(()) => {}
+            Err(error) if error.kind() == io::ErrorKind::NotFound => {}
+            Err(error) => return Err(error),
+        }
+        self.older.pop_front();
+        Ok(Some(path))
     }
 
     fn path(&self, alloc: Global) -> Result<String, NoMemory> {

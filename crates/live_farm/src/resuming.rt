@@ -4,14 +4,15 @@ use crate::crew::{UserNumber, name_of};
 use crate::failure::LiveFailure;
 use crate::notices::Notices;
 use crate::progress::{RecordProgress, ToldReader};
-use crate::record_file::{FileRecords, RecordFile, RecordPlace, record_path};
+use crate::record_file::{FileRecords, OlderRecord, RecordFile, RecordPlace, record_path};
 use crate::record_folder::RecordFolder;
 use domain_core::NoMemory;
 use farm_records::{HeadFault, RecordFault, Redone, head_of, redo_record};
 use farm_service::{Histories, SeatedDomain};
 use plan_checker::AcceptedPlan;
 use record_keeping::{DomainRecord, RecordStore};
-use std::alloc::Global;
+use std::alloc::{Alloc, Global};
+use std::collections::VecDeque;
 use std::fs::{self, File, Files, OpenOptions};
 use std::io::{self, BufReader};
 use std::mem;
@@ -34,6 +35,8 @@ struct FoundRecord {
     // The number of its newest record, 0 if it has none.
     number: u64,
     path: String,
+    // The records before it that are there, the oldest first.
+    older: VecDeque<OlderRecord>,
     // Its file, until it is done again.
     file: Option<File>,
     // What became of it then.
@@ -47,17 +50,39 @@ struct DomainStart {
     found: FoundRecord,
 }
 
-// The number of the newest record of a domain, 0 if there is none.
-fn newest<F: Files<File = File>>(files: &F, alloc: Global, stem: &str) -> Result<u64, LiveFailure> {
-    for number in 1..u64::MAX {
-        let path = record_path(alloc, stem, number)?;
-        match fs::exists(files, path.as_str()) {
-            Ok(true) => {}
-            Ok(false) => return Ok(number - 1),
-            Err(error) => return Err(LiveFailure::of_file(alloc, path.as_str(), error)),
+// The number of a record of a domain whose first user is called so, if it is the name of one: `NAME.replay` or `NAME.N.replay`.
+fn record_number(name: &str, file: &str) -> Option<u64> {
+    let middle = file.strip_prefix(name)?.strip_suffix(".replay")?;
+    if middle.is_empty() {
+        return Some(1);
+    }
+    let digits = middle.strip_prefix(".")?;
+    if digits.starts_with('0') || digits.starts_with('+') {
+        return None;
+    }
+    match digits.parse::<u64>() {
+        Ok(number) if number > 1 => Some(number),
+        _ => None,
+    }
+}
+
+// The records of a domain that are in a folder, the oldest first.
+fn records_in<F: Files<File = File> + Alloc<A = Global> + Clone + Drop>(
+    files: &F,
+    alloc: Global,
+    folder: &str,
+    name: &str,
+) -> io::Result<Vec<OlderRecord>> {
+    let mut records = Vec::new(alloc);
+    for entry in fs::read_dir(files, folder)? {
+        let entry = entry?;
+        if let Some(number) = record_number(name, entry.file_name()) {
+            let bytes = entry.metadata()?.len();
+            records.push(OlderRecord { number, bytes })?;
         }
     }
-    Ok(0)
+    records.sort_by_key(|it| it.number)?;
+    Ok(records)
 }
 
 // How a domain's record begins, and what it is called.
@@ -217,7 +242,21 @@ pub(crate) fn names_of(alloc: Global, plan: &AcceptedPlan, domain: u8) -> Result
     Ok(names)
 }
 
-impl<'a, F: Files<File = File>> RecordFolder<'a, F> {
+impl<'a, F: Files<File = File> + Alloc<A = Global> + Clone + Drop> RecordFolder<'a, F> {
+    // The records of a domain whose first user is called so, the oldest first.
+    fn records_of(&self, name: &str) -> Result<VecDeque<OlderRecord>, LiveFailure> {
+        let folder = self.path.as_str();
+        let records = match records_in(self.files, self.alloc, folder, name) {
+            Ok(records) => records,
+            Err(error) => return Err(LiveFailure::of_file(self.alloc, folder, error)),
+        };
+        let mut older = VecDeque::with_capacity(self.alloc, records.len())?;
+        for record in records {
+            older.push_back(record)?;
+        }
+        Ok(older)
+    }
+
     // The newest record of a domain, which isn't done again yet.
     fn find_record(
         &self,
@@ -228,7 +267,11 @@ impl<'a, F: Files<File = File>> RecordFolder<'a, F> {
         let RecordName { head, name } = record_name(self.alloc, plan, number)?;
         let folder = self.path.as_str();
         let stem = format!(in self.alloc; "{folder}/{name}")?;
-        let newest = newest(self.files, self.alloc, stem.as_str())?;
+        let mut older = self.records_of(name.as_str())?;
+        let newest = match older.pop_back() {
+            Some(record) => record.number,
+            None => 0,
+        };
         let path = record_path(self.alloc, stem.as_str(), newest.max(1))?;
         if newest > 0 && !resumes {
             let why = "it is there already: --resume goes on with it";
@@ -239,6 +282,7 @@ impl<'a, F: Files<File = File>> RecordFolder<'a, F> {
             stem,
             number: newest,
             path,
+            older,
             file: None,
             taken: None,
         };
@@ -317,13 +361,14 @@ impl<'a, F: Files<File = File>> RecordFolder<'a, F> {
     }
 }
 
-impl<'a, F: Files<File = File>> RecordFolder<'a, F> {
+impl<'a, F: Files<File = File> + Alloc<A = Global> + Clone + Drop> RecordFolder<'a, F> {
     // Opens a record that was done again: cuts off what isn't whole, and writes its head if it has none.
     fn open_taken<R: Wait, N: Notices>(
         &self,
         rt: &R,
         place: RecordPlace<'a, F>,
         number: u64,
+        older: VecDeque<OlderRecord>,
         taken: TakenRecord,
         path: &str,
         head: &str,
@@ -332,7 +377,7 @@ impl<'a, F: Files<File = File>> RecordFolder<'a, F> {
         let is_cut = taken.whole < taken.length;
         let cut = taken.length.saturating_sub(taken.whole);
         let is_empty = taken.whole == 0;
-        let mut file = RecordFile::found(place, number, taken.file, taken.whole);
+        let mut file = RecordFile::found(place, number, taken.file, taken.whole, older);
         if is_cut {
             if let Err(error) = file.cut_back() {
                 return Err(LiveFailure::of_file(self.alloc, path, error));
@@ -352,7 +397,7 @@ impl<'a, F: Files<File = File>> RecordFolder<'a, F> {
         path: &str,
         head: &str,
     ) -> Result<RecordFile<'a, F>, LiveFailure> {
-        let mut file = RecordFile::behind(place, 0);
+        let mut file = RecordFile::behind(place, 0, VecDeque::new(self.alloc));
         match file.begin_next(head) {
             Ok(()) => Ok(file),
             Err(error) => Err(LiveFailure::of_file(self.alloc, path, error)),
@@ -372,6 +417,7 @@ impl<'a, F: Files<File = File>> RecordFolder<'a, F> {
             stem,
             number,
             path,
+            older,
             file: _,
             taken,
         } = found;
@@ -379,11 +425,11 @@ impl<'a, F: Files<File = File>> RecordFolder<'a, F> {
         let path = path.as_str();
         let file = match taken {
             Some(Err(_)) => {
-                let file = RecordFile::behind(place, number);
+                let file = RecordFile::behind(place, number, older);
                 return Ok(DomainRecord::out(self.alloc, file, head)?);
             }
             Some(Ok(taken)) => {
-                self.open_taken(rt, place, number, taken, path, head.as_str(), errors)?
+                self.open_taken(rt, place, number, older, taken, path, head.as_str(), errors)?
             }
             None => self.open_first(place, path, head.as_str())?,
         };

@@ -1,20 +1,26 @@
 //! A domain's thread: it answers the lines that come to its mailbox.
 ghost use Rattle.std.specs.Prelude.{◌≡◌, ◌<◌, ◌⊎◌, false, length, IfOk, string_bytes};
-ghost use Rattle.live_farm.specs.Groups.{AllStay, AnswersLetter, TellsUnrecorded, may_be_answered};
+ghost use Rattle.live_farm.specs.Groups.{AllStay, AnswersLetter, TellsUnrecorded, TellsFull, may_be_answered};
 
 use crate::answering::answer_letter;
 use crate::group::DomainUsers;
 use crate::letter::{Letter, Matter};
-use crate::mailbox::Mailbox;
+use crate::mailbox::{Mail, Mailbox};
 use crate::notices::Notices;
 use crate::outlet::SharedOutlet;
-use crate::record::{RecordState, SharedRecord, keep_and_tell};
-use crate::texts::{LiveAnswer, Why, error_answer};
+use crate::record::{RecordSizes, RecordState, SharedRecord, keep_and_tell, trim_and_tell};
+use crate::resuming::names_of;
+use crate::room::{commands_of, has_record_room, has_room, is_used_up};
+use crate::texts::{LiveAnswer, Why, error_answer, error_answer_in, note_answer};
 use domain_core::NoMemory;
 use live_lines::LiveRequest;
 use std::alloc::Global;
+use std::mem;
 use std::sync::atomic::{AtomicBool, AtomicU64, Ordering};
 use std::sync::{Mutex, Wait};
+
+/// How many bytes are kept for the answer to a line for which there is no memory.
+const SPARE_BYTES: usize = 1024;
 
 /// A domain with what its thread needs.
 pub struct Station<'a> {
@@ -27,6 +33,12 @@ pub struct Station<'a> {
     // How it is with its record: whether something isn't recorded, and whether the record can't be taken.
     unrecorded: AtomicBool,
     out: AtomicBool,
+    // How many bytes its records take, how many of them the newest, and how many they may take.
+    record_bytes: AtomicU64,
+    newest_bytes: AtomicU64,
+    record_room: u64,
+    // Whether its users were told that it rests.
+    rest_is_told: AtomicBool,
 }
 
 // It is dropped by one call.
@@ -39,22 +51,56 @@ impl Drop for Station<'_> {
             out_of_memory: _,
             unrecorded: _,
             out: _,
+            record_bytes: _,
+            newest_bytes: _,
+            record_room: _,
+            rest_is_told: _,
         } = self;
     }
 }
 
 impl<'a> Station<'a> {
-    /// The station of a domain's users.
-    pub fn new(alloc: Global, group: DomainUsers<'a>) -> Result<Station<'a>, NoMemory> {
+    /// The station of a domain's users, whose records may take so many bytes.
+    pub fn new(
+        alloc: Global,
+        group: DomainUsers<'a>,
+        record_room: u64,
+    ) -> Result<Station<'a>, NoMemory> {
         let answered = counts_of(alloc, group.users())?;
         Ok(Station {
-            mailbox: Mailbox::new(alloc),
+            mailbox: Mailbox::new(alloc)?,
             group: Mutex::new(group),
             answered,
             out_of_memory: AtomicBool::new(false),
             unrecorded: AtomicBool::new(false),
             out: AtomicBool::new(false),
+            record_bytes: AtomicU64::new(0),
+            newest_bytes: AtomicU64::new(0),
+            record_room,
+            rest_is_told: AtomicBool::new(false),
         })
+    }
+
+    /// How many bytes its records take, as was noted last.
+    pub fn record_bytes(&self) -> u64 {
+        self.record_bytes.load(Ordering::SeqCst)
+    }
+
+    /// How many bytes its records may take.
+    pub fn record_room(&self) -> u64 {
+        self.record_room
+    }
+
+    /// Notes how many bytes its records take.
+    pub fn note_sizes(&self, sizes: RecordSizes) {
+        self.record_bytes.store(sizes.all(), Ordering::SeqCst);
+        self.newest_bytes.store(sizes.newest, Ordering::SeqCst);
+    }
+
+    // Whether the newest record has room for so many events. Older ones go if there is too little.
+    fn has_record_room(&self, commands: u64) -> bool {
+        let newest = self.newest_bytes.load(Ordering::SeqCst);
+        has_record_room(newest, self.record_room, commands)
     }
 
     /// How many lines of a user were answered.
@@ -97,6 +143,10 @@ impl<'a> Station<'a> {
             out_of_memory: _,
             unrecorded: _,
             out: _,
+            record_bytes: _,
+            newest_bytes: _,
+            record_room: _,
+            rest_is_told: _,
         } = self;
         group.into_inner()
     }
@@ -157,12 +207,46 @@ fn may_answer(state: RecordState, matter: &Matter) -> bool
     }
 }
 
+// That the domain has no room for what a letter asks.
+fn full_answer(
+    alloc: Global,
+    group: &DomainUsers<'_>,
+    letter: &Letter,
+) -> Result<LiveAnswer, NoMemory>
+    requires { letter.now.user < length group.now.sessions.items }
+    ensures { IfOk result (λ a. TellsFull group.now letter.now (string_bytes a.text)) }
+{
+    let name = group.name(usize::from(letter.user));
+    match letter.matter {
+        Matter::OperatorRestart => error_answer(alloc, "!", letter.number, Why::Full),
+        Matter::Asked(_) | Matter::Wrong(_) => error_answer(alloc, name, letter.number, Why::Full),
+    }
+}
+
+// Whether the domain has room for what a letter asks at the most, and its records have.
+fn has_room_for<R: Wait>(
+    rt: &R,
+    group: &DomainUsers<'_>,
+    letter: &Letter,
+    station: &Station<'_>,
+) -> bool {
+    let commands = commands_of(&letter.matter);
+    let room = group.service.room().bytes();
+    match group.service.room_status(rt, group.domain) {
+        Ok(status) => {
+            has_room(status.bytes, room, commands) && station.has_record_room(commands)
+        }
+        Err(_) => true,
+    }
+}
+
 // Answers a letter, and records what the domain answered by then before the answer is given to anybody. If it isn't so with the
-// record that it may be answered, the domain is asked nothing.
+// record that it may be answered, or if there is no room, the domain is asked nothing.
 fn answer_and_keep<R: Wait, K: SharedRecord, N: Notices>(
     rt: &R,
     alloc: Global,
     state: RecordState,
+    has_room: bool,
     group: &mut DomainUsers<'_>,
     letter: &Letter,
     record: &K,
@@ -170,13 +254,21 @@ fn answer_and_keep<R: Wait, K: SharedRecord, N: Notices>(
 ) -> Result<AnsweredLetter, NoMemory>
     requires { letter.now.user < length group.old.sessions.items }
     ensures answer { IfOk result (λ a. AnswersLetter group.old group.new letter.now a.answer
-        ⊎ TellsUnrecorded group.new letter.now (string_bytes a.answer.text)) }
+        ⊎ (TellsUnrecorded group.new letter.now (string_bytes a.answer.text)
+        ⊎ (has_room ≡ false × AllStay group.old group.new × TellsFull group.new letter.now (string_bytes a.answer.text)))) }
     ensures not_asked { may_be_answered state letter.now.matter ≡ false
         → IfOk result (λ a. AllStay group.old group.new × TellsUnrecorded group.new letter.now (string_bytes a.answer.text)) }
 {
     if !may_answer(state, &letter.matter) {
         return Ok(AnsweredLetter {
             answer: record_answer(alloc, group, letter)?,
+            is_asked: false,
+            state,
+        });
+    }
+    if !has_room {
+        return Ok(AnsweredLetter {
+            answer: full_answer(alloc, group, letter)?,
             is_asked: false,
             state,
         });
@@ -235,18 +327,98 @@ fn serve_letter<R: Wait, K: SharedRecord, O: SharedOutlet, N: Notices>(
     requires { letter.now.user < length group.old.sessions.items }
 {
     let state = state_before(rt, alloc, station, group, record, errors)?;
-    let answered = answer_and_keep(rt, alloc, state, group, letter, record, errors)?;
+    let has_room = has_room_for(rt, group, letter, station);
+    let answered = answer_and_keep(rt, alloc, state, has_room, group, letter, record, errors)?;
     station.note(answered.state);
     station.count(letter);
+    // What can't be told of older records for want of memory is left.
+    let _ = note_records(rt, alloc, station, group, record, errors);
     outlet.put_answer(rt, &answered.answer);
+    if matches!(letter.matter, Matter::Wrong(Why::Memory)) {
+        group.service.halt(group.domain);
+    }
     let user = usize::from(letter.user);
     if answered.is_asked
         && matches!(letter.matter, Matter::Asked(LiveRequest::Script(_)))
         && user < group.users()
+        && group.settle(rt, alloc, user).is_err()
     {
-        group.settle(rt, user)?;
+        group.service.halt(group.domain);
     }
     Ok(())
+}
+
+// Removes older records of the domain if all take more than their room, and lets the domain rest if the newest takes too much of
+// it.
+fn note_records<R: Wait, K: SharedRecord, N: Notices>(
+    rt: &R,
+    alloc: Global,
+    station: &Station<'_>,
+    group: &DomainUsers<'_>,
+    record: &K,
+    errors: &N,
+) -> Result<(), NoMemory> {
+    let room = station.record_room();
+    trim_and_tell(rt, alloc, record, room, errors)?;
+    let sizes = record.sizes(rt);
+    station.note_sizes(sizes);
+    if is_used_up(sizes.newest, room) {
+        group.service.halt(group.domain);
+    }
+    Ok(())
+}
+
+// Tells the users of a domain, and the operator, once that it rests.
+fn tell_rest<R: Wait, O: SharedOutlet, N: Notices>(
+    rt: &R,
+    alloc: Global,
+    station: &Station<'_>,
+    group: &DomainUsers<'_>,
+    outlet: &O,
+    errors: &N,
+) -> Result<(), NoMemory> {
+    let Ok(status) = group.service.room_status(rt, group.domain) else {
+        return Ok(());
+    };
+    let was_told = station.rest_is_told.swap(status.rests, Ordering::SeqCst);
+    if !status.rests || was_told {
+        return Ok(());
+    }
+    let (used, room) = (status.bytes, group.service.room().bytes());
+    for name in &group.names {
+        outlet.put_answer(rt, &note_answer(alloc, name, used, room)?);
+    }
+    let names = names_of(alloc, group.service.plan(), group.domain)?;
+    let line = format!(in alloc;
+        "the domain of {names} rests: {used} of {room} bytes are used. Its nodes do nothing more until it begins anew\n"
+    )?;
+    errors.tell(rt, line.as_str());
+    Ok(())
+}
+
+// Answers that there was no memory for a letter, in the memory of a text. The domain rests from then on.
+fn answer_want<R: Wait, O: SharedOutlet>(
+    rt: &R,
+    alloc: Global,
+    station: &Station<'_>,
+    group: &DomainUsers<'_>,
+    letter: &Letter,
+    outlet: &O,
+    spare: &mut String,
+)
+    requires { letter.now.user < length group.now.sessions.items }
+{
+    group.service.halt(group.domain);
+    station.count(letter);
+    let name = match letter.matter {
+        Matter::OperatorRestart => "!",
+        Matter::Asked(_) | Matter::Wrong(_) => group.name(usize::from(letter.user)),
+    };
+    let text = mem::replace(spare, String::new(alloc));
+    if let Ok(answer) = error_answer_in(text, name, letter.number, Why::Memory) {
+        outlet.put_answer(rt, &answer);
+        *spare = answer.into_text();
+    }
 }
 
 // Takes the next letter and answers it; whether more may come. Once a write has failed nothing more is asked.
@@ -258,18 +430,30 @@ fn serve_next<R: Wait, K: SharedRecord, O: SharedOutlet, N: Notices>(
     record: &K,
     outlet: &O,
     errors: &N,
-) -> Result<bool, NoMemory> {
-    let Some(letter) = station.mailbox.take(rt) else {
-        return Ok(false);
+    spare: &mut String,
+) -> bool {
+    let letter = match station.mailbox.take(rt) {
+        Mail::Letter(letter) => letter,
+        Mail::News => {
+            let _ = tell_rest(rt, alloc, station, group, outlet, errors);
+            return true;
+        }
+        Mail::End => return false,
     };
     if usize::from(letter.user) < group.users() && !outlet.has_failed(rt) {
-        serve_letter(rt, alloc, station, group, &letter, record, outlet, errors)?;
+        if serve_letter(rt, alloc, station, group, &letter, record, outlet, errors).is_err()
+            && usize::from(letter.user) < group.users()
+        {
+            answer_want(rt, alloc, station, group, &letter, outlet, spare);
+        }
+        // What can't be told for want of memory is left.
+        let _ = tell_rest(rt, alloc, station, group, outlet, errors);
     }
-    Ok(true)
+    true
 }
 
-/// Answers letters, in their order, until the mailbox is closed and empty. Once a write has failed nothing more is asked. If
-/// there is no memory the thread says so and ends.
+/// Answers letters, in their order, until the mailbox is closed and empty. Once a write has failed nothing more is asked. A line
+/// for which there is no memory is answered so, and the domain rests then until it begins anew.
 pub fn serve<R: Wait, K: SharedRecord, O: SharedOutlet, N: Notices>(
     rt: &R,
     alloc: Global,
@@ -278,15 +462,16 @@ pub fn serve<R: Wait, K: SharedRecord, O: SharedOutlet, N: Notices>(
     outlet: &O,
     errors: &N,
 ) {
+    let Ok(mut spare) = String::with_capacity(alloc, SPARE_BYTES) else {
+        station.out_of_memory.store(true, Ordering::SeqCst);
+        return;
+    };
     let mut group = station.group.lock(rt);
     for _ in rt.forever() {
-        match serve_next(rt, alloc, station, &mut group, record, outlet, errors) {
-            Ok(true) => {}
-            Ok(false) => break,
-            Err(NoMemory) => {
-                station.out_of_memory.store(true, Ordering::SeqCst);
-                break;
-            }
+        if !serve_next(
+            rt, alloc, station, &mut group, record, outlet, errors, &mut spare,
+        ) {
+            break;
         }
     }
 }

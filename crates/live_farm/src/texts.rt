@@ -3,7 +3,7 @@ ghost use Rattle.std.specs.List.{flat_map};
 ghost use Rattle.std.specs.Prelude.{◌≡◌, ◌++◌, IfOk, OnOk, true, false, codes, string_bytes, if◌then◌else◌};
 ghost use Rattle.std.specs.Str.Lines.{lines};
 ghost use Rattle.live_farm.specs.WholeLines.{are_lines};
-ghost use Rattle.live_farm.specs.LiveTexts.{reason_word, error_text, unknown_user_text, rest_text, restart_text, operator_restart_text};
+ghost use Rattle.live_farm.specs.LiveTexts.{reason_word, error_text, unknown_user_text, rest_text, rest_word, note_text, restart_text, operator_restart_text};
 ghost use Rattle.live_farm.specs.LiveTexts.{why_line, why_text, no_node_text};
 
 use domain_core::NoMemory;
@@ -23,6 +23,10 @@ pub enum Why {
     Record,
     /// What the domain answered can't be done again.
     Journal,
+    /// The room of the domain is used up.
+    Full,
+    /// There is no memory for it.
+    Memory,
 }
 
 impl Why {
@@ -39,6 +43,8 @@ impl Why {
             Why::Busy => "busy",
             Why::Record => "record",
             Why::Journal => "journal",
+            Why::Full => "full",
+            Why::Memory => "memory",
         }
     }
 }
@@ -73,6 +79,17 @@ impl LiveAnswer {
         Ok(LiveAnswer::of(text))
     }
 
+    /// The lines, as they are held.
+    pub fn into_text(self) -> String
+        ensures { result ≡ self.text }
+    {
+        let LiveAnswer {
+            text,
+            begins_anew: _,
+        } = self;
+        text
+    }
+
     /// The lines.
     pub fn as_str(&self) -> &str
         ensures text { result.now ≡ string_bytes self.now.text }
@@ -92,9 +109,23 @@ pub fn error_answer(
     ensures text { IfOk result (λ a. string_bytes a.text ≡ error_text name.now number why) }
     ensures anew { IfOk result (λ a. a.begins_anew ≡ false) }
 {
+    error_answer_in(String::new(alloc), name, number, why)
+}
+
+/// The same in place of a text, whose memory serves it.
+pub fn error_answer_in(
+    mut text: String,
+    name: &str,
+    number: u64,
+    why: Why,
+) -> Result<LiveAnswer, NoMemory>
+    ensures text { IfOk result (λ a. string_bytes a.text ≡ error_text name.now number why) }
+    ensures anew { IfOk result (λ a. a.begins_anew ≡ false) }
+{
     let word = why.word();
-    let answer = LiveAnswer::line(format!(in alloc; "{name} error {number} {word}")?)?;
-    Ok(answer)
+    text.clear();
+    write!(text, "{name} error {number} {word}")?;
+    LiveAnswer::line(text)
 }
 
 /// That the line of this number is no user's.
@@ -112,12 +143,45 @@ fn chosen(is_first: bool, first: &'static str, second: &'static str) -> &'static
 }
 
 /// Whether a user's domain is at rest.
-pub fn rest_answer(alloc: Global, name: &str, is_quiet: bool) -> Result<LiveAnswer, NoMemory>
-    ensures text { IfOk result (λ a. string_bytes a.text ≡ rest_text name.now is_quiet) }
+#[derive(Clone, Copy)]
+pub enum RestState {
+    /// No Step and no Move of it would be recorded.
+    Quiet,
+    /// One would.
+    Busy,
+    /// Its room is used up, so that no Step and no Move of it is done.
+    Full,
+}
+
+impl RestState {
+    // As it is told.
+    fn word(self) -> &'static str
+        ensures { result.now ≡ rest_word self }
+    {
+        match self {
+            RestState::Quiet => "quiet",
+            RestState::Busy => "busy",
+            RestState::Full => "full",
+        }
+    }
+}
+
+/// Whether a user's domain is at rest.
+pub fn rest_answer(alloc: Global, name: &str, state: RestState) -> Result<LiveAnswer, NoMemory>
+    ensures text { IfOk result (λ a. string_bytes a.text ≡ rest_text name.now state) }
     ensures anew { IfOk result (λ a. a.begins_anew ≡ false) }
 {
-    let word = chosen(is_quiet, "quiet", "busy");
+    let word = state.word();
     let answer = LiveAnswer::line(format!(in alloc; "{name} rest {word}")?)?;
+    Ok(answer)
+}
+
+/// That the domain of a user rests, since so many bytes of its room of so many are used.
+pub fn note_answer(alloc: Global, name: &str, used: u64, room: u64) -> Result<LiveAnswer, NoMemory>
+    ensures text { IfOk result (λ a. string_bytes a.text ≡ note_text name.now used room) }
+    ensures anew { IfOk result (λ a. a.begins_anew ≡ false) }
+{
+    let answer = LiveAnswer::line(format!(in alloc; "{name} note rests {used} {room}")?)?;
     Ok(answer)
 }
 

@@ -36,6 +36,7 @@ fn run_stations<
         let mut started = true;
         for (station, record) in stations.iter().zip(records) {
             station.note(record.state(rt));
+            station.note_sizes(record.sizes(rt));
             if scope
                 .spawn(move || serve(rt, alloc, station, record, outlet, errors))
                 .is_err()

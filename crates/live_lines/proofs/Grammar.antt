@@ -43,4 +43,5 @@ user_line_refused names line words (Err live_fault.UnknownUser) theirs is wrong 
 user_line_refused names line words (Err (live_fault.User user f)) theirs is wrong =
     (theirs, subst (λ ws. IsUserFault names ws (live_fault.User user f)) is wrong)
 user_line_refused names line words (Err (live_fault.Operator f)) theirs is wrong = absurd wrong
-user_line_refused names line words (Err live_fault.NoMemory) theirs is wrong = tt
+user_line_refused names line words (Err (live_fault.NoMemory user)) theirs is wrong =
+    (theirs, subst (λ ws. IsUserFault names ws (live_fault.NoMemory user)) is wrong)

@@ -1,5 +1,5 @@
--- A line of a farm that stays up: a line of a script, `USER rest`, `USER restart`, `USER why` or `USER why NODE`; or one of the operator, who begins
--- with `!`: `!words`, `!users`, `!restart USER` or `!stop`.
+-- A line of a farm that stays up: a line of a script, `USER rest`, `USER restart`, `USER why` or `USER why NODE`; or
+-- one of the operator, who begins with `!`: `!words`, `!users`, `!restart USER` or `!stop`.
 use Rattle.std.specs.Prelude.{◌≡◌, ◌==◌, ◌⊎◌, ℕ, Bool, true, false, List, [], ◌∷◌, Some, None, ⊤}
 use Rattle.script_lines.specs.declared.fault.LineFault.{LineFault}
 use Rattle.script_lines.specs.declared.fault.LineFault.TheVariants as fault
@@ -51,28 +51,37 @@ HasDomainArguments verb arguments = ⊥
 -- the words behind a user's name ask this
 abbrev pub AsksLive : List (List ℕ) → LiveRequest → Type 0
 AsksLive rest (request.Script command) = IsRequest rest command
-AsksLive rest (request.Domain asked) = (verb : DomainVerb) × (arguments : List (List ℕ)) × IsOfDomain rest verb arguments × DomainAsks verb arguments asked
+AsksLive rest (request.Domain asked) =
+    (verb : DomainVerb) × (arguments : List (List ℕ)) × IsOfDomain rest verb arguments
+    × DomainAsks verb arguments asked
 
 -- the words of a user's line ask this
 abbrev pub IsUserLine : List (List ℕ) → List (List ℕ) → LiveLine → Type 0
-IsUserLine names words (live.User user asked) = (rest : List (List ℕ)) × BeginsWith names words user rest × AsksLive rest asked
+IsUserLine names words (live.User user asked) =
+    (rest : List (List ℕ)) × BeginsWith names words user rest × AsksLive rest asked
 IsUserLine names words (live.Operator asked) = ⊥
 
--- what follows a user's name is wrong: as in a script, or what follows a word that asks something of the domain as a whole
+-- what follows a user's name is wrong: as in a script, or what follows a word that asks something of the domain as a
+-- whole
 abbrev pub IsLiveRestFault : List (List ℕ) → LineFault → Type 0
 IsLiveRestFault rest fault.User = ⊥
-IsLiveRestFault rest fault.Verb = IsRestFault rest fault.Verb × ((verb : DomainVerb) (arguments : List (List ℕ)) → ¬ IsOfDomain rest verb arguments)
+IsLiveRestFault rest fault.Verb =
+    IsRestFault rest fault.Verb
+    × ((verb : DomainVerb) (arguments : List (List ℕ)) → ¬ IsOfDomain rest verb arguments)
 IsLiveRestFault rest fault.Args =
     IsRestFault rest fault.Args
-    ⊎ ((verb : DomainVerb) × (arguments : List (List ℕ)) × IsOfDomain rest verb arguments × (¬ HasDomainArguments verb arguments))
+    ⊎ ((verb : DomainVerb) × (arguments : List (List ℕ)) × IsOfDomain rest verb arguments
+    × (¬ HasDomainArguments verb arguments))
 IsLiveRestFault rest fault.Hex = IsRestFault rest fault.Hex
 
 -- why the words of a user's line ask nothing
 abbrev pub IsUserFault : List (List ℕ) → List (List ℕ) → LiveFault → Type 0
-IsUserFault names words live_fault.UnknownUser = (user : ℕ) (rest : List (List ℕ)) → ¬ BeginsWith names words user rest
-IsUserFault names words (live_fault.User user f) = (rest : List (List ℕ)) × BeginsWith names words user rest × IsLiveRestFault rest f
+IsUserFault names words live_fault.UnknownUser =
+    (user : ℕ) (rest : List (List ℕ)) → ¬ BeginsWith names words user rest
+IsUserFault names words (live_fault.User user f) =
+    (rest : List (List ℕ)) × BeginsWith names words user rest × IsLiveRestFault rest f
 IsUserFault names words (live_fault.Operator f) = ⊥
-IsUserFault names words live_fault.NoMemory = ⊤
+IsUserFault names words (live_fault.NoMemory user) = (rest : List (List ℕ)) × BeginsWith names words user rest
 
 -- ---- an operator's line
 
@@ -84,6 +93,7 @@ IsOfOperator words v arguments = words ≡ operator_verb_name v ∷ arguments
 abbrev pub OperatorAsks : List (List ℕ) → OperatorVerb → List (List ℕ) → OperatorRequest → Type 0
 OperatorAsks names verb.Words [] operator.Words = ⊤
 OperatorAsks names verb.Users [] operator.Users = ⊤
+OperatorAsks names verb.Memory [] operator.Memory = ⊤
 OperatorAsks names verb.Restart (name ∷ []) (operator.Restart user) = IsUserName names name user
 OperatorAsks names verb.Stop [] operator.Stop = ⊤
 OperatorAsks names v arguments asked = ⊥
@@ -92,13 +102,16 @@ OperatorAsks names v arguments asked = ⊥
 abbrev pub HasOperatorArguments : OperatorVerb → List (List ℕ) → Type 0
 HasOperatorArguments verb.Words [] = ⊤
 HasOperatorArguments verb.Users [] = ⊤
+HasOperatorArguments verb.Memory [] = ⊤
 HasOperatorArguments verb.Restart (name ∷ []) = ⊤
 HasOperatorArguments verb.Stop [] = ⊤
 HasOperatorArguments v arguments = ⊥
 
 -- the words of an operator's line ask this
 abbrev pub IsOperatorLine : List (List ℕ) → List (List ℕ) → OperatorRequest → Type 0
-IsOperatorLine names words asked = (v : OperatorVerb) × (arguments : List (List ℕ)) × IsOfOperator words v arguments × OperatorAsks names v arguments asked
+IsOperatorLine names words asked =
+    (v : OperatorVerb) × (arguments : List (List ℕ)) × IsOfOperator words v arguments
+    × OperatorAsks names v arguments asked
 
 -- what follows an operator's verb is wrong: the number of words, or else the name
 abbrev pub IsOperatorArgumentFault : List (List ℕ) → OperatorVerb → List (List ℕ) → LineFault → Type 0
@@ -110,19 +123,28 @@ IsOperatorArgumentFault names v arguments fault.Hex = ⊥
 
 -- the first thing that is wrong with the words of an operator's line, in the order verb, args, user
 abbrev pub IsOperatorFault : List (List ℕ) → List (List ℕ) → LineFault → Type 0
-IsOperatorFault names words fault.Verb = (v : OperatorVerb) (arguments : List (List ℕ)) → ¬ IsOfOperator words v arguments
-IsOperatorFault names words f = (v : OperatorVerb) × (arguments : List (List ℕ)) × IsOfOperator words v arguments × IsOperatorArgumentFault names v arguments f
+IsOperatorFault names words fault.Verb =
+    (v : OperatorVerb) (arguments : List (List ℕ)) → ¬ IsOfOperator words v arguments
+IsOperatorFault names words f =
+    (v : OperatorVerb) × (arguments : List (List ℕ)) × IsOfOperator words v arguments
+    × IsOperatorArgumentFault names v arguments f
 
 -- ---- a line
 
 -- a line asks this
 abbrev pub IsLiveLine : List (List ℕ) → List ℕ → LiveLine → Type 0
-IsLiveLine names line (live.User user asked) = (is_operators line ≡ false) × IsUserLine names (words_between line) (live.User user asked)
-IsLiveLine names line (live.Operator asked) = (is_operators line ≡ true) × IsOperatorLine names (words_between line) asked
+IsLiveLine names line (live.User user asked) =
+    (is_operators line ≡ false) × IsUserLine names (words_between line) (live.User user asked)
+IsLiveLine names line (live.Operator asked) =
+    (is_operators line ≡ true) × IsOperatorLine names (words_between line) asked
 
 -- why a line asks nothing
 abbrev pub IsLiveFault : List (List ℕ) → List ℕ → LiveFault → Type 0
-IsLiveFault names line live_fault.UnknownUser = (is_operators line ≡ false) × IsUserFault names (words_between line) live_fault.UnknownUser
-IsLiveFault names line (live_fault.User user f) = (is_operators line ≡ false) × IsUserFault names (words_between line) (live_fault.User user f)
-IsLiveFault names line (live_fault.Operator f) = (is_operators line ≡ true) × IsOperatorFault names (words_between line) f
-IsLiveFault names line live_fault.NoMemory = ⊤
+IsLiveFault names line live_fault.UnknownUser =
+    (is_operators line ≡ false) × IsUserFault names (words_between line) live_fault.UnknownUser
+IsLiveFault names line (live_fault.User user f) =
+    (is_operators line ≡ false) × IsUserFault names (words_between line) (live_fault.User user f)
+IsLiveFault names line (live_fault.Operator f) =
+    (is_operators line ≡ true) × IsOperatorFault names (words_between line) f
+IsLiveFault names line (live_fault.NoMemory user) =
+    (is_operators line ≡ false) × IsUserFault names (words_between line) (live_fault.NoMemory user)

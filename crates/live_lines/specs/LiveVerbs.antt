@@ -15,5 +15,6 @@ domain_verb_name domain.Why = codes "why"
 abbrev pub operator_verb_name : OperatorVerb → List ℕ
 operator_verb_name operator.Words = codes "!words"
 operator_verb_name operator.Users = codes "!users"
+operator_verb_name operator.Memory = codes "!memory"
 operator_verb_name operator.Restart = codes "!restart"
 operator_verb_name operator.Stop = codes "!stop"

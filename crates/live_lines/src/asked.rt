@@ -29,6 +29,8 @@ pub enum OperatorRequest {
     Words,
     /// What each user has done.
     Users,
+    /// How much memory the farm takes.
+    Memory,
     /// That the domain of a user begins anew, by the place of his name among all.
     Restart { user: usize },
     /// The end.

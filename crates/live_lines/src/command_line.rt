@@ -1,7 +1,8 @@
 //! The settings that the words of the command line give.
-ghost use Rattle.std.specs.Prelude.{◌≤◌, IfOk};
-ghost use Rattle.live_lines.specs.LiveRanges.{IsInRange};
+ghost use Rattle.std.specs.Prelude.{◌≤◌, IfOk, IfSome};
+ghost use Rattle.live_lines.specs.LiveRanges.{IsInRange, IsRoom};
 
+use clap::error::ErrorKind;
 use clap::{Arg, ArgAction, ArgMatches, Command, value_parser};
 use std::alloc::{AllocError, Global};
 use std::convert::AsStr;
@@ -9,6 +10,11 @@ use std::convert::AsStr;
 const DEFAULT_WORKERS: u8 = 2;
 
 const DEFAULT_QUANTUM: u16 = 256;
+
+/// The least and the greatest room, in bytes: 1 MiB and 64 GiB.
+const LEAST_ROOM: u64 = 1 << 20;
+
+const GREATEST_ROOM: u64 = 1 << 36;
 
 /// What stands below the help.
 const AFTER_HELP: &str = "\
@@ -38,6 +44,10 @@ pub struct LiveSettings {
     pub quantum: u16,
     /// Where the farm is recorded, if it is.
     pub records: Option<RecordSettings>,
+    /// How many bytes of memory the journal of a domain and the lists of its users may take, 1 MiB to 64 GiB.
+    pub room: u64,
+    /// How many bytes the records of a domain may take on disk, 1 MiB to 64 GiB.
+    pub record_room: u64,
 }
 
 // It is dropped by one call.
@@ -48,6 +58,8 @@ impl Drop for LiveSettings {
             workers: _,
             quantum: _,
             records: _,
+            room: _,
+            record_room: _,
         } = self;
     }
 }
@@ -73,7 +85,56 @@ fn settings_in(alloc: Global, matches: &ArgMatches) -> Result<LiveSettings, clap
         workers: workers_of(matches.get_one::<u8>("workers")),
         quantum: quantum_of(matches.get_one::<u16>("quantum")),
         records: records_in(alloc, matches)?,
+        room: room_in(alloc, matches, "room")?,
+        record_room: room_in(alloc, matches, "record-room")?,
     })
+}
+
+// How many bytes a word says: a number, with K, M or G behind it for 1,024 bytes, or 1,024 or 1,048,576 times as many.
+fn parse_size(word: &str) -> Option<u64> {
+    if word.starts_with('+') {
+        return None;
+    }
+    let (digits, unit) = if let Some(digits) = word.strip_suffix("K") {
+        (digits, 1 << 10)
+    } else if let Some(digits) = word.strip_suffix("M") {
+        (digits, 1 << 20)
+    } else if let Some(digits) = word.strip_suffix("G") {
+        (digits, 1 << 30)
+    } else {
+        (word, 1)
+    };
+    let count = digits.parse::<u64>().ok()?;
+    count.checked_mul(unit)
+}
+
+// The room that a word says, if it is one that a domain may have.
+fn parse_room(word: &str) -> Option<u64>
+    ensures { IfSome result IsRoom }
+{
+    match parse_size(word) {
+        Some(bytes) if (LEAST_ROOM..=GREATEST_ROOM).contains(&bytes) => Some(bytes),
+        _ => None,
+    }
+}
+
+// The room that an option says. It has a default.
+fn room_in(alloc: Global, matches: &ArgMatches, name: &'static str) -> Result<u64, clap::Error>
+    ensures { IfOk result IsRoom }
+{
+    let word = matches.get_str(name).unwrap_or("");
+    match parse_room(word) {
+        Some(bytes) => Ok(bytes),
+        None => Err(wrong_room(alloc, name, word)?),
+    }
+}
+
+// That a word is no room.
+fn wrong_room(alloc: Global, name: &str, word: &str) -> Result<clap::Error, AllocError> {
+    let message = format!(in alloc;
+        "invalid value '{word}' for '--{name} <SIZE>': it is no number of bytes from 1M to 64G"
+    )?;
+    live_command(alloc)?.error(ErrorKind::ValueValidation, message.as_str())
 }
 
 // An option that takes a value.
@@ -142,6 +203,26 @@ fn record_option(alloc: Global) -> Arg<'static> {
     )
 }
 
+fn room_option(alloc: Global) -> Arg<'static> {
+    value_option(
+        alloc,
+        "room",
+        "SIZE",
+        "How many bytes of memory a domain may take for what it answers, 1M to 64G",
+    )
+    .default_value("64M")
+}
+
+fn record_room_option(alloc: Global) -> Arg<'static> {
+    value_option(
+        alloc,
+        "record-room",
+        "SIZE",
+        "How many bytes the records of a domain may take on disk, 1M to 64G",
+    )
+    .default_value("256M")
+}
+
 // The arguments, in the order in which the help tells of them.
 fn live_arguments(alloc: Global) -> Result<Vec<Arg<'static>>, AllocError> {
     let resume = record_flag(alloc, "resume", "Goes on with the records that are there")?;
@@ -157,6 +238,8 @@ fn live_arguments(alloc: Global) -> Result<Vec<Arg<'static>>, AllocError> {
         record_option(alloc),
         resume,
         sync,
+        room_option(alloc),
+        record_room_option(alloc),
     ]?)
 }
 
@@ -169,7 +252,8 @@ fn live_command<'a>(alloc: Global) -> Result<Command<'a>, AllocError> {
 }
 
 /// Reads the words of the command line, of which the first is the program's name: the plan's path; `--workers N`, 1 to 8,
-/// default 2; `--quantum N`, 1 to 4,096, default 256; `--record DIR`, and with it `--resume` and `--sync`. The error is `clap`'s: `--help` is one, and want of memory another.
+/// default 2; `--quantum N`, 1 to 4,096, default 256; `--record DIR`, and with it `--resume` and `--sync`; `--room SIZE` and
+/// `--record-room SIZE`, 1M to 64G, default 64M and 256M. The error is `clap`'s: `--help` is one, and want of memory another.
 pub fn live_settings<S: AsStr>(alloc: Global, words: &[S]) -> Result<LiveSettings, clap::Error>
     ensures { IfOk result IsInRange }
 {

@@ -11,6 +11,6 @@ pub enum LiveFault {
     User { user: usize, fault: LineFault },
     /// The line of the operator is wrong: his verb, or the number of words after it, or the user's name there.
     Operator(LineFault),
-    /// There is no memory for it.
-    NoMemory,
+    /// There is no memory for what the line of a user, by the place of his name among all, asks.
+    NoMemory { user: usize },
 }

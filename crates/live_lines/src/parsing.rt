@@ -96,7 +96,7 @@ fn parse_user_line(
     match parse_rest(alloc, words) {
         Ok(request) => Ok(LiveLine::User { user, request }),
         Err(Unread::Faulty(fault)) => Err(LiveFault::User { user, fault }),
-        Err(Unread::NoMemory) => Err(LiveFault::NoMemory),
+        Err(Unread::NoMemory) => Err(LiveFault::NoMemory { user }),
     }
 }
 
@@ -108,6 +108,7 @@ fn with_none(verb: OperatorVerb) -> Result<OperatorRequest, LineFault>
     match verb {
         OperatorVerb::Words => Ok(OperatorRequest::Words),
         OperatorVerb::Users => Ok(OperatorRequest::Users),
+        OperatorVerb::Memory => Ok(OperatorRequest::Memory),
         OperatorVerb::Stop => Ok(OperatorRequest::Stop),
         OperatorVerb::Restart => Err(LineFault::Args),
     }

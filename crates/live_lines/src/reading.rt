@@ -13,6 +13,8 @@ pub enum InputLine {
     Whole(Vec<u8>),
     /// The beginning of a line of more than `MOST_BYTES` bytes. The rest of it was passed over.
     Long(Vec<u8>),
+    /// The beginning of a line for all of which there is no memory. The rest of it was passed over.
+    NoMemory(Vec<u8>),
     /// The end of the input.
     End,
 }
@@ -21,7 +23,14 @@ pub enum InputLine {
 pub fn next_line<R: BufRead>(alloc: Global, input: &mut R) -> io::Result<InputLine> {
     let mut bytes = Vec::new(alloc);
     let mut head = Read::take(&mut *input, MOST_BYTES as u64 + 1);
-    let count = head.read_until(b'\n', &mut bytes)?;
+    let count = match head.read_until(b'\n', &mut bytes) {
+        Ok(count) => count,
+        Err(error) if error.kind() == io::ErrorKind::OutOfMemory => {
+            input.skip_until(b'\n')?;
+            return Ok(InputLine::NoMemory(bytes));
+        }
+        Err(error) => return Err(error),
+    };
     if count == 0 {
         return Ok(InputLine::End);
     }

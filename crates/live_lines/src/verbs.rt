@@ -39,6 +39,8 @@ pub enum OperatorVerb {
     Words,
     /// What each user has done.
     Users,
+    /// How much memory the farm takes.
+    Memory,
     /// That the domain of a user begins anew.
     Restart,
     /// The end.
@@ -54,6 +56,8 @@ impl OperatorVerb {
             Some(OperatorVerb::Words)
         } else if word == b"!users".as_slice() {
             Some(OperatorVerb::Users)
+        } else if word == b"!memory".as_slice() {
+            Some(OperatorVerb::Memory)
         } else if word == b"!restart".as_slice() {
             Some(OperatorVerb::Restart)
         } else if word == b"!stop".as_slice() {

@@ -68,7 +68,7 @@ fn print_boot(alloc: Global, code: &[u8]) -> Result<String, LabFailure> {
         return Err(wrong_length(alloc, code.len()));
     }
     let mut line = TextWriter::new(alloc);
-    line.push_bytes(code);
+    line.push_hex_bytes(code);
     line.push("\n");
     Ok(line.finish()?)
 }

@@ -1,8 +1,9 @@
 //! Bytes that stand in the words of the command line.
 
 use lab_command::ArgumentFault;
-use line_words::{HexFault, bytes_of, decimal_number};
+use line_words::decimal_number;
 use node_trace::{LinkInput, LinkNumber, link_of};
+use script_text::{HexFault, bytes_of};
 use std::alloc::{AllocError, Global};
 
 /// The code that hexadecimal digits spell, if a boot takes it.

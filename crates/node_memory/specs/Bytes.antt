@@ -43,7 +43,9 @@ word_from m i =
 -- memory with the four bytes of a word there
 abbrev pub with_word_from : List ℕ → ℕ → ℕ → List ℕ
 with_word_from m i w =
-    slice_set (slice_set (slice_set (slice_set m i (w % 2 ^ 8)) (i + 1) (w / 2 ^ 8 % 2 ^ 8)) (i + 2) (w / 2 ^ 16 % 2 ^ 8)) (i + 3) (w / 2 ^ 24 % 2 ^ 8)
+    slice_set
+    (slice_set (slice_set (slice_set m i (w % 2 ^ 8)) (i + 1) (w / 2 ^ 8 % 2 ^ 8)) (i + 2) (w / 2 ^ 16 % 2 ^ 8))
+    (i + 3) (w / 2 ^ 24 % 2 ^ 8)
 
 -- the word at an address
 unfoldable pub word_at : List ℕ → ℕ → Result ℕ Fault
@@ -64,7 +66,8 @@ result_and_then (Ok a) next = next a
 result_and_then (Err fault) next = Err fault
 
 -- goes on with the memory that a write leaves; a fault leaves the memory before it
-abbrev pub after_write : Result (List ℕ) Fault → List ℕ → (List ℕ → Result (Unit {0}) Fault × List ℕ) → Result (Unit {0}) Fault × List ℕ
+abbrev pub after_write : Result (List ℕ) Fault → List ℕ → (List ℕ → Result (Unit {0}) Fault × List ℕ)
+    → Result (Unit {0}) Fault × List ℕ
 after_write (Ok n) m next = next n
 after_write (Err fault) m next = (Err fault, m)
 
@@ -78,4 +81,5 @@ copied (suc count) m from to =
 -- bytes of a list copied so from one place to another
 abbrev pub copied_within : ℕ → List ℕ → ℕ → ℕ → List ℕ
 copied_within zero bytes from to = bytes
-copied_within (suc count) bytes from to = copied_within count (slice_set bytes to (slice_index bytes from)) (from + 1) (to + 1)
+copied_within (suc count) bytes from to =
+    copied_within count (slice_set bytes to (slice_index bytes from)) (from + 1) (to + 1)

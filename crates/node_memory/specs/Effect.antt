@@ -38,7 +38,8 @@ store_byte s m a b next = tried (with_byte m a b) s m next
 
 -- memory after so many bytes were copied from one address to another; a fault leaves what was copied before it
 abbrev pub copy : {A S : Type 0} → S → List ℕ → ℕ → ℕ → ℕ → (List ℕ → Effect A S) → Effect A S
-copy s m count from to next = tried (copied count m from to).0 s (copied count m from to).1 (λ _. next (copied count m from to).1)
+copy s m count from to next =
+    tried (copied count m from to).0 s (copied count m from to).1 (λ _. next (copied count m from to).1)
 
 -- goes on with the answer of an operation and what it left
 abbrev pub perform : {A B S : Type 0} → Effect B S → (B × S × List ℕ → Effect A S) → Effect A S

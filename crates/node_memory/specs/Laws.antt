@@ -15,7 +15,8 @@ WordHasFourAddresses = (m : List ℕ) (a b : ℕ) → a / 4 ≡ b / 4 → word_a
 
 -- every other word stays
 abbrev pub OtherWordsStay : Type 0
-OtherWordsStay = (m n : List ℕ) (a b w : ℕ) → a / 4 ≢ b / 4 → with_word m a w ≡ Ok n → word_at n b ≡ word_at m b
+OtherWordsStay =
+    (m n : List ℕ) (a b w : ℕ) → a / 4 ≢ b / 4 → with_word m a w ≡ Ok n → word_at n b ≡ word_at m b
 
 -- a write of a word meets a fault exactly if a read of it does
 abbrev pub WriteFaultsAsRead : Type 0

@@ -4,8 +4,6 @@ pub mod Effect
 pub mod Marks
 pub mod Words
 pub mod Faults
-pub mod Queue
 -- what only helps contracts
 pub mod Kept
 pub mod Laws
-pub mod Waiting

@@ -1,5 +1,4 @@
-//! The memory of a node, the queue of processes that is linked through it, the faults that halt it, and arithmetic on its
-//! words.
+//! The memory of a node, the faults that halt it, and arithmetic on its words.
 //!
 //! Words have 32 bits and stand least significant byte first. Arithmetic wraps; the `_checked`
 //! forms tell beside it whether the signed result did not fit. `NoMemory` is the allocator's own
@@ -9,13 +8,11 @@
 mod fault;
 mod laws;
 mod memory;
-mod queue;
 mod words;
 
 pub use fault::Fault;
 pub use laws::{copies_stop_at_the_edge, written_bytes_are_read, written_words_are_read};
 pub use memory::{Fetched, MEMORY_START, Memory, is_memory_size};
-pub use queue::{LINK_BELOW, NOT_PROCESS, Queue};
 pub use std::alloc::AllocError as NoMemory;
 pub use words::{
     add_checked, double, high, low, mul_checked, normal_places, overflows, shift_left, shift_right,

@@ -300,11 +300,16 @@ impl Memory {
         self.kept.clear();
     }
 
+    /// The allocator that its bytes were made with.
+    pub fn allocator(&self) -> Global {
+        *self.kept.allocator()
+    }
+
     /// Memory with the same bytes. `NoMemory` where they can't be allocated.
-    pub fn copy(&self) -> Result<Memory, NoMemory>
+    pub fn copy(&self, alloc: Global) -> Result<Memory, NoMemory>
         ensures { IfOk result (λ memory. memory ≡ self.now) }
     {
-        let mut kept = Vec::with_capacity(*self.kept.allocator(), self.size)?;
+        let mut kept = Vec::with_capacity(alloc, self.size)?;
         kept.extend_from_slice(self.kept.as_slice())?;
         Ok(Memory {
             kept,

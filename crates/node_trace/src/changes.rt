@@ -134,7 +134,7 @@ fn write_field(text: &mut TextWriter, field: ChangedField) {
         Value::Word(word) => text.push_word(word),
         Value::Count(count) => text.push_decimal(u64::from(count)),
         Value::Flag(flag) => text.push(if flag { "1" } else { "0" }),
-        Value::Byte(Some(byte)) => text.push_byte(byte),
+        Value::Byte(Some(byte)) => text.push_hex_byte(byte),
         Value::Byte(None) => text.push("-"),
         Value::Message(pointer, count) => {
             text.push_word(pointer);

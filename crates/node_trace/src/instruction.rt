@@ -24,7 +24,7 @@ impl InstructionByte {
         let Some(mut registers) = node.registers() else {
             return Ok(None);
         };
-        let mut memory = node.memory().copy()?;
+        let mut memory = node.memory().copy(node.memory().allocator())?;
         let mut links = node.links().copy();
         Ok(find_next(&mut registers, &mut memory, &mut links).unwrap_or(None))
     }

@@ -8,7 +8,7 @@ pub fn write_packet(text: &mut TextWriter, packet: Option<Packet>) {
     match packet {
         Some(Packet::Byte(byte)) => {
             text.push("byte ");
-            text.push_byte(byte);
+            text.push_hex_byte(byte);
         }
         Some(Packet::Ack) => text.push("acknowledge"),
         None => text.push("none"),

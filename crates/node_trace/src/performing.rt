@@ -124,7 +124,7 @@ fn make_change<M: StepMeter>(
             Err(fault) => write_refused(text, fault, code.len()),
         },
         NodeChange::Receive(link) => match receive(node, *link) {
-            Some(byte) => text.push_byte(byte),
+            Some(byte) => text.push_hex_byte(byte),
             None => text.push("none"),
         },
         NodeChange::Poke(address, word) => poke(node, *address, *word),

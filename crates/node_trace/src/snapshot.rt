@@ -16,7 +16,7 @@ impl Snapshot {
     pub fn of(node: &Node) -> Result<Snapshot, NoMemory> {
         Ok(Snapshot {
             registers: node.registers(),
-            memory: node.memory().copy()?,
+            memory: node.memory().copy(node.memory().allocator())?,
             links: node.links().four(),
         })
     }

@@ -111,7 +111,8 @@ IsPlan bytes plan = (version : PlanVersion) × IsDocument bytes (document versio
 abbrev pub ReadsPlan : List ℕ → Result (List DomainData) PlanFault → Type 0
 ReadsPlan bytes (Ok plan) = IsPlan bytes plan
 ReadsPlan bytes (Err Text) = (members : Members) → ¬ IsDocument bytes members
-ReadsPlan bytes (Err Shape) = ((members : Members) × IsDocument bytes members) × ((plan : List DomainData) → ¬ IsPlan bytes plan)
+ReadsPlan bytes (Err Shape) =
+    ((members : Members) × IsDocument bytes members) × ((plan : List DomainData) → ¬ IsPlan bytes plan)
 ReadsPlan bytes (Err NoMemory) = Unit {0}
 ReadsPlan bytes (Err _) = ⊥
 
@@ -123,7 +124,8 @@ ReadsDocument fields (Err NoMemory) = Unit {0}
 ReadsDocument fields (Err _) = ⊥
 
 -- What a function that reads a part answers: a value that the data spells, or that nothing whole is spelled so.
-abbrev pub ReadsValue : {X Y D : Type 0} → (Y → Type 0) → (Y → D) → (X → Y) → D → Result X PlanFault → Type 0
+abbrev pub ReadsValue : {X Y D : Type 0} → (Y → Type 0) → (Y → D) → (X → Y) → D → Result X PlanFault
+    → Type 0
 ReadsValue Whole spelling shown value (Ok x) = (value ≡ spelling (shown x)) × Whole (shown x)
 ReadsValue {X} {Y} Whole spelling shown value (Err Shape) = (y : Y) → Whole y → ¬ (value ≡ spelling y)
 ReadsValue Whole spelling shown value (Err NoMemory) = Unit {0}

@@ -15,4 +15,5 @@ HasSmallestFault bytes fault = (plan : List DomainData) × IsPlan bytes plan × 
 -- the refusal names the fault for which the checker refuses the text; NoMemory is no fault of a text
 abbrev pub IsRefusalOf : List ℕ → PlanRefusal → Type 0
 IsRefusalOf bytes NoMemory = Unit {0}
-IsRefusalOf bytes (Refused fault reason) = (fault ≢ plan_fault.NoMemory) × (ReadsPlan bytes (Err fault) ⊎ HasSmallestFault bytes fault)
+IsRefusalOf bytes (Refused fault reason) =
+    (fault ≢ plan_fault.NoMemory) × (ReadsPlan bytes (Err fault) ⊎ HasSmallestFault bytes fault)

@@ -22,7 +22,8 @@ pub record PartData : Type 0 where
 
 -- a part with these fields
 abbrev pub part_with : ℕ → ℕ → ℕ → List NodePart → List HostPart → PartData
-part_with count limit users nodes hosts = record { count = count; limit = limit; users = users; nodes = nodes; hosts = hosts }
+part_with count limit users nodes hosts =
+    record { count = count; limit = limit; users = users; nodes = nodes; hosts = hosts }
 
 -- the virtual ports of a node's wired links
 abbrev pub wired_ports : NodePart → List ℕ

@@ -8,14 +8,16 @@ use Rattle.record_keeping.specs.Pieces.{JournalPiece, entries_of, AreGained, End
 use Rattle.record_keeping.specs.Writing.{stored_text}
 
 -- a record kept pieces, of which the last leaves room, unless there may be more
-pub record KeepsPieces {S : Type 0} {g : _} (whole : S → Option (List ℕ)) (plan : List DomainData) (number : ℕ) (more : Bool)
-    (old new : DomainRecord S g) : Type 0 where
+pub record KeepsPieces {S : Type 0} {g : _} (whole : S → Option (List ℕ)) (plan : List DomainData) (number : ℕ)
+    (more : Bool) (old new : DomainRecord S g) : Type 0 where
   pub pieces : List JournalPiece
   pub gained : AreGained plan number (vec_capacity old.room) old.mark pieces new.mark
   pub last : more ≡ false → number < length plan → EndWithRoom (vec_capacity old.room) pieces
-  pub text : Appends (stored_text whole old.store) (stored_text whole new.store) (record_text (lines_of (entries_of pieces)))
+  pub text : Appends (stored_text whole old.store) (stored_text whole new.store)
+      (record_text (lines_of (entries_of pieces)))
 
 -- the mark and what is whole of a record stay
-pub record KeepsNothing {S : Type 0} {g : _} (whole : S → Option (List ℕ)) (old new : DomainRecord S g) : Type 0 where
+pub record KeepsNothing {S : Type 0} {g : _} (whole : S → Option (List ℕ)) (old new : DomainRecord S g)
+    : Type 0 where
   pub mark : new.mark ≡ old.mark
   pub text : stored_text whole new.store ≡ stored_text whole old.store

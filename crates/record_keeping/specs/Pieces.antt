@@ -16,11 +16,13 @@ pub record JournalPiece : Type 0 where
 abbrev pub entries_of : List JournalPiece → List Entry
 entries_of pieces = flat_map (λ piece. piece.entries) pieces
 
--- a domain's journal gained these pieces one after another, from a mark up to another; each was copied where there were so many places
+-- a domain's journal gained these pieces one after another, from a mark up to another; each was copied where there were
+-- so many places
 abbrev pub AreGained : List DomainData → ℕ → ℕ → Mark → List JournalPiece → Mark → Type 0
 AreGained plan number places from [] to = to ≡ from
 AreGained plan number places from (piece ∷ later) to =
-    GainsCopies plan number from piece.reached [] piece.entries 0 places × AreGained plan number places piece.reached later to
+    GainsCopies plan number from piece.reached [] piece.entries 0 places
+    × AreGained plan number places piece.reached later to
 
 -- a piece that has entries doesn't fill so many places
 abbrev pub LeavesRoom : ℕ → JournalPiece → Type 0

@@ -13,6 +13,7 @@ use domain_core::{Entry, Journal, Mark, NoMemory};
 use farm_records::write_records_of;
 use farm_service::Service;
 use std::alloc::Global;
+use std::io;
 use std::sync::Wait;
 
 /// The most entries that are copied under a domain's lock at a time.
@@ -61,7 +62,7 @@ impl<S: RecordStore> DomainRecord<S> {
         journal: &Journal,
     ) -> Result<DomainRecord<S>, NoMemory>
         requires whole { S.whole store ≡ S.contents store }
-        requires bare { journal.now ≡ [] → IfSome (S.contents store) (λ held. held ≡ string_bytes head) }
+        requires bare { journal.now.entries ≡ [] → IfSome (S.contents store) (λ held. held ≡ string_bytes head) }
         ensures store { IfOk result (λ opened. opened.store ≡ Some store) }
         ensures head { IfOk result (λ opened. opened.head ≡ head) }
         ensures places { IfOk result (λ opened. vec_capacity opened.room ≡ PIECE) }
@@ -330,6 +331,40 @@ impl<S: RecordStore> DomainRecord<S> {
         }
         self.failed = false;
         Ok(())
+    }
+
+    /// How many bytes of the record that is written to are whole; none if nothing is recorded.
+    pub fn bytes(&self) -> u64 {
+        match &self.store {
+            Some(store) => store.bytes(),
+            None => 0,
+        }
+    }
+
+    /// How many bytes the older records of the domain take.
+    pub fn older_bytes(&self) -> u64 {
+        match &self.store {
+            Some(store) => store.older_bytes(),
+            None => 0,
+        }
+    }
+
+    /// Removes the oldest record of the domain, but never the one that is written to. Returns where it was, or `None` if there is
+    /// no older one.
+    ///
+    /// # Errors
+    ///
+    /// The system's. All records stay.
+    pub fn remove_oldest(&mut self) -> io::Result<Option<String>>
+        ensures text { stored_text S.whole self.new.store ≡ stored_text S.whole self.old.store }
+        ensures mark { self.new.mark ≡ self.old.mark }
+        ensures rest { (self.new.failed ≡ self.old.failed) × (self.new.owes_next ≡ self.old.owes_next) × (self.new.is_out ≡ self.old.is_out) }
+        ensures same { IsSameRecord self.old self.new }
+    {
+        match &mut self.store {
+            Some(store) => store.remove_oldest(),
+            None => Ok(None),
+        }
     }
 
     /// Whether something isn't recorded.

@@ -51,6 +51,22 @@ pub trait RecordStore: Drop {
         ensures cut { OnOk result (contents self.new ≡ whole self.old) }
         ensures stays { whole self.new ≡ whole self.old };
 
+    /// How many bytes of the record that is written to are whole.
+    fn bytes(&self) -> u64;
+
+    /// How many bytes the older records of the domain take.
+    fn older_bytes(&self) -> u64;
+
+    /// Removes the oldest record of the domain, but never the one that is written to. Returns where it was, or `None` if there is no
+    /// older one.
+    ///
+    /// # Errors
+    ///
+    /// The system's. All records stay.
+    fn remove_oldest(&mut self) -> io::Result<Option<String>>
+        ensures contents { contents self.new ≡ contents self.old }
+        ensures whole { whole self.new ≡ whole self.old };
+
     /// Where the record is that is written to.
     fn path(&self, alloc: Global) -> Result<String, NoMemory>;
 

@@ -14,6 +14,9 @@ use Rattle.std.proofs.lemmas.List.{get_or_past, length-map}
 use Rattle.std.proofs.lemmas.List.Elements.{filter-append, All-from_recursion}
 use Rattle.std.proofs.lemmas.Str.{IsUtf8-from_ascii}
 use Rattle.std.proofs.lemmas.Str.Parse.{digit_at}
+use Rattle.hex.specs.Hex.{is_hex_digit}
+use Rattle.hex.proofs.HexLemmas.{decode_of-ok}
+use Rattle.script_text.specs.Hexadecimal.{Spells}
 use Rattle.script_text.specs.Lines.{asks_nothing, line_of, after_line}
 use Rattle.script_lines.specs.declared.script.ScriptLine.{ScriptLine}
 use Rattle.script_lines.specs.declared.fault.LineFault.{LineFault}
@@ -35,6 +38,21 @@ pub digits_are_utf8 : (word : List ℕ) → AllDigits 10 word → IsUtf8 word
 digits_are_utf8 word digits = IsUtf8-from_ascii word (λ i.
     elim (cases_lt i (length word)) [
       | inl inside ↦ let range = digit_at word i digits inside in omega (arith, range.1)
+      | inr past ↦ omega (arith, get_or_past word i 0 past)
+    ])
+
+-- a hexadecimal digit is below 128
+digit_is_ascii : (byte : ℕ) → is_hex_digit byte ≡ true → byte < 128
+digit_is_ascii byte is = grind (arith)
+
+-- a word that spells bytes is UTF-8
+pub spelling_is_utf8 : (word bytes : List ℕ) → Spells word bytes → IsUtf8 word
+spelling_is_utf8 [] bytes spells = absurd spells
+spelling_is_utf8 (digit ∷ digits) bytes spells =
+    let word = digit ∷ digits in
+    IsUtf8-from_ascii word (λ i.
+    elim (cases_lt i (length word)) [
+      | inl inside ↦ digit_is_ascii _ ((decode_of-ok word bytes spells).1 i 0 inside)
       | inr past ↦ omega (arith, get_or_past word i 0 past)
     ])
 

@@ -3,3 +3,4 @@ pub mod Verbs
 pub mod Words
 pub mod Lines
 pub mod Script
+pub mod Faults

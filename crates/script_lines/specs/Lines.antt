@@ -1,5 +1,5 @@
--- A line of a script: `USER config BYTES`, `USER write HOST BYTES`, `USER boot HOST CODE`, `USER poke HOST ADDRESS WORD`, `USER peek HOST ADDRESS`,
--- `USER collect HOST`, `USER reset NODE` or `USER look NODE`.
+-- A line of a script: `USER config BYTES`, `USER write HOST BYTES`, `USER boot HOST CODE`, `USER poke HOST ADDRESS
+-- WORD`, `USER peek HOST ADDRESS`, `USER collect HOST`, `USER reset NODE` or `USER look NODE`.
 use Rattle.std.specs.Prelude.{◌≡◌, ℕ, List, [], ◌∷◌, Some, slice_get, ⊤}
 use Rattle.script_text.specs.Hexadecimal.{Spells}
 use Rattle.script_lines.specs.declared.command.Command.{Command}
@@ -16,7 +16,8 @@ abbrev pub Requests : Verb → List (List ℕ) → Command → Type 0
 Requests Config (digits ∷ []) (command.Config bytes) = Spells digits bytes.items
 Requests Write (place ∷ digits ∷ []) (command.Write host bytes) = IsDecimal place host × Spells digits bytes.items
 Requests Boot (place ∷ digits ∷ []) (command.Boot host code) = IsDecimal place host × Spells digits code.items
-Requests Poke (place ∷ at ∷ stored ∷ []) (command.Poke host address word) = IsDecimal place host × IsWord at address × IsWord stored word
+Requests Poke (place ∷ at ∷ stored ∷ []) (command.Poke host address word) =
+    IsDecimal place host × IsWord at address × IsWord stored word
 Requests Peek (place ∷ at ∷ []) (command.Peek host address) = IsDecimal place host × IsWord at address
 Requests Collect (place ∷ []) (command.Collect host) = IsDecimal place host
 Requests Reset (place ∷ []) (command.Reset node) = IsDecimal place node
@@ -71,15 +72,18 @@ abbrev pub IsArgumentFault : Verb → List (List ℕ) → LineFault → Type 0
 IsArgumentFault verb arguments fault.User = ⊥
 IsArgumentFault verb arguments fault.Verb = ⊥
 IsArgumentFault verb arguments fault.Args = ¬ HasArguments verb arguments
-IsArgumentFault verb arguments fault.Hex = HasArguments verb arguments × ((c : Command) → ¬ Requests verb arguments c)
+IsArgumentFault verb arguments fault.Hex =
+    HasArguments verb arguments × ((c : Command) → ¬ Requests verb arguments c)
 
 -- what follows a name is wrong: there is no verb, or what follows it is wrong
 abbrev pub IsRestFault : List (List ℕ) → LineFault → Type 0
 IsRestFault rest fault.User = ⊥
 IsRestFault rest fault.Verb = (verb : Verb) (arguments : List (List ℕ)) → ¬ IsOf rest verb arguments
-IsRestFault rest f = (verb : Verb) × (arguments : List (List ℕ)) × IsOf rest verb arguments × IsArgumentFault verb arguments f
+IsRestFault rest f =
+    (verb : Verb) × (arguments : List (List ℕ)) × IsOf rest verb arguments × IsArgumentFault verb arguments f
 
 -- the first thing that is wrong with the words of a line, in the order user, verb, args, hex
 abbrev pub IsLineFault : List (List ℕ) → List (List ℕ) → LineFault → Type 0
 IsLineFault names words fault.User = (user : ℕ) (rest : List (List ℕ)) → ¬ BeginsWith names words user rest
-IsLineFault names words f = (user : ℕ) × (rest : List (List ℕ)) × BeginsWith names words user rest × IsRestFault rest f
+IsLineFault names words f =
+    (user : ℕ) × (rest : List (List ℕ)) × BeginsWith names words user rest × IsRestFault rest f

@@ -21,4 +21,6 @@ pub record IsDecimal (word : List ℕ) (number : ℕ) : Type 0 where
 
 -- a word spells a word of 32 bits: eight hexadecimal digits, the most significant first
 abbrev pub IsWord : List ℕ → ℕ → Type 0
-IsWord word value = (a b c d : ℕ) × Spells word (a ∷ b ∷ c ∷ d ∷ []) × (value ≡ from_be_bytes w32 (a ∷ b ∷ c ∷ d ∷ []))
+IsWord word value =
+    (a b c d : ℕ) × Spells word (a ∷ b ∷ c ∷ d ∷ [])
+    × (value ≡ from_be_bytes w32 (a ∷ b ∷ c ∷ d ∷ []))

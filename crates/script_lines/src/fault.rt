@@ -1,5 +1,6 @@
 //! What is wrong with a script.
 ghost use Rattle.std.specs.Prelude.{◌≡◌};
+ghost use Rattle.script_lines.specs.Faults.{line_fault_number, script_fault_number};
 ghost use Rattle.script_lines.specs.declared.fault.Unread.TheVariants.{NoMemory};
 
 use std::alloc::AllocError;
@@ -22,6 +23,20 @@ pub enum LineFault {
     Hex,
 }
 
+impl LineFault {
+    /// The number of the fault, in the order of the tests: 1 for the user, 2 for the verb, 3 for the arguments, 4 for digits.
+    pub fn number(self) -> u8
+        ensures { result ≡ line_fault_number self }
+    {
+        match self {
+            LineFault::User => 1,
+            LineFault::Verb => 2,
+            LineFault::Args => 3,
+            LineFault::Hex => 4,
+        }
+    }
+}
+
 /// Why a script isn't read.
 #[derive(Clone, Copy, Debug, Error)]
 pub enum ScriptFault {
@@ -31,6 +46,18 @@ pub enum ScriptFault {
     /// There is no memory for the lines.
     #[error("out of memory")]
     NoMemory,
+}
+
+impl ScriptFault {
+    /// The number of the fault, whatever is wrong with the line: 1 where a line is wrong, 2 if memory ran out.
+    pub fn number(self) -> u8
+        ensures { result ≡ script_fault_number self }
+    {
+        match self {
+            ScriptFault::Line { .. } => 1,
+            ScriptFault::NoMemory => 2,
+        }
+    }
 }
 
 /// Why a line isn't read.

@@ -8,7 +8,7 @@ ghost use Rattle.script_lines.specs.Words.{IsDecimal, IsWord};
 ghost use Rattle.script_text.specs.Hexadecimal.{Spells};
 
 use crate::fault::{LineFault, Unread};
-use hex::FromHexError;
+use script_text::{HexFault, bytes_of};
 use std::alloc::Global;
 
 /// The number of a host or node that decimal digits spell, at most 255.
@@ -32,14 +32,13 @@ pub(crate) fn parse_bytes(alloc: Global, word: &[u8]) -> Result<Vec<u8>, Unread>
     ensures bytes { IfOk result (λ bytes. Spells word.now bytes.items) }
     ensures fault { IfErr result (λ u. (f : SpecLineFault) → u ≡ Faulty f → (f ≡ Hex) × ((bytes : List ℕ) → ¬ Spells word.now bytes)) }
 {
-    if word.is_empty() {
+    let Ok(digits) = std::str::from_utf8(word) else {
         return Err(Unread::Faulty(LineFault::Hex));
-    }
-    match hex::decode(alloc, word) {
-        Ok(bytes) => Ok(bytes),
-        Err(FromHexError::OutOfMemory) => Err(Unread::NoMemory),
-        Err(_) => Err(Unread::Faulty(LineFault::Hex)),
-    }
+    };
+    bytes_of(alloc, digits).map_err(|fault| match fault {
+        HexFault::NotHex => Unread::Faulty(LineFault::Hex),
+        HexFault::NoMemory => Unread::NoMemory,
+    })
 }
 
 /// The word of 32 bits that eight hexadecimal digits spell, the most significant first.

@@ -3,7 +3,7 @@ use Rattle.std.proofs.Common.{◌≡◌, ◌+◌, ◌<◌, ℕ, List, [], ◌∷
 use Rattle.std.proofs.Common.{◌∙◌, subst, append_assoc, take, get_or, length}
 use Rattle.std.proofs.lemmas.List.{append-nil, take_more}
 use Rattle.domain_core.specs.Domain.{DomainValue}
-use Rattle.farm_core.specs.Places.{Place}
+use Rattle.whole_farm.specs.Places.{Place}
 use Rattle.script_replay.specs.declared.asks.AskedLine.{AskedLine}
 use Rattle.script_replay.specs.Lines.{ShowsLine, AreLinesFrom}
 

@@ -8,7 +8,7 @@ use Rattle.domain_core.specs.declared.event.Refusal.{Refusal}
 use Rattle.domain_core.specs.declared.event.Refusal.TheVariants.{NoSuch, JournalFull, NoMemory}
 use Rattle.domain_core.specs.Domain.{DomainValue, UnlessNoMemory}
 use Rattle.domain_core.specs.PrivateFarm.{Answer, Call}
-use Rattle.farm_core.specs.Laws.{RunsAddUp}
+use Rattle.whole_farm.specs.Laws.{RunsAddUp}
 use Rattle.domain_core.specs.declared.event.Told.{Told}
 use Rattle.farm_replay.specs.Runs.{HaveRun, HasGoneOn}
 use Rattle.script_replay.proofs.Runs.{no_calls, more_calls, gone_nowhere}

@@ -3,10 +3,10 @@ use Rattle.std.proofs.Common.{ℕ, List, [], ◌++◌, refl, sym, ◌∙◌, sub
 use Rattle.std.proofs.lemmas.List.Elements.{All-from_recursion}
 use Rattle.domain_core.specs.PrivateFarm.{Answer, Call}
 use Rattle.domain_core.specs.Domain.{DomainValue}
-use Rattle.farm_core.specs.Whole.{Farm, whole_after}
-use Rattle.farm_core.specs.Domains.{IsMadeOf}
-use Rattle.farm_core.specs.Laws.{RunsAddUp}
-use Rattle.farm_core.specs.Values.{all_places, all_states}
+use Rattle.whole_farm.specs.Whole.{Farm, whole_after}
+use Rattle.whole_farm.specs.Domains.{IsMadeOf}
+use Rattle.whole_farm.specs.Laws.{RunsAddUp}
+use Rattle.whole_farm.specs.Values.{all_places, all_states}
 use Rattle.farm_replay.specs.Runs.{IsRunTo, HaveRun, IsOfTheFarm, HasGoneOn}
 
 -- no call leaves the domains as they are

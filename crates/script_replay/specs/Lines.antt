@@ -6,7 +6,7 @@ use Rattle.domain_core.specs.declared.event.Refusal.{Refusal}
 use Rattle.domain_core.specs.declared.event.Refusal.TheVariants.{NoMemory}
 use Rattle.domain_core.specs.Domain.{DomainValue}
 use Rattle.domain_core.specs.PrivateFarm.{Answer, Call}
-use Rattle.farm_core.specs.Places.{Place}
+use Rattle.whole_farm.specs.Places.{Place}
 use Rattle.domain_core.specs.declared.event.Told.{Told}
 use Rattle.farm_replay.specs.declared.request.RepeatedRequest.{RepeatedRequest}
 use Rattle.farm_replay.specs.Plain.{asked_by}
@@ -34,7 +34,8 @@ abbrev pub answers_told : List Told → List Answer
 answers_told told = map (λ t. Ok t.reply) told
 
 -- the farm refuses what the line asks next, and nothing changes
-pub record IsRefusedNext (l : UserLine) (told : List Told) (domains : List DomainValue) (refusal : Refusal) : Type 0 where
+pub record IsRefusedNext (l : UserLine) (told : List Told) (domains : List DomainValue) (refusal : Refusal)
+    : Type 0 where
   pub event : Event
   pub next : next_event l.command told ≡ Some event
   pub run : HaveRun domains domains (call_of_line l event ∷ []) (Err refusal ∷ [])
@@ -57,7 +58,8 @@ IsAtEnd true l told = ⊤
 IsAtEnd false l told = next_event l.command told ≡ None
 
 -- how that ends
-abbrev pub HasStopped : {A : Type 0} → Bool → UserLine → List Told → List DomainValue → Result A Refusal → Type 0
+abbrev pub HasStopped : {A : Type 0} → Bool → UserLine → List Told → List DomainValue → Result A Refusal
+    → Type 0
 HasStopped stops l told domains (Ok done) = IsAtEnd stops l told
 HasStopped stops l told domains (Err refusal) = IsStoppedBy l told domains refusal
 
@@ -77,7 +79,8 @@ HasEndedOn l told domains (Ok done) = next_event l.command told ≡ None
 HasEndedOn l told domains (Err refusal) = IsStoppedBy l told domains refusal ⊎ (is_peek l.command ≡ true)
 
 -- a line asks all that it asks: some events, and those behind the settling of a peek
-pub record AsksWhole {A : Type 0} (l : UserLine) (told : List Told) (old new : List DomainValue) (result : Result A Refusal) : Type 0 where
+pub record AsksWhole {A : Type 0} (l : UserLine) (told : List Told) (old new : List DomainValue)
+    (result : Result A Refusal) : Type 0 where
   pub first : List Told
   pub second : List Told
   pub before : List DomainValue
@@ -105,7 +108,8 @@ pub record IsSettledLine (l : UserLine) (old new : List DomainValue) (text : Lis
   pub settled : HasGoneOn l.domain before new
 
 -- a line of the lab's own, and its end
-pub record IsLabLine (plan : List Place) (request : RepeatedRequest) (old new : List DomainValue) (text : List ℕ) : Type 0 where
+pub record IsLabLine (plan : List Place) (request : RepeatedRequest) (old new : List DomainValue) (text : List ℕ)
+    : Type 0 where
   pub line : List ℕ
   pub shows : ShowsAsked plan (asked_by request) old new line
   pub is_text : text ≡ line ++ codes "\n"
@@ -118,9 +122,11 @@ ShowsLine plan (OfUser l) old new text = IsSettledLine l old new text
 -- the answers to lines, one after another, each by the domains that the one before left
 abbrev pub AreLinesFrom : List Place → List DomainValue → List AskedLine → List (List ℕ) → Type 0
 AreLinesFrom plan domains [] [] = ⊤
-AreLinesFrom plan domains (line ∷ lines) (text ∷ texts) = (next : List DomainValue) × ShowsLine plan line domains next text × AreLinesFrom plan next lines texts
+AreLinesFrom plan domains (line ∷ lines) (text ∷ texts) =
+    (next : List DomainValue) × ShowsLine plan line domains next text × AreLinesFrom plan next lines texts
 AreLinesFrom plan domains lines texts = ⊥
 
 -- the same from the opening of the farm
 abbrev pub AreLinesOnAFarm : List Place → List AskedLine → List (List ℕ) → Type 0
-AreLinesOnAFarm plan lines texts = (opened : List DomainValue) × IsOpenedFarm plan opened × AreLinesFrom plan opened lines texts
+AreLinesOnAFarm plan lines texts =
+    (opened : List DomainValue) × IsOpenedFarm plan opened × AreLinesFrom plan opened lines texts

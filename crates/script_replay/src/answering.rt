@@ -1,6 +1,6 @@
 //! Lines on a farm on one thread, one after another, and what each is answered.
 ghost use Rattle.std.specs.Prelude.{◌≡◌, length, map, IfOk, string_bytes};
-ghost use Rattle.farm_core.specs.Places.{places_of};
+ghost use Rattle.whole_farm.specs.Places.{places_of};
 ghost use Rattle.script_replay.specs.Lines.{ShowsUserLine, IsSettledLine, IsLabLine, ShowsLine, AreLinesOnAFarm};
 
 use crate::asking::{QUANTUM, ask_line};

@@ -5,10 +5,10 @@ ghost use Rattle.script_replay.specs.Lines.{AsksOn, AsksWhole, HasStopped};
 use crate::asks::UserLine;
 use crate::next::{is_peek, is_read, next_event};
 use domain_core::{By, Refusal, Told};
-use farm_core::laws::runs_add_up;
 use farm_replay::{AskFault, OpenFarm};
 use line_answers::ROUNDS;
 use step_meter::{StepMeter, StepsEnd};
+use whole_farm::laws::runs_add_up;
 
 /// How many Steps a node does at a time while a domain settles, as in the program unless it is told otherwise.
 pub(crate) const QUANTUM: u64 = 256;

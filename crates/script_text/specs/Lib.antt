@@ -1,4 +1,6 @@
 -- what must be believed
 pub mod Hexadecimal
+pub mod HexFaults
+pub mod ReadFaults
 pub mod Lines
 pub mod Writing

@@ -7,10 +7,13 @@ use Rattle.std.specs.Str.Lines.{strip_carriage_return}
 abbrev pub is_line_feed : ℕ → Bool
 is_line_feed byte = byte == 10
 
--- the first line of a text: what stands before the first line feed, without one carriage return at its end, or the whole text
+-- the first line of a text: what stands before the first line feed, without one carriage return at its end, or the
+-- whole text
 abbrev pub line_of : List ℕ → List ℕ
 line_of text =
-    if nat_lt (position_or_len is_line_feed text) (length text) then strip_carriage_return (before_first is_line_feed text) else text
+    if nat_lt (position_or_len is_line_feed text) (length text)
+    then strip_carriage_return (before_first is_line_feed text)
+    else text
 
 -- what follows the first line
 abbrev pub after_line : List ℕ → List ℕ
@@ -27,12 +30,14 @@ IsLine text number line = (from_line number text ≢ []) × (line_of (from_line 
 
 -- the first line of just these bytes has this number
 abbrev pub IsFirstLineOf : List ℕ → List ℕ → ℕ → Type 0
-IsFirstLineOf text mark number = IsLine text number mark × ((other : ℕ) → other < number → ¬ IsLine text other mark)
+IsFirstLineOf text mark number =
+    IsLine text number mark × ((other : ℕ) → other < number → ¬ IsLine text other mark)
 
 -- what stands before and after the first line that is the mark; if there is none all stands before
 abbrev pub IsDivided : List ℕ → List ℕ → List ℕ → List ℕ → Type 0
 IsDivided text mark before after =
-    ((number : ℕ) × IsFirstLineOf text mark number × (text ≡ before ++ from_line number text) × (after ≡ from_line (suc number) text))
+    ((number : ℕ) × IsFirstLineOf text mark number × (text ≡ before ++ from_line number text)
+    × (after ≡ from_line (suc number) text))
     ⊎ (((number : ℕ) → ¬ IsLine text number mark) × (before ≡ text) × (after ≡ []))
 
 -- a line that is empty or begins with `#`

@@ -4,4 +4,5 @@ use Rattle.std.specs.Io.KnownBytes.{Appends}
 
 -- known bytes grow by a beginning of these
 abbrev pub AppendsBeginning : Option (List ℕ) → Option (List ℕ) → List ℕ → Type 0
-AppendsBeginning before after bytes = (beginning rest : List ℕ) × (bytes ≡ beginning ++ rest) × Appends before after beginning
+AppendsBeginning before after bytes =
+    (beginning rest : List ℕ) × (bytes ≡ beginning ++ rest) × Appends before after beginning

@@ -1,5 +1,6 @@
 //! Reading a stream to its end.
 ghost use Rattle.std.specs.Prelude.{◌≡◌, IfOk, IfSome};
+ghost use Rattle.script_text.specs.ReadFaults.{read_fault_number};
 
 use std::alloc::{AllocError, AllocFailed, Global};
 use std::io::Read;
@@ -17,6 +18,18 @@ pub enum ReadFault {
     /// What was read can't be kept.
     #[error("no memory")]
     NoMemory,
+}
+
+impl ReadFault {
+    /// The number of the fault: 1 where a read failed, 2 if memory ran out.
+    pub fn number(self) -> u8
+        ensures { result ≡ read_fault_number self }
+    {
+        match self {
+            ReadFault::Failed => 1,
+            ReadFault::NoMemory => 2,
+        }
+    }
 }
 
 impl From<AllocError> for ReadFault {

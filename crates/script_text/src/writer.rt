@@ -73,16 +73,16 @@ impl TextWriter {
     }
 
     /// Appends two hexadecimal digits.
-    pub fn push_byte(&mut self, byte: u8) {
+    pub fn push_hex_byte(&mut self, byte: u8) {
         if self.written.is_ok() {
             self.written = write!(self.text, "{byte:02x}");
         }
     }
 
     /// Appends two hexadecimal digits for each byte.
-    pub fn push_bytes(&mut self, bytes: &[u8]) {
+    pub fn push_hex_bytes(&mut self, bytes: &[u8]) {
         for byte in bytes {
-            self.push_byte(*byte);
+            self.push_hex_byte(*byte);
         }
     }
 

@@ -9,4 +9,6 @@ domains_of plan = map physical_ports plan
 
 -- no two of the domains have a port in common
 abbrev pub AreDisjoint : List (List ℕ) → Type 0
-AreDisjoint domains = (m n port : ℕ) (d e : List ℕ) → slice_get domains m ≡ Some d → slice_get domains n ≡ Some e → Contains d port → Contains e port → m ≡ n
+AreDisjoint domains =
+    (m n port : ℕ) (d e : List ℕ) → slice_get domains m ≡ Some d → slice_get domains n ≡ Some e
+    → Contains d port → Contains e port → m ≡ n

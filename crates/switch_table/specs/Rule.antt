@@ -44,7 +44,8 @@ pub record IsRuled {S : Type 0} (domains : List (List ℕ)) (s : State S View) :
   pub separate : AreDisjoint domains
   pub knows : (seat : ℕ) (v : View) → get_elem? s.views seat ≡ some v → Knows domains s.words v
   -- no two seats have an output in common
-  pub apart : (one other i : ℕ) (v w : View) → get_elem? s.views one ≡ some v → get_elem? s.views other ≡ some w → StoresAlone v i → StoresAlone w i → one ≡ other
+  pub apart : (one other i : ℕ) (v w : View) → get_elem? s.views one ≡ some v
+      → get_elem? s.views other ≡ some w → StoresAlone v i → StoresAlone w i → one ≡ other
   pub confined : (i : ℕ) → IsConfined domains i (slice_index s.words i)
 
 -- a view that holds these domains, with all words 0
@@ -77,4 +78,6 @@ Written st me stored now = now ≡ (with_view_word me.0 st.word st.first, me.1)
 
 -- the operator's seat loads an output
 abbrev pub Surveyed : {S : Type 0} → Step S → Me S View → ℕ → Me S View → Type 0
-Surveyed st me found now = (now ≡ (with_view_word me.0 st.word found, me.1)) × IsNewer found (slice_index me.0.words st.word) × IsConfined me.0.domains st.word found
+Surveyed st me found now =
+    (now ≡ (with_view_word me.0 st.word found, me.1)) × IsNewer found (slice_index me.0.words st.word)
+    × IsConfined me.0.domains st.word found

@@ -57,6 +57,5 @@ impl Split<View> for TakesFirst {
 /// The shared words.
 pub type SharedWords = Table<(), View, AcceptedPlan, SwitchRule, Global>;
 
-/// The shared words.
 /// A seat at them.
 pub type WordsSeat = Seat<(), View>;

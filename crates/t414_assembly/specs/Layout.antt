@@ -22,7 +22,8 @@ size_of address room (Space count) = count
 abbrev pub IsTight : ℕ → Statement → Type 0
 IsTight room (Instruction function (Number n)) =
     (continues function ≡ true → room ≡ 1)
-    × ((others : List ℕ) → continues function ≡ false → meaning others ≡ Some (record { function = function; operand = n; rest = [] }) → room ≤ length others)
+    × ((others : List ℕ) → continues function ≡ false
+    → meaning others ≡ Some (record { function = function; operand = n; rest = [] }) → room ≤ length others)
 IsTight room (Instruction function operand) = continues function ≡ true → room ≡ 1
 IsTight room statement = Unit {0}
 
@@ -33,15 +34,20 @@ pub record AreRooms (statements : List Statement) (rooms : List ℕ) : Type 0 wh
   pub most : (k : ℕ) → slice_index rooms k ≤ 8
   pub tight : (k : ℕ) (s : Statement) → slice_get statements k ≡ Some s → IsTight (slice_index rooms k) s
 
--- starts has how many bytes stand before each of the first n places and the next, if the instructions take what rooms says
-pub record AreStarts (origin : ℕ) (statements : List Statement) (rooms : List ℕ) (n : ℕ) (starts : List ℕ) : Type 0 where
+-- starts has how many bytes stand before each of the first n places and the next, if the instructions take what rooms
+-- says
+pub record AreStarts (origin : ℕ) (statements : List Statement) (rooms : List ℕ) (n : ℕ) (starts : List ℕ)
+    : Type 0 where
   pub count : length starts ≡ n + 1
   pub first : slice_index starts 0 ≡ 0
   pub next : (k : ℕ) (s : Statement) → k < n → slice_get statements k ≡ Some s
-      → slice_index starts (k + 1) ≡ slice_index starts k + size_of (address_of origin starts k) (slice_index rooms k) s
+      → slice_index starts (k + 1)
+      ≡ slice_index starts k + size_of (address_of origin starts k) (slice_index rooms k) s
   pub most : (k : ℕ) → slice_index starts k ≤ 65464
 
 -- the bytes of a statement stand behind the others
 abbrev pub PutsPiece : ℕ → List ℕ → ℕ → ℕ → Statement → List ℕ → List ℕ → Type 0
 PutsPiece origin starts place room statement old new =
-    (piece : List ℕ) × (new ≡ old ++ piece) × (length piece ≡ size_of (address_of origin starts place) room statement) × IsPiece (address_of origin starts) (place + 1) statement piece
+    (piece : List ℕ) × (new ≡ old ++ piece)
+    × (length piece ≡ size_of (address_of origin starts place) room statement)
+    × IsPiece (address_of origin starts) (place + 1) statement piece

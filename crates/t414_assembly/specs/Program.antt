@@ -36,9 +36,11 @@ value_of address (Number n) = n
 value_of address (Label place n) = plus (address place) n
 value_of address (Difference a b n) = plus (less (address a) (address b)) n
 
--- the operand of an instruction before a place: a branch takes a label, with the number on it, as its distance from that place
+-- the operand of an instruction before a place: a branch takes a label, with the number on it, as its distance from
+-- that place
 abbrev pub operand_of : (ℕ → ℕ) → ℕ → Function → Operand → ℕ
-operand_of address next function (Label place n) = if is_relative function then less (plus (address place) n) (address next) else plus (address place) n
+operand_of address next function (Label place n) =
+    if is_relative function then less (plus (address place) n) (address next) else plus (address place) n
 operand_of address next function operand = value_of address operand
 
 -- an instruction in bytes that mean it: the shortest ones, behind so many pfix 0, which change nothing
@@ -50,9 +52,11 @@ pub record IsPadded (function : Function) (operand : ℕ) (pads : ℕ) (bytes : 
 
 -- the bytes of an instruction with an operand: a prefix by itself is one byte; a number is never padded,
 -- and is spelled in the usual way
-pub record IsInstruction (address : ℕ → ℕ) (next : ℕ) (function : Function) (operand : Operand) (bytes : List ℕ) : Type 0 where
+pub record IsInstruction (address : ℕ → ℕ) (next : ℕ) (function : Function) (operand : Operand)
+    (bytes : List ℕ) : Type 0 where
   pub prefix : continues function ≡ true → IsByteOf function (operand_of address next function operand % 16) bytes
-  pub other : continues function ≡ false → (pads : ℕ) × IsPadded function (operand_of address next function operand) pads bytes
+  pub other : continues function ≡ false
+      → (pads : ℕ) × IsPadded function (operand_of address next function operand) pads bytes
   pub number : (n : ℕ) → operand ≡ Number n → bytes ≡ usual function n
   pub shortest : (n : ℕ) → operand ≡ Number n → continues function ≡ false → IsShortest bytes function n
 
@@ -61,13 +65,16 @@ abbrev pub IsPiece : (ℕ → ℕ) → ℕ → Statement → List ℕ → Type 0
 IsPiece address next (Instruction function operand) bytes = IsInstruction address next function operand bytes
 IsPiece address next (Byte value) bytes = bytes ≡ value ∷ []
 IsPiece address next (Word operand) bytes = bytes ≡ to_le_bytes w32 (value_of address operand)
-IsPiece address next (Align size) bytes = (bytes ≡ replicate (length bytes) 0) × (length bytes < max size 1) × (address next % max size 1 ≡ 0)
+IsPiece address next (Align size) bytes =
+    (bytes ≡ replicate (length bytes) 0) × (length bytes < max size 1) × (address next % max size 1 ≡ 0)
 IsPiece address next (Space count) bytes = bytes ≡ replicate count 0
 
 -- The bytes of the first n statements are theirs, one after another, and starts has the bytes before each place.
-pub record IsImage (origin : ℕ) (statements : List Statement) (starts : List ℕ) (n : ℕ) (bytes : List ℕ) : Type 0 where
+pub record IsImage (origin : ℕ) (statements : List Statement) (starts : List ℕ) (n : ℕ) (bytes : List ℕ)
+    : Type 0 where
   pub pieces : List (List ℕ)
   pub count : length pieces ≡ n
   pub whole : bytes ≡ flat_map (λ piece. piece) pieces
   pub places : (k : ℕ) → k ≤ n → slice_index starts k ≡ length (flat_map (λ piece. piece) (take k pieces))
-  pub each : (k : ℕ) (s : Statement) → k < n → slice_get statements k ≡ Some s → IsPiece (address_of origin starts) (k + 1) s (slice_index_or pieces k [])
+  pub each : (k : ℕ) (s : Statement) → k < n → slice_get statements k ≡ Some s
+      → IsPiece (address_of origin starts) (k + 1) s (slice_index_or pieces k [])

@@ -32,13 +32,17 @@ byte_with function n = nibble_of function * 16 + n % 16
 -- a number by pfix, nibble by nibble, of at most so many, and the last of them by nfix if the operand is to be negative
 unfoldable pub prefix_bytes : ℕ → ℕ → Bool → List ℕ
 prefix_bytes zero value negative = []
-prefix_bytes (suc most) value negative = (if nat_lt value 16 then [] else prefix_bytes most (value / 16) false) ++ byte_with (prefix_of negative) value ∷ []
+prefix_bytes (suc most) value negative =
+    (if nat_lt value 16 then [] else prefix_bytes most (value / 16) false)
+    ++ byte_with (prefix_of negative) value ∷ []
 
--- the prefixes of an operand: none below 16; those of the rest of the number if it is positive, and else of its complement
+-- the prefixes of an operand: none below 16; those of the rest of the number if it is positive, and else of its
+-- complement
 unfoldable pub prefixes_of : ℕ → List ℕ
 prefixes_of operand =
     if nat_lt operand 16 then []
-    else (if nat_lt operand (2 ^ 31) then prefix_bytes 7 (operand / 16) false else prefix_bytes 7 ((2 ^ 32 - 1 - operand) / 16) true)
+    else (if nat_lt operand (2 ^ 31) then prefix_bytes 7 (operand / 16) false
+    else prefix_bytes 7 ((2 ^ 32 - 1 - operand) / 16) true)
 
 -- the bytes of an instruction; a prefix by itself is one byte
 abbrev pub usual : Function → ℕ → List ℕ

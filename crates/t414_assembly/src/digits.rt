@@ -6,7 +6,7 @@ use crate::loading::BOOTED;
 use crate::printing::{bytes_as_text, instructions_as_text};
 use crate::writing::MOST_CODE;
 use line_mistakes::{NumberedLine, numbered_lines};
-use line_words::{HexFault, bytes_of};
+use script_text::{HexFault, bytes_of};
 use std::alloc::{AllocError, Global};
 
 /// The bytes that pairs of hexadecimal digits spell, with blanks, tabs and line ends between digits.

@@ -16,7 +16,7 @@ const BYTES_A_LINE: usize = 8;
 /// Two hexadecimal digits for each byte.
 pub fn hexadecimal(alloc: Global, bytes: &[u8]) -> Result<String, AllocError> {
     let mut text = TextWriter::new(alloc);
-    text.push_bytes(bytes);
+    text.push_hex_bytes(bytes);
     text.finish()
 }
 
@@ -72,7 +72,7 @@ fn list_bytes(listed: &mut TextWriter, address: u32, bytes: &[u8]) {
     }
     for byte in bytes {
         listed.push(" ");
-        listed.push_byte(*byte);
+        listed.push_hex_byte(*byte);
     }
 }
 
@@ -92,13 +92,13 @@ pub fn pokes(
         script.push_word(address);
         script.push(" ");
         for place in (0..4usize).rev() {
-            script.push_byte(word.get(place).copied().unwrap_or(0));
+            script.push_hex_byte(word.get(place).copied().unwrap_or(0));
         }
         script.push("\n");
         address = address.wrapping_add(4);
     }
     begin_line(&mut script, user, " boot ", host);
-    script.push_bytes(boot);
+    script.push_hex_bytes(boot);
     script.push("\n");
     script.finish()
 }
@@ -142,7 +142,7 @@ pub fn bytes_as_text(alloc: Global, bytes: &[u8]) -> Result<String, AllocError> 
     let mut text = TextWriter::new(alloc);
     for byte in bytes {
         text.push("byte #");
-        text.push_byte(*byte);
+        text.push_hex_byte(*byte);
         text.push("\n");
     }
     text.finish()

@@ -6,8 +6,8 @@ use Rattle.node_memory.specs.Bytes.{word_at}
 use Rattle.node_memory.specs.Effect.{Effect, Gave, Halted, ◌>>=◌, tried, perform, beside}
 use Rattle.node_memory.specs.Marks.{not_process}
 use Rattle.node_memory.specs.Words.{◌⊖◌, aligned}
-use Rattle.node_memory.specs.Queue.{after_take, link_of}
-use Rattle.node_memory.specs.declared.queue.Queue.{Queue}
+use Rattle.process_queue.specs.Queue.{after_take, link_of}
+use Rattle.process_queue.specs.declared.queue.Queue.{Queue}
 use Rattle.link_channels.specs.declared.link.FourLinks.{FourLinks}
 use Rattle.link_channels.specs.Links.{any_has_work}
 use Rattle.link_channels.specs.Service.{serve_all, does_something}

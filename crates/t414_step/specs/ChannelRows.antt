@@ -33,7 +33,8 @@ abbrev pub turned : Turn → Cpu → Cpu
 turned GoesOn s = s
 turned Waits s = leave s
 
--- the running process takes a message from a channel, or gives it one; it goes on with the queue's registers among its own
+-- the running process takes a message from a channel, or gives it one; it goes on with the queue's registers among its
+-- own
 abbrev pub message_by : TransferDirection → Transfer → Cpu → FourLinks → List ℕ → CpuEffect
 message_by direction t s ls m = do
   (x, ls, m) ← perform (transferred direction (process_of s) t ls s.queue m)
@@ -49,7 +50,8 @@ channel_row InputMessage s ls m = message_by Input (transfer s.a s.b s.c) s ls m
 channel_row OutputMessage s ls m = message_by Output (transfer s.a s.b s.c) s ls m  -- 0B out
 channel_row OutputByte s ls m = send 1 s ls m  -- 0E outbyte
 channel_row OutputWord s ls m = send 4 s ls m  -- 0F outword
-channel_row ResetChannel s ls m = do (word, ls, m) ← perform (reset s.a ls m); Gave (unary_result word s) ls m  -- 12 resetch
+channel_row ResetChannel s ls m =
+    do (word, ls, m) ← perform (reset s.a ls m); Gave (unary_result word s) ls m  -- 12 resetch
 channel_row DisableChannel s ls m =  -- 2F disc
     if s.b == 0 then Gave (unary_result 0 s) ls m
     else (do (chosen, ls, m) ← perform (disable (process_of s) s.c s.a ls m); Gave (unary_result (bit chosen) s) ls m)

@@ -11,8 +11,8 @@ use Rattle.t414_step.specs.declared.cpu.Cpu.{Cpu}
 abbrev pub bit : Bool → ℕ
 bit b = if b then 1 else 0
 
--- the registers of a processor that has done nothing, where its code and its workspace lie: A, B and C are 0, the queue is empty and
--- both flags are clear
+-- the registers of a processor that has done nothing, where its code and its workspace lie: A, B and C are 0, the queue
+-- is empty and both flags are clear
 abbrev pub started : ℕ → ℕ → Cpu
 started i w = record {
   instruction = i;

@@ -13,7 +13,7 @@ use Rattle.node_memory.specs.Marks.{not_process, enabling, waiting, ready, none_
 use Rattle.node_memory.specs.Words.{◌⊕◌, ◌⊖◌, ◌⊗◌, aligned, signed, overflows, sum_checked, difference_checked, product_checked, shifted_left, shifted_right}
 use Rattle.node_memory.specs.Effect.{Gave, Halted, ◌>>=◌, load, load_byte, store, store_byte, copy}
 use Rattle.node_memory.specs.declared.fault.Fault.TheVariants.{UnknownOperation, ErrorSet, HighPriority}
-use Rattle.node_memory.specs.Queue.{put}
+use Rattle.process_queue.specs.Queue.{put}
 use Rattle.link_channels.specs.Waiting.{save}
 use Rattle.link_channels.specs.declared.link.FourLinks.{FourLinks}
 use Rattle.t414_decode.specs.Codes.{operation_of, shifted}
@@ -68,7 +68,8 @@ row op.GeneralCall s ls m = Gave (goto s.a (unary_result s.instruction s)) ls m 
 row op.Product s ls m = Gave (binary_result (s.b ⊗ s.a) s) ls m  -- 08 prod
 row op.GreaterThan s ls m = Gave (binary_result (bit (int_lt (signed s.a) (signed s.b))) s) ls m  -- 09 gt
 row op.WordSubscript s ls m = Gave (binary_result (s.a ⊕ 4 ⊗ s.b) s) ls m  -- 0A wsub
-row op.Subtract s ls m = error_if (difference_checked s.b s.a).1 (binary_result (difference_checked s.b s.a).0 s) ls m  -- 0C sub
+row op.Subtract s ls m =
+    error_if (difference_checked s.b s.a).1 (binary_result (difference_checked s.b s.a).0 s) ls m  -- 0C sub
 row op.StartProcess s ls m = do  -- 0D startp
   m ← store ls m (s.a ⊖ 4) (s.instruction ⊕ s.b)
   put_by (aligned s.a) s ls m
@@ -94,7 +95,8 @@ row op.Remainder s ls m =  -- 1F rem
     if s.a == 0 then error_if true (binary_result 0 s) ls m
     else (if divides_past s then Gave (binary_result 0 s) ls m
     else Gave (binary_result (cast_unsigned w32 (int_rem (signed s.b) (signed s.a))) s) ls m)
-row op.Return s ls m = do i ← load ls m s.workspace; Gave (goto i (at_workspace (s.workspace ⊕ 16) s)) ls m  -- 20 ret
+row op.Return s ls m =
+    do i ← load ls m s.workspace; Gave (goto i (at_workspace (s.workspace ⊕ 16) s)) ls m  -- 20 ret
 row op.LoopEnd s ls m = do  -- 21 lend
   count ← load ls m (s.b ⊕ 4)
   m ← store ls m (s.b ⊕ 4) (count ⊖ 1)
@@ -122,7 +124,8 @@ row op.LongSum s ls m = Gave (long (s.b + s.a + carry s) s) ls m  -- 37 lsum
 row op.LongSubtract s ls m =  -- 38 lsub
     error_if (overflows (signed s.b -ℤ signed s.a -ℤ pos (carry s))) (unary_result (s.b ⊖ s.a ⊖ carry s) s) ls m
 row op.RunProcess s ls m = schedule s.a s ls m  -- 39 runp
-row op.ExtendToWord s ls m = Gave (binary_result (if nat_lt s.b s.a then s.b else s.b ⊖ 2 ⊗ s.a) s) ls m  -- 3A xword
+row op.ExtendToWord s ls m =
+    Gave (binary_result (if nat_lt s.b s.a then s.b else s.b ⊖ 2 ⊗ s.a) s) ls m  -- 3A xword
 row op.StoreByte s ls m = do m ← store_byte ls m s.a (s.b % 2 ^ 8); Gave (drop2 s) ls m  -- 3B sb
 row op.GeneralAdjustWorkspace s ls m = Gave (at_workspace s.a (unary_result s.workspace s)) ls m  -- 3C gajw
 row op.SaveLow s ls m =  -- 3D savel
@@ -149,7 +152,8 @@ row op.LongDifference s ls m =  -- 4F ldiff
     Gave (record s { a = s.b ⊖ s.a ⊖ carry s; b = bit (nat_lt s.b (s.a + carry s)) }) ls m
 row op.StoreHighBack s ls m = if s.a == not_process then Gave (drop s) ls m else Halted HighPriority ls m  -- 50 sthb
 row op.Sum s ls m = Gave (binary_result (s.b ⊕ s.a) s) ls m  -- 52 sum
-row op.Multiply s ls m = error_if (product_checked s.b s.a).1 (binary_result (product_checked s.b s.a).0 s) ls m  -- 53 mul
+row op.Multiply s ls m =
+    error_if (product_checked s.b s.a).1 (binary_result (product_checked s.b s.a).0 s) ls m  -- 53 mul
 row op.StoreTimer s ls m = Gave (drop s) ls m  -- 54 sttimer; no clock is kept
 row op.StopOnError s ls m = if s.error then wait s ls m else Gave s ls m  -- 55 stoperr
 row op.CheckWord s ls m =  -- 56 cword

@@ -2,7 +2,7 @@
 use Rattle.std.specs.Prelude.{ℕ, ◌+◌, ◌/◌, ◌%◌, Bool, true, false, List, Option, Some, None, if◌then◌else◌, bit_or, min}
 use Rattle.node_memory.specs.Effect.{Effect, Gave, ◌>>=◌, load, load_byte, perform, beside}
 use Rattle.node_memory.specs.Words.{◌⊕◌, ◌⊖◌, aligned}
-use Rattle.node_memory.specs.Queue.{after_take}
+use Rattle.process_queue.specs.Queue.{after_take}
 use Rattle.t414_decode.specs.Codes.{function_of}
 use Rattle.link_channels.specs.declared.link.FourLinks.{FourLinks}
 use Rattle.link_channels.specs.Service.{serve_all}

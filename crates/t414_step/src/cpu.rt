@@ -2,7 +2,7 @@
 
 ghost use Rattle.std.specs.Prelude.{◌≡◌};
 
-use node_memory::Queue;
+use process_queue::Queue;
 
 /// The registers of a processor, and whether there is a current process. All are words of 32 bits, and any
 /// value may stand in any of them, also one that no booted node comes to: a workspace is used with the low bits that

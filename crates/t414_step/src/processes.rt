@@ -4,7 +4,8 @@ ghost use Rattle.std.specs.Prelude.{◌≡◌, List, ℕ};
 
 use crate::cpu::Cpu;
 use link_channels::{ENABLING, NONE_SELECTED, READY, WAITING};
-use node_memory::{Fault, Memory, NOT_PROCESS};
+use node_memory::{Fault, Memory};
+use process_queue::NOT_PROCESS;
 
 #[tactic(auto, unfolding(crate::specs::Rows::row))]
 impl Cpu {

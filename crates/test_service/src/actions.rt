@@ -3,7 +3,7 @@
 use bootstrap::{Activity, Seen};
 use domain_core::{Event, Refusal, Reply};
 use farm_service::{Session, Settled};
-use std::alloc::AllocError;
+use std::alloc::{AllocError, Global};
 use std::sync::Wait;
 use virtual_switch::ConfigReply;
 
@@ -71,21 +71,31 @@ fn tell(said: &mut String, told: Result<Reply, Refusal>) -> Result<(), AllocErro
 }
 
 // Asks once.
-fn ask_once<R: Wait>(rt: &R, session: &mut Session<'_>, event: Event) -> Result<Reply, Refusal> {
+fn ask_once<R: Wait>(
+    rt: &R,
+    alloc: Global,
+    session: &mut Session<'_>,
+    event: Event,
+) -> Result<Reply, Refusal> {
     match event {
-        Event::Config(byte) => session.configure(rt, byte),
-        Event::Write(host, byte) => session.write(rt, host, byte),
-        Event::Read(host) => session.read(rt, host),
-        Event::Reset(node) => session.reset(rt, node),
-        Event::Look(node) => session.look(rt, node),
+        Event::Config(byte) => session.configure(rt, alloc, byte),
+        Event::Write(host, byte) => session.write(rt, alloc, host, byte),
+        Event::Read(host) => session.read(rt, alloc, host),
+        Event::Reset(node) => session.reset(rt, alloc, node),
+        Event::Look(node) => session.look(rt, alloc, node),
         Event::Step(_) | Event::Move(_) => Err(Refusal::NoSuch),
     }
 }
 
 /// Asks, and asks again where memory was wanting: what was refused has changed nothing.
-pub fn ask<R: Wait>(rt: &R, session: &mut Session<'_>, event: Event) -> Result<Reply, Refusal> {
-    match ask_once(rt, session, event) {
-        Err(Refusal::NoMemory) => ask_once(rt, session, event),
+pub fn ask<R: Wait>(
+    rt: &R,
+    alloc: Global,
+    session: &mut Session<'_>,
+    event: Event,
+) -> Result<Reply, Refusal> {
+    match ask_once(rt, alloc, session, event) {
+        Err(Refusal::NoMemory) => ask_once(rt, alloc, session, event),
         told => told,
     }
 }
@@ -93,13 +103,14 @@ pub fn ask<R: Wait>(rt: &R, session: &mut Session<'_>, event: Event) -> Result<R
 /// Settles, and settles again where memory was wanting, by 1 to 4,096 Steps.
 pub fn settle<R: Wait>(
     rt: &R,
+    alloc: Global,
     session: &Session<'_>,
     quantum: u64,
     rounds: u64,
 ) -> Result<Settled, Refusal> {
     let quantum = quantum.clamp(1, 4096);
-    match session.settle(rt, quantum, rounds) {
-        Err(Refusal::NoMemory) => session.settle(rt, quantum, rounds),
+    match session.settle(rt, alloc, quantum, rounds) {
+        Err(Refusal::NoMemory) => session.settle(rt, alloc, quantum, rounds),
         told => told,
     }
 }
@@ -116,18 +127,19 @@ fn tell_settled(said: &mut String, told: Result<Settled, Refusal>) -> Result<(),
 /// Does it, and tells what was answered.
 pub fn perform<R: Wait>(
     rt: &R,
+    alloc: Global,
     session: &mut Session<'_>,
     act: Action,
     said: &mut String,
 ) -> Result<(), AllocError> {
     if let Action::Rounds(quantum, rounds) = act {
-        return tell_settled(said, settle(rt, session, quantum, rounds));
+        return tell_settled(said, settle(rt, alloc, session, quantum, rounds));
     }
     for place in 0..usize::MAX {
         let Some(event) = act.event(place) else {
             break;
         };
-        tell(said, ask(rt, session, event))?;
+        tell(said, ask(rt, alloc, session, event))?;
     }
     Ok(())
 }

@@ -5,6 +5,7 @@ use crate::draws::Draws;
 use crate::sized::Size;
 use domain_core::{Event, Refusal, Reply};
 use farm_service::Session;
+use std::alloc::Global;
 use std::sync::Wait;
 
 /// Boot messages: a loop of two instruction bytes, a program that sends 41, and two that destroy what they stand on.
@@ -97,10 +98,15 @@ fn any_line(draws: &mut Draws, size: Size) -> Line {
 }
 
 // Asks a line until it is refused or a queue is full; how many commands were answered.
-fn ask_line<R: Wait>(rt: &R, session: &mut Session<'_>, line: &Line) -> Result<u64, Refusal> {
+fn ask_line<R: Wait>(
+    rt: &R,
+    alloc: Global,
+    session: &mut Session<'_>,
+    line: &Line,
+) -> Result<u64, Refusal> {
     let mut answered = 0_u64;
     for event in line.events.iter().take(line.count) {
-        if ask(rt, session, *event)? == Reply::Full {
+        if ask(rt, alloc, session, *event)? == Reply::Full {
             break;
         }
         answered = answered.saturating_add(1);
@@ -112,6 +118,7 @@ fn ask_line<R: Wait>(rt: &R, session: &mut Session<'_>, line: &Line) -> Result<u
 /// NoMemory twice.
 pub fn ask_anything<R: Wait>(
     rt: &R,
+    alloc: Global,
     session: &mut Session<'_>,
     draws: &mut Draws,
     size: Size,
@@ -120,9 +127,9 @@ pub fn ask_anything<R: Wait>(
     let mut answered = 0_u64;
     for _ in 0..count {
         let told = if draws.byte(9) == 0 {
-            settle(rt, session, draws.below(4097), draws.below(12)).map(|_| 1)
+            settle(rt, alloc, session, draws.below(4097), draws.below(12)).map(|_| 1)
         } else {
-            ask_line(rt, session, &any_line(draws, size))
+            ask_line(rt, alloc, session, &any_line(draws, size))
         };
         match told {
             Ok(commands) => answered = answered.saturating_add(commands),

@@ -1,13 +1,13 @@
 //! Doing journals again on one thread, and comparing what is answered.
 ghost use Rattle.std.specs.Prelude.{◌≡◌, ◌<◌, ◌↔◌, IsTrue, IfSome, Some, length, slice_get};
-ghost use Rattle.plain_farm.specs.PlainFarm.{word_there};
+ghost use Rattle.farm_core.specs.PlainFarm.{word_there};
 
 use crate::draws::Draws;
 use crate::watch::Watch;
 use crossbar::Word;
 use domain_core::{By, Entry, Event, Journal, NoMemory, Refusal};
+use farm_core::PlainFarm;
 use farm_service::{Closed, ClosedDomain, Token};
-use plain_farm::PlainFarm;
 use plan_rules::AcceptedPlan;
 use std::alloc::Global;
 
@@ -15,16 +15,16 @@ use std::alloc::Global;
 const DOMAINS: usize = 16;
 
 // Asks, and asks again where memory was wanting. The farm lists what it answers.
-fn ask(farm: &mut PlainFarm, domain: u8, by: By, event: Event) {
-    if farm.apply(domain, by, event) == Err(Refusal::NoMemory) {
-        let _ = farm.apply(domain, by, event);
+fn ask(alloc: Global, farm: &mut PlainFarm, domain: u8, by: By, event: Event) {
+    if farm.apply(alloc, domain, by, event) == Err(Refusal::NoMemory) {
+        let _ = farm.apply(alloc, domain, by, event);
     }
 }
 
 // Does what an entry says again, whatever was answered.
-fn do_entry(farm: &mut PlainFarm, domain: u8, entry: Entry) {
+fn do_entry(alloc: Global, farm: &mut PlainFarm, domain: u8, entry: Entry) {
     match entry {
-        Entry::One { by, event, .. } => ask(farm, domain, by, event),
+        Entry::One { by, event, .. } => ask(alloc, farm, domain, by, event),
         Entry::Run {
             by,
             node,
@@ -32,7 +32,7 @@ fn do_entry(farm: &mut PlainFarm, domain: u8, entry: Entry) {
             ..
         } => {
             for _step in 0..count {
-                ask(farm, domain, by, Event::Step(node));
+                ask(alloc, farm, domain, by, Event::Step(node));
             }
         }
     }
@@ -55,26 +55,32 @@ fn next_place(closed: &[ClosedDomain], done: &[usize; DOMAINS], place: usize) ->
 }
 
 // Does up to 40 entries of a journal again, those behind the first that are done; how many are done then.
-fn do_turn(farm: &mut PlainFarm, closed: &ClosedDomain, done: usize, draws: &mut Draws) -> usize {
+fn do_turn(
+    alloc: Global,
+    farm: &mut PlainFarm,
+    closed: &ClosedDomain,
+    done: usize,
+    draws: &mut Draws,
+) -> usize {
     let count = draws.below(40) as usize + 1;
     let end = done.saturating_add(count);
     for index in done..end {
         if let Some(entry) = closed.journal.get(index) {
-            do_entry(farm, closed.domain, entry);
+            do_entry(alloc, farm, closed.domain, entry);
         }
     }
     end
 }
 
 // Does the journals again, merged by chance.
-fn do_all(farm: &mut PlainFarm, closed: &[ClosedDomain], draws: &mut Draws) {
+fn do_all(alloc: Global, farm: &mut PlainFarm, closed: &[ClosedDomain], draws: &mut Draws) {
     let mut done = [0usize; DOMAINS];
     for _turn in 0..u64::MAX {
         let first = draws.below(16) as usize;
         let Some(place) = next_place(closed, &done, first) else {
             break;
         };
-        done[place] = do_turn(farm, &closed[place], done[place], draws);
+        done[place] = do_turn(alloc, farm, &closed[place], done[place], draws);
     }
 }
 
@@ -153,7 +159,7 @@ pub fn is_alike(
 ) -> Result<bool, NoMemory> {
     let domains = closed.domains.as_slice();
     let mut farm = PlainFarm::open(alloc, plan)?;
-    do_all(&mut farm, domains, &mut Draws::new(seed));
+    do_all(alloc, &mut farm, domains, &mut Draws::new(seed));
     Ok(
         are_journals(&farm, domains)
             && are_words(&mut farm, domains, watch)

@@ -1,10 +1,10 @@
 //! Who is told of the workers' turns.
 
 use crate::actions::QUANTUM;
-use domain_core::{Committed, Refusal};
-use farm_service::{Gate, Service, Token, Turned};
-use std::sync::Wait;
+use farm_service::{Committed, Gate, Refusal, Service, Token};
+use std::alloc::Global;
 use std::sync::atomic::{AtomicBool, AtomicU64, Ordering};
+use std::sync::{Mutex, Wait};
 use std::thread;
 
 /// Which bursts are held.
@@ -40,57 +40,49 @@ impl TurnsSeen {
 
 /// Holds bursts.
 #[derive(Drop)]
-pub struct Holding<'a> {
-    service: &'a Service,
+pub struct Holding {
     hold: Hold,
     begun: AtomicU64,
-    committed: AtomicBool,
+    committed: Mutex<bool>,
     failed: AtomicBool,
 }
 
-impl<'a> Holding<'a> {
+impl Holding {
     /// A gate that has seen nothing.
-    pub fn new(service: &'a Service, hold: Hold) -> Holding<'a> {
+    pub fn new(hold: Hold) -> Holding {
         Holding {
-            service,
             hold,
             begun: AtomicU64::new(0),
-            committed: AtomicBool::new(false),
+            committed: Mutex::new(false),
             failed: AtomicBool::new(false),
         }
     }
 }
 
-impl Holding<'_> {
+impl Holding {
     /// What it has seen.
-    pub fn seen(&self) -> TurnsSeen {
+    pub fn seen<R: Wait>(&self, rt: &R) -> TurnsSeen {
         TurnsSeen {
             begun: self.begun.load(Ordering::SeqCst),
-            committed: self.committed.load(Ordering::SeqCst),
+            committed: *self.committed.lock(rt),
             failed: self.failed.load(Ordering::SeqCst),
         }
     }
 
     // Waits for node 1's commit, for a million turns at most; whether it came.
-    fn is_released(&self) -> bool {
+    fn is_released<R: Wait>(&self, rt: &R) -> bool {
         for _turn in 0..1_000_000 {
             thread::yield_now();
-            if self.committed.load(Ordering::SeqCst) {
+            if *self.committed.lock(rt) {
                 return true;
             }
         }
         false
     }
 
-    // Holds node 0's burst. Where the other worker doesn't come, since no thread could be started for him, node 1's
-    // burst is done here in his place, and nobody is told of it.
+    // Holds node 0's burst until node 1's was committed. If that doesn't come in time the trial has failed.
     fn hold_first<R: Wait>(&self, rt: &R) {
-        if self.is_released() {
-            return;
-        }
-        if burst(rt, self.service, 0, 1) == Ok(Committed::Done) {
-            self.committed.store(true, Ordering::SeqCst);
-        } else {
+        if !self.is_released(rt) {
             self.failed.store(true, Ordering::SeqCst);
         }
     }
@@ -99,16 +91,17 @@ impl Holding<'_> {
 /// A burst of a node that no gate is told of.
 pub fn burst<R: Wait>(
     rt: &R,
+    alloc: Global,
     service: &Service,
     domain: u8,
     node: u8,
 ) -> Result<Committed, Refusal> {
-    let mut ticket = service.checkout(rt, domain, node)?;
+    let mut ticket = service.checkout(rt, alloc, domain, node)?;
     ticket.burst(QUANTUM);
-    service.commit(rt, ticket)
+    service.commit(rt, alloc, ticket)
 }
 
-impl Gate for Holding<'_> {
+impl Gate for Holding {
     fn begins<R: Wait>(&self, rt: &R, token: Token) {
         let before = self.begun.fetch_add(1, Ordering::SeqCst);
         match self.hold {
@@ -122,9 +115,9 @@ impl Gate for Holding<'_> {
         }
     }
 
-    fn ended<R: Wait>(&self, _rt: &R, token: Token, turned: &Result<Turned, Refusal>) {
-        if token.node == 1 && *turned == Ok(Turned::BurstRecorded) {
-            self.committed.store(true, Ordering::SeqCst);
+    fn ended<R: Wait>(&self, rt: &R, token: Token, committed: &Result<Committed, Refusal>) {
+        if token.node == 1 && *committed == Ok(Committed::Done) {
+            *self.committed.lock(rt) = true;
         }
     }
 }

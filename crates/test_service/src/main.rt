@@ -28,7 +28,7 @@ use crate::farm::Ground;
 use crate::rows::{ROWS, WorkedRow};
 use crate::soak::{short_soak, soak};
 use crate::stages::{Stage, StageEnd, Trial, run};
-use crate::telling::{ToldAtEnd, tell_left};
+use crate::telling::{ToldAtEnd, tell_left, verdict};
 use std::alloc::{AllocError, Global};
 use std::sync::Wait;
 use std::thread::Threads;
@@ -85,11 +85,7 @@ fn tell_parts(rt: &impl Print, alloc: Global) -> io::Result<()> {
         ("farm", refusals::refuse_calls(alloc)),
         ("run", refusals::run_again(alloc)),
     ] {
-        let told = if came.is_ok() {
-            "as it must be"
-        } else {
-            "otherwise"
-        };
+        let told = verdict(came.is_ok());
         println!(rt; "{name}: {told}")?;
     }
     Ok(())

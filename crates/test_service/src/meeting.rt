@@ -10,6 +10,7 @@ use crate::gates::{Hold, Holding, TurnsSeen};
 use crate::users::{Doing, TestUser};
 use crate::watch::{Watch, survey_all};
 use farm_service::{Service, Worked, WorkerPass, run_users_and_workers, work, work_all};
+use std::alloc::Global;
 use std::sync::Wait;
 use std::sync::atomic::{AtomicBool, Ordering};
 use std::thread;
@@ -48,6 +49,7 @@ struct AfterWork {
 // Each user acts in a thread of his own.
 fn act_each<R: Threads + Wait + Sync>(
     rt: &R,
+    alloc: Global,
     service: &Service,
     users: &mut [TestUser],
     doing: Doing,
@@ -56,29 +58,31 @@ fn act_each<R: Threads + Wait + Sync>(
         rt,
         users,
         16,
-        &|place, user| user.act(rt, service, place, doing),
+        &|place, user| user.act(rt, alloc, service, place, doing),
     );
 }
 
 // Users and workers at once; whether a worker ran out of memory.
 fn act_and_work<R: Threads + Wait + Sync>(
     rt: &R,
+    alloc: Global,
     service: &Service,
     passes: &mut Vec<WorkerPass>,
-    gate: &Holding<'_>,
+    gate: &Holding,
     users: &mut [TestUser],
     doing: Doing,
 ) -> bool
     requires { AreItsPasses service.now.plan service.now.queue passes.old.items }
     ensures { AreItsPasses service.now.plan service.now.queue passes.new.items }
 {
-    let act = |place: usize, user: &mut TestUser| user.act(rt, service, place, doing);
-    run_users_and_workers(rt, service, passes, gate, QUANTUM, &act, users).is_err()
+    let act = |place: usize, user: &mut TestUser| user.act(rt, alloc, service, place, doing);
+    run_users_and_workers(rt, alloc, service, passes, gate, QUANTUM, &act, users).is_err()
 }
 
 // Those who meet act, and then all is over.
 fn act_all<R: Threads + Wait + Sync>(
     rt: &R,
+    alloc: Global,
     service: &Service,
     mut passes: Vec<WorkerPass>,
     mut users: Vec<TestUser>,
@@ -88,21 +92,29 @@ fn act_all<R: Threads + Wait + Sync>(
     requires { AreItsPasses service.now.plan service.now.queue passes.items }
     ensures { AreItsPasses service.now.plan service.now.queue result.0.passes.items }
 {
-    let gate = Holding::new(service, meeting.hold());
+    let gate = Holding::new(meeting.hold());
     let out_of_memory = match meeting {
         Meeting::Users(doing) => {
-            act_each(rt, service, users.as_mut_slice(), doing);
+            act_each(rt, alloc, service, users.as_mut_slice(), doing);
             false
         }
         Meeting::Workers(turns, _) => {
-            work_all(rt, service, &mut passes, &gate, QUANTUM, turns).is_err()
+            work_all(rt, alloc, service, &mut passes, &gate, QUANTUM, turns).is_err()
         }
         Meeting::Both(doing, _) => {
-            act_and_work(rt, service, &mut passes, &gate, users.as_mut_slice(), doing)
+            act_and_work(
+                rt,
+                alloc,
+                service,
+                &mut passes,
+                &gate,
+                users.as_mut_slice(),
+                doing,
+            )
         }
     };
     over.store(true, Ordering::SeqCst);
-    let seen = gate.seen();
+    let seen = gate.seen(rt);
     let shift = AfterWork {
         passes,
         seen,
@@ -114,6 +126,7 @@ fn act_all<R: Threads + Wait + Sync>(
 // All of them. If no thread can be started for the operator, he surveys once when all is over.
 fn watched<R: Threads + Wait + Sync>(
     rt: &R,
+    alloc: Global,
     service: &Service,
     passes: Vec<WorkerPass>,
     operator: OperatorSeat,
@@ -136,7 +149,7 @@ fn watched<R: Threads + Wait + Sync>(
         move ||
             requires { AreItsPasses service.now.plan service.now.queue passes.items }
             ensures { AreItsPasses service.entry.now.plan service.entry.now.queue result.0.passes.items }
-        { act_all(rt, service, passes, users, meeting, over) },
+        { act_all(rt, alloc, service, passes, users, meeting, over) },
     )
 }
 
@@ -152,7 +165,12 @@ pub struct Party {
 }
 
 /// All meet.
-pub fn run_meeting<R: Threads + Wait + Sync>(rt: &R, party: Party, meeting: Meeting) -> Party {
+pub fn run_meeting<R: Threads + Wait + Sync>(
+    rt: &R,
+    alloc: Global,
+    party: Party,
+    meeting: Meeting,
+) -> Party {
     let Party {
         farm,
         users,
@@ -166,7 +184,7 @@ pub fn run_meeting<R: Threads + Wait + Sync>(rt: &R, party: Party, meeting: Meet
         operator,
     } = farm;
     let ((operator, watch), (shift, users)) = watched(
-        rt, &service, passes, operator, users, watch, meeting,
+        rt, alloc, &service, passes, operator, users, watch, meeting,
     );
     let AfterWork {
         passes,
@@ -187,14 +205,20 @@ pub fn run_meeting<R: Threads + Wait + Sync>(rt: &R, party: Party, meeting: Meet
 }
 
 // The last of a list of passes works. The passes are what they were.
-fn work_last<R: Wait>(rt: &R, service: &Service, passes: &mut Vec<WorkerPass>, turns: u64) -> Worked
+fn work_last<R: Wait>(
+    rt: &R,
+    alloc: Global,
+    service: &Service,
+    passes: &mut Vec<WorkerPass>,
+    turns: u64,
+) -> Worked
     requires { AreItsPasses service.now.plan service.now.queue passes.old.items }
     ensures { AreItsPasses service.now.plan service.now.queue passes.new.items }
 {
     match passes.pop() {
         Some(mut pass) => {
-            let gate = Holding::new(service, Hold::Nothing);
-            let worked = work(rt, service, &mut pass, &gate, QUANTUM, turns);
+            let gate = Holding::new(Hold::Nothing);
+            let worked = work(rt, alloc, service, &mut pass, &gate, QUANTUM, turns);
             passes.push_reserved(pass);
             worked
         }
@@ -203,7 +227,7 @@ fn work_last<R: Wait>(rt: &R, service: &Service, passes: &mut Vec<WorkerPass>, t
 }
 
 /// One worker of a farm works in this thread.
-pub fn work_here<R: Wait>(rt: &R, party: Party, turns: u64) -> (Party, Worked) {
+pub fn work_here<R: Wait>(rt: &R, alloc: Global, party: Party, turns: u64) -> (Party, Worked) {
     let Party {
         farm,
         users,
@@ -216,7 +240,7 @@ pub fn work_here<R: Wait>(rt: &R, party: Party, turns: u64) -> (Party, Worked) {
         mut passes,
         operator,
     } = farm;
-    let worked = work_last(rt, &service, &mut passes, turns);
+    let worked = work_last(rt, alloc, &service, &mut passes, turns);
     let party = Party {
         farm: OpenedFarm {
             service,

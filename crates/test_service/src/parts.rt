@@ -3,7 +3,7 @@
 
 use crate::plans::{TrialPlan, plan_of};
 use bootstrap::{BootFault, LinkNumber, Memory, Node, Packet, boot_message};
-use crossbar::{Connection, PlainOutputs, Word};
+use crossbar::{Outputs, PlainOutputs, PortRange, Word, connect};
 use domain_core::Host;
 use plan_rules::{AcceptedPlan, PlanFault};
 use std::alloc::{AllocError, Global};
@@ -37,9 +37,9 @@ fn memory_again(alloc: Global) -> Result<Memory, AllocError> {
     }
 }
 
-fn copy_again(memory: &Memory) -> Result<Memory, AllocError> {
-    match memory.copy() {
-        Err(_) => memory.copy(),
+fn copy_again(alloc: Global, memory: &Memory) -> Result<Memory, AllocError> {
+    match memory.copy(alloc) {
+        Err(_) => memory.copy(alloc),
         copied => copied,
     }
 }
@@ -50,7 +50,7 @@ pub fn open_and_copy_memory(alloc: Global) -> Result<(), Otherwise> {
         return Err(Otherwise);
     };
     holds(memory.set_byte(0x8000_0000, 9).is_ok())?;
-    let Ok(copy) = copy_again(&memory) else {
+    let Ok(copy) = copy_again(alloc, &memory) else {
         return Err(Otherwise);
     };
     holds(memory.set_byte(0x8000_0000, 8).is_ok())?;
@@ -64,9 +64,9 @@ fn node_again(alloc: Global) -> Result<Node, AllocError> {
     }
 }
 
-fn node_copy_again(node: &Node) -> Result<Node, AllocError> {
-    match node.copy() {
-        Err(_) => node.copy(),
+fn node_copy_again(alloc: Global, node: &Node) -> Result<Node, AllocError> {
+    match node.copy(alloc) {
+        Err(_) => node.copy(alloc),
         copied => copied,
     }
 }
@@ -77,12 +77,12 @@ pub fn open_and_copy_node(alloc: Global) -> Result<(), Otherwise> {
         return Err(Otherwise);
     };
     node.deliver(LinkNumber::Three, Packet::Byte(9));
-    let Ok(copy) = node_copy_again(&node) else {
+    let Ok(copy) = node_copy_again(alloc, &node) else {
         return Err(Otherwise);
     };
-    let is_same = copy.equals(&node);
+    let is_same = copy.same(&node);
     node.reset();
-    holds(is_same && !copy.equals(&node))
+    holds(is_same && !copy.same(&node))
 }
 
 /// A boot message has the count before its code.
@@ -138,14 +138,15 @@ pub fn feed_switch(alloc: Global) -> Result<(), Otherwise> {
     }
 }
 
-/// The greatest change count stays: no text changes an output so often.
+/// The greatest change count stays where an output is connected: no text changes an output so often. The output is
+/// that of port 3, alone in its row.
 pub fn change_the_greatest_count() -> Result<(), Otherwise> {
     let full = Word {
         bits: 0xffff_ffff_ffff_ff00,
     };
-    let connected = full.after(Some(Connection {
-        input: 3,
-        ready: false,
-    }));
+    let alone = PortRange { first: 3, last: 3 };
+    let mut outputs = PlainOutputs::of([full; 32], [Some(alone), None, None, None]);
+    connect(&mut outputs, 3, 0);
+    let connected = outputs.read(0);
     holds(connected.bits == 0xffff_ffff_ffff_ff83 && connected.changes() == 0x00ff_ffff_ffff_ffff)
 }

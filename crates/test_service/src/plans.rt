@@ -12,6 +12,8 @@ pub enum TrialPlan {
     AnnOfThreeEvents,
     /// Two nodes on ports 0 and 1, host 0 on port 3 and host 1 on port 2.
     TwoNodes,
+    /// Ann and cas are users of one domain, with ports 0 to 7. Her host is host 0, and his is host 1.
+    AnnAndCas,
 }
 
 /// How many events a domain records at most, if nothing else is said.
@@ -77,12 +79,21 @@ fn two_nodes(alloc: Global) -> Result<DomainPlan, AllocError> {
     domain(alloc, 0, 3, LIMIT, users, nodes)
 }
 
+// A domain of ann's and cas's with a node at port 0, her host at port 7 and his at port 6.
+fn ann_and_cas(alloc: Global) -> Result<DomainPlan, AllocError> {
+    let ann = user(alloc, "ann", &[7])?;
+    let cas = user(alloc, "cas", &[6])?;
+    let nodes = vec![in alloc; node(4096, 0)]?;
+    domain(alloc, 0, 7, LIMIT, vec![in alloc; ann, cas]?, nodes)
+}
+
 // The domains of a plan.
 fn domains_of(alloc: Global, plan: TrialPlan) -> Result<Vec<DomainPlan>, AllocError> {
     match plan {
         TrialPlan::AnnAndBob => ann_and_bob(alloc, LIMIT),
         TrialPlan::AnnOfThreeEvents => ann_and_bob(alloc, 3),
         TrialPlan::TwoNodes => Ok(vec![in alloc; two_nodes(alloc)?]?),
+        TrialPlan::AnnAndCas => Ok(vec![in alloc; ann_and_cas(alloc)?]?),
     }
 }
 

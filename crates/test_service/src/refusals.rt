@@ -4,7 +4,7 @@ use crate::parts::{Otherwise, holds, plan_again};
 use crate::plans::TrialPlan;
 use bootstrap::Stepped;
 use domain_core::{By, Committed, Entry, Event, Refusal, Reply, Ticket};
-use plain_farm::{PlainFarm, run};
+use farm_core::{PlainFarm, run};
 use std::alloc::Global;
 use virtual_switch::ConfigReply;
 
@@ -99,12 +99,18 @@ fn opened_again(alloc: Global) -> Result<PlainFarm, Otherwise> {
 }
 
 // The answer to an event, asked for again after a refusal.
-fn asked_again(farm: &mut PlainFarm, domain: u8, by: By, event: Event) -> Result<Reply, Otherwise> {
+fn asked_again(
+    alloc: Global,
+    farm: &mut PlainFarm,
+    domain: u8,
+    by: By,
+    event: Event,
+) -> Result<Reply, Otherwise> {
     let before = shown(farm);
-    let answer = match farm.apply(domain, by, event) {
+    let answer = match farm.apply(alloc, domain, by, event) {
         Err(Refusal::NoMemory) => {
             holds(shown(farm) == before)?;
-            farm.apply(domain, by, event)
+            farm.apply(alloc, domain, by, event)
         }
         answer => answer,
     };
@@ -115,12 +121,12 @@ fn asked_again(farm: &mut PlainFarm, domain: u8, by: By, event: Event) -> Result
 }
 
 // A ticket of ann's node, asked for again after a refusal.
-fn checked_out_again(farm: &mut PlainFarm) -> Result<Ticket, Otherwise> {
+fn checked_out_again(alloc: Global, farm: &mut PlainFarm) -> Result<Ticket, Otherwise> {
     let before = shown(farm);
-    let answer = match farm.checkout(ANN, 0) {
+    let answer = match farm.checkout(alloc, ANN, 0) {
         Err(Refusal::NoMemory) => {
             holds(shown(farm) == before)?;
-            farm.checkout(ANN, 0)
+            farm.checkout(alloc, ANN, 0)
         }
         answer => answer,
     };
@@ -131,19 +137,19 @@ fn checked_out_again(farm: &mut PlainFarm) -> Result<Ticket, Otherwise> {
 }
 
 // What became of a ticket of ann's node that does 100 Steps and is committed.
-fn committed(farm: &mut PlainFarm) -> Result<Result<Committed, Refusal>, Otherwise> {
-    let mut ticket = checked_out_again(farm)?;
+fn committed(alloc: Global, farm: &mut PlainFarm) -> Result<Result<Committed, Refusal>, Otherwise> {
+    let mut ticket = checked_out_again(alloc, farm)?;
     ticket.burst(100);
-    Ok(farm.commit(ANN, ticket))
+    Ok(farm.commit(alloc, ANN, ticket))
 }
 
 // A ticket comes home. If memory is refused then, the ticket is spent, and another does the Steps.
-fn come_home_again(farm: &mut PlainFarm) -> Result<(), Otherwise> {
+fn come_home_again(alloc: Global, farm: &mut PlainFarm) -> Result<(), Otherwise> {
     let before = shown(farm);
-    let told = match committed(farm)? {
+    let told = match committed(alloc, farm)? {
         Err(Refusal::NoMemory) => {
             holds(shown(farm) == before)?;
-            committed(farm)?
+            committed(alloc, farm)?
         }
         told => told,
     };
@@ -151,21 +157,26 @@ fn come_home_again(farm: &mut PlainFarm) -> Result<(), Otherwise> {
 }
 
 // Asks for events of one user one after another, and gives the last answer.
-fn send_again(farm: &mut PlainFarm, domain: u8, events: &[Event]) -> Result<Reply, Otherwise> {
+fn send_again(
+    alloc: Global,
+    farm: &mut PlainFarm,
+    domain: u8,
+    events: &[Event],
+) -> Result<Reply, Otherwise> {
     let mut last = Reply::Written;
     for event in events {
-        last = asked_again(farm, domain, USER, *event)?;
+        last = asked_again(alloc, farm, domain, USER, *event)?;
     }
     Ok(last)
 }
 
 // Boots ann's node with a loop: 16 events of hers, and as many entries.
-fn boot_again(farm: &mut PlainFarm) -> Result<(), Otherwise> {
-    send_again(farm, ANN, &JOINED)?;
-    holds(send_again(farm, ANN, &WRITTEN)? == Reply::Written)?;
+fn boot_again(alloc: Global, farm: &mut PlainFarm) -> Result<(), Otherwise> {
+    send_again(alloc, farm, ANN, &JOINED)?;
+    holds(send_again(alloc, farm, ANN, &WRITTEN)? == Reply::Written)?;
     for _ in 0..3u32 {
         for event in [Event::Move(7), Event::Step(0), Event::Move(0)] {
-            asked_again(farm, ANN, By::Farm, event)?;
+            asked_again(alloc, farm, ANN, By::Farm, event)?;
         }
     }
     Ok(())
@@ -174,8 +185,8 @@ fn boot_again(farm: &mut PlainFarm) -> Result<(), Otherwise> {
 // A farm in which ann's node runs a loop. Bob's input 2 is connected to his output 5, which is made ready and enquired.
 fn loaded_again(alloc: Global) -> Result<PlainFarm, Otherwise> {
     let mut farm = opened_again(alloc)?;
-    boot_again(&mut farm)?;
-    let enquired = send_again(&mut farm, BOB, &ENQUIRED)?;
+    boot_again(alloc, &mut farm)?;
+    let enquired = send_again(alloc, &mut farm, BOB, &ENQUIRED)?;
     holds(enquired == Reply::Config(ConfigReply::Answer(0x82)))?;
     Ok(farm)
 }
@@ -184,7 +195,7 @@ fn loaded_again(alloc: Global) -> Result<PlainFarm, Otherwise> {
 fn stepped_again(alloc: Global) -> Result<(PlainFarm, Sight), Otherwise> {
     let mut farm = loaded_again(alloc)?;
     holds(shown(&mut farm).entries == 16)?;
-    come_home_again(&mut farm)?;
+    come_home_again(alloc, &mut farm)?;
     let seen = shown(&mut farm);
     Ok((farm, seen))
 }

@@ -7,8 +7,8 @@ use crate::gates::Hold;
 use crate::plans::TrialPlan;
 use crate::sized::Size;
 use crate::stages::Stage::{
-    self, Alone, AtOnce, Begun, Burst, Committed, Count, Held, Meet, Say, Stop, Tell, Word, Work,
-    Workers,
+    self, Alone, AtOnce, Begun, Burst, Committed, Count, Expect, Held, Meet, Say, Stop, Tell, Word,
+    Work, Workers,
 };
 use crate::telling::ToldAtEnd;
 use crate::users::Doing;
@@ -59,6 +59,18 @@ const LOOPS_FOR_BOTH: [(usize, Action); 3] = [
     (0, Write(1, &LOOPS)),
 ];
 
+/// Joins the node to host 0, pokes the word 12345678 at 80000048, peeks it, and reads what came.
+const POKE_AND_PEEK: [Action; 5] = [
+    Config(&JOIN),
+    Write(0, &[0, 0x48, 0, 0, 0x80, 0x78, 0x56, 0x34, 0x12]),
+    Write(0, &[1, 0x48, 0, 0, 0x80]),
+    SETTLE,
+    Read(0, 5),
+];
+
+/// Writes 01 to host 0, a hundred times.
+const WRITE_A_HUNDRED: [Action; 1] = [Write(0, &[1; 100])];
+
 /// Sixteen domains, each of a node, a host and a user.
 const SIXTEEN: Size = Size {
     domains: 16,
@@ -87,7 +99,7 @@ const NINE_NODES: Size = Size {
 };
 
 /// The rows.
-pub const ROWS: [WorkedRow; 10] = [
+pub const ROWS: [WorkedRow; 11] = [
     WorkedRow {
         name: "bob's journal at close",
         ground: Listed(TrialPlan::AnnAndBob),
@@ -141,6 +153,23 @@ pub const ROWS: [WorkedRow; 10] = [
             Committed,
         ],
         left: ToldAtEnd::Tokens,
+    },
+    // The word's bytes come with the least significant first. Host 0 is ann's, so nothing that cas writes comes to it.
+    WorkedRow {
+        name: "ann peeks while cas is refused",
+        ground: Listed(TrialPlan::AnnAndCas),
+        workers: 2,
+        stages: &[
+            Meet(
+                Doing::Listed(&[&POKE_AND_PEEK, &WRITE_A_HUNDRED]),
+                Hold::Nothing,
+            ),
+            Expect(&[
+                (" 78 56 34 12 none", 1),
+                (" there is no such user, host, node or port", 100),
+            ]),
+        ],
+        left: ToldAtEnd::Nothing,
     },
     WorkedRow {
         name: "stopped workers",

@@ -4,6 +4,7 @@ use crate::actions::Action;
 use crate::farm::{Ground, OpenedFarm, close, open};
 use crate::gates::{Hold, TurnsSeen, burst};
 use crate::meeting::{Meeting, Party, run_meeting, work_here};
+use crate::telling::verdict;
 use crate::users::{Doing, TestUser, passes_of, users_of};
 use crate::watch::Watch;
 use domain_core::Committed;
@@ -29,6 +30,8 @@ pub enum Stage {
     Tell(usize, &'static str),
     /// How many users were told this follows.
     Count(&'static str),
+    /// Whether each user, in his place of the plan, was told just this text so many times follows.
+    Expect(&'static [(&'static str, usize)]),
     /// The newest word that the operator saw of a physical output follows.
     Word(u8),
     /// This follows.
@@ -87,9 +90,32 @@ fn count_of(users: &[TestUser], text: &str) -> usize {
     count
 }
 
+// Whether a text is another one so many times.
+fn is_repeated(said: &str, text: &str, times: usize) -> bool {
+    let mut rest = said;
+    for _time in 0..times {
+        match rest.strip_prefix(text) {
+            Some(after) => rest = after,
+            None => return false,
+        }
+    }
+    rest.is_empty()
+}
+
+// Whether each user was told his text so many times, and nothing else.
+fn are_told(users: &[TestUser], expected: &[(&str, usize)]) -> bool {
+    for (user, (text, times)) in users.iter().zip(expected.iter()) {
+        if !is_repeated(user.said.as_str(), *text, *times) {
+            return false;
+        }
+    }
+    users.len() == expected.len()
+}
+
 // Users act one after another.
 fn act_alone<R: Wait>(
     rt: &R,
+    alloc: Global,
     party: &mut Party,
     actions: &[(usize, Action)],
     said: &mut String,
@@ -98,7 +124,7 @@ fn act_alone<R: Wait>(
     let service = &farm.service;
     for (place, act) in actions {
         if let Some(user) = party.users.get_mut(*place) {
-            user.act(rt, service, *place, Doing::One(*act));
+            user.act(rt, alloc, service, *place, Doing::One(*act));
             said.push_str(user.said.as_str())?;
             user.said.clear();
         }
@@ -124,12 +150,13 @@ fn tell_user(
 // Tells what became of a burst of a node.
 fn tell_burst<R: Wait>(
     rt: &R,
+    alloc: Global,
     party: &Party,
     domain: u8,
     node: u8,
     said: &mut String,
 ) -> Result<(), AllocError> {
-    match burst(rt, &party.farm.service, domain, node) {
+    match burst(rt, alloc, &party.farm.service, domain, node) {
         Ok(Committed::Done) => said.push_str(" done"),
         Ok(Committed::Stale) => said.push_str(" stale"),
         Err(refusal) => write!(said, " {refusal}"),
@@ -149,16 +176,21 @@ fn tell_seen(seen: TurnsSeen, said: &mut String) -> Result<(), AllocError> {
 // A stage in which nobody meets.
 fn tell<R: Wait>(
     rt: &R,
+    alloc: Global,
     party: &mut Party,
     stage: Stage,
     said: &mut String,
 ) -> Result<(), AllocError> {
     match stage {
-        Stage::Alone(actions) => act_alone(rt, party, actions, said),
+        Stage::Alone(actions) => act_alone(rt, alloc, party, actions, said),
         Stage::Tell(place, name) => tell_user(party.users.as_mut_slice(), place, name, said),
         Stage::Count(text) => {
             let count = count_of(party.users.as_slice(), text);
             write!(said, " {count}")
+        }
+        Stage::Expect(expected) => {
+            let told = verdict(are_told(party.users.as_slice(), expected));
+            write!(said, " {told}")
         }
         Stage::Word(output) => match party.watch.words.get(usize::from(output)) {
             Some(word) => write!(said, " {:x}", word.bits),
@@ -169,7 +201,7 @@ fn tell<R: Wait>(
             party.farm.service.stop();
             Ok(())
         }
-        Stage::Burst(domain, node) => tell_burst(rt, party, domain, node, said),
+        Stage::Burst(domain, node) => tell_burst(rt, alloc, party, domain, node, said),
         Stage::Committed => tell_seen(party.seen, said),
         Stage::Begun => write!(said, " {} begun;", party.seen.begun),
         _ => Ok(()),
@@ -192,19 +224,20 @@ impl Stage {
 // A stage.
 fn perform<R: Threads + Wait + Sync>(
     rt: &R,
+    alloc: Global,
     mut party: Party,
     stage: Stage,
     said: &mut String,
 ) -> Party {
     if let Some(meeting) = stage.meeting() {
-        return run_meeting(rt, party, meeting);
+        return run_meeting(rt, alloc, party, meeting);
     }
     if let Stage::Work(turns) = stage {
-        let (mut party, worked) = work_here(rt, party, turns);
+        let (mut party, worked) = work_here(rt, alloc, party, turns);
         party.out_of_memory |= said.push_str(name_of(worked)).is_err();
         return party;
     }
-    party.out_of_memory |= tell(rt, &mut party, stage, said).is_err();
+    party.out_of_memory |= tell(rt, alloc, &mut party, stage, said).is_err();
     party
 }
 
@@ -282,10 +315,10 @@ pub fn run<R: Threads + Wait + Sync>(
     let mut party = party_of(rt, alloc, &trial)?;
     let mut said = String::new(alloc);
     for stage in trial.stages {
-        party = perform(rt, party, *stage, &mut said);
+        party = perform(rt, alloc, party, *stage, &mut said);
     }
     // The operator surveys once more.
-    party = perform(rt, party, Stage::AtOnce(&[]), &mut said);
+    party = perform(rt, alloc, party, Stage::AtOnce(&[]), &mut said);
     if was_out_of_memory(&party) {
         return Err(AllocError);
     }

@@ -29,6 +29,15 @@ pub enum ToldAtEnd {
     Losses,
 }
 
+/// What is told of something by whether it is as it must be.
+pub fn verdict(is_right: bool) -> &'static str {
+    if is_right {
+        "as it must be"
+    } else {
+        "otherwise"
+    }
+}
+
 // The tokens, in the order in which they waited.
 fn tell_order(closed: &Closed, said: &mut String) -> Result<(), AllocError> {
     for token in closed.tokens.iter() {

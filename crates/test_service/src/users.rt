@@ -39,12 +39,13 @@ pub struct TestUser {
 // Acts one after another.
 fn act_all<R: Wait>(
     rt: &R,
+    alloc: Global,
     session: &mut Session<'_>,
     actions: &[Action],
     said: &mut String,
 ) -> Result<(), AllocError> {
     for act in actions {
-        perform(rt, session, *act, said)?;
+        perform(rt, alloc, session, *act, said)?;
     }
     Ok(())
 }
@@ -54,6 +55,7 @@ impl TestUser {
     fn act_in<R: Wait>(
         &mut self,
         rt: &R,
+        alloc: Global,
         session: &mut Session<'_>,
         place: usize,
         doing: Doing,
@@ -61,13 +63,13 @@ impl TestUser {
         let said = &mut self.said;
         match doing {
             Doing::Listed(lists) => match lists.get(place) {
-                Some(actions) => act_all(rt, session, actions, said).is_ok(),
+                Some(actions) => act_all(rt, alloc, session, actions, said).is_ok(),
                 None => true,
             },
-            Doing::Same(actions) => act_all(rt, session, actions, said).is_ok(),
-            Doing::One(act) => perform(rt, session, act, said).is_ok(),
+            Doing::Same(actions) => act_all(rt, alloc, session, actions, said).is_ok(),
+            Doing::One(act) => perform(rt, alloc, session, act, said).is_ok(),
             Doing::Anything(size, count) => {
-                match ask_anything(rt, session, &mut self.draws, size, count) {
+                match ask_anything(rt, alloc, session, &mut self.draws, size, count) {
                     Ok(answered) => {
                         self.answered = self.answered.saturating_add(answered);
                         true
@@ -79,10 +81,17 @@ impl TestUser {
     }
 
     /// Does what he is to do, in a session of his own.
-    pub fn act<R: Wait>(&mut self, rt: &R, service: &Service, place: usize, doing: Doing) {
+    pub fn act<R: Wait>(
+        &mut self,
+        rt: &R,
+        alloc: Global,
+        service: &Service,
+        place: usize,
+        doing: Doing,
+    ) {
         if let Some(pass) = self.pass.take() {
             let mut session = service.session(pass);
-            if !self.act_in(rt, &mut session, place, doing) {
+            if !self.act_in(rt, alloc, &mut session, place, doing) {
                 self.out_of_memory = true;
             }
             self.pass = Some(session.end());

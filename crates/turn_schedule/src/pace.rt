@@ -8,7 +8,7 @@ ghost use Rattle.std.specs.Prelude.{◌≤◌};
 const MOST_QUANTA: u64 = 256;
 
 /// The most Steps of a burst.
-const MOST_STEPS: u64 = 65_536;
+const BURST_STEPS: u64 = 65_536;
 
 /// How many Steps the bursts of a worker's turns have.
 #[derive(Clone, Copy)]
@@ -22,7 +22,7 @@ pub struct BurstLength {
 /// How many quanta come after so many, as long as nothing moves: twice as many, unless that is too long for a burst.
 pub(crate) fn longer(quanta: u64, quantum: u64) -> u64 {
     let twice = quanta.saturating_mul(2);
-    if twice <= MOST_QUANTA && twice.saturating_mul(quantum) <= MOST_STEPS {
+    if twice <= MOST_QUANTA && twice.saturating_mul(quantum) <= BURST_STEPS {
         twice
     } else {
         quanta

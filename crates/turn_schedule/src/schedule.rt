@@ -225,7 +225,7 @@ impl Schedule {
     }
 
     // Whether somebody settles in a domain.
-    fn is_settled(&self, domain: u8) -> bool {
+    fn has_settler(&self, domain: u8) -> bool {
         match self.domain(domain) {
             Some(marks) => marks.settlers.load(Ordering::SeqCst) != 0,
             None => false,
@@ -236,7 +236,7 @@ impl Schedule {
     /// somebody settles in its domain and the round has had its burst already.
     pub fn take(&self, token: Token) -> Option<u64> {
         let marks = self.marks(token)?;
-        if self.is_settled(token.domain) && !marks.is_due.load(Ordering::SeqCst) {
+        if self.has_settler(token.domain) && !marks.is_due.load(Ordering::SeqCst) {
             return None;
         }
         let takes = marks.takes.load(Ordering::SeqCst);
@@ -266,7 +266,7 @@ impl Schedule {
     /// as many as the round if somebody settles there, and else twice as many as the turn before, up to 256 and to 65,536
     /// Steps, or one if the domain was changed since.
     pub fn turn_quanta(&self, token: Token, changes: u64, quantum: u64) -> u64 {
-        if self.is_settled(token.domain) {
+        if self.has_settler(token.domain) {
             return self.round_quanta(token.domain);
         }
         let Some(marks) = self.marks(token) else {

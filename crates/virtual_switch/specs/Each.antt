@@ -1,11 +1,11 @@
 -- Byte after byte: what each of them leaves, with the words that it leaves.
-use Rattle.std.specs.Prelude.{◌≡◌, ℕ, List, [], ◌∷◌, ◌++◌, Option, Some, None, length, if◌then◌else◌}
+use Rattle.std.specs.Prelude.{◌≡◌, ℕ, List, [], ◌∷◌, ◌++◌, Option, Some, None, false, length, slice_index, if◌then◌else◌}
 use Rattle.std.specs.List.{AllZip}
 use Rattle.c004_commands.specs.declared.message.Message.{Message}
 use Rattle.c004_commands.specs.declared.message.Message.TheVariants.{Connect, ConnectBoth, Enquire, MakeReady, Clear, Disconnect, DisconnectBoth}
 use Rattle.c004_commands.specs.Grammar.{Item, Command, Stray, item_of}
 use Rattle.crossbar.specs.Row.{Row}
-use Rattle.crossbar.specs.Changed.{row_after, row_connected, row_each, ready_of}
+use Rattle.crossbar.specs.Changed.{row_after, row_each, ready_of}
 use Rattle.crossbar.specs.Word.{CountsChange}
 use Rattle.virtual_switch.specs.SwitchValue.{SwitchValue, private_of, row_of}
 use Rattle.virtual_switch.specs.PrivateSwitch.{configured, all_told, are_below, ports_named, AnswersStream}
@@ -23,16 +23,24 @@ pub record KeepsPorts (old new : SwitchValue) : Type 0 where
 -- a byte is answered so, and leaves this
 abbrev pub ConfiguresTo : SwitchValue → ℕ → ConfigReply → SwitchValue → Type 0
 ConfiguresTo old byte reply new =
-    record { reply = reply; switch = private_of new; rest = new.rest } ≡ configured (length old.ports) (private_of old) old.rest byte
+    record { reply = reply; switch = private_of new; rest = new.rest }
+    ≡ configured (length old.ports) (private_of old) old.rest byte
 
 -- bytes are answered so, one reply each, and leave this
 abbrev pub AnswersBytes : SwitchValue → List ℕ → List ConfigReply → SwitchValue → Type 0
-AnswersBytes old bytes replies new = AnswersStream (length old.ports) (private_of old) old.rest bytes replies (private_of new) new.rest
+AnswersBytes old bytes replies new =
+    AnswersStream (length old.ports) (private_of old) old.rest bytes replies (private_of new) new.rest
 
 -- the same byte after byte
 abbrev pub TellsAll : SwitchValue → List ℕ → List ConfigReply → SwitchValue → Type 0
 TellsAll old bytes replies new =
-    all_told (length old.ports) (private_of old) old.rest bytes ≡ record { replies = replies; switch = private_of new; rest = new.rest }
+    all_told (length old.ports) (private_of old) old.rest bytes
+    ≡ record { replies = replies; switch = private_of new; rest = new.rest }
+
+-- the row once a virtual input drives an output, which isn't ready
+abbrev pub row_connected : Row → ℕ → ℕ → Row
+row_connected row input output =
+    row_after row output (Some (record { input = slice_index row.ports input; ready = false }))
 
 -- the row after a message whose ports are there
 abbrev pub row_performed : Row → Message → Row
@@ -46,7 +54,8 @@ row_performed row (DisconnectBoth first second) = row_after (row_after row first
 
 -- the row after an item
 abbrev pub row_after_item : Row → Item → Row
-row_after_item row (Command message) = if are_below (length row.ports) (ports_named message) then row_performed row message else row
+row_after_item row (Command message) =
+    if are_below (length row.ports) (ports_named message) then row_performed row message else row
 row_after_item row (Stray byte) = row
 
 -- what a byte leaves, by the item that it ends

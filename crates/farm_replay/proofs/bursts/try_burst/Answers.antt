@@ -2,7 +2,7 @@ use Rattle.std.proofs.Common.{◌≡◌, ◌+◌, ◌<◌, Ok, slice_get, sym, a
 use Rattle.std.proofs.lemmas.Option.{none-some}
 use Rattle.domain_core.specs.declared.domain.Committed.{Committed}
 use Rattle.domain_core.specs.Ticket.{TicketValue, fresh_ticket, steps_told}
-use Rattle.plain_farm.specs.PlainFarm.{IsCommittedAt}
+use Rattle.farm_core.specs.PlainFarm.{IsCommittedAt}
 use Rattle.farm_replay.proofs.Bursting.{without_last, rests}
 use Rattle.farm_replay.proofs.Grown.{steps_run, no_steps_run, none_told}
 use Rattle.farm_replay.proofs.bursts.try_burst.Goals as goal

@@ -1,7 +1,7 @@
 use Rattle.std.proofs.Common.{◌≡◌, length, ◌+◌, ◌++◌, ◌∷◌, [], List, ℕ, map, take, string_bytes, ap, ◌∙◌, sym, subst}
 use Rattle.std.proofs.lemmas.List.{map-append, length-append, take_all}
 use Rattle.std.proofs.Math.Nat.{le_antisymm}
-use Rattle.farm_core.specs.Places.{places_of}
+use Rattle.whole_farm.specs.Places.{places_of}
 use Rattle.farm_replay.specs.declared.request.RepeatedRequest.{RepeatedRequest}
 use Rattle.farm_replay.specs.Plain.{asked_by}
 use Rattle.farm_replay.proofs.Lines.{AreLinesSoFar, one_more_line, all_lines}

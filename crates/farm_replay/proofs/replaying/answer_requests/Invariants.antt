@@ -1,5 +1,5 @@
 use Rattle.std.proofs.Common.{◌≡◌, length, map, take, string_bytes}
-use Rattle.farm_core.specs.Places.{places_of}
+use Rattle.whole_farm.specs.Places.{places_of}
 use Rattle.farm_replay.specs.Plain.{asked_by}
 use Rattle.farm_replay.proofs.Lines.{AreLinesSoFar}
 use Rattle.farm_replay.proofs.replaying.answer_requests.Given as goal

@@ -1,6 +1,6 @@
 use Rattle.std.proofs.Common.{◌≡◌, [], ◌∷◌, string_bytes, sym, subst}
 use Rattle.std.proofs.Math.Nat.{le_antisymm}
-use Rattle.farm_core.specs.Places.{places_of}
+use Rattle.whole_farm.specs.Places.{places_of}
 use Rattle.farm_replay.specs.Plain.{Asked, Calls, event_calls, asked_once, asked_times}
 use Rattle.farm_replay.specs.Answering.{AnswersAsked}
 use Rattle.farm_replay.specs.Runs.{ShowsAsked}

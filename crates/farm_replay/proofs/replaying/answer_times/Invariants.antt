@@ -1,4 +1,4 @@
-use Rattle.farm_core.specs.Places.{places_of}
+use Rattle.whole_farm.specs.Places.{places_of}
 use Rattle.farm_replay.specs.Plain.{asked_once, asked_times}
 use Rattle.farm_replay.specs.Answering.{AnswersAsked}
 use Rattle.farm_replay.proofs.replaying.answer_times.Given as goal

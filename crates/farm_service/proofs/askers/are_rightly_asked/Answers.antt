@@ -11,15 +11,15 @@ pub loop-index-preserved : goal.loop-index-preserved
 loop-index-preserved c =
     let entry = c.in-Some.entry in
     let there = sym c.get.ensures ∙ c.in-Some.is in
-    let here = get_or_from_slice_get c.args.journal.now c.loop-index.index entry entry there in
-    more_right c.journals_add_up.ensures.law c.args.journal.now c.loop-index.index entry
-    (slice_get_within c.args.journal.now c.loop-index.index entry there) c.loop-index.invariant
+    let here = get_or_from_slice_get c.args.journal.now.entries c.loop-index.index entry entry there in
+    more_right c.journals_add_up.ensures.law c.args.journal.now.entries c.loop-index.index entry
+    (slice_get_within c.args.journal.now.entries c.loop-index.index entry there) c.loop-index.invariant
     (subst (λ (e : Entry). AreRightlyAsked (expanded (e ∷ []))) (sym here)
     (c.is_rightly_asked.ensures c.if-not-is_rightly_asked.false))
 
 pub returns : goal.returns
 returns c =
-    let all : length c.args.journal.now ≤ c.loop-index.index =
+    let all : length c.args.journal.now.entries ≤ c.loop-index.index =
     subst (λ (n : ℕ). n ≤ c.loop-index.index) c.len-index-end.ensures c.loop-index-test.false in
     λ _. subst (λ (journal : List Entry). AreRightlyAsked (expanded journal))
-    (take_all c.loop-index.index c.args.journal.now all) c.loop-index.invariant
+    (take_all c.loop-index.index c.args.journal.now.entries all) c.loop-index.invariant

@@ -9,10 +9,10 @@ pub loop-index-preserved : goal.loop-index-preserved
 loop-index-preserved c =
     let entry = c.in_ok-entry.entry in
     let there = sym c.get.ensures ∙ c.in_ok-entry.was in
-    let here = get_or_from_slice_get c.args.journal.now c.loop-index.index entry entry there in
+    let here = get_or_from_slice_get c.args.journal.now.entries c.loop-index.index entry entry there in
     let sum : c.in_ok-events.events ≡ c.loop-index.events + c.event_count.result = search rules in
     sum
-    ∙ more_events c.journals_add_up.ensures.law c.args.journal.now c.loop-index.index c.loop-index.events
-    c.event_count.result entry (slice_get_within c.args.journal.now c.loop-index.index entry there)
+    ∙ more_events c.journals_add_up.ensures.law c.args.journal.now.entries c.loop-index.index c.loop-index.events
+    c.event_count.result entry (slice_get_within c.args.journal.now.entries c.loop-index.index entry there)
     c.loop-index.invariant
     (c.event_count.ensures ∙ ap (λ (e : Entry). length (expanded (e ∷ []))) (sym here))

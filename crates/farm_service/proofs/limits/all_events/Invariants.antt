@@ -4,4 +4,4 @@ use Rattle.farm_service.proofs.limits.all_events.Given as goal
 
 -- the events of the entries so far
 abbrev pub invariant-loop-index : goal.invariant-loop-index
-invariant-loop-index l = l.events ≡ length (expanded (take l.index l.journal))
+invariant-loop-index l = l.events ≡ length (expanded (take l.index l.journal.entries))

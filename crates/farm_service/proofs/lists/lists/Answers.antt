@@ -10,11 +10,12 @@ pub loop-index-preserved : goal.loop-index-preserved
 loop-index-preserved c =
     let entry = c.in-Some.entry in
     let there = sym c.get.ensures ∙ c.in-Some.is in
-    let here = get_or_from_slice_get c.args.journal.now c.loop-index.index entry entry there in record {
+    let here = get_or_from_slice_get c.args.journal.now.entries c.loop-index.index entry entry there in record {
       so_far =
-          more_listed c.journals_add_up.ensures.law c.args.user c.args.journal.now c.args.told.now c.loop-index.index
+          more_listed c.journals_add_up.ensures.law c.args.user c.args.journal.now.entries c.args.told.now
+          c.loop-index.index
           c.loop-index.listed c.in-Some-listed_after.after entry
-          (slice_get_within c.args.journal.now c.loop-index.index entry there) c.loop-index.invariant.so_far
+          (slice_get_within c.args.journal.now.entries c.loop-index.index entry there) c.loop-index.invariant.so_far
           (c.in-Some-listed_after.ensures.listed
           ∙ ap (λ (e : Entry). take c.loop-index.listed c.args.told.now
           ++ commands_of c.args.user (expanded (e ∷ [])))

@@ -1,6 +1,6 @@
 use Rattle.std.proofs.Common.{subst}
 use Rattle.std.specs.Prelude.{IfOk}
-use Rattle.farm_core.specs.Places.{places_of}
+use Rattle.whole_farm.specs.Places.{places_of}
 use Rattle.farm_service.specs.declared.closed.Closed.{Closed}
 use Rattle.farm_service.specs.Closed.{EachMergeRuns}
 use Rattle.live_farm.proofs.program.run_live.Goals as goal

@@ -2,7 +2,7 @@ use Rattle.std.proofs.Common.{◌≡◌, ◌+◌, ◌++◌, ◌∷◌, [], List,
 use Rattle.std.proofs.Common.{take, string_bytes, rules, ap, ◌∙◌, sym, subst}
 use Rattle.std.proofs.lemmas.List.{map-append, length-append, take_all}
 use Rattle.std.proofs.Math.Nat.{le_antisymm}
-use Rattle.farm_core.specs.Places.{places_of}
+use Rattle.whole_farm.specs.Places.{places_of}
 use Rattle.script_replay.specs.declared.asks.AskedLine.{AskedLine}
 use Rattle.script_replay.proofs.Chains.{AreLinesUpTo, no_line_yet, line_more, all_well}
 use Rattle.script_replay.proofs.answering.answer_asked_lines.Goals as goal

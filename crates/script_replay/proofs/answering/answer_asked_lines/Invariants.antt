@@ -1,6 +1,6 @@
 use Rattle.std.proofs.Common.{◌≡◌, List, length, map, take, string_bytes}
 use Rattle.domain_core.specs.Domain.{DomainValue}
-use Rattle.farm_core.specs.Places.{places_of}
+use Rattle.whole_farm.specs.Places.{places_of}
 use Rattle.farm_replay.specs.Runs.{IsOpenedFarm}
 use Rattle.script_replay.proofs.Chains.{AreLinesUpTo}
 use Rattle.script_replay.proofs.answering.answer_asked_lines.Given as goal

@@ -1,4 +1,4 @@
-use Rattle.std.proofs.Common.{◌≡◌, ◌≢◌, ◌+◌, ap, sym, ◌∙◌, subst, List, [], ◌∷◌, ◌++◌, length, Ok, Err, true}
+use Rattle.std.proofs.Common.{◌≡◌, ◌≢◌, ◌+◌, ◌≤◌, ap, sym, ◌∙◌, subst, List, [], ◌∷◌, ◌++◌, length, Ok, Err, true}
 use Rattle.std.proofs.lemmas.List.{length-append}
 use Rattle.plan_rules.specs.Part.{PartData}
 use Rattle.domain_core.specs.declared.event.Event.{Event}
@@ -7,9 +7,9 @@ use Rattle.domain_core.specs.declared.event.Refusal.TheVariants.{NoSuch, Journal
 use Rattle.domain_core.specs.declared.event.Reply.{Reply}
 use Rattle.domain_core.specs.declared.event.Reply.TheVariants as reply
 use Rattle.domain_core.specs.declared.journal.Entry.{Entry}
-use Rattle.domain_core.specs.Domain.{DomainValue, IsMeant, IsCalled}
-use Rattle.domain_core.specs.Entries.{reply_of}
-use Rattle.domain_core.specs.Journal.{AnsweredCall, expanded}
+use Rattle.domain_core.specs.Domain.{DomainValue, domain_of, IsMeant, IsCalled, IsOutOfRoom}
+use Rattle.domain_core.specs.Entries.{reply_of, journal_of}
+use Rattle.domain_core.specs.Journal.{AnsweredCall, JournalValue, expanded}
 use Rattle.domain_core.specs.PrivateFarm.{Call, is_there}
 use Rattle.domain_core.proofs.Meant.{meant_recorded, meant_unrecorded, called_recorded, called_unrecorded}
 use Rattle.domain_core.proofs.Meant.{called_no_such, called_full, called_no_memory}
@@ -18,15 +18,18 @@ use Rattle.domain_core.proofs.domain.Domain.answer.Goals.{then-recorded, else-re
 
 pub invariant_of-self-then-recorded : goal.invariant_of-self-then-recorded
 invariant_of-self-then-recorded g c =
-    let d : DomainValue = record { machine = c.self.inside.machine; journal = c.self.inside.journal } in
+    let d : DomainValue = domain_of c.self.inside.machine c.self.inside.journal in
     let call : Call = record { by = c.args.by; event = c.args.event } in
     let one : AnsweredCall = record { call = call; reply = reply_of c.act-reply.result.reply } in
-    let gains : expanded c.push_answer.new.self.entries ≡ expanded c.self.inside.journal ++ one ∷ [] =
-    c.push_answer.ensures ∙ ap (λ l. expanded l ++ one ∷ []) (c.reserve.ensures.unchanged ∙ c.journal.view_is) in
-    let counted : length (expanded c.push_answer.new.self.entries) ≡ length (expanded c.self.inside.journal) + 1 =
-    ap length gains ∙ length-append (expanded c.self.inside.journal) (one ∷ []) in (
+    let gains : expanded c.push_answer.new.self.entries ≡ expanded c.self.inside.journal.entries ++ one ∷ [] =
+    c.push_answer.ensures.entries ∙ ap (λ (l : JournalValue). expanded l.entries ++ one ∷ [])
+    (c.reserve.ensures.unchanged ∙ c.journal.view_is) in
+    let counted : length (expanded c.push_answer.new.self.entries) ≡ length (expanded
+    c.self.inside.journal.entries) + 1 =
+    ap length gains ∙ length-append (expanded c.self.inside.journal.entries) (one ∷ []) in (
       meant_recorded d call c.act-reply.new.self (reply_of c.act-reply.result.reply) c.push_answer.new.self.entries
-          c.self.invariant.0 (sym c.has_target.ensures.there ∙ c.if-not-has_target.false)
+          c.push_answer.new.self.reserved c.self.invariant.0 (sym c.has_target.ensures.there ∙
+          c.if-not-has_target.false)
           (λ full. c.if-self-limit.false
           (c.self.invariant.1 ∙ full ∙ ap (λ (p : PartData). p.limit) (sym c.part.ensures)
           ∙ sym c.limit.ensures.limit))
@@ -37,19 +40,21 @@ invariant_of-self-then-recorded g c =
 
 pub invariant_of-self-else-recorded : goal.invariant_of-self-else-recorded
 invariant_of-self-else-recorded g c =
-    let d : DomainValue = record { machine = c.self.inside.machine; journal = c.self.inside.journal } in (
+    let d : DomainValue = domain_of c.self.inside.machine c.self.inside.journal in (
       meant_unrecorded c.quiet_step_changes_nothing.ensures.law d c.args.event c.act-reply.new.self
-          c.reserve.new.self.entries c.self.invariant.0 c.act-reply.ensures.state c.act-reply.ensures.part
-          (sym c.act-reply.ensures.recorded ∙ c.if-recorded.false)
-          (c.reserve.ensures.unchanged ∙ c.journal.view_is),
-      c.self.invariant.1 ∙ sym (ap (λ l. length (expanded l)) (c.reserve.ensures.unchanged ∙ c.journal.view_is)),
+          c.reserve.new.self.entries c.reserve.new.self.reserved c.self.invariant.0 c.act-reply.ensures.state
+          c.act-reply.ensures.part (sym c.act-reply.ensures.recorded ∙ c.if-recorded.false)
+          (ap (λ (l : JournalValue). l.entries) (c.reserve.ensures.unchanged ∙ c.journal.view_is)),
+      c.self.invariant.1
+          ∙ sym (ap (λ (l : JournalValue). length (expanded l.entries)) (c.reserve.ensures.unchanged ∙
+          c.journal.view_is)),
     )
 
 -- ---- a refusal
 
 pub returns-then-not-has_target-clause-called : goal.returns-then-not-has_target-clause-called
 returns-then-not-has_target-clause-called g c =
-    let d : DomainValue = record { machine = c.self.inside.machine; journal = c.self.inside.journal } in
+    let d : DomainValue = domain_of c.self.inside.machine c.self.inside.journal in
     let call : Call = record { by = c.args.by; event = c.args.event } in
     subst (λ (o : DomainValue). IsCalled call (Err NoSuch) o o) c.self.view_is
     (called_no_such c.unchanged_words_count_nothing.ensures.unchanged d call
@@ -57,7 +62,7 @@ returns-then-not-has_target-clause-called g c =
 
 pub returns-then-self-limit-clause-called : goal.returns-then-self-limit-clause-called
 returns-then-self-limit-clause-called g c =
-    let d : DomainValue = record { machine = c.self.inside.machine; journal = c.self.inside.journal } in
+    let d : DomainValue = domain_of c.self.inside.machine c.self.inside.journal in
     let call : Call = record { by = c.args.by; event = c.args.event } in
     subst (λ (o : DomainValue). IsCalled call (Err JournalFull) o o) c.self.view_is
     (called_full c.unchanged_words_count_nothing.ensures.unchanged d call
@@ -67,31 +72,26 @@ returns-then-self-limit-clause-called g c =
 
 pub invariant_of-self : goal.invariant_of-self
 invariant_of-self g c =
-    subst (λ (l : List Entry).
-    IsMeant (record { machine = c.self.inside.machine; journal = l }) × (c.self.inside.recorded ≡ length (expanded l)))
+    subst (λ (l : JournalValue).
+    IsMeant (domain_of c.self.inside.machine l)
+    × (c.self.inside.recorded ≡ length (expanded l.entries)))
     (sym (c.reserve.ensures.unchanged ∙ c.journal.view_is)) c.self.invariant
 
-pub returns-then-is_err : goal.returns-then-is_err
-returns-then-is_err g c =
-    let d : DomainValue = record { machine = c.self.inside.machine; journal = c.self.inside.journal } in
+pub returns-then-is_err-clause-called : goal.returns-then-is_err-clause-called
+returns-then-is_err-clause-called g c =
+    let d : DomainValue = domain_of c.self.inside.machine c.self.inside.journal in
     let call : Call = record { by = c.args.by; event = c.args.event } in
-    let same : record { machine = c.self.inside.machine; journal = c.reserve.new.self.entries } ≡ c.args.self.now =
-    ap (λ (l : List Entry). let v : DomainValue = record { machine = c.self.inside.machine; journal = l } in v)
+    let same : domain_of c.self.inside.machine (journal_of c.reserve.new.self) ≡ c.args.self.now =
+    ap (domain_of c.self.inside.machine)
     (c.reserve.ensures.unchanged ∙ c.journal.view_is)
     ∙ c.self.view_is in
-    record {
-      called =
-          subst (λ (o : DomainValue). IsCalled call (Err NoMemory) c.args.self.now o) (sym same)
-          (subst (λ (o : DomainValue). IsCalled call (Err NoMemory) o o) c.self.view_is
-          (called_no_memory c.unchanged_words_count_nothing.ensures.unchanged d call
-          (sym c.has_target.ensures.there ∙ c.if-not-has_target.false)
-          (λ full. c.if-self-limit.false
-          (c.self.invariant.1 ∙ full ∙ ap (λ (p : PartData). p.limit) (sym c.part.ensures)
-          ∙ sym c.limit.ensures.limit))));
-      err = same;
-      part = ap (λ (o : DomainValue). o.machine.part) c.self.view_is;
-      ports = ap (λ (o : DomainValue). o.machine.switch.ports) c.self.view_is;
-    }
+    subst (λ (o : DomainValue). IsCalled call (Err NoMemory) c.args.self.now o) (sym same)
+    (subst (λ (o : DomainValue). IsCalled call (Err NoMemory) o o) c.self.view_is
+    (called_no_memory c.unchanged_words_count_nothing.ensures.unchanged d call
+    (sym c.has_target.ensures.there ∙ c.if-not-has_target.false)
+    (λ full. c.if-self-limit.false
+    (c.self.invariant.1 ∙ full ∙ ap (λ (p : PartData). p.limit) (sym c.part.ensures)
+    ∙ sym c.limit.ensures.limit))))
 
 -- ---- a look
 
@@ -119,7 +119,7 @@ returns-in-Look-clause-called g c =
 
 pub returns-clause-called : goal.returns-clause-called
 returns-clause-called g c =
-    let d : DomainValue = record { machine = c.self.inside.machine; journal = c.self.inside.journal } in
+    let d : DomainValue = domain_of c.self.inside.machine c.self.inside.journal in
     let call : Call = record { by = c.args.by; event = c.args.event } in
     let law = c.unchanged_words_count_nothing.ensures.unchanged in
     let told : Reply = reply_of c.act-reply.result.reply in
@@ -132,16 +132,20 @@ returns-clause-called g c =
     elim c.if-recorded.branch [
       | then-recorded w ↦
           subst (λ (o : DomainValue). IsCalled call (Ok told) d o) (sym w.self-is)
-          (called_recorded d call c.act-reply.new.self told w.push_answer.new.self.entries there below
+          (called_recorded d call c.act-reply.new.self told w.push_answer.new.self.entries
+          w.push_answer.new.self.reserved there below
           c.act-reply.ensures.state c.act-reply.ensures.reply
           (sym c.act-reply.ensures.recorded ∙ w.if-recorded.true)
-          (w.push_answer.ensures ∙ ap (λ l. expanded l ++ one ∷ []) (c.reserve.ensures.unchanged ∙ c.journal.view_is))
+          (w.push_answer.ensures.entries ∙ ap (λ (l : JournalValue). expanded l.entries ++ one ∷ [])
+          (c.reserve.ensures.unchanged ∙ c.journal.view_is))
           c.act-reply.ensures.kept.counts)
       | else-recorded w ↦
           subst (λ (o : DomainValue). IsCalled call (Ok told) d o) (sym w.self-is)
-          (called_unrecorded d call c.act-reply.new.self told c.reserve.new.self.entries there below
+          (called_unrecorded d call c.act-reply.new.self told c.reserve.new.self.entries c.reserve.new.self.reserved
+          there below
           c.act-reply.ensures.state c.act-reply.ensures.reply
-          (sym c.act-reply.ensures.recorded ∙ w.if-recorded.false) (c.reserve.ensures.unchanged ∙ c.journal.view_is)
+          (sym c.act-reply.ensures.recorded ∙ w.if-recorded.false)
+          (ap (λ (l : JournalValue). l.entries) (c.reserve.ensures.unchanged ∙ c.journal.view_is))
           c.act-reply.ensures.kept.counts)
     ] in
     subst (λ (r : Reply). IsCalled call (Ok r) c.args.self.now c.if-recorded.self) (sym c.reply.ensures)

@@ -11,8 +11,9 @@ use Rattle.domain_core.specs.declared.event.Reply.{Reply}
 use Rattle.domain_core.specs.declared.event.Reply.TheVariants as reply_of
 use Rattle.domain_core.specs.declared.journal.Entry.{Entry}
 use Rattle.domain_core.specs.Devices.{DeviceStates}
-use Rattle.domain_core.specs.Domain.{DomainValue, IsMeant, IsCalled}
-use Rattle.domain_core.specs.Journal.{AnsweredCall, expanded}
+use Rattle.domain_core.specs.Domain.{DomainValue, domain_of, IsMeant, IsCalled}
+use Rattle.domain_core.specs.Entries.{journal_of}
+use Rattle.domain_core.specs.Journal.{AnsweredCall, JournalValue, expanded}
 use Rattle.domain_core.specs.Machine.{with_devices, has_moved}
 use Rattle.domain_core.specs.MachineValue.{MachineValue, machine_of}
 use Rattle.domain_core.specs.PrivateFarm.{Call, is_there}
@@ -34,11 +35,12 @@ returns-then-is_full-clause-called g c =
 pub invariant_of-self : goal.invariant_of-self
 invariant_of-self g c =
     subst (λ (m : MachineValue).
-    IsMeant (record { machine = m; journal = c.reserve.new.self.entries })
+    IsMeant (domain_of m (journal_of c.reserve.new.self))
     × (c.self.inside.recorded ≡ length (expanded c.reserve.new.self.entries)))
     (sym c.route-route.ensures.unchanged)
-    (subst (λ (l : List Entry).
-    IsMeant (record { machine = c.self.inside.machine; journal = l }) × (c.self.inside.recorded ≡ length (expanded l)))
+    (subst (λ (l : JournalValue).
+    IsMeant (domain_of c.self.inside.machine l)
+    × (c.self.inside.recorded ≡ length (expanded l.entries)))
     (sym (c.reserve.ensures.unchanged ∙ c.journal.view_is)) c.self.invariant)
 
 pub follow-requires : goal.follow-requires
@@ -48,7 +50,7 @@ follow-requires g c =
 
 pub invariant_of-self-then-has_moved : goal.invariant_of-self-then-has_moved
 invariant_of-self-then-has_moved g c =
-    let d : DomainValue = record { machine = c.self.inside.machine; journal = c.self.inside.journal } in
+    let d : DomainValue = domain_of c.self.inside.machine c.self.inside.journal in
     let call : Call = record { by = Farm; event = Move c.args.port } in
     let reply : Reply = reply_of.Moved c.answer-moved.result in
     let one : AnsweredCall = record { call = call; reply = reply } in
@@ -67,11 +69,14 @@ invariant_of-self-then-has_moved g c =
     let n : MachineValue = record m { devices = route_leaves m.part c.route-route.result m.devices } in
     n)
     c.route-route.ensures.unchanged in
-    let gains : expanded c.push_answer.new.self.entries ≡ expanded c.self.inside.journal ++ one ∷ [] =
-    c.push_answer.ensures ∙ ap (λ l. expanded l ++ one ∷ []) (c.reserve.ensures.unchanged ∙ c.journal.view_is) in
-    let counted : length (expanded c.push_answer.new.self.entries) ≡ length (expanded c.self.inside.journal) + 1 =
-    ap length gains ∙ length-append (expanded c.self.inside.journal) (one ∷ []) in (
-      meant_recorded d call c.follow.new.self reply c.push_answer.new.self.entries c.self.invariant.0 there below
+    let gains : expanded c.push_answer.new.self.entries ≡ expanded c.self.inside.journal.entries ++ one ∷ [] =
+    c.push_answer.ensures.entries ∙ ap (λ (l : JournalValue). expanded l.entries ++ one ∷ [])
+    (c.reserve.ensures.unchanged ∙ c.journal.view_is) in
+    let counted : length (expanded c.push_answer.new.self.entries) ≡ length (expanded
+    c.self.inside.journal.entries) + 1 =
+    ap length gains ∙ length-append (expanded c.self.inside.journal.entries) (one ∷ []) in (
+      meant_recorded d call c.follow.new.self reply c.push_answer.new.self.entries c.push_answer.new.self.reserved
+          c.self.invariant.0 there below
           (ap machine_of left
           ∙ ap (λ (x : DeviceStates). with_devices x (machine_of d.machine)) c.route-route.ensures.leaves)
           (ap reply_of.Moved answer) (ap (λ (m : MachineValue). m.part) left)
@@ -81,7 +86,7 @@ invariant_of-self-then-has_moved g c =
 
 pub returns-in_ok-reserve-clause-called : goal.returns-in_ok-reserve-clause-called
 returns-in_ok-reserve-clause-called g c =
-    let d : DomainValue = record { machine = c.self.inside.machine; journal = c.self.inside.journal } in
+    let d : DomainValue = domain_of c.self.inside.machine c.self.inside.journal in
     let call : Call = record { by = Farm; event = Move c.args.port } in
     let reply : Reply = reply_of.Moved c.answer-moved.result in
     let one : AnsweredCall = record { call = call; reply = reply } in
@@ -100,12 +105,14 @@ returns-in_ok-reserve-clause-called g c =
     let n : MachineValue = record m { devices = route_leaves m.part c.route-route.result m.devices } in
     n)
     c.route-route.ensures.unchanged in
-    let gains : expanded c.push_answer.new.self.entries ≡ expanded c.self.inside.journal ++ one ∷ [] =
-    c.push_answer.ensures ∙ ap (λ l. expanded l ++ one ∷ []) (c.reserve.ensures.unchanged ∙ c.journal.view_is) in
+    let gains : expanded c.push_answer.new.self.entries ≡ expanded c.self.inside.journal.entries ++ one ∷ [] =
+    c.push_answer.ensures.entries ∙ ap (λ (l : JournalValue). expanded l.entries ++ one ∷ [])
+    (c.reserve.ensures.unchanged ∙ c.journal.view_is) in
     subst (λ (o : DomainValue).
-    IsCalled call (Ok reply) o (record { machine = c.follow.new.self; journal = c.push_answer.new.self.entries }))
+    IsCalled call (Ok reply) o (domain_of c.follow.new.self (journal_of c.push_answer.new.self)))
     c.self.view_is
-    (called_recorded d call c.follow.new.self reply c.push_answer.new.self.entries there below
+    (called_recorded d call c.follow.new.self reply c.push_answer.new.self.entries c.push_answer.new.self.reserved
+    there below
     (ap machine_of left
     ∙ ap (λ (x : DeviceStates). with_devices x (machine_of d.machine)) c.route-route.ensures.leaves)
     (ap reply_of.Moved answer)
@@ -118,13 +125,13 @@ returns-in_ok-reserve-clause-called g c =
 pub invariant_of-self-else-has_moved : goal.invariant_of-self-else-has_moved
 invariant_of-self-else-has_moved g c =
     subst (λ (m : MachineValue).
-    IsMeant (record { machine = m; journal = c.self.inside.journal })
-    × (c.self.inside.recorded ≡ length (expanded c.self.inside.journal)))
+    IsMeant (domain_of m c.self.inside.journal)
+    × (c.self.inside.recorded ≡ length (expanded c.self.inside.journal.entries)))
     (sym c.route-route.ensures.unchanged) c.self.invariant
 
 pub returns-else-has_moved-clause-called : goal.returns-else-has_moved-clause-called
 returns-else-has_moved-clause-called g c =
-    let d : DomainValue = record { machine = c.self.inside.machine; journal = c.self.inside.journal } in
+    let d : DomainValue = domain_of c.self.inside.machine c.self.inside.journal in
     let call : Call = record { by = Farm; event = Move c.args.port } in
     let reply : Reply = reply_of.Moved c.answer-moved.result in
     let there : is_there d.machine.part call ≡ true =
@@ -136,9 +143,10 @@ returns-else-has_moved-clause-called g c =
     let answer = c.answer-moved.ensures ∙ c.route-route.ensures.answer in
     let no_move = ap (λ (m : Moved). has_moved m) (sym answer) ∙ sym c.has_moved.ensures ∙ c.if-has_moved.false in
     subst (λ (o : DomainValue).
-    IsCalled call (Ok reply) o (record { machine = c.route-route.new.self; journal = c.self.inside.journal }))
+    IsCalled call (Ok reply) o (domain_of c.route-route.new.self c.self.inside.journal))
     c.self.view_is
-    (called_unrecorded d call c.route-route.new.self reply c.self.inside.journal there below
+    (called_unrecorded d call c.route-route.new.self reply c.self.inside.journal.entries
+    c.self.inside.journal.reserved there below
     (ap machine_of c.route-route.ensures.unchanged
     ∙ ap (λ (x : DeviceStates). with_devices x (machine_of d.machine))
     (sym (still d.machine.part (private_of d.machine.switch) d.machine.devices c.args.port no_move)))

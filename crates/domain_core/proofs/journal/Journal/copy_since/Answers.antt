@@ -10,7 +10,7 @@ use Rattle.domain_core.proofs.journal.Journal.copy_since.Goals.{in-Some-behind+e
 pub loop-index-preserved : goal.loop-index-preserved
 loop-index-preserved c =
     let i = c.loop-index.index in
-    let journal = c.args.self.now in
+    let journal = c.args.self.now.entries in
     let entry = c.in-Some.entry in
     let v = c.loop-index.invariant in
     let at : slice_get journal i ≡ Some entry = sym c.get.ensures ∙ c.in-Some.is in
@@ -45,5 +45,5 @@ loop-index-preserved c =
 pub returns-clause-all : goal.returns-clause-all
 returns-clause-all c = λ few.
     c.loop-index.invariant.next
-    ∙ none_behind c.loop-index.index c.loop-index.events c.args.self.now
+    ∙ none_behind c.loop-index.index c.loop-index.events c.args.self.now.entries
     (let e = c.len-index-end.ensures in let t = c.loop-index-test.false in omega arith)

@@ -6,7 +6,7 @@ use Rattle.farm_replay.proofs.open_farm.OpenFarm.entries.Goals.{in-Some-get+in_o
 
 pub loop-index-preserved : goal.loop-index-preserved
 loop-index-preserved c =
-    let journal = c.in-Some.journal.now in
+    let journal = c.in-Some.journal.now.entries in
     let l = c.loop-index in
     let within : l.index < length journal = subst (λ n. l.index < n) c.len-index-end.ensures c.loop-index-test.true in
     elim c.match-get.branch [

@@ -1,5 +1,0 @@
-use Rattle.farm_core.proofs.Separation as separation
-use Rattle.farm_core.proofs.laws.numbered_domains_are_separate.Goals as goal
-
-pub returns : goal.returns
-returns c = record { law = separation.numbered_domains_are_separate }

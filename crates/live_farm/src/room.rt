@@ -1,0 +1,46 @@
+//! How much room a line may need in its domain, and in the domain's records.
+
+use crate::letter::Matter;
+use domain_core::{ENTRY_BYTES, LOOK_BYTES, QUEUE_BYTES, TOLD_BYTES};
+use live_lines::LiveRequest;
+use script_lines::Command;
+
+/// How many bytes a command of a user takes at the most in the journal and in his list.
+const COMMAND_BYTES: u64 = ENTRY_BYTES + LOOK_BYTES + TOLD_BYTES;
+
+/// How many bytes the line of an event takes at the most in a record.
+const RECORD_LINE_BYTES: u64 = 128;
+
+// How many commands a line asks at the most. One that collects asks until nothing has come.
+fn most_commands(command: &Command) -> u64 {
+    match command {
+        Command::Config(bytes) | Command::Write { bytes, .. } => bytes.len() as u64,
+        Command::Boot { code, .. } => (code.len() as u64).saturating_add(1),
+        Command::Poke { .. } | Command::Peek { .. } => 9,
+        Command::Collect { .. } => QUEUE_BYTES as u64 + 1,
+        Command::Reset { .. } | Command::Look { .. } => 1,
+    }
+}
+
+/// How many commands a matter asks at the most.
+pub(crate) fn commands_of(matter: &Matter) -> u64 {
+    match matter {
+        Matter::Asked(LiveRequest::Script(command)) => most_commands(command),
+        Matter::Asked(LiveRequest::Domain(_)) | Matter::Wrong(_) | Matter::OperatorRestart => 0,
+    }
+}
+
+/// Whether so many bytes of a room are left for so many commands.
+pub(crate) fn has_room(taken: u64, room: u64, commands: u64) -> bool {
+    commands == 0 || taken.saturating_add(commands.saturating_mul(COMMAND_BYTES)) <= room
+}
+
+/// Whether the records of a domain have room for so many events.
+pub(crate) fn has_record_room(taken: u64, room: u64, commands: u64) -> bool {
+    commands == 0 || taken.saturating_add(commands.saturating_mul(RECORD_LINE_BYTES)) <= room
+}
+
+/// Whether records take so much of their room that nodes and packets rest: a quarter is kept for the commands of users.
+pub(crate) fn is_used_up(taken: u64, room: u64) -> bool {
+    taken >= room - room / 4
+}

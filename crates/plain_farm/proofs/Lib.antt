@@ -1,8 +1,0 @@
--- lists, and the domains that stand in them
-pub mod Lists
--- the contracts of a farm without threads, and of a run
-pub mod Opened
-pub mod Plain
-pub mod Owners
-pub mod Wholes
-pub mod AnswersOfRuns

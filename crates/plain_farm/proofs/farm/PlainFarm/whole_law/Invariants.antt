@@ -1,6 +1,0 @@
-use Rattle.plain_farm.proofs.Wholes.{AreMeantBelow}
-use Rattle.plain_farm.proofs.farm.PlainFarm.whole_law.Given as goal
-
--- the domains so far are their journals
-abbrev pub invariant-loop-domain : goal.invariant-loop-domain
-invariant-loop-domain l = AreMeantBelow l.self l.domain-index

@@ -1,6 +1,0 @@
-use Rattle.plain_farm.proofs.Opened.{opened_unused}
-use Rattle.plain_farm.proofs.farm.open_domain.Goals as goal
-
-pub returns-clause-words : goal.returns-clause-words
-returns-clause-words c =
-    opened_unused c.open.result 32 c.unused.result c.ranges-2.result c.unused.ensures.row c.open.ensures.row

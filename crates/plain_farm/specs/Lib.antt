@@ -1,3 +1,0 @@
--- what must be believed
-pub mod PlainFarm
-pub mod Run
