@@ -1,2 +1,2 @@
-"""People at one farm: sockets round `live` (serve), a terminal for a user (connect), and folders for a class
+"""People at one farm: sockets round `live` (serve), a terminal or lines for a user (connect), and folders for a class
 (class)."""

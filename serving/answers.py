@@ -9,6 +9,8 @@ MORE = ".."
 SHOWN = {"\n": "\\n", "\r": "\\r", "\t": "\\t", "\\": "\\\\", '"': '\\"'}
 # What answers mean, and what can be done.
 MEANINGS = (
+    (r"note rests \d+ \d+", "the room of your machine is used up, so its nodes do nothing more: restart begins anew with a room"),
+    (r"rest full", "the room of your machine is used up, so its nodes do nothing more: restart begins anew with a room"),
     (r".* nosuch", "there is no such host or node, or the host is another user's"),
     (r".* journalfull", "your machine has recorded as many events as its limit: restart begins anew"),
     (r"config .*badport.*", "a port of the message is none of yours: compare it with your plan"),
@@ -21,6 +23,8 @@ MEANINGS = (
     (r"(! )?error \d+ busy", "too many lines wait: send it again later"),
     (r"(! )?error \d+ long", "a line has 1,048,576 bytes at most"),
     (r"(! )?error \d+ record", "the record of your machine can't be read or written: tell the operator"),
+    (r"(! )?error \d+ full", "the room of your machine is used up, so nothing was done: restart begins anew with a room"),
+    (r"(! )?error \d+ memory", "there was no memory, and it may be done in part: your machine rests until restart"),
     (r"(! )?error \d+ journal", "what your machine did can't be done again: tell the operator"),
     (r"! error \d+ user", "there is no such user: users lists them"),
     (r"look \d+ halted 1 .*", "an address outside memory"),
@@ -29,6 +33,11 @@ MEANINGS = (
     (r"look \d+ halted 4 .*", "a process or a queue of high priority"),
     (r"look \d+ halted 5 .*", "the event channel, or a link's channel in the wrong direction"),
 )
+
+
+# The words by which an answer refuses its line, and those of verbs that have others.
+REFUSALS = ("nosuch", "journalfull")
+REFUSING = {"config": ("badport", "badcommand", "journalfull"), "boot": (*REFUSALS, "refused"), "restart": ("operator",)}
 
 
 class Loading:
@@ -81,6 +90,26 @@ def bytes_of(text):
 def meaning(answer):
     """What an answer means, if that isn't plain."""
     return next((text for pattern, text in MEANINGS if re.fullmatch(pattern, answer)), None)
+
+
+def refusal(line, answer):
+    """By which word a line was refused, also if it wasn't answered; none if it wasn't refused. What a node or a machine does is
+    no refusal, and neither is that no byte has come."""
+    if answer.startswith("error: "):
+        return "unanswered"
+    error = re.fullmatch(r"(?:! )?error \d+ (\w+)", answer)
+    if error:
+        return error[1]
+    verb, *words = answer.split() or [""]
+    if verb == "why" or verb.startswith("!"):
+        return "nosuch" if re.fullmatch(r"why \d+ nosuch", answer) else None
+    found = next((it for it in words if it in REFUSING.get(verb, REFUSALS)), None)
+    return found or ("hostfull" if shortfall(line, answer) else None)
+
+
+def bytes_taken(answer):
+    """How many bytes the host took, by the answer to a line that gives it some."""
+    return int(answer.split()[2])
 
 
 def shortfall(line, answer):

@@ -3,7 +3,7 @@ users."""
 import os
 import readline
 
-from .folder import EXAMPLES, OPERATOR
+from .folder import EXAMPLES, OPERATOR, users_of
 from .orders import table_of
 
 
@@ -15,12 +15,6 @@ def files(text):
     if not folder and os.path.isdir(EXAMPLES):
         there += [it for it in os.listdir(EXAMPLES) if it.startswith(start) and it.endswith(".s")]
     return sorted({os.path.join(folder, it) for it in there if start or not it.startswith(".")})
-
-
-def users_of(folder):
-    """The users who have sockets in a folder."""
-    names = {it[:-5] for it in os.listdir(folder) if it.endswith(".sock")}
-    return sorted(names - {OPERATOR})
 
 
 def candidates(folder, name, line):

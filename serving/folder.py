@@ -6,6 +6,7 @@ import grp
 import os
 import pwd
 import re
+import shlex
 import socket
 import stat
 import struct
@@ -18,6 +19,8 @@ EXAMPLES = os.path.join(TOP, "examples", "programs")
 OPERATOR = "operator"
 # The plan of the farm, which is copied at the first start.
 PLAN = "plan"
+# What is kept of a class, in the folder above those of its farms.
+CLASS = "class.json"
 # A lock of a whole file for one process alone, as `fcntl` reads and writes it: its kind, from where its bytes are counted,
 # its first byte, how many bytes there are (0: all), and the number of the process.
 LOCK = struct.Struct("@hhqqi4x")
@@ -52,12 +55,34 @@ def ready(name):
         raise Refused(f"the program {name} can't be built: see above")
 
 
+def is_built(name):
+    """Whether a program can be run without building it."""
+    if os.environ.get(name.upper()):
+        return True
+    call = [os.path.join(TOP, "tools", "start"), "--is-built", name]
+    return subprocess.run(call, stdin=subprocess.DEVNULL, capture_output=True, check=False).returncode == 0
+
+
+def build(name):
+    """Builds a whole program unless it is built, and shows that."""
+    if is_built(name):
+        return
+    call = [os.path.join(TOP, "tools", "start"), "--only-build", name]
+    if subprocess.run(call, stdin=subprocess.DEVNULL, stdout=subprocess.DEVNULL, check=False).returncode != 0:
+        raise Refused(f"the program {name} can't be built: see above")
+
+
 def socket_path(folder, name):
     """The path of a user's socket, or of the operator's."""
     path = os.path.join(folder, f"{name}.sock")
     if len(os.fsencode(path)) > MOST_PATH:
         raise Refused(f"the path {path} is longer than {MOST_PATH} bytes: choose a folder with a shorter path")
     return path
+
+
+def users_of(folder):
+    """The users who have sockets in a folder, sorted, without the operator."""
+    return sorted({it[:-5] for it in os.listdir(folder) if it.endswith(".sock")} - {OPERATOR})
 
 
 def no_socket(folder, name):
@@ -70,7 +95,10 @@ def no_socket(folder, name):
         return f"there is no socket of {name} in {folder}: is the farm up, and is this the user's name?"
     if there:
         return f"there is no socket of {name} in {folder}: there are {', '.join(there)}"
-    return f"no farm is up in {folder}: start it by serve PLAN {folder}"
+    above = os.path.dirname(os.path.abspath(folder))
+    how = f"class start {shlex.quote(above)} starts it" if os.path.isfile(os.path.join(above, CLASS)) else \
+          f"start it by serve PLAN {folder}"
+    return f"no farm is up in {folder}: {how}"
 
 
 def no_right(folder, name):
@@ -217,6 +245,10 @@ class Folder:
                 time.sleep(0.05)
         os.ftruncate(self.file, 0)
         os.pwrite(self.file, f"{os.getpid()}\n".encode(), 0)
+
+    def is_removed(self):
+        """Whether somebody has removed the folder, with the file of the lock. A folder that is moved has it still."""
+        return os.fstat(self.file).st_nlink == 0
 
     def plan_to_run(self, given):
         """The path of the plan that the farm runs: at its first start a copy of the one that is given, and then always this

@@ -4,7 +4,8 @@ import re
 import subprocess
 
 from .folder import EXAMPLES, OPERATOR, Refused, program, ready
-from .verbs import ALL, FILE, OPERATORS, TEXT, USERS, Wrong, check, find, with_ports
+from .hints import meant
+from .verbs import ALIASES, ALL, FILE, OPERATORS, SENTENCE, TEXT, USERS, Wrong, check, find, with_ports
 
 ESCAPES = {"n": b"\n", "r": b"\r", "t": b"\t", "0": b"\0", "\\": b"\\", '"': b'"'}
 
@@ -20,11 +21,13 @@ def split(name, line, ports=None):
     words = line.split()
     table, others = table_of(name, ports), USERS if name == OPERATOR else OPERATORS
     first = words[0].removeprefix("!") if name == OPERATOR else words[0]
+    first = ALIASES.get(first, first)
     if first in others and first not in table:
-        raise Wrong(f"{first} is a verb of {'users: connect as one of them' if name == OPERATOR else 'the operator'}. Try: help")
+        raise Wrong(f"{first} is a verb of {'users: connect as one of them' if name == OPERATOR else 'the operator'}. "
+                    f"{meant(first, table) or 'Try: help'}")
     verb = find(table, first)
     most = len(verb.kinds)
-    if verb.kinds and verb.kinds[-1] in (TEXT, FILE):
+    if verb.kinds and verb.kinds[-1] in (TEXT, FILE, SENTENCE):
         words = line.split(None, most)
     return first, verb, [it.strip() for it in words[1:]]
 

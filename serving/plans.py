@@ -15,6 +15,8 @@ MEMORY, LIMIT = range(2048, 65537, 4), range(1, (1 << 40) + 1)
 SPELLED = str.maketrans({"ß": "ss", "æ": "ae", "œ": "oe", "ø": "o", "ł": "l", "đ": "d", "ð": "d", "þ": "th", "ħ": "h", "ŧ": "t",
                          "ŋ": "ng", "ı": "i", "ə": "e"})
 TAB = "\t"
+# How each plan begins that is written here.
+VERSION = "version = 3\n"
 # Unicode's kinds of characters that aren't seen, such as a mark of the direction; and of those that no name may have, which are
 # controls and what divides lines or paragraphs.
 UNSEEN, NAMELESS = "Cf", {"Cc", "Zl", "Zp"}
@@ -37,6 +39,14 @@ class Machine(NamedTuple):
     def ports(self):
         return self.nodes * self.links() + self.hosts
 
+    def link_port(self, node):
+        """The port of a node's first link."""
+        return node * self.links()
+
+    def host_port(self, host):
+        """The port of a host."""
+        return self.nodes * self.links() + host
+
     def devices(self):
         """The device at each port, from port 0."""
         links = [f"node {node}, link {link}" for node in range(self.nodes) for link in range(self.links())]
@@ -50,11 +60,11 @@ class Machine(NamedTuple):
                 step = f", a multiple of {among.step}" if among.step > 1 else ""
                 raise Refused(f"--{what} is {among[0]} to {among[-1]}{step}, and not {number}")
 
-    def domain(self, name, first):
-        """The part of a plan for this user, whose ports begin at this one."""
+    def domain(self, name, ranges):
+        """The part of a plan for this user, who has the ports of these ranges."""
         own = self.nodes * self.links()
         text = [f'\n[[domain]]\nuser = [{{ name = "{name}", host = {[own + host for host in range(self.hosts)]} }}]',
-                f"range = [[{first}, {first + self.ports() - 1}]]", f"limit = {self.limit}"]
+                f"range = {ranges}", f"limit = {self.limit}"]
         for node in range(self.nodes):
             ports = [node * self.links() + link for link in range(self.links())]
             text.append(f"\n[[domain.node]]\nmemory = {self.memory}\nlinks = {ports + [-1] * (4 - len(ports))}")
@@ -96,38 +106,68 @@ def lines_of(path):
                       f"Latin-1: iconv -f latin1 -t utf-8 {shlex.quote(path)} > utf8-names.txt") from None
 
 
-def check_person(path, number, person):
+def nameless(text):
+    """The first character of a text that no name may have; none if there is none."""
+    return next((it for it in text if unicodedata.category(it) in NAMELESS and it != TAB), None)
+
+
+def check_person(person):
     """Refuses a name with a character that none may have."""
-    wrong = next((it for it in person if unicodedata.category(it) in NAMELESS and it != TAB), None)
+    wrong = nameless(person)
     if wrong is not None:
         more = "write each name on a line of its own, which a line feed ends" if wrong in DIVIDING else "take it out"
-        raise Refused(f"{path}, line {number}: {person!r} has the character U+{ord(wrong):04X}, which no name may have: {more}")
+        raise Refused(f"{person!r} has the character U+{ord(wrong):04X}, which no name may have: {more}")
+
+
+def checked_name(person, students):
+    """The user of a person beside these students, and what of the name is left out in it."""
+    name, left = user_name(person)
+    if not name:
+        raise Refused(f"{person!r} makes no user's name: write it with a to z and digits")
+    if name == OPERATOR:
+        raise Refused(f"{person!r} would be the user {OPERATOR}, and that name is reserved: add something to it")
+    if name in students:
+        raise Refused(f"{person} is the user {name}, as {students[name]} is: add something to one")
+    return name, left
+
+
+def refuse_all(wrong):
+    """Refuses all that is wrong at once."""
+    if wrong:
+        raise Refused("\n".join(wrong))
+
+
+def students_among(people, check=lambda user, person: None):
+    """People as students: each comes with the place where he is named, as it is told. Each has the name of a user, which `check`
+    may refuse, and there is a note for each of whom something is left out in it. All that are wrong are refused at once."""
+    students, notes, wrong = {}, [], []
+    for place, person in people:
+        try:
+            check_person(person)
+            person = person.strip()
+            name, left = checked_name(person, students)
+            check(name, person)
+        except Refused as refused:
+            wrong.append(f"{place}{refused}")
+            continue
+        students[name] = person
+        notes += [f"{place}{person} is the user {name}, without {' and '.join(left)}"] if left else []
+    refuse_all(wrong)
+    return students, notes
+
+
+def people_in(path):
+    """The people that a file names, one a line, each with his place."""
+    people = [(f"{path}, line {number}: ", line) for number, line in enumerate(lines_of(path), 1)
+              if not line.lstrip().startswith("#") and (line.strip() or nameless(line))]
+    if not people:
+        raise Refused(f"{os.path.abspath(path)} names nobody: write one name a line")
+    return people
 
 
 def students_of(path):
-    """The people that a file names, one a line, each with the name of a user; and a note for each of whom something is
-    left out in it."""
-    students, notes = {}, []
-    for number, line in enumerate(lines_of(path), 1):
-        if line.lstrip().startswith("#"):
-            continue
-        check_person(path, number, line)
-        person = line.strip()
-        if not person:
-            continue
-        name, left = user_name(person)
-        if not name:
-            raise Refused(f"{path}, line {number}: {person!r} makes no user's name: write it with a to z and digits")
-        if name == OPERATOR:
-            raise Refused(f"{path}, line {number}: {person!r} would be the user {OPERATOR}, and that name is reserved: add "
-                          "something to it")
-        if name in students:
-            raise Refused(f"{path}, line {number}: {person} is the user {name}, as {students[name]} is: add something to one")
-        students[name] = person
-        notes += [f"{path}, line {number}: {person} is the user {name}, without {' and '.join(left)}"] if left else []
-    if not students:
-        raise Refused(f"{os.path.abspath(path)} names nobody: write one name a line")
-    return students, notes
+    """The students that a file names."""
+    return students_among(people_in(path))
 
 
 def farms_of(names, machine):
@@ -138,4 +178,5 @@ def farms_of(names, machine):
 
 def plan_of(names, machine):
     """The plan of one farm."""
-    return "version = 3\n" + "".join(machine.domain(name, at * machine.ports()) for at, name in enumerate(names))
+    ports = machine.ports()
+    return VERSION + "".join(machine.domain(name, [[at * ports, (at + 1) * ports - 1]]) for at, name in enumerate(names))

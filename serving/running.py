@@ -38,7 +38,7 @@ class Live:
 
     def __init__(self, process, tell):
         self.process, self.tell, self.count, self.errors = process, tell, 0, collections.deque(maxlen=KEPT)
-        self.lines = Lines(process.stdout)
+        self.lines, self.kept = Lines(process.stdout), []
         self.listening = asyncio.ensure_future(self.listen())
 
     @classmethod
@@ -74,16 +74,27 @@ class Live:
         return self.count
 
     async def users(self):
-        """The names of the plan's users, in its order; none if the program has ended."""
+        """The names of the plan's users, in its order; none if the program has ended. What it says besides is kept, as the notes
+        of a domain that rests already."""
         self.say(b"!users\n")
         self.say(b"!words\n")
-        names = []
-        while lines := await self.lines.some():
+        names, is_told = [], False
+        while not is_told and (lines := await self.lines.some()):
             for line in lines:
-                if line.startswith(b"!words "):
-                    return names
-                names.append(line.split(b" ")[1].decode())
-        return []
+                if line.startswith(b"!users "):
+                    names.append(line.split(b" ")[1].decode())
+                elif line.startswith(b"!words "):
+                    is_told = True
+                else:
+                    self.kept.append(line)
+        return names if is_told else []
+
+    async def some(self):
+        """The lines that it says next, at least one; none at the end. Those that were kept come first."""
+        if self.kept:
+            lines, self.kept = self.kept, []
+            return lines
+        return await self.lines.some()
 
     async def end(self):
         """Its status, when it has ended."""
@@ -146,10 +157,10 @@ class Ended(Exception):
         super().__init__(status)
         self.status, self.errors = status, "\n".join(errors)
 
-    def advice(self, plan):
-        """What to do about it."""
+    def advice(self, plan, faults=""):
+        """What to do about it. `faults` says where and why the plan is refused, if that is known."""
         if self.status == PLAN:
-            return f"the plan is refused: ./lab plan < {plan} says where and why"
+            return f"the plan is refused: {faults or f'./lab plan < {plan} says where and why'}"
         if self.status == WORDS:
             return "live refuses its words: see above, and ./live --help"
         return f"live ended {how(self.status)} before it answered ({self.errors or 'it said nothing'}): see docs/LIVE.md"

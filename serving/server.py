@@ -9,20 +9,27 @@ import resource
 import signal
 import socket
 import struct
+import subprocess
 import sys
 
 from . import running
 from .accepting import accept
 from .escapes import escaped
-from .folder import OPERATOR, Folder, Refused, account_name, group_number, mode_of, program, socket_path
-from .ports import users_in
+from .folder import OPERATOR, Folder, Refused, account_name, group_number, is_built, mode_of, program, socket_path
+from .ports import found_in, ports_told, users_in, wiring_in
 from .reports import Reports, open_streams
-from .speakers import Client, Operator, Speaker, shown
+from .rooms import RECORD_ROOM, ROOM, Needed, add_rooms
+from .speakers import UNANSWERED, Client, Operator, Speaker, shown, without_tag
+from .versions import add_version
 
 # How long a farm may take to answer what waits when it is stopped.
 STOP_SECONDS = 60
 # How long `live` may answer nothing unless another time is given, and how often it is asked meanwhile.
 PATIENCE, WATCHES = 30, 3
+# How often it is looked whether the folder is still there.
+LOOK_SECONDS = 2
+# How long `lab plan` may take.
+LAB_SECONDS = 10
 # So many connections wait before a socket.
 MOST_WAITING = 128
 # Clients of 64 users need so many open files at most.
@@ -40,7 +47,7 @@ class Server:
         self.live, self.is_up, self.is_stopping = None, False, False
         # set while lines are handed on, or refused since the farm is stopped
         self.goes = asyncio.Event()
-        self.starts, self.speakers, self.accepting = running.Starts(), {}, []
+        self.starts, self.speakers, self.accepting, self.wirings = running.Starts(), {}, [], {}
 
     def prepare(self):
         """Takes the sockets away that a killed `serve` has left, and sees that each user has his group. A plan that can't be
@@ -61,6 +68,9 @@ class Server:
         it = self.words
         more = [word for name in ("workers", "quantum") if (value := getattr(it, name)) is not None
                 for word in (f"--{name}", str(value))]
+        # a room that isn't given is left to `live`
+        more += [word for name, value in (("room", it.room), ("record-room", it.record_room)) if value is not None
+                 for word in (f"--{name}", value)]
         more += ["--sync"] if it.sync else []
         return [program("live"), *more, "--record", self.folder.records, "--resume", self.plan]
 
@@ -100,19 +110,44 @@ class Server:
         process, account, _ = PEER.unpack(writer.get_extra_info("socket").getsockopt(socket.SOL_SOCKET, socket.SO_PEERCRED, PEER.size))
         return f"process {process} of {account_name(account)}"
 
-    async def send(self, speaker, client, text):
-        """Sends a client's line as his speaker's, as soon as there is room and `live` is up, if he is there still. A farm that
-        is stopped takes no more lines."""
+    async def send(self, speaker, client, line):
+        """Sends a client's line without its tag as his speaker's, as soon as there is room and `live` is up, if he is there
+        still. A farm that is stopped takes no more lines."""
+        tag, text = without_tag(line)
+        client.has_tags = client.has_tags or bool(tag)
         if speaker.stops(text):
             self.end()
             return
-        asked = await speaker.enter(text, client)
+        if (news := speaker.news(text)) is not None:
+            self.tell_all(f"the operator says: {escaped(news.decode(errors='surrogateescape'))}")
+            return
+        asked = await speaker.enter(text, client, tag)
         await self.goes.wait()
         if client.is_gone() or self.is_stopping:
             speaker.free(asked)
-            client.tell(b"error: the farm is stopped, so this is not done: " + shown(text) + b"\n")
+            client.tell(tag + b"error: the farm is stopped, so this is not done: " + shown(text) + b"\n")
+            return
+        if speaker.asks_ports(text):
+            self.say_ports(speaker, asked)
             return
         speaker.sent(self.live.say(speaker.line(text)), asked)
+
+    def say_ports(self, speaker, asked):
+        """Answers a user's client which of his ports are joined: by the words of the switch, of which he gets those of his own
+        ports. His domain isn't asked, so nothing is recorded."""
+        if speaker.name not in self.wirings:
+            self.wirings[speaker.name] = found_in(self.plan, speaker.name, wiring_in)
+        wiring = self.wirings[speaker.name]
+        asked.client.waits += 1
+
+        def hear(answer):
+            asked.client.waits -= 1
+            speaker.free(asked)
+            text = UNANSWERED + shown(asked.text) if answer is None else \
+                ports_told(answer.decode(), wiring.physical if wiring else ()).encode()
+            return speaker, text + b"\n", asked
+
+        self.speakers[OPERATOR].watch(self.live, hear)
 
     def tell_all(self, text):
         self.reports.say(f"serve: {text}")
@@ -144,19 +179,33 @@ class Server:
                     if name in self.speakers:
                         self.speakers[name].tell(f"note: what your machine did is done again: {far}\n".encode())
 
+    def say_rooms(self):
+        """Says what the rooms of all domains may take, beside what is there. Of a plan that can't be read nothing is said."""
+        domains, rooms = len(users_in(self.plan)), (self.words.room or ROOM, self.words.record_room or RECORD_ROOM)
+        if not domains:
+            return
+        with contextlib.suppress(OSError):
+            needed = Needed(domains, *rooms, self.folder.path)
+            for text in (needed.told(), *needed.warnings()):
+                self.reports.say(f"serve: {text}")
+
     async def hear(self):
-        """Hands on what `live` answers until its output ends. What a speaker is told at once is told in one piece."""
-        while lines := await self.live.lines.some():
+        """Hands on what `live` says until its output ends. What a speaker is told at once is told in one piece."""
+        while lines := await self.live.some():
             told = {}
             for line in lines:
                 name = OPERATOR if line.startswith(b"!") else line.partition(b" ")[0].decode(errors="replace")
                 speaker = self.speakers.get(name)
                 if speaker is None:
                     self.reports.say(f"serve: live said {line!r}")
-                elif speaker.answered(line):
-                    told.setdefault(speaker, []).append(speaker.told(line) + b"\n")
+                    continue
+                asked = speaker.answered(line)
+                text = speaker.told(line) + b"\n"
+                if asked is not None and asked.hear:
+                    speaker, text, asked = asked.hear(line)
+                told.setdefault(speaker, []).append((text, asked))
             for speaker, answers in told.items():
-                speaker.tell(b"".join(answers))
+                speaker.tell_answers(answers)
                 speaker.rest()
 
     async def watch(self):
@@ -176,6 +225,13 @@ class Server:
                 self.tell_all(f"the farm has answered nothing for {self.words.patience:g} seconds")
                 live.kill()
 
+    async def look_for_folder(self):
+        """Stops the farm when its folder was removed: nobody can come to its sockets any more, and its records are gone."""
+        while not self.folder.is_removed():
+            await asyncio.sleep(LOOK_SECONDS)
+        self.tell_all(f"{self.folder.path} was removed, so the farm ends")
+        self.end()
+
     async def begin(self):
         """Starts `live`, opens the sockets if they aren't open yet, and says to whom lines go."""
         self.live, users = await running.begin(self.call(), self.folder.records, self.begun, self.hear_error)
@@ -184,7 +240,7 @@ class Server:
         elif users != [*self.speakers][:-1]:
             raise Refused("the plan has other users now: start serve again in a fresh folder, or give the plan as it was")
         self.folder.keep_plan()
-        self.plan = self.folder.plan
+        self.plan, self.wirings = self.folder.plan, {}
         self.is_up = True
         self.goes.set()
         if self.is_stopping:
@@ -203,6 +259,7 @@ class Server:
             raise Refused(f"live can't be started: {error.filename or program('live')}: {error.strerror}") from None
         self.reports.say(f"serve: {len(self.speakers) - 1} user{'s' * (len(self.speakers) != 2)}, their sockets are in "
                          f"{self.folder.path}")
+        self.say_rooms()
         for speaker in self.speakers.values():
             speaker.tell(b"note: the farm is up\n")
         while True:
@@ -285,21 +342,31 @@ async def run(words, reports):
     for one in (signal.SIGTERM, signal.SIGINT, signal.SIGHUP):
         if signal.getsignal(one) != signal.SIG_IGN:
             loop.add_signal_handler(one, server.stop)
-    watching = asyncio.ensure_future(server.watch())
+    watching = [asyncio.ensure_future(it) for it in (server.watch(), server.look_for_folder())]
     try:
         server.prepare()
         return await server.keep()
     except running.Ended as ended:
         if server.is_stopping:
             return 0
-        server.tell_all(f"{ended.advice(words.PLAN)}")
+        server.tell_all(ended.advice(words.PLAN, plan_faults(words.PLAN) if ended.status == running.PLAN else ""))
         return 1
     except Refused as refused:
         server.tell_all(f"{refused}")
         return 1
     finally:
-        watching.cancel()
+        for it in watching:
+            it.cancel()
         await server.close()
+
+
+def plan_faults(path):
+    """Where and why a plan is refused, as `lab plan` says it on a line; nothing if the lab isn't built."""
+    with contextlib.suppress(OSError, subprocess.TimeoutExpired), open(path, "rb") as plan:
+        if is_built("lab"):
+            done = subprocess.run([program("lab"), "plan"], stdin=plan, capture_output=True, timeout=LAB_SECONDS, check=False)
+            return "; ".join(done.stderr.decode(errors="replace").splitlines())
+    return ""
 
 
 def seconds_of(word):
@@ -310,10 +377,12 @@ def seconds_of(word):
 
 def words_of(given):
     it = argparse.ArgumentParser(prog="serve", description="Keeps a farm up and gives each of its users a socket.")
+    add_version(it)
     it.add_argument("PLAN", help="the file of the plan")
     it.add_argument("DIR", help="the folder for sockets and records; it is made if it isn't there")
     it.add_argument("--workers", type=int, metavar="N", help="as for live")
     it.add_argument("--quantum", type=int, metavar="N", help="as for live")
+    add_rooms(it, None, None)
     it.add_argument("--mode", type=mode_of, default=0o600, metavar="M", help="the mode of the users' sockets, default 600")
     it.add_argument("--group", metavar="G", help="the group of the users' sockets; %%u in it stands for the user's name")
     it.add_argument("--sync", action="store_true", help="records are on the disk before an answer is told")

@@ -23,13 +23,32 @@ HALF_AT_ONCE, HALF_A_SECOND = 2 << 20, 1 << 20
 MOST_TOLD = 200
 # What `live` is asked now and then. The thread that reads answers it, without a lock.
 WATCHED = b"!words\n"
+# By what stands behind this, the operator tells all users something. `serve` does it by itself.
+TELL = b"!tell "
+# A user's line that `serve` answers by itself, by what the words of the switch say of the user's own ports.
+PORTS = b"ports"
+# What begins so behind a user's name answers no line: `live` says it by itself, as soon as there is something to say.
+NOTE = b"note "
+# What is told of a line that wasn't answered, before the line.
+UNANSWERED = b"error: not answered, send it again if you want it: "
+# What a client may put before a line, so that the answer goes to it alone, with the same before each of its lines.
+TAG = re.compile(rb"#[0-9]{1,9} ")
 
 
 class Asked:
-    """A line on its way: its text, who sent it (nobody if `serve` itself asks), and as how many lines it counts."""
+    """A line on its way: its text, who sent it (nobody if `serve` itself asks), as how many lines it counts, the tag that
+    stood before it, and what is called with its answer, or with none if there will be none: that makes of it what a speaker is
+    told, and of which line."""
 
-    def __init__(self, text, client, size):
-        self.text, self.client, self.size = text, client, size
+    def __init__(self, text, client, size, tag=b"", hear=None):
+        self.text, self.client, self.size, self.tag, self.hear = text, client, size, tag, hear
+
+
+def without_tag(line):
+    """The tag of a client's line, and the line without it. One that is too long keeps its tag, so that it stays too long."""
+    found = TAG.match(line)
+    tag = found[0] if found else b""
+    return tag, line if len(line) >= MOST_LINE else line[len(tag):]
 
 
 class Speaker:
@@ -50,17 +69,25 @@ class Speaker:
         """What a client is told of an answer."""
         return answer[len(self.prefix):]
 
-    async def enter(self, text, client):
+    async def enter(self, text, client, tag):
         """Waits until one more line may be on its way. Clients of one speaker take turns."""
         size = min(1 + len(text) // BYTES_OF_ONE, self.most)
         async with self.turn:
             for _ in range(size):
                 await self.room.acquire()
-        return Asked(text, client, size)
+        return Asked(text, client, size, tag)
 
     def stops(self, _):
         """Whether a line stops the farm."""
         return False
+
+    def news(self, _):
+        """What a line says to all users; none if it is another line."""
+        return None
+
+    def asks_ports(self, text):
+        """Whether a line asks which ports are joined."""
+        return text.removesuffix(b"\r") == PORTS
 
     def sent(self, number, asked):
         """The line is that of this number among the lines of this run of `live`."""
@@ -69,13 +96,14 @@ class Speaker:
             asked.client.waits += 1
 
     def answered(self, answer):
-        """Takes off the line that is answered: an error has its number, and all others are answered in their order. Of
-        several lines of one answer the last counts. Whether the clients are told of it."""
-        if goes_on(self.told(answer).decode(errors="replace")):
-            return True
-        error = re.fullmatch(rb"error (\d+) \w+", self.told(answer))
-        self.take(int(error[1]) if error else next(iter(self.asked), None))
-        return True
+        """The line that is answered, none by a note: an error has its number, and all others are answered in their order. By
+        the last line of its answer it is taken off."""
+        told = self.told(answer)
+        if told.startswith(NOTE):
+            return None
+        error = re.fullmatch(rb"error (\d+) \w+", told)
+        number = int(error[1]) if error else next(iter(self.asked), None)
+        return self.asked.get(number) if goes_on(told.decode(errors="replace")) else self.take(number)
 
     def take(self, number):
         asked = self.asked.pop(number, None)
@@ -94,12 +122,24 @@ class Speaker:
         for client in [*self.clients]:
             client.tell(text)
 
+    def tell_answers(self, answers):
+        """Tells each client its share of these lines in one piece. With each is given what was asked, or none if it is a
+        note."""
+        if not any(client.has_tags for client in self.clients) and not any(asked and asked.tag for _, asked in answers):
+            self.tell(b"".join(text for text, asked in answers if asked is None or asked.client is not None))
+            return
+        for client in [*self.clients]:
+            client.tell(b"".join(client.share(text, asked) for text, asked in answers))
+
     def forget(self):
         """Names the lines that weren't answered to the clients."""
-        for number in [*self.asked]:
-            asked = self.take(number)
-            if asked.client is not None:
-                self.tell(b"error: not answered, send it again if you want it: " + shown(asked.text) + b"\n")
+        lost = [self.take(number) for number in [*self.asked]]
+        self.tell_answers([(UNANSWERED + shown(it.text) + b"\n", it) for it in lost])
+        for it in lost:
+            if it.hear:
+                speaker, text, asked = it.hear(None)
+                speaker.tell_answers([(text, asked)])
+                speaker.rest()
         self.rest()
 
     def rest(self):
@@ -134,30 +174,31 @@ class Operator(Speaker):
     def stops(self, text):
         return self.words(text) == [b"!stop"]
 
-    def watch(self, live):
-        """Asks whether `live` still answers, and returns how that is seen: the question is asked no longer."""
+    def news(self, text):
+        line = self.line(text)[:-1].removesuffix(b"\r")
+        return line.removeprefix(TELL) if line.startswith(TELL) else None
+
+    def asks_ports(self, _):
+        return False
+
+    def watch(self, live, hear=None):
+        """Asks whether `live` still answers, and returns how that is seen: the question is asked no longer. `hear` is called with
+        the answer."""
         number = live.say(WATCHED)
-        self.asked[number] = Asked(WATCHED[:-1], None, 0)
+        self.asked[number] = Asked(WATCHED[:-1], None, 0, hear=hear)
         return lambda: number not in self.asked
 
     def answered(self, answer):
         """`!users` has a line for each user; `!restart` is answered when its domain has begun anew."""
-        words = answer.split(b" ")
+        words, is_last = answer.split(b" "), True
         if words[:2] == [b"!", b"error"]:
-            return self.is_clients(self.take(int(words[2])))
+            return self.take(int(words[2]))
         if words[0] == b"!users":
             self.heard = (self.heard + 1) % self.users
-            if self.heard:
-                return True
+            is_last = self.heard == 0
         wanted = words[:2] if words[0] == b"!restart" else words[:1]
-        for number, asked in self.asked.items():
-            if self.words(asked.text) == wanted:
-                return self.is_clients(self.take(number))
-        return True
-
-    @staticmethod
-    def is_clients(asked):
-        return asked is None or asked.client is not None
+        number = next((number for number, asked in self.asked.items() if self.words(asked.text) == wanted), None)
+        return self.take(number) if is_last else self.asked.get(number)
 
     def forget(self):
         self.heard = 0
@@ -170,17 +211,26 @@ class Client:
     def __init__(self, speaker, reader, writer):
         self.speaker, self.writer = speaker, writer
         self.lines = Lines(reader, MOST_LINE, speaker.half_lines)
-        self.waits, self.has_ended = 0, False
+        self.waits, self.has_ended, self.has_tags = 0, False, False
 
     def tell(self, text):
         """Hands over what the client is to read; if it has let too much wait, it is cut off."""
         transport = self.writer.transport
-        if self.is_gone():
+        if self.is_gone() or not text:
             return
         if transport.get_write_buffer_size() > MOST_BACKLOG:
             transport.abort()
             return
         self.writer.write(text)
+
+    def share(self, text, asked):
+        """What this client gets of a line of an answer: all of a note; what answers its own line, behind the line's tag; and
+        what answers others, unless that line had a tag or this client has sent one."""
+        if asked is None:
+            return text
+        if asked.client is self:
+            return asked.tag + text
+        return b"" if asked.client is None or asked.tag or self.has_tags else text
 
     async def read_no_more(self):
         """Lets the client send nothing more. What is there is taken: else it couldn't read what it is told."""

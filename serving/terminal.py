@@ -11,13 +11,17 @@ import sys
 import threading
 import time
 
-from .answers import Due, Loading, with_meaning
+from .answers import Due, Loading, refusal, with_meaning
 from .completion import complete_with
+from .connections import NO_FARM, REFUSED, opened
 from .escapes import escaped
-from .folder import OPERATOR, Refused, no_right, no_socket, socket_path
+from .folder import OPERATOR, Refused
+from .kept import place_of
+from .loads import Hindered, check_load
 from .orders import lines_of, split, table_of
-from .ports import ports_of
+from .ports import joins_told, ports_of, wiring_of
 from .verbs import Wrong, goes_on, help_lines
+from .versions import add_version
 
 HISTORY = os.path.expanduser("~/.nadzsumek_history")
 MOST_HISTORY = 1000
@@ -31,6 +35,10 @@ AT_ONCE = 64
 INTERRUPTED = 130
 # Names of users by which somebody may want help.
 HELP = ("-h", "--help")
+STATUS = """Without a terminal the status is 0 if all lines were answered, 1 if one was wrong, refused or not
+answered, 2 if these words are wrong, and 3 if there is no farm or its connection has ended."""
+# What `serve` does by itself: it answers by a note.
+TELL = "!tell "
 # What divides the lines of a text of several.
 LINES = "\n"
 
@@ -42,8 +50,9 @@ class Gone(Exception):
 class Terminal:
     """A connection, whose answers are printed by a thread of their own as they come."""
 
-    def __init__(self, stream, name, ports, is_person):
-        self.stream, self.name, self.ports, self.is_person = stream, name, ports, is_person
+    def __init__(self, folder, name, is_person, is_checked):
+        self.stream, self.folder, self.name, self.is_person = opened(folder, name), folder, name, is_person
+        self.ports, self.wiring, self.is_checked = ports_of(folder, name), wiring_of(folder, name), is_checked
         self.due, self.status, self.stops, self.is_unread = collections.deque(), 0, False, False
         self.news, self.has_ended, self.at_prompt = threading.Condition(), False, False
         self.interrupts, self.is_sending = 0, False
@@ -84,10 +93,13 @@ class Terminal:
             due = next((it for it in self.due if it.is_answered_by(answer)), None)
             for text in due.told(answer) if due else with_meaning(None, answer):
                 self.show(text)
+            if due and due.line == "ports" and self.wiring and answer.startswith("ports"):
+                for text in joins_told(answer, self.wiring):
+                    self.show(text)
             if due and not goes_on(answer):
                 self.due.remove(due)
-                if not self.is_person and answer.startswith(("error", "! error")):
-                    self.status = 1
+                if not self.is_person and refusal(due.line, answer):
+                    self.status = REFUSED
                 self.news.notify_all()
 
     def send(self, lines):
@@ -99,7 +111,7 @@ class Terminal:
                 break
             piece = lines[at:at + AT_ONCE]
             with self.news:
-                self.due.extend(Due(line, loading) for line in piece if line != "!stop")
+                self.due.extend(Due(line, loading) for line in piece if line != "!stop" and not line.startswith(TELL))
             self.is_sending = True
             self.stream.sendall("".join(f"{line}\n" for line in piece).encode("utf-8", "surrogateescape"))
             self.is_sending = False
@@ -114,14 +126,55 @@ class Terminal:
             for text in help_lines(table_of(self.name, self.ports), words[0] if words else None):
                 self.show(text)
         else:
-            self.send(lines_of(self.name, line, self.ports))
+            lines = lines_of(self.name, line, self.ports)
+            if first != "load" or not self.is_checked or self.may_load(int(words[0]), words[1]):
+                self.send(lines)
         return True
+
+    def may_load(self, host, file):
+        """Whether a program is sent: if it would boot nothing, the person is asked what to do first."""
+        self.settle(FILE_SECONDS)
+        try:
+            check_load(self.folder, self.name, self.wiring, host, file)
+            return True
+        except Hindered as why:
+            if not self.is_person:
+                raise
+            self.show(f"{why.why}.")
+            if why.lines:
+                if not self.agrees(f"{', '.join(why.lines)} and then load? (y/n) "):
+                    return False
+                for line in why.lines:
+                    self.send(lines_of(self.name, line, self.ports))
+                return self.may_load(host, file)
+            self.show(f"{why.advice}.")
+            return self.agrees("load even so? (y/n) ")
+
+    def agrees(self, question):
+        """Whether the person answers a question by yes."""
+        before, self.prompt, lines = self.prompt, question, readline.get_current_history_length()
+        try:
+            answer = self.typed()
+            return answer is not None and answer.strip().lower() in ("y", "yes")
+        except KeyboardInterrupt:
+            print(flush=True)
+            return False
+        finally:
+            self.prompt = before
+            if readline.get_current_history_length() > lines:
+                # it is no line that anybody wants back
+                readline.remove_history_item(lines)
+
+    def settle(self, seconds):
+        """Waits until all lines are answered, so long at most."""
+        with self.news:
+            self.news.wait_for(lambda: self.has_ended or not self.due, seconds)
 
     def wait(self):
         """Waits a little, so that the answers stand before what comes next."""
-        with self.news:
-            self.news.wait_for(lambda: self.has_ended or not self.due, PROMPT_SECONDS if self.is_person else FILE_SECONDS)
-            if not self.is_person:
+        self.settle(PROMPT_SECONDS if self.is_person else FILE_SECONDS)
+        if not self.is_person:
+            with self.news:
                 self.due.clear()
 
     def ask(self):
@@ -129,6 +182,10 @@ class Terminal:
         self.wait()
         if not self.is_person:
             return None if self.has_ended else sys.stdin.readline() or None
+        return self.typed()
+
+    def typed(self):
+        """What the person types at the prompt; none at the end."""
         with self.news:
             self.at_prompt = not self.has_ended
         try:
@@ -150,7 +207,7 @@ class Terminal:
         try:
             return self.do(line)
         except Wrong as wrong:
-            self.status = 0 if self.is_person else 1
+            self.status = 0 if self.is_person else REFUSED
             print(f"error: {escaped(str(wrong), LINES)}", file=sys.stderr, flush=True)
             return True
 
@@ -181,6 +238,7 @@ class Terminal:
             os.dup2(os.open(os.devnull, os.O_WRONLY), sys.stdout.fileno())
         elif ended_first or (self.due and self.has_ended and not self.stops):
             print("error: the farm has ended the connection. When it is up again, connect once more", file=sys.stderr)
+            return NO_FARM
         else:
             return 0
         return 1
@@ -206,22 +264,6 @@ class Terminal:
             raise Gone
 
 
-def opened(folder, name):
-    """A connection with the socket of this name."""
-    stream = socket.socket(socket.AF_UNIX, socket.SOCK_STREAM)
-    try:
-        stream.connect(socket_path(os.path.relpath(folder), name))
-        return stream
-    except FileNotFoundError:
-        raise Refused(no_socket(folder, name)) from None
-    except NotADirectoryError:
-        raise Refused(f"{folder} is no folder: give the folder of the farm") from None
-    except ConnectionRefusedError:
-        raise Refused(f"nobody listens in {folder}, so the farm isn't up: start serve there") from None
-    except PermissionError:
-        raise Refused(no_right(folder, name)) from None
-
-
 def at_terminal(terminal, folder):
     """Runs a terminal with completion and the history of earlier ones."""
     complete_with(folder, terminal.name)
@@ -240,15 +282,24 @@ def at_terminal(terminal, folder):
 
 def words_of(given):
     """The words. After DIR any word is a name, also if it begins with a hyphen."""
-    it = argparse.ArgumentParser(prog="connect", usage="connect [-h] [--] DIR USER",
-                                 description="A terminal for a user of a farm that serve keeps up.")
-    it.add_argument("DIR", help="the folder of the farm; after -- it may begin with a hyphen")
+    it = argparse.ArgumentParser(prog="connect", usage="connect [-h] [--] DIR USER [-c LINE].. [--json] [--unchecked]",
+                                 description="A terminal for a user of a farm that serve keeps up.", epilog=STATUS,
+                                 formatter_class=argparse.RawDescriptionHelpFormatter, allow_abbrev=False)
+    add_version(it)
+    it.add_argument("DIR", help="the folder of the farm, or of its class; after -- it may begin with a hyphen")
     it.add_argument("USER", help=f"the user's name, or {OPERATOR}; it may begin with a hyphen")
+    it.add_argument("-c", action="append", metavar="LINE", help="does this line; several are done in their order")
+    it.add_argument("--json", action="store_true", help="prints a JSON object for each line of an answer; without -c the lines "
+                                                        "are those of standard input")
+    it.add_argument("--unchecked", action="store_true", help="load sends a program also if that would boot nothing, without a "
+                                                             "question or a refusal")
     plain = given[1:] if given[:1] == ["--"] else given
-    if len(plain) == 3 and plain[1] == "--":
-        plain = [plain[0], plain[2]]
-    if len(plain) == 2 and (plain is not given or not plain[0].startswith("-")):
-        return argparse.Namespace(DIR=plain[0], USER=plain[1])
+    if len(plain) > 2 and plain[1] == "--":
+        plain = [plain[0], *plain[2:]]
+    if len(plain) > 1 and (plain is not given or not plain[0].startswith("-")):
+        words = it.parse_args([*plain[2:], "DIR", "USER"])
+        words.DIR, words.USER = plain[:2]
+        return words
     return it.parse_args(given)
 
 
@@ -258,11 +309,16 @@ def main(given):
     sys.stdout.reconfigure(errors="backslashreplace")
     is_person = sys.stdin.isatty() and sys.stdout.isatty()
     try:
-        terminal = Terminal(opened(words.DIR, words.USER), words.USER, ports_of(words.DIR, words.USER), is_person)
-        return at_terminal(terminal, words.DIR) if is_person else terminal.run()
+        folder, name = place_of(words.DIR, words.USER)
+        if words.c or words.json:
+            # it takes a while to load, and a terminal needs none of it
+            from .asking import run  # pylint: disable=import-outside-toplevel
+            return run(folder, name, words)
+        terminal = Terminal(folder, name, is_person, not words.unchecked)
+        return at_terminal(terminal, folder) if is_person else terminal.run()
     except (Refused, OSError) as error:
         more = ". For help: connect --help" if words.USER in HELP else ""
         print(f"connect: {escaped(str(error), LINES)}{more}", file=sys.stderr)
-        return 1
+        return NO_FARM
     except KeyboardInterrupt:
         return INTERRUPTED

@@ -104,7 +104,11 @@ class Start(Work):
                 return False, f"it isn't up after {self.seconds()} seconds, and {self.whose()} says nothing more{self.told()}. " \
                               f"{self.next_steps()}"
             time.sleep(PAUSE)
-        return True, f"up, {count(self.users, 'user')}"
+        return True, self.is_well()
+
+    def is_well(self):
+        """What is said when it is up."""
+        return f"up, {count(self.users, 'user')}"
 
     def start_serve(self):
         self.starts += 1
@@ -149,6 +153,9 @@ class Start(Work):
 class Stop(Work):
     """A farm that is stopped: by its operator's socket, or by a signal as long as it has none that takes anything."""
 
+    # what its operator says
+    LINES = b"!stop\n"
+
     def __init__(self, folder, course):
         super().__init__(folder, course)
         self.stream, self.has_signalled, self.why = None, False, None
@@ -186,7 +193,7 @@ class Stop(Work):
         if self.stream is None:
             try:
                 self.stream = operators_stream(self.folder, ANSWER_SECONDS)
-                self.stream.sendall(b"!stop\n")
+                self.stream.sendall(self.LINES)
                 self.stream.setblocking(False)
                 return
             except OSError as error:
@@ -221,6 +228,17 @@ class Stop(Work):
         if not self.is_asked():
             return "it isn't asked to stop"
         return f"not off yet, but asked to stop: {self.whose()} goes on with that"
+
+
+def all_done(works):
+    """Does works side by side, and says each few seconds what is waited for; those that failed."""
+    for work in works:
+        work.start()
+    while waiting := [it for it in works if it.is_alive()]:
+        waiting[0].join(SAY_SECONDS)
+        if waiting[0].is_alive():
+            say(f"{waiting[0].name}: {waiting[0].waited()}")
+    return [it for it in works if not (it.outcome or (False, ""))[0]]
 
 
 def do_all(works):

@@ -3,6 +3,8 @@ import difflib
 import re
 from typing import NamedTuple
 
+from .hints import meant
+
 
 class Kind(NamedTuple):
     """What a word behind a verb must be."""
@@ -20,6 +22,7 @@ NODE = Kind(r"\d+", 255, "the number of a node", "0")
 PORT = Kind(r"\d+", 31, "the number of a port", "7")
 FILE = Kind(r".+", 0, "a file", "hello.s")
 TEXT = Kind(r".+", 0, "a text", '"hello\\n"')
+SENTENCE = Kind(r".+", 0, "a sentence", "we end at five")
 USER = Kind(r"[a-z0-9-]{1,32}", 0, "a user's name", "ann")
 
 
@@ -35,8 +38,9 @@ class Verb(NamedTuple):
 
 
 LOADING = ("the file is looked for in the folder where this terminal was opened, then among the examples",
-           "before the next load into a node type reset and its number (reset 0); else the bytes go to the program there",
-           "and boot nothing. If that has happened: restart, and join again")
+           "a node that has booted takes no other boot until it is reset (reset 0): if the bytes would boot nothing it says so,",
+           "and asks what to do")
+ROOMS = ("then rests if the machine rests, the bytes of its room that are used and that there are, and the same of its records",)
 # The verbs of a user whose ports aren't known.
 USERS = {
     "config": Verb((HEX,), "config 01000103", "sends configuration bytes: here 01 joins the ports 0 and 1, 03 makes ready"),
@@ -48,22 +52,27 @@ USERS = {
     "reset": Verb((NODE,), "reset 0", "resets a node; its memory stays"),
     "look": Verb((NODE,), "look 0", "tells a node's state, and how many bytes each link dropped"),
     "why": Verb((NODE,), "why 0", "tells why a node waits, halted or runs on; why alone tells it of all nodes", 1),
-    "rest": Verb((), "rest", "tells whether something goes on in your machine: quiet or busy"),
-    "restart": Verb((), "restart", "makes your machine as it was opened, if it is yours alone"),
+    "rest": Verb((), "rest", "tells whether something goes on in your machine: quiet or busy; full if its room is used up"),
+    "restart": Verb((), "restart", "makes your machine as it was opened, and gives its room back, if it is yours alone"),
+    "ports": Verb((), "ports", "tells which ports are joined, and what is there; it changes nothing"),
     "join": Verb((PORT, PORT), "join P Q", "joins two ports both ways and makes them ready: those of a link and of a host"),
     "load": Verb((HOST, FILE), "load 0 hello.s", "assembles a program and boots it; long code is poked first", more=LOADING),
     "send": Verb((HOST, TEXT), "send 0 \"hello\\n\"", "gives a host the bytes of a text"),
 }
 OPERATORS = {
     "words": Verb((), "words", "the words of the 32 physical outputs"),
-    "users": Verb((), "users", "for each user the lines answered, the events recorded, the limit, and quiet or busy"),
+    "users": Verb((), "users", "for each user the lines answered, the events recorded, the limit, and quiet or busy", more=ROOMS),
+    "memory": Verb((), "memory", "the bytes of memory that the farm has, and that all its rooms may take together"),
     "restart": Verb((USER,), "restart ann", "makes the domain of a user as it was opened, for all its users"),
+    "tell": Verb((SENTENCE,), "tell we end at five", "tells all users of the farm something, as a note"),
     "stop": Verb((), "stop", "ends the farm for all its users; serve goes on where it was when it is started again"),
 }
 ALL = {
     "help": Verb((), "help load", "lists the verbs, or tells of one"),
-    "quit": Verb((), "quit", "leaves the farm as it is and ends this terminal, as Ctrl-D does"),
+    "quit": Verb((), "quit", "leaves the farm as it is and ends this terminal, as exit and Ctrl-D do"),
 }
+# Another word for a verb.
+ALIASES = {"exit": "quit"}
 # The verbs whose answers begin with a number of their lines.
 NUMBERED = {name for name, verb in USERS.items() if verb.kinds[:1] in ((HOST,), (NODE,)) and not verb.optional}
 
@@ -96,8 +105,12 @@ def find(table, word):
     """The verb of this name."""
     if word in table:
         return table[word]
-    near = difflib.get_close_matches(word.lower(), table, 1, 0.5)
-    raise Wrong(f"there is no verb {word!r}. " + (f"Is it {near[0]}? Try: {table[near[0]].example}" if near else "Try: help"))
+    hint = meant(word, table) if word.lower() not in table else None
+    if hint:
+        raise Wrong(f"there is no verb {word!r}. {hint}")
+    examples = {name: verb.example for name, verb in table.items()} | {it: it for it in ALIASES}
+    near = difflib.get_close_matches(word.lower(), examples, 1, 0.5)
+    raise Wrong(f"there is no verb {word!r}. " + (f"Is it {near[0]}? Try: {examples[near[0]]}" if near else "Try: help"))
 
 
 def check(name, verb, words):

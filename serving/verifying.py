@@ -1,13 +1,13 @@
 """Whether a file is what the farm itself has recorded of a student."""
-import difflib
 import os
 import re
 import shlex
+import tempfile
 from typing import NamedTuple
 
 from .escapes import escaped
 from .folder import Refused
-from .plans import user_name
+from .kept import student_in
 from .records import PIECE, records_of
 from .sheets import count
 
@@ -117,20 +117,32 @@ def difference(name, given, file, it):
     return rows
 
 
-def student_in(farms, name, course):
-    """The folder of a student's farm, and his user's name. He may be named as in the file of names too."""
-    users = {user: folder for folder, names in farms.items() for user in names}
-    for it in (name, user_name(name)[0]):
-        if it in users:
-            return users[it], it
-    near = difflib.get_close_matches(user_name(name)[0], users, 3, 0.5)
-    more = f"near are {', '.join(near)}" if near else f"class status {shlex.quote(course)} lists all"
-    raise Refused(f"there is no student {name} in {course}: {more}")
+def with_removed(kept):
+    """The farms of a class, with those too who were removed."""
+    farms = {farm: [*names] for farm, names in kept.farms.items()}
+    for name, farm in kept.removed.items():
+        farms.setdefault(farm, []).append(name)
+    return farms
 
 
-def verify(course, farms, name, given):
+def under_this_name(file, user, earlier):
+    """An open file as it is under the name that its student has now, if it is a record from before he was renamed."""
+    head, divider, _ = os.pread(file, MOST_HEAD, 0).partition(b"\n---\n")
+    here = next((it for it in earlier if b'name = "%s"' % it.encode() in head), None)
+    if not divider or here is None:
+        return file
+    with tempfile.TemporaryFile() as renamed:
+        renamed.write(head.replace(b'name = "%s"' % here.encode(), b'name = "%s"' % user.encode(), 1))
+        os.lseek(file, len(head), os.SEEK_SET)
+        while piece := os.read(file, PIECE):
+            renamed.write(piece)
+        renamed.flush()
+        return os.dup(renamed.fileno())
+
+
+def verify(course, kept, name, given):
     """Compares a file with the records of a student: the status, and what is said."""
-    folder, user = student_in(farms, name, course)
+    folder, user = student_in(with_removed(kept), name, course)
     records = os.path.join(course, os.path.basename(folder), "records")
     try:
         paths = records_of(records, user)
@@ -141,10 +153,13 @@ def verify(course, farms, name, given):
     if not os.path.isfile(given):
         raise Refused(f"{given} is no file: give the record that the student has")
     file = os.open(given, os.O_RDONLY)
+    compared_file = file
     try:
-        return verified(user, given, file, paths)
+        compared_file = under_this_name(file, user, kept.earlier.get(user, []))
+        return verified(user, given, compared_file, paths)
     finally:
-        os.close(file)
+        for it in {file, compared_file}:
+            os.close(it)
 
 
 def verified(user, given, file, paths):

@@ -17,6 +17,7 @@ from trials import TOP, built
 
 sys.path.append(TOP)
 # pylint: disable=wrong-import-position
+from serving.kept import Kept
 from serving.verifying import Refused, verify
 
 # What no terminal may be sent: controls but for line feeds, bytes that are no UTF-8, and marks of the direction.
@@ -74,6 +75,11 @@ class Course:
         done = self.call(order, self.folder)
         wanted((done.returncode, done.stderr), (0, ""))
         return done.stdout
+
+    def must_change(self, order, *words):
+        """Gives an order of one who comes or goes, which must go well."""
+        done = self.call(order, self.folder, *words)
+        wanted((done.returncode, done.stderr), (0, ""))
 
     def lock(self, number):
         """The number of the serve of a farm."""
@@ -216,7 +222,7 @@ def stop_is_broken_off(live, _):
         end = time.monotonic() + SECONDS
         while os.path.exists(f"{it.folder}/farm-1/operator.sock") and time.monotonic() < end:
             time.sleep(0.02)
-        wanted(re.split("  +", it.must("status").splitlines()[1])[5], "off")
+        wanted(re.split("  +", it.must("status").splitlines()[1])[7], "off")
     return "it stopped"
 
 
@@ -276,7 +282,7 @@ def stop_ends_no_other_process(live, _):
         os.rename(f"{it.folder}/farm-2/operator.sock", f"{it.folder}/farm-2/operator")
         wanted(it.must("stop"), "farm-1: off\nfarm-2: off, ended by a signal\n")
         os.unlink(f"{it.folder}/farm-2/operator")
-        wanted(re.split("  +", other.must("status").splitlines()[1])[5], "quiet")
+        wanted(re.split("  +", other.must("status").splitlines()[1])[7], "quiet")
     return "six numbers"
 
 
@@ -300,11 +306,13 @@ def stop_finds_a_way(live, _):
     return "16 terminals"
 
 
-# Puts words after those that `!users` has of two users, one of which doesn't print.
+# Puts words after those that `!users` has of two users, one of which doesn't print, and takes the numbers of the rooms from a
+# third, as an earlier `live` has none.
 MARKING = """#!/bin/bash
 set -o pipefail
-"{live}" "$@" | LC_ALL=C sed -u 's/^!users student-1 .*/& unrecorded/
-  s/^!users student-2 .*/& out new\\x1b[2J\\xff/; s/^!users student-3 .*/!users student-3 zed/'
+"{live}" "$@" | LC_ALL=C sed -u 's/^!users student-1 .* quiet/& unrecorded/
+  s/^!users student-2 .* quiet/& out new\\x1b[2J\\xff/; s/^!users student-3 .*/!users student-3 zed/
+  s/^\\(!users student-4 .* quiet\\).*/\\1/'
 """
 
 
@@ -318,13 +326,13 @@ def status_shows_all_words(live, _):
         os.chmod(it.env["LIVE"], 0o755)
         it.must("start")
         rows = [re.split("  +", row) for row in it.must("status").splitlines()]
-        wanted([(row[0], row[2], row[5]) for row in rows[1:]],
-               [("student-1", "0", "quiet unrecorded"), ("student-2", "0", "quiet out new\\x1b[2J\\xff"),
-                ("student-3", "-", "no answer"), ("student-4", "0", "quiet")])
+        wanted([(row[0], row[2], row[5], row[7]) for row in rows[1:5]],
+               [("student-1", "0", "0.0%", "quiet unrecorded"), ("student-2", "0", "0.0%", "quiet out new\\x1b[2J\\xff"),
+                ("student-3", "-", "-", "no answer"), ("student-4", "0", "-", "quiet")])
         it.must("stop")
         with it.locked("farm-1/lock"):
-            wanted([re.split("  +", row)[5] for row in it.must("status").splitlines()[1:]], ["no answer"] * 4)
-        wanted([re.split("  +", row)[5] for row in it.must("status").splitlines()[1:]], ["off"] * 4)
+            wanted([re.split("  +", row)[7] for row in it.must("status").splitlines()[1:]], ["no answer"] * 4)
+        wanted([re.split("  +", row)[7] for row in it.must("status").splitlines()[1:]], ["off"] * 4)
     return "four students"
 
 
@@ -363,7 +371,7 @@ def names_behind_a_folder_are_plain(live, _):
                               ["--", it.folder, "--"])]
         rows += [(["-h"], 0, "usage: connect [-h] [--] DIR USER"), ([it.folder], 2, "usage:"),
                  ([it.folder, "ann", "bob"], 2, "usage:"),
-                 ([it.folder, "--help"], 1, f"connect: there is no socket of --help in {it.folder}: there are --, -h, ann, "
+                 ([it.folder, "--help"], 3, f"connect: there is no socket of --help in {it.folder}: there are --, -h, ann, "
                   "operator. For help: connect --help\n")]
         for words, status, told in rows:
             done = subprocess.run([f"{TOP}/connect", *words], input="look 0\n", stdout=subprocess.PIPE, stderr=subprocess.STDOUT,
@@ -442,7 +450,7 @@ class Marked:
         with open(path, "wb") as file:
             file.write(text)
         try:
-            status, told = verify(self.course.folder, {f"{self.course.folder}/farm-1": ["student-1"]}, "student-1", path)
+            status, told = verify(self.course.folder, Kept({f"{self.course.folder}/farm-1": ["student-1"]}, []), "student-1", path)
         except Refused as refused:
             return 1, 0 if "is no record" in f"{refused}" else None
         wanted(RAW.search("\n".join(told).encode()), None)

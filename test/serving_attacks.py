@@ -310,7 +310,8 @@ def files_have_a_limit(live, _):
         wanted(re.fullmatch(r"error \d+ record", answer) is not None, True)
         must_say(operator.until("note: "), "ann.replay: File too large")
         operator.say("users\n")
-        wanted([operator.until("!users ").split(" ")[5:] for _ in range(2)], [["quiet", "unrecorded"], ["quiet"]])
+        words = [[it for it in operator.until("!users ").split(" ")[5:] if not it.isdecimal()] for _ in range(2)]
+        wanted(words, [["quiet", "unrecorded"], ["quiet"]])
         wanted(it.ask("bob", "look 0"), LOOKED)
         it.stop()
     return "20,000 bytes"
@@ -323,7 +324,8 @@ def progress_is_told(live, _):
         line = "0 look 0 @0 = booting overruns 0 0 0 0\n"
         with open(f"{it.folder}/records/ann.replay", "a", encoding="utf-8") as file:
             file.write(line * ((200 << 20) // len(line)))
-        starting = threading.Thread(target=it.start)
+        # what it says is more than usual rooms take
+        starting = threading.Thread(target=lambda: it.start("--room", "2G", "--record-room", "2G"))
         starting.start()
         starting.join()
         ann, bob = it.client("ann"), it.client("bob")

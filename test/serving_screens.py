@@ -48,8 +48,8 @@ def keys_do_what_they_say(live, _):
             operator.until("!words 0:2c7 1:0 ")
             operator.until("operator> ")
             operator.line("rest\ta\t", ["!restart ann ok"])
-            # two lines are those by which serve asks for the users, and eight are ann's
-            operator.line("restart zed", ["! error 13 user", "  (there is no such user: users lists them)"])
+            # two lines are those by which serve asks for the users, three those by which a load looks first, and eight are ann's
+            operator.line("restart zed", ["! error 16 user", "  (there is no such user: users lists them)"])
         wanted(it.stop()[0], 0)
     return "two terminals of a user, and the operator's"
 
@@ -70,11 +70,11 @@ def farm_goes_away(live, _):
             for one in (ann, bob):
                 told, status = one.end()
                 wanted((told.count("note: the farm is stopped\n"), "error: the farm has ended the connection" in told, status),
-                       (1, True, 1))
+                       (1, True, 3))
             wanted("Traceback" in ann.shown + bob.shown, False)
         it.start()
         with terminal(it, "ann", it.room.name) as ann:
             it.process.kill()
             told, status = ann.end()
-            wanted(("error: the farm has ended the connection" in told, status), (True, 1))
+            wanted(("error: the farm has ended the connection" in told, status), (True, 3))
     return "stopped, and killed"

@@ -130,7 +130,7 @@ class User:
     def hear_all(self):
         while self.waits:
             answer = self.client.hear()
-            if not answer.startswith(("note: ", FLOOD, LOST + FLOOD)):
+            if not answer.startswith(("note: ", "note ", FLOOD, LOST + FLOOD)):
                 self.take(self.waits.popleft(), answer)
 
     def take(self, sent, answer):
@@ -226,7 +226,7 @@ class Operator(threading.Thread):
                 client = client or listener(self.served, "operator", time.monotonic() + PATIENCE)
                 self.asked[name] += 1
                 client.say(f"restart {name}\n")
-                while (answer := client.hear()).startswith("note: "):
+                while (answer := client.hear()).startswith(("note: ", "note ")):
                     pass
                 self.answered[name] += answer == f"!restart {name} ok"
                 if answer not in (f"!restart {name} ok", f"{LOST}restart {name}"):

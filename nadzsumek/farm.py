@@ -1,0 +1,249 @@
+"""A farm that `serve` keeps up, and its users: one call after another, or for asyncio."""
+import asyncio
+import contextlib
+import os
+import threading
+import time
+
+from serving import folder as folders
+from serving.connections import opened
+from serving.ports import ports_of
+
+from .dialogue import AT_ONCE, Dialogue
+from .failures import NoFarm, NotAnswered
+from .results import check
+from .verbs import Collecting, Verbs, loaded, question
+
+# How long an answer is waited for unless another time is given.
+SECONDS = 60
+PIECE = 1 << 16
+
+
+class Farm:
+    """The farm in a folder, as `serve PLAN DIR` or `class` has it."""
+
+    def __init__(self, folder):
+        self.folder = os.fspath(folder)
+
+    def users(self):
+        """The names of those who have sockets in the folder, sorted, without the operator."""
+        try:
+            return folders.users_of(self.folder)
+        except OSError as error:
+            raise NoFarm(f"{self.folder}: {error.strerror}") from None
+
+    def user(self, name, noted=None, seconds=SECONDS):
+        """A connection as this user, to be used in `with`. `noted` is called with each note that comes, and `seconds` is how long
+        an answer is waited for."""
+        return User(self.folder, name, noted, seconds)
+
+    def async_user(self, name, noted=None, seconds=SECONDS):
+        """The same for asyncio, to be used in `async with`."""
+        return AsyncUser(self.folder, name, noted, seconds)
+
+
+def connected(folder, name):
+    """A connection with the socket of this name."""
+    try:
+        return opened(folder, name)
+    except folders.Refused as refused:
+        raise NoFarm(f"{refused}") from None
+    except OSError as error:
+        raise NoFarm(f"{folder}: {error.strerror}") from None
+
+
+def pieces(lines):
+    """Lines as they are sent, some at once."""
+    return [lines[at:at + AT_ONCE] for at in range(0, len(lines), AT_ONCE)]
+
+
+class Speaking(Verbs):
+    """What both kinds of user have: `name`, and `ports`, which are those of the first wired link of node 0 and of the user's first
+    host, and the number of this host; none if the plan can't be read."""
+
+    def __init__(self, folder, name, noted, seconds):
+        self.folder, self.name, self.seconds, self.dialogue = folder, name, seconds, Dialogue(noted)
+
+    @property
+    def ports(self):
+        return ports_of(self.folder, self.name)
+
+    def late(self, pending):
+        """What is raised if no answer has come in time."""
+        return NotAnswered(pending.line, f"no answer has come in {self.seconds:g} seconds")
+
+
+class User(Speaking):
+    """A user's connection, whose calls return when the farm has answered. Several threads may share it: their calls take turns."""
+
+    def __init__(self, folder, name, noted, seconds):
+        super().__init__(folder, name, noted, seconds)
+        self.stream, self.turn = connected(folder, name), threading.RLock()
+
+    def __enter__(self):
+        return self
+
+    def __exit__(self, *_):
+        self.close()
+
+    def close(self):
+        """Ends the connection."""
+        self.stream.close()
+
+    @property
+    def notes(self):
+        """The notes that have come so far, the newest last."""
+        with self.turn:
+            self.hear_rest()
+        return [*self.dialogue.notes]
+
+    def hear_rest(self):
+        """Hears what is there already."""
+        with contextlib.suppress(OSError):
+            self.stream.setblocking(False)
+            while piece := self.stream.recv(PIECE):
+                self.dialogue.feed(piece)
+
+    def do(self, asked):
+        with self.turn:
+            answers = [it for piece in pieces(asked.lines) for it in self.exchange(piece, asked.strict)]
+        return asked.result(answers)
+
+    def exchange(self, lines, strict):
+        """Sends lines, and returns the answer to each."""
+        waiting = [self.dialogue.ask(line) for line in lines]
+        try:
+            self.send_all(b"".join(it.message() for it in waiting))
+            for it in waiting:
+                self.await_answer(it)
+                if strict:
+                    check(it.line, it.answers[0])
+            return [it.answers for it in waiting]
+        except TimeoutError:
+            raise self.late(next(it for it in waiting if not it.is_whole)) from None
+        except OSError:
+            self.hear_rest()
+            raise self.dialogue.ended() from None
+        finally:
+            for it in waiting:
+                self.dialogue.forget(it)
+
+    def send_all(self, message):
+        """Sends lines. If they aren't taken in time the connection ends, since the last may be half sent."""
+        try:
+            self.stream.settimeout(self.seconds)
+            self.stream.sendall(message)
+        except TimeoutError:
+            self.close()
+            raise
+
+    def await_answer(self, pending):
+        end = time.monotonic() + self.seconds
+        while not pending.is_whole:
+            self.stream.settimeout(max(0.001, end - time.monotonic()))
+            piece = self.stream.recv(PIECE)
+            if not piece:
+                raise self.dialogue.ended()
+            self.dialogue.feed(piece)
+            if time.monotonic() > end and not pending.is_whole:
+                raise self.late(pending)
+
+    def load(self, host, program):
+        """Boots a program: the file of its text, an example's name, or bytes of code. A `Loaded`."""
+        return self.do(loaded(host, program))
+
+    def collect(self, host, count=None, seconds=None):
+        """The bytes that came to a host; with a count or a time all that come until there are as many, or the time is over, 10
+        seconds if only a count is given."""
+        with Collecting(count, seconds) as it:
+            while True:
+                it.held += self.do(question(f"collect {host:d}"))
+                if it.is_over():
+                    return bytes(it.held)
+                time.sleep(it.next_pause())
+
+
+class AsyncUser(Speaking):
+    """A user's connection for asyncio. Several tasks may share it: their calls take turns."""
+
+    def __init__(self, folder, name, noted, seconds):
+        super().__init__(folder, name, noted, seconds)
+        self.turn, self.has_ended = asyncio.Lock(), False
+        self.reader = self.writer = self.reading = None
+
+    async def __aenter__(self):
+        stream = await asyncio.to_thread(connected, self.folder, self.name)
+        self.reader, self.writer = await asyncio.open_unix_connection(sock=stream)
+        self.reading = asyncio.ensure_future(self.read())
+        return self
+
+    async def __aexit__(self, *_):
+        self.writer.close()
+        await asyncio.wait({self.reading})
+
+    @property
+    def notes(self):
+        """The notes that have come so far, the newest last."""
+        return [*self.dialogue.notes]
+
+    async def read(self):
+        """Hears what comes until the connection ends."""
+        try:
+            while piece := await self.reader.read(PIECE):
+                self.dialogue.feed(piece)
+        except OSError:
+            pass
+        finally:
+            self.has_ended = True
+            for pending in [*self.dialogue.waiting.values()]:
+                pending.tell()
+
+    async def do(self, asked):
+        async with self.turn:
+            answers = []
+            for piece in pieces(asked.lines):
+                answers += await self.exchange(piece, asked.strict)
+        return asked.result(answers)
+
+    async def exchange(self, lines, strict):
+        """Sends lines, and returns the answer to each."""
+        waiting = [(self.dialogue.ask(line), asyncio.Event()) for line in lines]
+        for pending, is_heard in waiting:
+            pending.tell = is_heard.set
+        try:
+            self.writer.write(b"".join(it.message() for it, _ in waiting))
+            await self.writer.drain()
+            for pending, is_heard in waiting:
+                await self.await_answer(pending, is_heard)
+                if strict:
+                    check(pending.line, pending.answers[0])
+            return [it.answers for it, _ in waiting]
+        except OSError:
+            await asyncio.wait({self.reading}, timeout=self.seconds)
+            raise self.dialogue.ended() from None
+        finally:
+            for pending, _ in waiting:
+                self.dialogue.forget(pending)
+
+    async def await_answer(self, pending, is_heard):
+        try:
+            if not self.has_ended:
+                await asyncio.wait_for(is_heard.wait(), self.seconds)
+        except TimeoutError:
+            raise self.late(pending) from None
+        if not pending.is_whole:
+            raise self.dialogue.ended()
+
+    async def load(self, host, program):
+        """Boots a program: the file of its text, an example's name, or bytes of code. A `Loaded`."""
+        return await self.do(await asyncio.to_thread(loaded, host, program))
+
+    async def collect(self, host, count=None, seconds=None):
+        """The bytes that came to a host; with a count or a time all that come until there are as many, or the time is over, 10
+        seconds if only a count is given."""
+        with Collecting(count, seconds) as it:
+            while True:
+                it.held += await self.do(question(f"collect {host:d}"))
+                if it.is_over():
+                    return bytes(it.held)
+                await asyncio.sleep(it.next_pause())

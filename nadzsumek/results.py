@@ -1,0 +1,134 @@
+"""What the farm answers, as values of Python, and what it refuses."""
+import dataclasses
+import enum
+import re
+
+from serving.answers import bytes_taken, meaning, refusal, shortfall
+
+from .failures import NotAnswered, Refused
+
+# So begins what `serve` says in the place of an answer.
+UNANSWERED = "error: "
+
+
+class State(enum.Enum):
+    """What a node does."""
+
+    BOOTING = "booting"
+    RUNNING = "running"
+    IDLE = "idle"
+    HALTED = "halted"
+
+
+class Rest(enum.Enum):
+    """Whether something goes on in a user's machine. In one that is FULL nothing does, as its room is used up."""
+
+    QUIET = "quiet"
+    BUSY = "busy"
+    FULL = "full"
+
+
+@dataclasses.dataclass(frozen=True)
+class Look:
+    """A node: its state, the fault that halted it (1 to 5), for fault 2 the number of the operation, and how many bytes each of
+    its four links has dropped."""
+
+    state: State
+    fault: int | None
+    operation: int | None
+    overruns: tuple
+
+
+@dataclasses.dataclass(frozen=True)
+class Why:
+    """Why nodes wait, have halted or run on: after how many events of the domain, and one line of text after another."""
+
+    events: int
+    lines: tuple
+
+    def __str__(self):
+        return "\n".join(self.lines)
+
+
+@dataclasses.dataclass(frozen=True)
+class Loaded:
+    """A program that was booted: how many bytes the last boot had, and how many words were poked before it."""
+
+    boot: int
+    pokes: int
+
+
+@dataclasses.dataclass(frozen=True)
+class Note:
+    """What a user hears besides the answers to lines. If his machine rests, `used` and `room` are the bytes of its room that
+    are used and that there are."""
+
+    text: str
+    used: int | None = None
+    room: int | None = None
+
+
+def note_of(text):
+    """A note as it came: `note rests USED ROOM` of the user's machine, or `note: TEXT` of the farm."""
+    rests = re.fullmatch(r"note rests (\d+) (\d+)", text)
+    return Note(text, int(rests[1]), int(rests[2])) if rests else Note(text)
+
+
+def check(line, answer):
+    """Raises what an answer refuses."""
+    if answer.startswith(UNANSWERED):
+        raise NotAnswered(line, answer.removeprefix(UNANSWERED))
+    word = refusal(line, answer)
+    if word:
+        number = re.fullmatch(r"(?:! )?error (\d+) \w+", answer)
+        raise Refused(word, line, answer, int(number[1]) if number else None, bytes_taken(answer) if word == "hostfull" else None,
+                      meaning(answer) or shortfall(line, answer))
+
+
+def look_of(words):
+    """A node of the words behind `look NODE`."""
+    state, more = State(words[0]), words[1:words.index("overruns")]
+    return Look(state, int(more[0]) if more else None, int(more[1], 16) if more[1:] else None,
+                tuple(int(it) for it in words[words.index("overruns") + 1:]))
+
+
+def why_of(answers):
+    """The text of the lines of an answer to `why`."""
+    first, *lines = [it.removeprefix("why ") for it in answers]
+    return Why(int(first.split()[1]), tuple(lines[:-1]))
+
+
+def config_of(words):
+    return bytes.fromhex("".join(it for it in words if it != "-"))
+
+
+# What the words behind a verb, or behind its host or node, say.
+OF_WORDS = {
+    "config": lambda words: config_of(words[1:]),
+    "write": lambda words: int(words[2]),
+    "boot": lambda words: int(words[2]),
+    "poke": lambda words: int(words[2]),
+    "peek": lambda words: None if words[2] == "-" else int(words[2], 16),
+    "collect": lambda words: b"" if words[2] == "-" else bytes.fromhex(words[2]),
+    "reset": lambda words: None,
+    "look": lambda words: look_of(words[2:]),
+    "rest": lambda words: Rest(words[1]),
+    "restart": lambda words: None,
+}
+
+
+def result_of(answers):
+    """The value of the lines of an answer that refuses nothing; none for verbs of which no value is known."""
+    words = answers[0].split(" ")
+    if words[0] == "why":
+        return why_of(answers)
+    return OF_WORDS[words[0]](words) if words[0] in OF_WORDS else None
+
+
+def plain(value):
+    """A value as JSON has it: bytes by hexadecimal digits."""
+    if dataclasses.is_dataclass(value):
+        return {name: plain(it) for name, it in vars(value).items()}
+    if isinstance(value, enum.Enum):
+        return value.value
+    return value.hex() if isinstance(value, bytes) else value
