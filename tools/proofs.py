@@ -1,6 +1,8 @@
 """Proves crates, several at one time: how many jobs there are, which crate goes first, and what is shown of it."""
+import fcntl
 import os
 import shutil
+import signal
 import sys
 from concurrent.futures import FIRST_COMPLETED, ThreadPoolExecutor, wait
 
@@ -13,10 +15,30 @@ MOST_JOBS_OF_A_CRATE = 4
 # The system puts a crate back behind others by a rank for so many seconds by which its chain is shorter, up to the last.
 SECONDS_OF_A_RANK = 60
 LAST_RANK = 10
+# The status of a program that Ctrl-C has ended.
+INTERRUPTED = 130
 # Where the toolchain's commands are.
 KIT = os.path.dirname(os.path.realpath(shutil.which("rt") or "rt"))
 # The prover is to keep the memory that it has: to give pages back and to ask for them anew costs a twentieth of its time.
 os.environ.setdefault("MIMALLOC_PURGE_DELAY", "-1")
+
+
+def lock_alone(file):
+    """Locks a file until this process ends. If another build has it, that is said while it is waited."""
+    try:
+        fcntl.flock(file, fcntl.LOCK_EX | fcntl.LOCK_NB)
+    except BlockingIOError:
+        print("another build is at work here: this one waits until that has ended, or until Ctrl-C", file=sys.stderr, flush=True)
+        fcntl.flock(file, fcntl.LOCK_EX)
+
+
+def run(main):
+    """Runs a script's `main`, which Ctrl-C ends when what it has begun has ended too, without more ado."""
+    try:
+        signal.signal(signal.SIGINT, signal.default_int_handler)
+        sys.exit(main(sys.argv[1:]))
+    except KeyboardInterrupt:
+        sys.exit(INTERRUPTED)
 
 
 def kit_crates(libraries):
