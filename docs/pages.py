@@ -1,0 +1,120 @@
+"""What `docs/check` asks of the text of pages: that words are plain, and that links lead to something."""
+import re
+
+# The pages in plain words: all but the one that is made from what programs print.
+PLAIN_PAGES = ("README.md", "docs/*.md", "docs/guides/*.md")
+PRINTED = "COMMANDS.md"
+# The page whose rows begin with words that it explains, whatever they are.
+GLOSSARY = "GLOSSARY.md"
+# The words that these pages don't have, each with what to write instead. `stands for` a name or a number is plain.
+PLAIN_WORDS = {
+    r"stands?(?! for\b)|stood|standing": "is, is in, comes, stays, or depends on",
+    r"behind": "after",
+    r"told": "said, shown, answered, or given",
+    r"so many": "a number of, or that many",
+    r"want of memory": "out of memory",
+    r"whoever": "anyone who, or who it is",
+    r"in place of": "instead of",
+    r"at once": "immediately, or together",
+    r"anew": "again, or from the beginning",
+    r"he|his|him|himself": "they, or the name",
+    r"of which": "two sentences, or whose",
+    r"(?<!has )(?<!have )just": "exactly, or only",
+}
+
+
+def lines_of(page):
+    """The lines of a page that are in no block, with their numbers."""
+    is_block = False
+    for number, line in enumerate(page.read_text(encoding="utf-8").split("\n"), 1):
+        if line.lstrip().startswith("```"):
+            is_block = not is_block
+        elif not is_block:
+            yield number, line
+
+
+def wrong_words(top):
+    """Each word of a page in plain words that isn't plain, as page, line and what is wrong. What is in backticks, or in a
+    link's target, isn't looked at."""
+    for pattern in PLAIN_PAGES:
+        for page in sorted(it for it in top.glob(pattern) if it.name != PRINTED):
+            for number, line in lines_of(page):
+                text = re.sub(r"`[^`]*`|\]\([^)]*\)", "", line)
+                if page.name == GLOSSARY:
+                    text = re.sub(r"^\| [^|]*", "", text)
+                for words, better in PLAIN_WORDS.items():
+                    for found in re.findall(rf"\b(?:{words})\b", text, re.I):
+                        yield page, number, f"{found!r} is no plain word here: write {better}"
+
+
+def headings_of(page):
+    """The names by which links lead to the headings of a page, as the usual viewers make them."""
+    names = set()
+    for _, line in lines_of(page):
+        heading = re.match(r"#+ (.*)", line)
+        if heading:
+            text = re.sub(r"\]\([^)]*\)|[^\w\s-]", "", heading[1].lower())
+            names.add(text.replace(" ", "-"))
+    return names
+
+
+def wrong_numbers(page):
+    """Each number of DECISIONS.md that isn't greater than the one before it in its section, or that is there twice, and each
+    section whose numbers its table doesn't have. A choice is a line `- **N.** ..`: as `N. ..` it would be shown by another number."""
+    sections, seen, table = {}, set(), {}
+    for number, line in lines_of(page):
+        heading, row = re.match(r"## (.*)", line), re.match(r"\| ([\d, to]+) \| \[(.*)\]\(", line)
+        choice = re.match(r"(?:- \*\*)?(\d+)\.", line)
+        if heading:
+            sections[heading[1]] = []
+        elif row:
+            table[row[2]] = number, row[1]
+        elif choice:
+            its, those = int(choice[1]), sections[[*sections][-1]]
+            if not line.startswith("- **") or its in seen or its < max(those, default=0):
+                yield page, number, f"choice {its} isn't `- **{its}.** ..`, is there twice, or comes after a greater number"
+            seen.add(its)
+            those.append(its)
+    for name, those in sections.items():
+        number, text = table.get(name, (1, ""))
+        spans = [[int(it) for it in span.split(" to ")] for span in text.split(", ") if span]
+        if [it for span in spans for it in range(span[0], span[-1] + 1)] != those:
+            yield page, number, f"{name} has the choices {', '.join(map(str, those))}"
+
+
+def links_of(pages):
+    """How many links to files and headings pages have, and each that leads to none, as page, line and what is wrong."""
+    total, wrong = 0, []
+    for page in pages:
+        for number, line in lines_of(page):
+            for path, name in re.findall(r"\]\(([^)#\s]*)(?:#([^)\s]+))?\)", line):
+                if "://" in path:
+                    continue
+                total += 1
+                target = (page.parent / path).resolve() if path else page
+                if not target.exists():
+                    wrong.append((page, number, f"there is no {path}"))
+                elif name and name not in headings_of(target):
+                    wrong.append((page, number, f"{target.name} has no heading {name}"))
+    return total, wrong
+
+
+def quotes_of(top):
+    """How many blocks of guides quote a file, and each that doesn't, as page, line and what is wrong. A block of Rust begins with a
+    line `// FILE`, and a block of text may begin with `# FILE`: what follows are lines of that file, one after another."""
+    total, wrong = 0, []
+    for page in sorted(top.glob("docs/guides/*.md")):
+        text = page.read_text(encoding="utf-8")
+        for found in re.finditer(r"^( *)```(rust|text)\n(.*?)^ *```$", text, re.M | re.S):
+            line = text[: found.start()].count("\n") + 1
+            indent, kind, block = found.groups()
+            head, _, quoted = re.sub(rf"^{indent}", "", block, flags=re.M).partition("\n")
+            named = re.fullmatch(r"(?:// |# )([\w./]+)", head)
+            if not named or not (top / named[1]).is_file():
+                if kind == "rust":
+                    wrong.append((page, line, "a block of Rust that doesn't begin with the file that it quotes"))
+                continue
+            total += 1
+            if "\n" + quoted not in "\n" + (top / named[1]).read_text(encoding="utf-8"):
+                wrong.append((page, line, f"{named[1]} has no such lines"))
+    return total, wrong
