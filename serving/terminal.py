@@ -33,6 +33,8 @@ STOP_SECONDS = 60
 AT_ONCE = 64
 # The status of a program that Ctrl-C has ended.
 INTERRUPTED = 130
+# How long is waited until Ctrl-C is noticed before the prompt is woken, and how often it is woken at most.
+NOTICED_SECONDS, MOST_WAKES = 0.05, 100
 # Names of users by which somebody may want help.
 HELP = ("-h", "--help")
 STATUS = """Without a terminal the status is 0 if all lines were answered, 1 if one was wrong, refused or not
@@ -55,7 +57,7 @@ class Terminal:
         self.ports, self.wiring, self.is_checked = ports_of(folder, name), wiring_of(folder, name), is_checked
         self.due, self.status, self.stops, self.is_unread = collections.deque(), 0, False, False
         self.news, self.has_ended, self.at_prompt = threading.Condition(), False, False
-        self.interrupts, self.is_sending = 0, False
+        self.interrupts, self.is_sending, self.is_noticed = 0, False, threading.Event()
         self.prompt = f"{escaped(name)}> "
         self.reader = threading.Thread(target=self.read, daemon=True)
         self.reader.start()
@@ -254,9 +256,20 @@ class Terminal:
         if self.at_prompt:
             raise Gone
 
+    def watch(self, signals):
+        """Wakes the prompt until it has noticed Ctrl-C: what reads a line passes over a signal that comes after the prompt is
+        shown and before it waits for a key, and would notice it at the next key alone."""
+        while numbers := os.read(signals, AT_ONCE):
+            for _ in range(MOST_WAKES if signal.SIGINT in numbers else 0):
+                if self.is_noticed.wait(NOTICED_SECONDS):
+                    break
+                signal.pthread_kill(threading.main_thread().ident, signal.SIGUSR2)
+            self.is_noticed.clear()
+
     def interrupt(self, *_):
         """Ctrl-C. At the prompt it drops what is typed. Else it is noted, so that nothing is left half done; if lines can't
         be sent, the next one ends the terminal."""
+        self.is_noticed.set()
         if self.at_prompt:
             raise KeyboardInterrupt
         self.interrupts += 1
@@ -271,7 +284,12 @@ def at_terminal(terminal, folder):
         readline.read_history_file(HISTORY)
     readline.set_history_length(MOST_HISTORY)
     signal.signal(signal.SIGUSR1, terminal.called_away)
+    signal.signal(signal.SIGUSR2, lambda *_: None)
     signal.signal(signal.SIGINT, terminal.interrupt)
+    signals, noted = os.pipe()
+    os.set_blocking(noted, False)
+    signal.set_wakeup_fd(noted, warn_on_full_buffer=False)
+    threading.Thread(target=terminal.watch, args=(signals,), daemon=True).start()
     print(f"You are {escaped(terminal.name)}. help lists the verbs, Ctrl-D ends.")
     try:
         return terminal.run()
