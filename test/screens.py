@@ -78,12 +78,20 @@ class Screen:
         return self.shown[begun:self.seen]
 
     def line(self, keys, answer):
-        """Types a line, whose answer is shown, and then the prompt."""
+        """Types a line, whose answer is shown, and then the prompt. An answer that comes late is shown after a prompt, and then
+        there is another one."""
         self.press(keys + "\r")
         self.until("\r\n")
-        told = self.until("> ").rpartition("\n")[0].replace("\r", "").splitlines()
-        if told[-len(answer):] != answer:
-            raise AssertionError(f"{told!r} in place of {answer!r}")
+        shown = self.before_prompt()
+        while shown[-len(answer):] != answer:
+            try:
+                shown += self.before_prompt()
+            except AssertionError:
+                raise AssertionError(f"{shown!r} in place of {answer!r}") from None
+
+    def before_prompt(self):
+        """The lines that are shown before the next prompt."""
+        return self.until("> ").rpartition("\n")[0].replace("\r", "").splitlines()
 
     def end(self):
         """What is shown until the program ends, and its status."""
