@@ -27,7 +27,7 @@ config_reply_text (config.Answer byte) = byte_text byte
 config_reply_text config.BadCommand = codes "badcommand"
 config_reply_text config.BadPort = codes "badport"
 
--- what stands behind the number of a fault: the operand that is the code of no operation, in hexadecimal digits
+-- what follows the number of a fault: the operand that is the code of no operation, in hexadecimal digits
 abbrev pub operand_text : Fault → List ℕ
 operand_text (UnknownOperation code) = codes " " ++ digits 16 false code
 operand_text fault = []
@@ -49,7 +49,7 @@ activity_text activity.Running = codes "running"
 activity_text activity.Idle = codes "idle"
 activity_text (activity.Halted fault) = codes "halted " ++ fault_text fault
 
--- numbers, each behind a blank
+-- numbers, each after a blank
 abbrev pub numbers_text : List ℕ → List ℕ
 numbers_text numbers = flat_map (λ number. codes " " ++ decimal number) numbers
 

@@ -20,7 +20,7 @@ use Rattle.script_lines.specs.Verbs.{name_of, verb_of, place_asked}
 abbrev pub replies_told : List Told → List Reply
 replies_told told = map (λ t. t.reply) told
 
--- a text behind a blank
+-- a text after a blank
 abbrev pub behind_blank : List ℕ → List ℕ
 behind_blank text = codes " " ++ text
 
@@ -31,7 +31,7 @@ abbrev pub is_shown : Reply → Bool
 is_shown (reply.Config config.Nothing) = false
 is_shown r = true
 
--- the replies to configuration bytes other than Nothing, each behind a blank, or a hyphen
+-- the replies to configuration bytes other than Nothing, each after a blank, or a hyphen if there are none
 abbrev pub shown_text : Reply → List ℕ
 shown_text r = if is_shown r then behind_blank (reply_text r) else []
 

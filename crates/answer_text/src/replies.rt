@@ -21,7 +21,8 @@ pub fn write_config_reply(text: &mut String, reply: ConfigReply) -> Result<(), N
     }
 }
 
-/// Appends the number of a fault, and behind number 2 the operand that is the code of no operation.
+/// Appends the number of a fault. After number 2 come a blank and the operand that is the code of
+/// no operation, in hexadecimal digits.
 pub fn write_fault(text: &mut String, fault: Fault) -> Result<(), NoMemory>
     ensures text { OnOk result (string_bytes text.new ≡ string_bytes text.old ++ fault_text fault) }
 {
@@ -91,8 +92,8 @@ pub fn write_reply(text: &mut String, reply: Reply) -> Result<(), NoMemory>
     }
 }
 
-/// Appends the word of a refusal, `nosuch` or `journalfull`. Want of memory has none: it is the error, as it is where
-/// the text can't grow.
+/// Appends the word of a refusal, `nosuch` or `journalfull`. `Refusal::NoMemory` has no word: it is returned as the
+/// error, as it is where the text can't grow.
 pub fn write_refusal(text: &mut String, refusal: Refusal) -> Result<(), NoMemory>
     ensures text { OnOk result (AppendsText (string_bytes text.old) (string_bytes text.new) (refusal_text refusal)) }
     ensures memory { OnOk result (refusal ≢ why.NoMemory) }

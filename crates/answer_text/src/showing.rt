@@ -195,7 +195,7 @@ fn write_reset(text: &mut String, reply: Reply) -> Result<(), NoMemory>
     }
 }
 
-// A reply behind a blank.
+// A blank, and then a reply.
 fn write_behind_blank(text: &mut String, reply: Reply) -> Result<(), NoMemory>
     ensures { OnOk result (string_bytes text.new ≡ string_bytes text.old ++ behind_blank (reply_text reply)) }
 {

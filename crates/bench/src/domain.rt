@@ -3,9 +3,10 @@
 //! - `steps`: Steps of a node that runs a loop of two instruction bytes;
 //! - `pings`: a byte from host to host, and its acknowledge back: a Write, two Moves and a Read each;
 //! - `configs`: three configuration bytes that connect an output, and two that enquire it;
-//! - `checkouts-2048`, `checkouts-65536`: tickets of a node with so many bytes of memory, dropped at once;
+//! - `checkouts-2048`, `checkouts-65536`: tickets of a node with that many bytes of memory, dropped
+//!   immediately;
 //! - `turns-2048`, `turns-65536`: such tickets that do 256 Steps and are committed;
-//! - `checkouts-used`, `turns-used`: the same of 65,536 bytes, of which the last word was written too.
+//! - `checkouts-used`, `turns-used`: the same with 65,536 bytes, where the last word was written too.
 
 use crate::faults::{failed, refused};
 use crate::selection::Selection;
@@ -146,7 +147,7 @@ fn load_used(alloc: Global, domain: &mut Plain) -> Result<(), Refusal> {
     send(alloc, domain, &LOOP)
 }
 
-// Steps node 0 until a Step doesn't run, at most so many times; how many ran.
+// Steps node 0 until a Step doesn't run, at most `count` times; returns how many ran.
 fn steps(alloc: Global, domain: &mut Plain, count: u64) -> u64 {
     for done in 0..count {
         let answer = domain.apply(alloc, By::Farm, Event::Step(0));
@@ -176,7 +177,7 @@ fn ping(alloc: Global, domain: &mut Plain, byte: u8) -> bool {
     matches!(read, Ok(Reply::Read(Some(came))) if came == byte)
 }
 
-// Pings until a byte doesn't come, at most so many times; how many came.
+// Pings until a byte doesn't come, at most `count` times; returns how many came.
 fn pings(alloc: Global, domain: &mut Plain, count: u64) -> Result<u64, Refusal> {
     for done in 0..count {
         if done % ROUNDS == 0 {
@@ -201,7 +202,7 @@ fn is_connected(alloc: Global, domain: &mut Plain) -> bool {
     matches!(answer, Ok(Reply::Config(ConfigReply::Answer(0x82))))
 }
 
-// Rounds of five configuration bytes, at most so many; how many were answered.
+// At most `count` rounds of five configuration bytes; returns how many were answered.
 fn configs(alloc: Global, domain: &mut Plain, count: u64) -> Result<u64, Refusal> {
     for done in 0..count {
         if done % ROUNDS == 0 {
@@ -214,7 +215,7 @@ fn configs(alloc: Global, domain: &mut Plain, count: u64) -> Result<u64, Refusal
     Ok(count)
 }
 
-// Tickets of a node that are dropped at once.
+// Tickets of a node, each dropped immediately.
 fn checkouts(alloc: Global, domain: &Plain, node: u8, count: u64) -> Result<u64, Refusal> {
     for done in 0..count {
         let ticket = domain.checkout(alloc, 0, node)?;
@@ -240,7 +241,7 @@ fn turns(alloc: Global, domain: &mut Plain, node: u8, count: u64) -> Result<u64,
     Ok(count)
 }
 
-// Does so many rounds of a work, in a domain that is restarted for it; how many were done.
+// Does `count` rounds of a work, in a domain that is restarted for it; returns how many were done.
 fn done(alloc: Global, domain: &mut Plain, work: TimedWork, count: u64) -> Result<u64, Refusal> {
     match work {
         TimedWork::Pings => pings(alloc, domain, count),

@@ -4,8 +4,8 @@
 //! - `node`: a node's bursts beside the step;
 //! - `domain`: events through a domain, and Steps of tickets.
 //!
-//! COUNT is how many rounds, and NAME one of the work's names, which stand at the head of its module; without NAME all of
-//! them run. Without words there is a short run of every work, and `--help` tells these words.
+//! COUNT is how many rounds, and NAME one of the work's names, which are listed at the head of its module; without NAME
+//! all of them run. Without words there is a short run of every work, and `--help` prints these words.
 #![tactic(auto)]
 
 mod domain;

@@ -17,7 +17,7 @@ const START: u32 = 0x8000_0048;
 
 const WORKSPACE: u32 = 0x8000_0064;
 
-// The arithmetic loop, and behind it four bytes where a process that is sliced saves its place.
+// The arithmetic loop, followed by four bytes where a process that is sliced saves its place.
 fn code(alloc: Global) -> Result<Vec<u8>, AllocError> {
     let mut code = Vec::from_slice(alloc, &ARITHMETIC)?;
     code.extend_from_slice(&[0x40, 0x40, 0x40, 0x40])?;

@@ -1,6 +1,6 @@
-//! What is asked for: how many rounds, and of which name.
+//! What is asked for: the number of rounds, and the name of what is measured.
 
-/// How many rounds are asked for, and of which name.
+/// The number of rounds that are asked for, and the name of what is measured.
 #[derive(Clone, Copy)]
 pub struct Selection<'a> {
     /// How many rounds.

@@ -11,7 +11,7 @@ use t414_step::run;
 /// The address of the first byte of a loop.
 const START: u32 = 0x8000_0100;
 
-/// The workspace of a loop, of which the word behind the first is told at the end.
+/// The workspace of a loop. Its second word is printed at the end.
 const WORKSPACE: u32 = 0x8000_0200;
 
 /// A loop of arithmetic, logic and a jump that is taken now and then.
@@ -78,7 +78,7 @@ const LOOPS: [(&str, &[u8]); 5] = [
     ("sieve", &SIEVE),
 ];
 
-// Runs a loop for so many steps, and prints what came of it.
+// Runs a loop for `count` steps, and prints what came of it.
 fn run_loop(rt: &impl Print, alloc: Global, name: &str, code: &[u8], count: u64) -> io::Result<()> {
     let mut memory = Memory::new(alloc, 4096)?;
     if place(&mut memory, START, code).is_err() {

@@ -50,7 +50,7 @@ delivery_answers link [] n = []
 delivery_answers link (byte ∷ bytes) n =
     delivery_answer link byte n ∷ delivery_answers link bytes (byte_delivered link byte n)
 
--- of so many bytes each was taken by a Step that ran, and acknowledged
+-- the answers to this number of bytes if each was taken by a Step that ran, and acknowledged
 abbrev pub all_acknowledged : ℕ → List (Stepped × Option Packet)
 all_acknowledged count = replicate count (Ran, Some Ack)
 
@@ -79,9 +79,9 @@ PokeStoresTheWord =
 
 -- ---- code
 
--- the registers of a node that begins to run so many bytes of code that came by a link: Iptr is MemStart, W the first
--- word boundary at or above the code's end, C the address of that link's input channel. That the others are 0, the
--- queue empty and the flags clear is our choice
+-- the registers of a node that begins to run this number of bytes of code, which came by a link: Iptr is MemStart, W
+-- the first word boundary at or above the code's end, C the address of that link's input channel. That the others are
+-- 0, the queue empty and the flags clear is our choice
 abbrev pub boot_registers : LinkNumber → ℕ → Cpu
 boot_registers link count = record {
   instruction = 0x80000048;

@@ -31,7 +31,7 @@ offered ls =
     else (if is_some ls.three.end.input.buffer then Some Three
     else None)))
 
--- what a control byte asks for: 0 a poke, 1 a peek, more the load of so many bytes
+-- what a control byte asks for: 0 a poke, 1 a peek, more the load of that many bytes
 abbrev pub task_of : ℕ → Task
 task_of byte = if byte == 0 then Poke 8 0 0 else (if byte == 1 then Peek 4 0 else Load byte code_start)
 
@@ -40,7 +40,7 @@ abbrev pub or_zero : Result ℕ Fault → ℕ
 or_zero (Ok word) = word
 or_zero (Err fault) = 0
 
--- the lowest byte of a word is posted, of which so many bytes are left after it
+-- the lowest byte of a word is posted on a link; this number of the word's bytes are left to be posted after it
 abbrev pub answering : LinkNumber → ℕ → ℕ → Node → Node
 answering link left word n =
     record n { links = byte_posted link (word % 2 ^ 8) n.links; state = Answers link left (word / 2 ^ 8) }

@@ -10,7 +10,7 @@ use Rattle.bootstrap.specs.declared.node.Node.{Node}
 use Rattle.bootstrap.specs.declared.state.NodeState.{NodeState}
 use Rattle.bootstrap.specs.declared.state.NodeState.TheVariants.{Runs, Halted}
 
--- the node after so many Steps
+-- the node after this number of Steps
 unfoldable pub after_steps : ℕ → Node → Node
 after_steps zero n = n
 after_steps (suc k) n = (node_step (after_steps k n)).0
@@ -20,7 +20,7 @@ unfoldable pub last_answer : ℕ → Node → Option Stepped
 last_answer zero n = None
 last_answer (suc k) n = Some (node_step (after_steps k n)).1
 
--- k steps: so many Steps lead from x to y, and each of them would be recorded
+-- k Steps lead from x to y, and each of them would be recorded
 pub record IsAfter (x : Node) (k : ℕ) (y : Node) : Type 0 where
   pub node : after_steps k x ≡ y
   pub recorded : (i : ℕ) → i < k → is_step_recorded (after_steps i x) ≡ true
@@ -47,7 +47,7 @@ state_after (Some (code.Fault fault)) s = Halted fault
 abbrev pub left_by : Option Stepped → Cpu → FourLinks → List ℕ → Node
 left_by last s ls m = record { memory = m; links = ls; state = state_after last s }
 
--- what the last of so many Steps answered, each of which ran
+-- what the last of this number of Steps answered, if each of them ran
 abbrev pub last_of_ran : ℕ → Option Stepped
 last_of_ran zero = None
 last_of_ran (suc k) = Some code.Ran

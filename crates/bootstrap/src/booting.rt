@@ -92,7 +92,7 @@ impl Task {
 impl Node {
     ghost use Rattle.bootstrap.specs.Step.{answering, poked, peeked, loaded, given, answer_continued, offered};
 
-    // Posts the lowest byte of a word, of which so many bytes are left after it.
+    // Posts the lowest byte of a word. `left` bytes of the word are still to be posted after it.
     fn post_next(&mut self, link: LinkNumber, left: u8, word: u32)
         ensures state { self.new ≡ answering link left word self.old }
     {
@@ -104,7 +104,7 @@ impl Node {
         };
     }
 
-    // A poke gets a byte, with so many left.
+    // A poke gets the first of the `left` bytes that are still to come.
     fn poke(&mut self, link: LinkNumber, left: u8, address: u32, word: u32, byte: u8)
         ensures state { self.new ≡ poked left address word byte link self.old }
     {
@@ -128,7 +128,7 @@ impl Node {
         }
     }
 
-    // A peek gets a byte of its address, with so many left.
+    // A peek gets the first of the `left` bytes of its address that are still to come.
     fn peek(&mut self, link: LinkNumber, left: u8, address: u32, byte: u8)
         ensures state { self.new ≡ peeked left address byte link self.old }
     {
@@ -145,7 +145,7 @@ impl Node {
         }
     }
 
-    // A load gets a byte, with so many left.
+    // A load gets the first of the `left` bytes that are still to come.
     fn load(&mut self, link: LinkNumber, left: u8, address: u32, byte: u8)
         ensures state { self.new ≡ loaded left address byte link self.old }
     {

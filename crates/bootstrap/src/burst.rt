@@ -18,7 +18,7 @@ pub struct Burst {
     pub last: Option<Stepped>,
 }
 
-// What the last of so many Steps answered, each of which ran.
+// What the last of `steps` Steps answered, if each of them ran.
 fn last_ran(steps: u64) -> Option<Stepped>
     ensures { result ≡ last_of_ran steps }
 {

@@ -23,9 +23,10 @@ impl Node {
     ghost use Rattle.link_channels.specs.Links.{at, packet_arrived, packet_taken};
     ghost use Rattle.bootstrap.specs.Opening.{opened_node, restarted};
 
-    /// A node whose memory of so many bytes is zero, and that waits for a control byte.
+    /// A node with `memory` bytes of memory, all zero, that waits for a control byte.
     ///
-    /// The size is a multiple of 4 from 2,048 to 65,536, as `is_memory_size` tells. `NoMemory` where the bytes can't be allocated.
+    /// `memory` is a multiple of 4 from 2,048 to 65,536 (see `is_memory_size`). `NoMemory` if the bytes can't be
+    /// allocated.
     pub fn open(alloc: Global, memory: usize) -> Result<Node, NoMemory>
         requires { IsMemorySize memory }
         ensures answer { IfOk result (λ node. node ≡ opened_node memory) }

@@ -13,7 +13,7 @@ pub enum Task {
     Poke { left: u8, address: u32, word: u32 },
     /// To answer a word. `left` bytes, 1 to 4, of its address are still to come.
     Peek { left: u8, address: u32 },
-    /// To load code. `left` bytes, 1 to 255, are still to come, the next of which is stored at the address.
+    /// To load code. `left` bytes, 1 to 255, are still to come. The next one is stored at the address.
     Load { left: u8, address: u32 },
 }
 
@@ -29,7 +29,7 @@ pub enum NodeState {
         link: LinkNumber,
         task: Task,
     },
-    /// It answers a peek: `left` bytes, 0 to 3, are not yet posted, of which the lowest of `word` is the next.
+    /// It answers a peek: `left` bytes, 0 to 3, are not yet posted. The next one is the lowest byte of `word`.
     Answers {
         link: LinkNumber,
         left: u8,

@@ -52,7 +52,7 @@ pub record InputsHaveNumbers : Type 0 where
   -- an output is driven by the number of the physical input that drives it
   pub driver : (ports : List ℕ) (s : Switch) (output : ℕ) → output < length ports
       → map.get (lowered ports s).pairs output ≡ option_and_then (number_among ports) (map.get s.pairs output)
-  -- and by an input just if by its port
+  -- and a virtual input drives an output exactly if its physical port does
   pub driven : (row : Row) (input port q : ℕ) → IsRow row → slice_get row.ports input ≡ Some port
       → drives (private_switch row) input q ≡ drives (switch_of row.words) port q
 

@@ -31,7 +31,7 @@ pub record IsNumbering (ports : List ℕ) : Type 0 where
   pub below : All (λ port. port < 32) ports
   pub one_to_one : IsOneToOne ports
 
--- ranges of the crossbar's ports of which no two share a port
+-- ranges of the crossbar's ports; no two of them share a port
 pub record AreRanges (ranges : List (Option PortRange)) : Type 0 where
   pub each : All IsPortRange ranges
   pub one_to_one : IsOneToOne (ranged_ports ranges)

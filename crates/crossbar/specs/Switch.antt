@@ -15,7 +15,7 @@ pub record Switch : Type 0 where
 abbrev pub cleared : Switch
 cleared = record { pairs = map.empty; ready = set.empty }
 
--- the input drives the output in place of what drove it, and the output isn't ready: configuration message 0
+-- the input drives the output instead of what drove it, and the output isn't ready: configuration message 0
 abbrev pub connected : Switch → ℕ → ℕ → Switch
 connected s input output = record { pairs = map.insert s.pairs output input; ready = set.remove s.ready output }
 

@@ -21,7 +21,7 @@ connection_of word =
 abbrev pub changes_of : Word → ℕ
 changes_of word = word.bits / 256
 
--- bits 0 to 7 are just those of what the word says
+-- bits 0 to 7 are exactly those of what the word says
 abbrev pub IsProper : Word → Type 0
 IsProper word = word.bits % 256 ≡ low_byte (connection_of word)
 

@@ -26,8 +26,8 @@ fn set<O: Outputs>(outputs: &mut O, output: u8, connection: Option<Connection>)
     }
 }
 
-/// Connects a physical input to an output in place of what drove it. The output isn't ready. No other
-/// output changes (IMS C004 data sheet, configuration message 0).
+/// Connects a physical input to an output, instead of what drove it. The output isn't ready then. No
+/// other output changes (IMS C004 data sheet, configuration message 0).
 ///
 /// The input is one of the outputs' ports (condition).
 pub fn connect<O: Outputs>(outputs: &mut O, port: u8, output: u8)

@@ -7,9 +7,9 @@ ghost use Rattle.crossbar.specs.Word.{IsAtLeastAsNew, SaysOther};
 
 use crate::word::Word;
 
-/// The outputs of a domain and the switch words that stand for them, whoever keeps the words. A
-/// read gives what the last write left, a write changes its output alone, and the numbering is one
-/// to one: virtual port v is the v-th of a list of distinct physical ports.
+/// The outputs of a domain and the switch words that stand for them, no matter who keeps the words.
+/// A read gives what the last write left, a write changes its output alone, and the numbering is
+/// one to one: virtual port v is the v-th of a list of distinct physical ports.
 ///
 /// Reads take `&mut self`, since a shared word is read by a step of its own.
 pub trait Outputs {

@@ -32,7 +32,7 @@ impl Model for PlainOutputs {
 }
 
 impl PlainOutputs {
-    /// The outputs of the ranges, with the words that stand at their physical ports in a row of 32.
+    /// The outputs of the ranges, with the words of their physical ports from a row of 32.
     pub fn of(
         words: [Word; PORTS as usize],
         ranges: [Option<PortRange>; MOST_RANGES],

@@ -8,8 +8,8 @@ ghost use Rattle.crossbar.specs.Fits.{InputFits};
 pub struct Connection {
     /// The physical input, below 32.
     pub input: u8,
-    /// Whether packets pass (configuration message 3). The data sheet doesn't say of which kind
-    /// ready is: one bit for each output is this project's choice.
+    /// Whether packets pass (configuration message 3). The data sheet doesn't say what ready
+    /// belongs to: one bit for each output is this project's choice.
     pub ready: bool,
 }
 
