@@ -23,7 +23,7 @@ link_input p t l m =
       m ← save asked m p
       Gave Waits asked m)
 
--- the first byte is posted, and the transfer stands past it
+-- the first byte is posted, and the rest of the transfer is what comes after it
 abbrev pub sending : ℕ → Transfer → Link → Link
 sending byte t l =
     record l { end = posted byte l.end; output_pointer = t.pointer ⊕ 1; output_count = t.count - 1 }

@@ -45,7 +45,7 @@ input_channel One = 0x80000014
 input_channel Two = 0x80000018
 input_channel Three = 0x8000001C
 
--- a link at which nothing has happened and of which nobody has asked anything
+-- a link at which nothing has happened, and from which nobody has asked anything
 abbrev pub fresh_link : Link
 fresh_link = record {
   end = fresh_end;
@@ -60,7 +60,7 @@ fresh_link = record {
 abbrev pub fresh_links : FourLinks
 fresh_links = record { zero = fresh_link; one = fresh_link; two = fresh_link; three = fresh_link }
 
--- an acknowledge that nobody has been told of, or a byte that a process waits for or watches for
+-- an acknowledge that no process has been informed of, or a byte that a process waits for or watches for
 abbrev pub has_work : Link → Bool
 has_work l =
     l.end.output.acknowledged || (is_some l.end.input.buffer && (l.watched || not (l.input_count == 0)))

@@ -18,7 +18,7 @@ pub struct Link {
     pub output_pointer: u32,
     /// How many bytes are sent after the one under way.
     pub output_count: u32,
-    /// Whether an alternative is to be told of a byte that arrives.
+    /// Whether an alternative waits to hear that a byte has arrived.
     pub watched: bool,
 }
 
@@ -34,7 +34,7 @@ pub struct FourLinks {
 impl Link {
     ghost use Rattle.link_channels.specs.Links.{fresh_link, has_work};
 
-    /// A link at which nothing has happened and of which nobody has asked anything.
+    /// A link at which nothing has happened, and from which nobody has asked anything.
     pub fn new() -> Link
         ensures answer { result ≡ fresh_link }
     {
@@ -61,8 +61,8 @@ impl Link {
             && self.watched == other.watched
     }
 
-    /// Whether a service would do something: an acknowledge came that nobody was told of, or a byte lies in the
-    /// buffer that a process waits for or watches for.
+    /// Whether a service would do something: an acknowledge came that no process has been informed of, or a
+    /// byte lies in the buffer that a process waits for or watches for.
     #[inline]
     pub fn has_work(&self) -> bool
         ensures answer { result ≡ has_work self.now }

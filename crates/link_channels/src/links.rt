@@ -44,7 +44,7 @@ impl Links {
         Links { links, has_work }
     }
 
-    /// Links at which nothing has happened and of which nobody has asked anything.
+    /// Links at which nothing has happened, and from which nobody has asked anything.
     pub fn new() -> Links
         ensures answer { result ≡ fresh_links }
     {
@@ -128,7 +128,8 @@ impl Links {
         byte
     }
 
-    /// Whether a link's byte was acknowledged, which is then told no more.
+    /// Whether a link's byte was acknowledged. This clears the note of it, so the next call answers
+    /// `false` until another acknowledge comes.
     pub fn take_acknowledged(&mut self, number: LinkNumber) -> bool
         ensures answer { result ≡ (at number self.old).end.output.acknowledged }
         ensures state { self.new ≡ acknowledge_cleared_at number self.old }

@@ -9,7 +9,7 @@ pub struct Process {
     pub instruction: u32,
 }
 
-/// What is asked for: so many bytes through the channel at an address, from or to a pointer.
+/// What is asked for: `count` bytes through the channel at an address, from or to a pointer.
 #[derive(Clone, Copy)]
 pub struct Transfer {
     pub count: u32,

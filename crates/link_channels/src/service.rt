@@ -137,7 +137,8 @@ impl FourLinks {
         acted
     }
 
-    // Serves the links in their order; whether that did anything. Seldom done, so it stands apart from the loops of steps.
+    // Serves the links in their order; returns whether that did anything. It is rare, so it is kept out of the loops of
+    // steps.
     #[inline(never)]
     #[tactic(auto, unfolding(crate::specs::Service::serve_all))]
     pub(crate) fn serve_all(

@@ -1,4 +1,4 @@
--- Memory as the list of its bytes, the first of which lies at address 80000000 (MinInt).
+-- Memory as the list of its bytes. The first one lies at address 80000000 (MinInt).
 -- IMS T414 data sheet, memory map; Transputer instruction set handbook, load and store.
 -- A word is four bytes, least significant first, at its address with the low two bits cleared.
 use Rattle.std.specs.Prelude.{◌≡◌, ℕ, zero, suc, ◌+◌, ◌-◌, ◌*◌, ◌/◌, ◌%◌, ◌^◌, ◌≤◌, Bool, ◌&&◌, List, length, Result, Ok, Err, nat_le, nat_lt, if◌then◌else◌, slice_index, slice_set}

@@ -1,5 +1,5 @@
--- What an operation comes to: an answer, or the fault that halts the node, with what it leaves; and the acts of which
--- operations are made. Transputer instruction set handbook: an instruction's reads and writes, in their order.
+-- What an operation comes to: an answer, or the fault that halts the node, with what it leaves; and the acts that
+-- operations are made of. Transputer instruction set handbook: an instruction's reads and writes, in their order.
 use Rattle.std.specs.Prelude.{ℕ, List, Result, Ok, Err}
 use Rattle.node_memory.specs.Bytes.{word_at, with_word, byte_at, with_byte, copied}
 use Rattle.node_memory.specs.declared.fault.Fault.{Fault}
@@ -36,7 +36,7 @@ store s m a w next = tried (with_word m a w) s m next
 abbrev pub store_byte : {A S : Type 0} → S → List ℕ → ℕ → ℕ → (List ℕ → Effect A S) → Effect A S
 store_byte s m a b next = tried (with_byte m a b) s m next
 
--- memory after so many bytes were copied from one address to another; a fault leaves what was copied before it
+-- memory after this number of bytes were copied from one address to another; a fault leaves what was copied before it
 abbrev pub copy : {A S : Type 0} → S → List ℕ → ℕ → ℕ → ℕ → (List ℕ → Effect A S) → Effect A S
 copy s m count from to next =
     tried (copied count m from to).0 s (copied count m from to).1 (λ _. next (copied count m from to).1)

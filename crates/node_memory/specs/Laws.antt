@@ -22,7 +22,7 @@ OtherWordsStay =
 abbrev pub WriteFaultsAsRead : Type 0
 WriteFaultsAsRead = (m : List ℕ) (a w : ℕ) (f : Fault) → (with_word m a w ≡ Err f) ↔ (word_at m a ≡ Err f)
 
--- a word that was written stands there as four bytes, the least significant first
+-- a word that was written lies there as four bytes, the least significant first
 abbrev pub WordIsFourBytes : Type 0
 WordIsFourBytes = (m n : List ℕ) (a w : ℕ) → with_word m a w ≡ Ok n →
     (byte_at n (aligned a) ≡ Ok (w % 2 ^ 8))

@@ -1,4 +1,4 @@
--- The words that stand in memory for something other than a number or an address.
+-- The words of memory that mean something other than a number or an address.
 -- Transputer instruction set handbook, processes and alternatives.
 use Rattle.std.specs.Prelude.{ℕ}
 

@@ -43,10 +43,10 @@ difference_checked a b = (a ⊖ b, overflows (signed a -ℤ signed b))
 unfoldable pub product_checked : ℕ → ℕ → ℕ × Bool
 product_checked a b = (a ⊗ b, overflows (signed a *ℤ signed b))
 
--- shl, lshl: a number of so many bits shifted left by some places, 0 if they are as many as the bits or more
+-- shl, lshl: a number of this many bits shifted left by some places; 0 if there are as many places as bits, or more
 abbrev pub shifted_left : ℕ → ℕ → ℕ → ℕ
 shifted_left bits n places = if nat_lt places bits then (n * 2 ^ places) % 2 ^ bits else 0
 
--- shr, lshr: shifted right by some places, 0 if they are as many as the bits or more
+-- shr, lshr: a number of this many bits shifted right by some places; 0 if there are as many places as bits, or more
 abbrev pub shifted_right : ℕ → ℕ → ℕ → ℕ
 shifted_right bits n places = if nat_lt places bits then n / 2 ^ places else 0

@@ -2,8 +2,8 @@
 
 ghost use Rattle.node_memory.specs.Laws.{WordIsRead, WordHasFourAddresses, OtherWordsStay, WriteFaultsAsRead, WordIsFourBytes, ByteIsRead, OtherBytesStay, WordKeepsTheSize, ByteKeepsTheSize, CopyKeepsTheSize, CopyStopsAtTheEdge};
 
-/// A word that was written is read by each of its four addresses, stands there least significant
-/// byte first, and leaves every other word as it was. It is not written where it can't be read.
+/// A word that was written is read by each of its four addresses, lies there least significant byte
+/// first, and leaves every other word as it was. It is not written where it can't be read.
 // Six clauses, each a law.
 pub fn written_words_are_read()
     ensures read { WordIsRead }

@@ -1,7 +1,7 @@
 //! The memory of a node, the faults that halt it, and arithmetic on its words.
 //!
-//! Words have 32 bits and stand least significant byte first. Arithmetic wraps; the `_checked`
-//! forms tell beside it whether the signed result did not fit. `NoMemory` is the allocator's own
+//! Words have 32 bits and are stored least significant byte first. Arithmetic wraps; the `_checked`
+//! forms also return whether the signed result did not fit. `NoMemory` is the allocator's own
 //! error: an allocation found no memory.
 #![tactic(auto)]
 

@@ -13,7 +13,7 @@ use std::marker::Model;
 /// Source: IMS T414 data sheet, memory map.
 pub const MEMORY_START: u32 = 0x8000_0000;
 
-/// Whether memory may have so many bytes: a multiple of 4 from 2,048 to 65,536.
+/// Whether memory may have `size` bytes: a multiple of 4 from 2,048 to 65,536.
 pub fn is_memory_size(size: usize) -> bool
     ensures answer { IsTrue result ↔ IsMemorySize size }
 {
@@ -55,9 +55,9 @@ fn copy_four(bytes: &mut [u8], from: usize, to: usize)
     bytes[to + 3] = bytes[from + 3];
 }
 
-// Keeps the bytes up to the end of the word in which an offset lies that is behind those that are kept; whether it lies
-// in memory.
-// Six clauses: what is kept before and after, that memory is the same, and what the answer tells.
+// Keeps the bytes up to the end of the word at an offset that is past those that are kept; returns whether the offset
+// lies in memory.
+// Six clauses: what is kept before and after, that memory is the same, and what the answer says.
 #[cold]
 #[inline(never)]
 #[tactic(auto, using(crate::proofs::Kept::one_more))]
@@ -93,12 +93,12 @@ fn are_same(bytes: &[u8], others: &[u8]) -> bool
     bytes == others
 }
 
-/// What is found at an address of which a byte is fetched.
+/// What is found at an address from which a byte is fetched.
 #[derive(Clone, Copy)]
 pub enum Fetched {
     /// A byte that is kept.
     Kept(u8),
-    /// A byte behind those that are kept, which is 0.
+    /// A byte of memory after those that are kept, which is 0.
     Behind,
     /// No byte of memory.
     Outside,
@@ -106,14 +106,14 @@ pub enum Fetched {
 
 /// A node's memory: its bytes from `MEMORY_START` upwards.
 ///
-/// Only the bytes up to the last word that was ever written are kept, since all behind it are 0. So a
+/// Only the bytes up to the last word that was ever written are kept, since all after it are 0. So a
 /// copy and a comparison cost what a program has used of memory, and not its size.
 pub struct Memory {
     kept: Vec<u8>,
     size: usize,
 }
 
-// It is dropped by one call.
+// Dropped by hand, since a derived `Drop` makes callers prove the drop of each field.
 impl Drop for Memory {
     fn drop(self) {
         let Memory { kept: _, size: _ } = self;
@@ -162,8 +162,8 @@ impl Memory {
         }
     }
 
-    /// The byte at an address, as `byte` reads it. That a byte isn't kept is told apart, so that a loop which seldom meets one
-    /// needs no value for it.
+    /// The byte at an address, as `byte` reads it. A byte that isn't kept is an answer of its own, so that a loop which
+    /// seldom meets one needs no value for it.
     ///
     /// Source: Transputer instruction set handbook, the fetch of an instruction byte.
     #[inline]

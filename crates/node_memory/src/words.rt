@@ -104,7 +104,7 @@ pub fn shift_right(long: u64, places: u32) -> u64
 pub fn normal_places(long: u64) -> u32
     ensures places { result ≡ leading_zeros w64 long }
 
-    // So many places bring a bit to the top of any double word but 0, and none past it.
+    // That many places bring a bit to the top of any double word but 0, and none past it.
     ensures top { 0 < long → 2 ^ 63 ≤ long * 2 ^ result }
     ensures fits { long * 2 ^ result < 2 ^ 64 }
 

@@ -48,7 +48,7 @@ abbrev pub arrived : Packet → LinkEnd → LinkEnd
 arrived (Byte byte) e = record e { input = with_arrived byte e.input }
 arrived Ack e = record e { output = with_acknowledge e.output }
 
--- a byte is posted, in place of one that waits
+-- a byte is posted; it replaces one that still waits
 abbrev pub posted : ℕ → LinkEnd → LinkEnd
 posted byte e =
     record e { latch = record e.latch { byte = Some byte }; output = record { awaits = true; acknowledged = false } }

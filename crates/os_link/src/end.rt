@@ -34,7 +34,7 @@ impl LinkEnd {
         }
     }
 
-    /// Posts a byte, in place of one that waits; its acknowledge is awaited from now on.
+    /// Posts a byte. It replaces one that still waits. Its acknowledge is awaited from now on.
     pub fn post(&mut self, byte: u8)
         ensures { self.new ≡ posted byte self.old }
     {

@@ -36,7 +36,7 @@ impl Latch {
         }
     }
 
-    /// Lets a byte wait, in place of one that waits already.
+    /// Lets a byte wait. It replaces one that waits already.
     pub fn post_data(&mut self, byte: u8)
         ensures { self.new ≡ record self.old { byte = Some byte } }
     {

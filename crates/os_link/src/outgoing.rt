@@ -50,7 +50,8 @@ impl LinkOut {
         self.awaits
     }
 
-    /// Whether the byte was acknowledged, which is then told no more.
+    /// Whether the byte was acknowledged. This clears the note of it, so the next call answers
+    /// `false` until another acknowledge comes.
     pub fn take_acked(&mut self) -> bool
         ensures answer { result ≡ self.old.acknowledged }
         ensures state { self.new ≡ record self.old { acknowledged = false } }

@@ -16,7 +16,7 @@ after_put q m w =
     if q.front == not_process then Gave tt (record { front = w; back = w }) m
     else (do m ← store q m (link_of q.back) w; Gave tt (record { front = q.front; back = w }) m)
 
--- the front is taken; next comes none behind the last, else the workspace that its link word names
+-- the front is taken; after the last one none waits, else the workspace that its link word names is next
 unfoldable pub after_take : Queue → List ℕ → Effect (Option ℕ) Queue
 after_take q m =
     if q.front == not_process then Gave None q m

@@ -80,8 +80,8 @@ impl Queue {
 
     /// Takes the workspace at the front, `None` where none waits.
     ///
-    /// `Fault::OutsideMemory` where others wait behind it and its link word lies outside memory;
-    /// the queue is then unchanged.
+    /// `Fault::OutsideMemory` if others wait after it and its link word lies outside memory; the
+    /// queue is then unchanged.
     ///
     /// Source: Transputer instruction set handbook, processes.
     #[inline(always)]

@@ -40,7 +40,7 @@ HasArguments Reset (place ∷ []) = IsPlaceNumber place
 HasArguments Look (place ∷ []) = IsPlaceNumber place
 HasArguments verb words = ⊥
 
--- the name of a user, by his place among all names
+-- the name of a user, by its place among all names
 abbrev pub IsUserName : List (List ℕ) → List ℕ → ℕ → Type 0
 IsUserName names name user = slice_get names user ≡ Some name
 
@@ -50,11 +50,11 @@ pub record BeginsWith (names words : List (List ℕ)) (user : ℕ) (rest : List 
   pub first : words ≡ name ∷ rest
   pub named : IsUserName names name user
 
--- the words behind a name are a verb and its arguments
+-- the words after a name are a verb and its arguments
 abbrev pub IsOf : List (List ℕ) → Verb → List (List ℕ) → Type 0
 IsOf words verb arguments = words ≡ name_of verb ∷ arguments
 
--- the words behind a name ask this
+-- the words after a name ask this
 pub record IsRequest (rest : List (List ℕ)) (c : Command) : Type 0 where
   pub verb : Verb
   pub arguments : List (List ℕ)

@@ -1,4 +1,4 @@
--- A script: its lines, of which the empty ones and those that begin with `#` ask nothing.
+-- A script: its lines. Empty lines and lines that begin with `#` ask nothing.
 use Rattle.std.specs.Prelude.{◌≡◌, ◌+◌, ◌++◌, ℕ, List, ◌∷◌, false, not, length, ⊤}
 use Rattle.std.specs.List.{AllZip, filter}
 use Rattle.script_text.specs.Lines.{asks_nothing}
@@ -17,7 +17,7 @@ asking lines = filter (λ line. not (asks_nothing line)) lines
 abbrev pub IsAsked : List (List ℕ) → List ℕ → ScriptLine → Type 0
 IsAsked names line l = AskFor names (words_between line) l.user l.command
 
--- the lines ask just this, in order
+-- the lines ask exactly this, in order
 abbrev pub IsScript : List (List ℕ) → List (List ℕ) → List ScriptLine → Type 0
 IsScript names lines asked = AllZip (IsAsked names) (asking lines) asked
 

@@ -9,7 +9,7 @@ use Rattle.script_text.specs.Hexadecimal.{Spells}
 abbrev pub is_blank : ℕ → Bool
 is_blank byte = byte == 32
 
--- the words of a line: what stands between single blanks
+-- the words of a line: what is between single blanks
 abbrev pub words_between : List ℕ → List (List ℕ)
 words_between line = slice_split is_blank line
 

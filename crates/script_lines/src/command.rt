@@ -24,7 +24,7 @@ pub enum Command {
     Look { node: u8 },
 }
 
-// It is dropped by one call.
+// Dropped by hand, since a derived `Drop` makes callers prove the drop of each field.
 impl Drop for Command {
     fn drop(self) {
         match self {

@@ -114,7 +114,7 @@ pub fn user_named(names: &[&str], name: &[u8]) -> Option<usize>
     None
 }
 
-/// What the words behind a user's name ask, tested in the order verb, args, hex.
+/// What the words after a user's name ask, tested in the order verb, args, hex.
 pub fn parse_request(alloc: Global, mut words: LineWords<'_>) -> Result<Command, Unread>
     ensures asked { IfOk result (IsRequest words.entry) }
     ensures fault { IfErr result (λ u. (f : SpecLineFault) → u ≡ Faulty f → IsRestFault words.entry f) }

@@ -17,7 +17,7 @@ pub struct ScriptLine {
     pub command: Command,
 }
 
-// It is dropped by one call.
+// Dropped by hand, since a derived `Drop` makes callers prove the drop of each field.
 impl Drop for ScriptLine {
     fn drop(self) {
         let ScriptLine {

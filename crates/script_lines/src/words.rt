@@ -8,7 +8,7 @@ use std::marker::Model;
 /// The words of a line that are still to be read. Contracts see them as a list.
 #[derive(Drop)]
 pub struct LineWords<'a> {
-    // None behind the last word.
+    // None after the last word.
     rest: Option<&'a [u8]>,
 }
 

@@ -7,8 +7,8 @@ use Rattle.std.specs.Str.Lines.{strip_carriage_return}
 abbrev pub is_line_feed : ℕ → Bool
 is_line_feed byte = byte == 10
 
--- the first line of a text: what stands before the first line feed, without one carriage return at its end, or the
--- whole text
+-- the first line of a text: what comes before the first line feed, without one carriage return at its end, or the whole
+-- text
 abbrev pub line_of : List ℕ → List ℕ
 line_of text =
     if nat_lt (position_or_len is_line_feed text) (length text)
@@ -24,16 +24,16 @@ abbrev pub from_line : ℕ → List ℕ → List ℕ
 from_line zero text = text
 from_line (suc number) text = after_line (from_line number text)
 
--- the text has a line of this number, and it is just these bytes
+-- the text has a line of this number, and it is exactly these bytes
 abbrev pub IsLine : List ℕ → ℕ → List ℕ → Type 0
 IsLine text number line = (from_line number text ≢ []) × (line_of (from_line number text) ≡ line)
 
--- the first line of just these bytes has this number
+-- the first line of exactly these bytes has this number
 abbrev pub IsFirstLineOf : List ℕ → List ℕ → ℕ → Type 0
 IsFirstLineOf text mark number =
     IsLine text number mark × ((other : ℕ) → other < number → ¬ IsLine text other mark)
 
--- what stands before and after the first line that is the mark; if there is none all stands before
+-- the text before and after the first line that is the mark; if there is none, the whole text and nothing
 abbrev pub IsDivided : List ℕ → List ℕ → List ℕ → List ℕ → Type 0
 IsDivided text mark before after =
     ((number : ℕ) × IsFirstLineOf text mark number × (text ≡ before ++ from_line number text)

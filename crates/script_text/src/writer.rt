@@ -2,12 +2,12 @@
 
 use std::alloc::{AllocError, Global};
 
-/// A text that grows. Once there is no memory for a piece nothing more is written, and `finish` tells of it: so pieces are
-/// written one after another, and the error is looked at once.
+/// A text that grows. Once there is no memory for a piece nothing more is written, and `finish` returns the error: so
+/// pieces are written one after another, and the error is looked at only at the end.
 #[derive(Drop)]
 pub struct TextWriter {
     text: String,
-    // What the first piece that couldn't be written was told.
+    // The error of the first piece that couldn't be written.
     written: Result<(), AllocError>,
 }
 

@@ -3,7 +3,7 @@ ghost use Rattle.std.specs.Prelude.{◌≡◌, ◌<◌, ◌≤◌, ◌+◌, ◌^
 
 use thiserror::Error;
 
-/// How many Steps are done at once at most. They take some milliseconds.
+/// The most Steps that are done before a meter is asked again. They take some milliseconds.
 pub const STEPS_AT_ONCE: u64 = 1_048_576;
 
 /// As many Steps were done in all as may be, and more are wanted.
@@ -22,7 +22,7 @@ pub struct StepBound {
 }
 
 impl StepBound {
-    /// So many Steps may be done in all, or any number if none is given. None was done yet.
+    /// Up to `most` Steps may be done in all, or any number if none is given. None was done yet.
     pub fn new(most: Option<u64>) -> StepBound
         ensures most { result.most ≡ most }
         ensures done { result.done ≡ 0 }
@@ -37,7 +37,7 @@ impl StepBound {
         self.done
     }
 
-    /// How many of the Steps that are wanted next may be done at once.
+    /// How many of the Steps that are wanted next may be done before this is asked again.
     ///
     /// # Errors
     ///
@@ -58,7 +58,7 @@ impl StepBound {
         Ok(some.min(most.saturating_sub(self.done)))
     }
 
-    /// So many Steps more were done.
+    /// Notes that `steps` more Steps were done.
     pub fn note(&mut self, steps: u64)
         ensures most { self.new.most ≡ self.old.most }
         ensures done { self.old.done + steps < 2 ^ 64 → self.new.done ≡ self.old.done + steps }

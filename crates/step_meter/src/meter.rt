@@ -1,12 +1,12 @@
-//! Who counts Steps.
+//! What counts Steps.
 ghost use Rattle.std.specs.Prelude.{◌<◌, ◌≤◌, IfOk};
 
 use crate::bound::StepsEnd;
 
-/// Who counts the Steps that are done: he says how many may be, and can tell a person how many were. Long work asks him
-/// again and again, and does no more Steps at once than he allows.
+/// Counts the Steps that are done: it says how many may be done, and can show a person how many were. Long work asks it
+/// again and again, and does no more Steps between two questions than it allows.
 pub trait StepMeter {
-    /// How many of the Steps that are wanted next may be done before he is asked again.
+    /// How many of the Steps that are wanted next may be done before the meter is asked again.
     ///
     /// # Errors
     ///
@@ -15,6 +15,6 @@ pub trait StepMeter {
         ensures some { IfOk result (λ some. 0 < wanted → 0 < some) }
         ensures within { IfOk result (λ some. some ≤ wanted) };
 
-    /// So many Steps more were done.
+    /// Notes that `done` more Steps were done.
     fn note(&mut self, done: u64);
 }

@@ -40,7 +40,7 @@ message_by direction t s ls m = do
   (x, ls, m) ← perform (transferred direction (process_of s) t ls s.queue m)
   Gave (turned x.0 (record s { queue = x.1 })) ls m
 
--- outbyte and outword: word(W) becomes A; out of so many bytes, pointer W, channel B
+-- outbyte and outword: word(W) becomes A; then out with this count of bytes, pointer W, channel B
 abbrev pub send : ℕ → Cpu → FourLinks → List ℕ → CpuEffect
 send count s ls m = do m ← store ls m s.workspace s.a; message_by Output (transfer count s.b s.workspace) s ls m
 

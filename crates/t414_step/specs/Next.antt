@@ -34,7 +34,7 @@ counted_down (Ok (Some index)) s ls m = back_after index s ls m
 counted_down (Ok None) s ls m = Gave s ls m
 counted_down (Err fault) s ls m = Halted fault ls m
 
--- the registers behind an instruction byte that was counted: Iptr is next, O is 0
+-- the registers after an instruction byte that was counted: Iptr is the next address, O is 0
 abbrev pub behind_byte : Cpu → Cpu
 behind_byte s = record s { instruction = s.instruction ⊕ 1; operand = 0 }
 

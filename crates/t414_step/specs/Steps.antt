@@ -12,7 +12,7 @@ then_step (Some (Gave (false, s) ls m)) = None
 then_step (Some (Halted fault ls m)) = None
 then_step None = None
 
--- what the last of so many steps answers, each of which but the last ran; none if one before it didn't
+-- what the last of this number of steps answers, if all before it ran; none if one of them didn't
 unfoldable pub nth_step : ℕ → Cpu → FourLinks → List ℕ → Option StepEffect
 nth_step zero s ls m = Some (Gave (true, s) ls m)
 nth_step (suc k) s ls m = then_step (nth_step k s ls m)

@@ -1,6 +1,6 @@
 //! Messages through channels.
 //!
-//! All of these stand in the loop of steps itself, so that it keeps its registers where no address is taken.
+//! All of these are inlined in the loop of steps, so that it keeps its registers where no address is taken.
 
 ghost use Rattle.std.specs.Prelude.{◌≡◌};
 
@@ -68,7 +68,7 @@ impl Cpu {
         Ok(())
     }
 
-    // The transfer of outbyte and outword: so many bytes from the word at the workspace, through channel B.
+    // The transfer of outbyte and outword: `count` bytes from the word at the workspace, through channel B.
     #[inline(always)]
     pub(crate) fn sent(&self, count: u32) -> Transfer
         ensures { result ≡ transfer count self.now.b self.now.workspace }

@@ -4,17 +4,17 @@ ghost use Rattle.std.specs.Prelude.{◌≡◌};
 
 use process_queue::Queue;
 
-/// The registers of a processor, and whether there is a current process. All are words of 32 bits, and any
-/// value may stand in any of them, also one that no booted node comes to: a workspace is used with the low bits that
-/// it has.
+/// The registers of a processor, and whether there is a current process. All are words of 32 bits, and any of them
+/// may have any value, also one that no booted node comes to: a workspace is used with the low bits that it has.
 ///
-/// Source: Transputer instruction set handbook, registers; the count of bytes, by which processes take turns, is our
-/// choice in place of time.
+/// Source: Transputer instruction set handbook, registers; that processes take turns by the count of bytes, and not
+/// by time, is our choice.
 #[derive(Clone, Copy, PartialEq, Eq)]
 pub struct Cpu {
     /// Iptr, the address of the next instruction byte.
     pub instruction: u32,
-    // A, B and C lie apart, so that a push moves them one by one: it is slower to read two that were just written.
+    // A, B and C lie apart, so that a push moves them one by one: it is slower to read two together right after a
+    // write.
     pub a: u32,
     /// W, the workspace pointer of the current process.
     pub workspace: u32,
@@ -68,7 +68,7 @@ impl Cpu {
         self.a = value;
     }
 
-    // Puts a value in place of A and B.
+    // Replaces A and B by one value.
     #[inline]
     pub(crate) fn binary(&mut self, value: u32)
         ensures state { self.new ≡ binary_result value self.old }

@@ -246,7 +246,7 @@ impl Cpu {
         }
     }
 
-    // Goes behind an instruction byte.
+    // Goes on to the next instruction byte.
     #[inline(always)]
     fn pass_byte(&mut self)
         ensures { self.new ≡ behind_byte self.old }
@@ -268,8 +268,8 @@ impl Cpu {
         Next::Jumped
     }
 
-    // One instruction byte, as far as registers and memory do it. It stands in the loop of bytes, so that its address is
-    // nowhere taken.
+    // One instruction byte, as far as registers and memory do it. It is inlined in the loop of bytes, so that the
+    // address of the registers is nowhere taken.
     #[inline(always)]
     #[tactic(auto, unfolding(crate::specs::Step::byte_done))]
     pub(crate) fn do_byte(&mut self, memory: &mut Memory) -> Next

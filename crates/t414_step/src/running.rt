@@ -1,4 +1,4 @@
-//! Many steps of one processor, which stand in one loop.
+//! Many steps of one processor, in one loop.
 
 ghost use Rattle.std.specs.Prelude.{◌≡◌, ◌+◌, ◌<◌, ◌≤◌, Some, true, false, min};
 ghost use Rattle.link_channels.specs.Links.{any_has_work};
@@ -14,7 +14,7 @@ use crate::stepping::{Stepped, advance};
 use link_channels::{Links, services_act_on_work};
 use node_memory::Memory;
 
-// A count of bytes after so many more.
+// A count of bytes after `more` further ones.
 #[inline(always)]
 fn counted(before: u32, more: u64) -> u32
     ensures { result ≡ min (before + more) 1024 }
@@ -40,7 +40,7 @@ impl Cpu {
         // The count of bytes follows from that of the loop, which so keeps one of them alone.
         let before = self.bytes;
         let unsliced = u64::from(1023 - before.min(1023));
-        // As long as so many are left, no jump is the end of a slice.
+        // As long as at least `sliced` bytes are left, no jump is the end of a slice.
         let sliced = most.saturating_sub(unsliced);
         let mut left = most;
         while left > 0 {
@@ -68,8 +68,8 @@ impl Cpu {
         (self, answer)
     }
 
-    // The same, with the registers in their place. What a call returns is cleared before it, where this stands and not at
-    // each byte.
+    // The same, with the registers changed where they are. What a call returns is cleared before the call: so that is
+    // done here, and not at each byte.
     #[inline(always)]
     fn advance_apart(&mut self, memory: &mut Memory, links: &mut Links) -> Stepped
         ensures answer { step_answer_of result self.new links.new memory.new ≡ step self.old links.old memory.old }
@@ -110,7 +110,7 @@ impl Cpu {
 /// Steps up to the nth, or to the first that doesn't answer `Ran`: how many were done, with that one, and what the last
 /// of them answered. It is `Ran` if there was none.
 ///
-/// Source: as `step`, of which these are so many, one after another.
+/// Source: as for `step`, since these are steps one after another.
 #[inline(never)]
 pub fn run(cpu: &mut Cpu, memory: &mut Memory, links: &mut Links, most: u64) -> (u64, Stepped)
     ensures answer { nth_step result.0 cpu.old links.old memory.old ≡ Some (step_answer_of result.1 cpu.new links.new memory.new) }

@@ -44,7 +44,7 @@ impl Cpu {
     }
 }
 
-// One step, whose answer alone is told.
+// One step; returns only its answer.
 #[inline(always)]
 #[tactic(auto, unfolding(crate::specs::Step::step))]
 pub(crate) fn advance(cpu: &mut Cpu, memory: &mut Memory, links: &mut Links) -> Stepped
