@@ -1,4 +1,4 @@
--- What of a domain's journal is one user's own: his commands, each with its reply.
+-- What of a domain's journal is one user's own: the user's commands, each with its reply.
 use Rattle.std.specs.Prelude.{ℕ, ◌==◌, ◌&&◌, Bool, true, false, List, filter}
 use Rattle.domain_core.specs.declared.event.By.{By}
 use Rattle.domain_core.specs.declared.event.By.TheVariants.{User, Farm}
@@ -6,7 +6,7 @@ use Rattle.domain_core.specs.declared.event.Event.{Event}
 use Rattle.domain_core.specs.declared.event.Event.TheVariants.{Config, Write, Read, Reset, Look, Step, Move}
 use Rattle.domain_core.specs.Journal.{AnsweredCall}
 
--- what a user asks for himself; Steps and Moves are the farm's
+-- what users ask for; Steps and Moves are the farm's
 abbrev pub is_command : Event → Bool
 is_command (Config byte) = true
 is_command (Write host byte) = true

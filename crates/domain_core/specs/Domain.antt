@@ -60,7 +60,7 @@ pub record IsCalled (call : Call) (told : Answer) (old new : DomainValue) : Type
   pub journal : expanded new.journal ≡ expanded old.journal ++ gained old.machine.part (state_of old) call told
   pub counts : AllZip CountsChange old.machine.switch.words new.machine.switch.words
 
--- so many events more would pass the limit
+-- this number of further events would pass the limit
 abbrev pub IsPastLimit : DomainValue → ℕ → Type 0
 IsPastLimit d count = d.machine.part.limit < length (expanded d.journal) + count
 

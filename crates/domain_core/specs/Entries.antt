@@ -26,7 +26,7 @@ pub record EntriesValue : Type 0 where
 abbrev pub journal_of : EntriesValue → JournalValue
 journal_of e = record { entries = e.entries; reserved = e.reserved }
 
--- memory is reserved for so many entries, each of which may be a look: there are no more looks than entries
+-- memory is reserved for this number of entries, whether they are looks or not: there are no more looks than entries
 pub record AreReserved (reserved entries looks entry_capacity look_capacity : ℕ) : Type 0 where
   pub for_entries : reserved ≤ entry_capacity
   pub for_looks : reserved ≤ look_capacity
@@ -42,7 +42,7 @@ reply_of small.Reset = reply.Reset
 reply_of (small.Stepped answer) = reply.Stepped answer
 reply_of (small.Moved answer) = reply.Moved answer
 
--- what stands at a place where no look is kept
+-- what is taken for a look at a place where none is kept
 abbrev pub no_look : Seen
 no_look = record { state = Booting; overruns = [] }
 

@@ -25,7 +25,7 @@ pub record AnsweredCall : Type 0 where
 abbrev pub answered_step : By → ℕ → Stepped → AnsweredCall
 answered_step by node answer = record { call = record { by = by; event = Step node }; reply = reply.Stepped answer }
 
--- so many Steps of a node: the last answered this, all others Ran
+-- this number of Steps of a node: the last answered this, all others Ran
 abbrev pub steps : By → ℕ → ℕ → Stepped → List AnsweredCall
 steps by node zero last = []
 steps by node (suc count) last = replicate count (answered_step by node Ran) ++ answered_step by node last ∷ []
@@ -45,7 +45,7 @@ calls_of history = map (λ a. a.call) history
 abbrev pub replies_of : List AnsweredCall → List Answer
 replies_of history = map (λ a. Ok a.reply) history
 
--- a farm that holds the domain alone answers just so from its opening, and ends in this state
+-- a farm that holds the domain alone gives exactly these answers from its opening, and ends in this state
 pub record IsHistory (part : PartData) (history : List AnsweredCall) (s : State) : Type 0 where
   pub state : after part (opening part) (calls_of history) ≡ s
   pub replies : answers part (opening part) (calls_of history) ≡ replies_of history

@@ -36,7 +36,7 @@ HistoriesGrow =
     → IsHistory part history s → (next part s call).1 ≡ Ok reply
     → IsHistory part (history ++ record { call = call; reply = reply } ∷ []) (next part s call).0
 
--- a user's commands of two histories stand one after the other
+-- a user's commands in a history that goes on with a later one are those in the first, followed by those in the later
 abbrev pub OwnCommandsAddUp : Type 0
 OwnCommandsAddUp =
     (user : ℕ) (history later : List AnsweredCall)

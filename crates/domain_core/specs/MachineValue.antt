@@ -25,7 +25,7 @@ pub record IsOfPart (v : MachineValue) : Type 0 where
   pub memories : memories v.devices ≡ map (λ n. n.memory) v.part.nodes
   pub hosts : length v.devices.hosts ≡ length v.part.hosts
 
--- the device of each port stands in a table
+-- a table has the device of each port
 abbrev pub AreJoined : PartData → List (Option Device) → Type 0
 AreJoined part table = (port : ℕ) → port < part.count → slice_index_or table port None ≡ device_at part port
 

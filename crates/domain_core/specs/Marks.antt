@@ -4,7 +4,7 @@ use Rattle.domain_core.specs.declared.copying.Mark.{Mark}
 use Rattle.domain_core.specs.declared.journal.Entry.{Entry}
 use Rattle.domain_core.specs.Journal.{AnsweredCall, expanded}
 
--- what a journal stands for without so many entries at its front, and without so many events of the next
+-- what a journal stands for without this number of entries at its front, and without this number of events of the next
 abbrev pub events_behind : ℕ → ℕ → List Entry → List AnsweredCall
 events_behind entries events [] = []
 events_behind zero events (entry ∷ later) = drop events (expanded (entry ∷ [])) ++ expanded later
@@ -14,13 +14,14 @@ events_behind (suc entries) events (entry ∷ later) = events_behind entries eve
 abbrev pub events_from : Mark → List Entry → List AnsweredCall
 events_from mark journal = events_behind mark.entries mark.events journal
 
--- the mark stands in the journal: not past its end, nor past the end of the entry behind it
+-- the mark lies in the journal: its entries are not past the journal's end, nor its events past the end of the next
+-- entry
 pub record StandsIn (journal : List Entry) (mark : Mark) : Type 0 where
   pub entries : mark.entries ≤ length journal
   pub events : mark.events ≤ length (expanded (take 1 (drop mark.entries journal)))
 
--- entries were put behind others, and stand for the events of the journal from one mark up to another, which stands in
--- the journal as the first does
+-- entries were appended to others, and stand for the events of the journal from one mark up to another; the other lies
+-- in the journal if the first does
 pub record Copies (journal : List Entry) (from to : Mark) (old new : List Entry) : Type 0 where
   pub copied : List Entry
   pub behind : new ≡ old ++ copied

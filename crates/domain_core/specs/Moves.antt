@@ -12,14 +12,13 @@ use Rattle.domain_core.specs.declared.event.Moved.{Moved}
 use Rattle.domain_core.specs.declared.event.Moved.TheVariants.{Nothing, Lost, Stayed, Passed}
 use Rattle.domain_core.specs.Devices.{DeviceStates, device_at, packet_waiting, taken_from_device, arrived_at_device}
 
--- which devices are joined to the ports of a switch: S is what keeps the devices, and D is what says where in it one of
--- them stands
+-- which devices are joined to the ports of a switch: S is what keeps the devices, and D says where in it one of them is
 pub record Joining (S D : Type 0) : Type 0 where
   -- all ports, in the order in which copies arrive
   pub ports : List ℕ
-  -- where the device of a port stands
+  -- where the device of a port is
   pub joined : ℕ → Option D
-  -- the nodes and hosts among which it stands
+  -- the nodes and hosts among which it is
   pub devices : S → D → DeviceStates
   -- others are put in their place
   pub put : D → DeviceStates → S → S

@@ -81,7 +81,7 @@ pub record CanPeek (part : PartData) (r : PeekRoute) (address : ℕ) (s : State)
 
 -- ---- the events
 
--- a list repeated so many times
+-- a list repeated this number of times
 abbrev pub repeated : {A : Type 0} → ℕ → List A → List A
 repeated zero xs = []
 repeated (suc count) xs = xs ++ repeated count xs
@@ -131,8 +131,8 @@ word_bytes n address = bytes_of_word (or_zero (word_at n.memory address))
 abbrev pub quieted : LinkNumber → Node → Node
 quieted link n = record n { links = acknowledge_cleared_at link n.links }
 
--- the machine after a peek: the host was told the word, the link knows of no acknowledge, and all else is as before, so
--- the node wants a control byte again
+-- the machine after a peek: the host has received the word, the link knows of no acknowledge, and all else is as
+-- before, so the node wants a control byte again
 abbrev pub after_peek : PeekRoute → ℕ → Machine → Machine
 after_peek r address m =
     let n = node_at m.devices r.node in
@@ -140,13 +140,13 @@ after_peek r address m =
     with_devices
     (with_host r.host (host_after_peek (word_bytes n address) h) (with_node r.node (quieted r.link n) m.devices)) m
 
--- the events leave just that, each is recorded, and no packet is lost or stays
+-- the events leave exactly that, each is recorded, and no packet is lost or stays
 pub record Peeks (part : PartData) (by : By) (r : PeekRoute) (address : ℕ) (s : State) : Type 0 where
   pub state : after part s (peek_calls by r)
       ≡ record { machine = after_peek r address s.machine; recorded = s.recorded + 27 }
   pub answers : answers part s (peek_calls by r) ≡ peek_answers
 
--- a host that asks a node which listens is told the word, whoever asks for the events
+-- a host that asks a node which listens receives the word, no matter who asks for the events
 abbrev pub PeekAnswersTheWord : Type 0
 PeekAnswersTheWord =
     (part : PartData) (by : By) (r : PeekRoute) (address : ℕ) (s : State) → is_known part by ≡ true

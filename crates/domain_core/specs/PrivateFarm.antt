@@ -40,7 +40,7 @@ abbrev pub owns : PartData → By → ℕ → Bool
 owns part (User user) host = is_owned_by (slice_get part.hosts host) user
 owns part Farm host = false
 
--- whether the host, node or port of an event is there for him who asks
+-- whether the host, node or port of an event is there for the asker
 abbrev pub names_own : PartData → By → Event → Bool
 names_own part by (Config byte) = true
 names_own part by (Write host byte) = owns part by host
@@ -50,7 +50,7 @@ names_own part by (Look node) = nat_lt node (length part.nodes)
 names_own part by (Step node) = nat_lt node (length part.nodes)
 names_own part by (Move port) = nat_lt port part.count
 
--- who asks is known, and what the event names is there for him
+-- the asker is known, and what the event names is there for the asker
 abbrev pub is_there : PartData → Call → Bool
 is_there part call = is_known part call.by && names_own part call.by call.event
 
@@ -61,8 +61,7 @@ answered part s event = record {
   recorded = if is_recorded part s.machine event then s.recorded + 1 else s.recorded;
 }
 
--- a call whose target isn't there for him who asks is refused, and so is each call of a farm that is full; else this is
--- done
+-- a call whose target isn't there for the asker is refused, and so is each call of a full farm; else this is done
 abbrev pub unless_refused : {S : Type 0} → Bool → Bool → S → S × Reply → S × Answer
 unless_refused there full s done =
     if there then (if full then (s, Err JournalFull) else (done.0, Ok done.1)) else (s, Err NoSuch)

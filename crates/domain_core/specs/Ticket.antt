@@ -26,7 +26,7 @@ pub record TicketValue : Type 0 where
 abbrev pub most_steps : ℕ
 most_steps = 2 ^ 40
 
--- the copy is its start after so many Steps, each of which would be recorded
+-- the copy is its start after this number of Steps, and each of them would be recorded
 pub record IsTicket (t : TicketValue) : Type 0 where
   pub node : IsAfter t.start t.steps t.node
   pub last : t.last ≡ last_answer t.steps t.start
@@ -37,7 +37,8 @@ abbrev pub fresh_ticket : ℕ → ℕ → Node → TicketValue
 fresh_ticket domain number node =
     record { domain = domain; number = number; start = node; node = node; steps = 0; last = None }
 
--- the copy did just the Steps up to the nth, to the first that would not be recorded, or to the most of a ticket
+-- the copy did exactly the Steps up to the nth, before the first that would not be recorded, or up to the most of a
+-- ticket
 pub record Bursts (n : ℕ) (t u : TicketValue) : Type 0 where
   pub more : ℕ
   pub node : IsAfter t.node more u.node
@@ -58,7 +59,7 @@ abbrev pub steps_told : ℕ → ℕ → Option Stepped → List AnsweredCall
 steps_told node count None = []
 steps_told node count (Some last) = steps Farm node count last
 
--- the copy is put in the node's place and the journal gains just the ticket's Steps; all else stays
+-- the copy replaces the node and the journal gains exactly the ticket's Steps; all else stays
 pub record Commits (d : DomainValue) (t : TicketValue) (e : DomainValue) : Type 0 where
   pub devices : e.machine.devices ≡ with_node t.number t.node d.machine.devices
   pub journal : expanded e.journal ≡ expanded d.journal ++ steps_told t.number t.steps t.last

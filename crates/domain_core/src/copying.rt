@@ -6,7 +6,8 @@ ghost use Rattle.domain_core.specs.Marks.{Copies, StandsIn, events_from};
 
 use crate::journal::{Entry, Journal};
 
-/// How far a journal was copied: so many entries, and of the next one so many events.
+/// How far a journal was copied: its first `entries` entries, and the first `events` events of the
+/// next one.
 #[derive(Clone, Copy)]
 pub struct Mark {
     entries: usize,
@@ -37,7 +38,7 @@ impl Entry {
         }
     }
 
-    // What it stands for without so many events at its front, none if that is nothing.
+    // What it stands for without its first `events` events, none if that is nothing.
     fn behind(self, events: u64) -> Option<Entry>
         ensures { drop events (expanded (self ∷ [])) ≡ expanded (option_to_list result) }
     {

@@ -29,7 +29,7 @@ pub(crate) struct Devices {
     hosts: Vec<Host>,
 }
 
-// It is dropped by one call.
+// Dropped by hand, since a derived `Drop` makes callers prove the drop of each field.
 impl Drop for Devices {
     fn drop(self) {
         let Devices { nodes: _, hosts: _ } = self;
@@ -250,7 +250,7 @@ impl Devices {
         self.hosts.get(usize::from(number))
     }
 
-    /// Steps of a node, up to so many or to the first that would not be recorded.
+    /// Does up to `most` Steps of a node, and ends before the first that would not be recorded.
     pub(crate) fn burst(&mut self, node: u8, most: u64) -> Burst
         requires { node < length self.old.nodes }
         ensures burst { IsBurst most (node_at self.old node) result (node_at self.new node) }

@@ -57,7 +57,7 @@ pub struct Domain<O: Outputs> {
     recorded: u64,
 }
 
-// It is dropped by one call.
+// Dropped by hand, since a derived `Drop` makes callers prove the drop of each field.
 impl<O: Outputs + Drop> Drop for Domain<O> {
     fn drop(self) {
         let Domain {
@@ -189,7 +189,8 @@ impl<O: Outputs + Drop> Domain<O> {
     }
 
     // Answers a look by what is seen. That is large, so that the other events are answered without it.
-    // Nine clauses: two of when it is asked, and those of `apply`, of which one is of a look and two of a refusal.
+    // Nine clauses: two of when it is asked, and those of `apply`, with one of them for a look and two for a
+    // refusal.
     #[inline(never)]
     #[tactic(auto, using(crate::proofs::Unchanged::counts_itself))]
     fn answer_look(&mut self, by: By, node: u8) -> Result<Seen, Refusal>
@@ -298,10 +299,10 @@ impl<O: Outputs + Drop> Domain<O> {
             && self.machine.is_at(plan.ports(number))
     }
 
-    /// Reserves memory for so many entries of the journal in all, whether they are looks or not. It isn't touched before it is
-    /// needed.
+    /// Reserves memory for `entries` entries of the journal in all, whether they are looks or not. The memory isn't
+    /// touched before it is needed.
     ///
-    /// `NoMemory` where the system doesn't give so much. Nothing has changed then.
+    /// `NoMemory` if the system doesn't give that much. Nothing has changed then.
     pub fn reserve(&mut self, _alloc: Global, entries: usize) -> Result<(), NoMemory>
         ensures ok { OnOk result (self.new ≡ record self.old { reserved = entries }) }
         ensures err { OnErr result (self.new ≡ self.old) }
@@ -316,8 +317,8 @@ impl<O: Outputs + Drop> Domain<O> {
         self.journal.reserved()
     }
 
-    /// Makes the domain as it was opened, with an empty journal, whose memory goes back to the system; as much as before is
-    /// reserved anew. Change counts go on.
+    /// Makes the domain as it was opened, with an empty journal. The journal's memory goes back to the system, and as
+    /// much as before is reserved again. Change counts go on.
     // Six clauses: one for each part of the domain.
     pub fn restart(&mut self)
         ensures state { state_of self.new ≡ opening self.old.machine.part }

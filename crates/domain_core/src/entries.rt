@@ -39,7 +39,7 @@ pub(crate) enum SmallReply {
     Moved(Moved),
 }
 
-// An entry of 24 bytes. The widest field of a variant stands last, so that none is wider.
+// An entry of 24 bytes. The widest field of a variant is its last, so that no variant is wider.
 #[derive(Clone, Copy)]
 pub(crate) enum SmallEntry {
     // One event, with a small reply.
@@ -122,7 +122,7 @@ impl SmallEntry {
     }
 }
 
-// How many commands of users there are with an event for which this one asked.
+// How many commands of users there are once an event is added that `by` asked for.
 #[inline(always)]
 fn with_command(commands: usize, by: By) -> usize {
     match by {
@@ -142,7 +142,7 @@ pub(crate) struct Entries {
     alloc: Global,
 }
 
-// It is dropped by one call.
+// Dropped by hand, since a derived `Drop` makes callers prove the drop of each field.
 impl Drop for Entries {
     fn drop(self) {
         let Entries {
@@ -204,7 +204,7 @@ impl Entries {
         entries.saturating_add(looks).saturating_add(lists)
     }
 
-    /// Reserves memory for so many entries in all, whether they are looks or not.
+    /// Reserves memory for `count` entries in all, whether they are looks or not.
     pub(crate) fn reserve_all(&mut self, count: usize) -> Result<(), NoMemory>
         ensures ok { OnOk result (self.new.reserved ≡ count) }
         ensures entries { self.new.entries ≡ self.old.entries }
@@ -365,7 +365,8 @@ impl Entries {
         entry.extend_run(by, node, count, last)
     }
 
-    /// Appends so many Steps of a node, of which the last answered `last` and all others `Ran`, if there is room.
+    /// Appends `count` Steps of a node: the last answered `last`, and all others `Ran`. There must be room for
+    /// one more entry.
     #[inline(always)]
     #[tactic(auto, using(crate::proofs::Runs::expanded_new))]
     pub(crate) fn push_steps(&mut self, by: By, node: u8, count: u64, last: Stepped)
@@ -408,7 +409,8 @@ impl Entries {
         self.push_look(by, event, seen);
     }
 
-    /// Appends the Steps of a ticket, of which the last answered `last`, if there is room.
+    /// Appends the Steps of a ticket. The last one answered `last`. There must be room for one more
+    /// entry.
     pub(crate) fn push_ticket(&mut self, node: u8, count: u64, last: Option<Stepped>)
         requires room { 0 < self.old.room }
         requires few { length (expanded self.old.entries) + count ≤ 2 ^ 40 }
@@ -420,7 +422,7 @@ impl Entries {
         }
     }
 
-    // No entries, with memory reserved for so many.
+    // No entries, with memory reserved for `count`.
     fn with_reserved(alloc: Global, count: usize) -> Result<Entries, NoMemory>
         ensures { IfOk result (λ e. journal_of e ≡ record { entries = []; reserved = count }) }
     {
@@ -435,8 +437,8 @@ impl Entries {
         })
     }
 
-    /// Removes all entries, and gives the memory that they took back to the system. As much as before is reserved anew. If the
-    /// system hasn't that much beside what is given back, the memory stays.
+    /// Removes all entries, and gives the memory that they took back to the system. As much as before is reserved
+    /// again. If the system hasn't that much besides what is given back, the memory is kept.
     pub(crate) fn clear(&mut self)
         ensures { journal_of self.new ≡ record { entries = []; reserved = self.old.reserved } }
     {

@@ -12,7 +12,7 @@ use virtual_switch::ConfigReply;
 /// Who asks.
 #[derive(Clone, Copy, PartialEq, Eq)]
 pub enum By {
-    /// A user, by his number in the domain.
+    /// A user, by the user's number in the domain.
     User(u8),
     /// The farm itself, which steps nodes and moves packets. It has no host.
     Farm,

@@ -22,7 +22,7 @@ pub struct Host {
     end: LinkEnd,
 }
 
-// It is dropped by one call.
+// Dropped by hand, since a derived `Drop` makes callers prove the drop of each field.
 impl Drop for Host {
     fn drop(self) {
         let Host {

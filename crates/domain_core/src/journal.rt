@@ -39,7 +39,7 @@ pub struct Journal {
     pub(crate) entries: Entries,
 }
 
-// It is dropped by one call.
+// Dropped by hand, since a derived `Drop` makes callers prove the drop of each field.
 impl Drop for Journal {
     fn drop(self) {
         let Journal { entries: _ } = self;
@@ -105,7 +105,7 @@ impl Journal {
         self.entries.reserved()
     }
 
-    /// Reserves memory for so many entries in all. After `NoMemory` as much is reserved as before.
+    /// Reserves memory for `count` entries in all. After `NoMemory` as much is reserved as before.
     pub fn reserve(&mut self, count: usize) -> Result<(), NoMemory>
         ensures ok { OnOk result (self.new.reserved ≡ count) }
         ensures entries { self.new.entries ≡ self.old.entries }
@@ -123,7 +123,7 @@ impl Journal {
         self.entries.push(entry)
     }
 
-    /// Removes all entries, and gives the memory that they took back to the system if it can reserve as much anew.
+    /// Removes all entries. Gives the memory that they took back to the system if as much can be reserved again.
     pub fn clear(&mut self)
         ensures { self.new ≡ record { entries = []; reserved = self.old.reserved } }
     {

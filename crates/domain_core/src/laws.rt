@@ -4,8 +4,8 @@ ghost use Rattle.domain_core.specs.Laws.{FittingStays, JournalsAddUp, NextIsAnAn
 ghost use Rattle.domain_core.specs.Peek.{PeekAnswersTheWord};
 ghost use Rattle.domain_core.specs.Wiring.{DevicesAreWhereNamed};
 
-/// In the part of an accepted domain a device is joined to a port just where the part names the port for it: as the port of
-/// the host of that number, or as that of the link of the node of that number.
+/// In the part of an accepted domain a device is joined to a port exactly if the part names the port for it: as the
+/// port of the host of that number, or as that of the link of the node of that number.
 pub fn devices_are_where_named()
     ensures law { DevicesAreWhereNamed }
 {}
@@ -28,16 +28,18 @@ pub fn histories_grow()
     ensures history { HistoriesGrow }
 {}
 
-/// A user's commands of two histories stand one after the other, and Steps are no user's commands.
+/// A user's commands in a history that goes on with a later one are those in the first, followed by
+/// those in the later. Steps are no user's commands.
 pub fn own_commands_add_up()
     ensures law { OwnCommandsAddUp }
     ensures steps { StepsAreNobodys }
 {}
 
-/// A host that sends the peek message to a node which boots receives just the four bytes of the word at the
-/// address, least significant first, or four zeros where it lies outside memory; the node wants a control byte
-/// again, and its link knows of no acknowledge. Nothing else of the node or the host has changed. It takes 27 events: five times a Move of the host's port, a Step of the node and a Move of the link's
-/// port, and four times a Move of the link's port, a Move of the host's port and a Step of the node.
+/// A host that sends the peek message to a node which boots receives exactly the four bytes of the word at the address,
+/// least significant first, or four zeros if the address lies outside memory. The node wants a control byte again, and
+/// its link knows of no acknowledge. Nothing else of the node or the host has changed. It takes 27 events: five times a
+/// Move of the host's port, a Step of the node and a Move of the link's port, and four times a Move of the link's port,
+/// a Move of the host's port and a Step of the node.
 ///
 /// Source: Transputer Reference Manual, links, and bootstrapping, peek.
 pub fn peek_answers_the_word()

@@ -51,7 +51,7 @@ pub(crate) struct RunningMachine<O: Outputs> {
     table: DeviceTable,
 }
 
-// It is dropped by one call.
+// Dropped by hand, since a derived `Drop` makes callers prove the drop of each field.
 impl<O: Outputs + Drop> Drop for RunningMachine<O> {
     fn drop(self) {
         let RunningMachine {
@@ -127,7 +127,7 @@ impl<O: Outputs + Drop> RunningMachine<O> {
         self.devices.is_quiet(node)
     }
 
-    /// Whether he who asks is known, and the host, node or port of his event is there for him.
+    /// Whether the asker is known, and the host, node or port of the event is there for the asker.
     #[inline(always)]
     pub(crate) fn has_target(&self, by: By, event: Event) -> bool
         ensures there { result ≡ is_there self.now.part (record { by = by; event = event }) }
@@ -144,7 +144,7 @@ impl<O: Outputs + Drop> RunningMachine<O> {
             }
     }
 
-    // Whether he is a user of the domain, or the farm.
+    // Whether the asker is a user of the domain, or the farm.
     fn knows(&self, by: By) -> bool
         ensures { result ≡ is_known self.now.part by }
     {
@@ -154,7 +154,7 @@ impl<O: Outputs + Drop> RunningMachine<O> {
         }
     }
 
-    // Whether a host is there and is his.
+    // Whether a host is there and belongs to the asker.
     fn owns(&self, by: By, host: u8) -> bool
         ensures owns { result ≡ owns self.now.part by host }
         ensures there { result ≡ true → host < length self.now.part.hosts }
@@ -295,7 +295,7 @@ impl<O: Outputs + Drop> RunningMachine<O> {
         self.devices.host(number)
     }
 
-    /// Steps of a node, up to so many or to the first that would not be recorded.
+    /// Does up to `most` Steps of a node, and ends before the first that would not be recorded.
     pub(crate) fn burst(&mut self, node: u8, most: u64) -> Burst
         requires { node < length self.old.devices.nodes }
         ensures burst { IsBurst most (node_at self.old.devices node) result (node_at self.new.devices node) }

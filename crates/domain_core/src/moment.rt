@@ -27,7 +27,7 @@ pub struct Moment {
     recorded: u64,
 }
 
-// It is dropped by one call.
+// Dropped by hand, since a derived `Drop` makes callers prove the drop of each field.
 impl Drop for Moment {
     fn drop(self) {
         let Moment {
@@ -112,8 +112,8 @@ impl Moment {
         Ok(reply.reply())
     }
 
-    /// Steps of a node for which the farm asks, up to so many, to the first that would not be recorded, or to the limit.
-    /// `NoSuch` where there is no such node, and then nothing has changed.
+    /// Does up to `most` Steps of a node, for which the farm asks. It ends before the first that would not be recorded,
+    /// or at the limit. `NoSuch` if there is no such node, and then nothing has changed.
     pub fn burst(&mut self, node: u8, most: u64) -> Result<Burst, Refusal>
         ensures no_such { (result ≡ Err NoSuch) ↔ (slice_get self.old.machine.devices.nodes node ≡ None) }
         ensures most { IfOk result (λ b. b.steps ≤ most) }

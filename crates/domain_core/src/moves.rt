@@ -81,7 +81,7 @@ fn first_among(outputs: u32, count: u8) -> u8
     (outputs.trailing_zeros() as u8).min(count)
 }
 
-// Whether neither this output nor one behind it is in a mask.
+// Whether neither this output nor a higher one is in a mask.
 fn is_past(outputs: u32, output: u8) -> bool
     requires { output < 32 }
     ensures { IsTrue result → (more : ℕ) → marked_by outputs (range_with_len 0 (output + more)) ≡ marked_by outputs (range_with_len 0 output) }

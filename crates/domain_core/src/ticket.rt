@@ -30,7 +30,7 @@ pub struct Ticket {
     last: Option<Stepped>,
 }
 
-// It is dropped by one call.
+// Dropped by hand, since a derived `Drop` makes callers prove the drop of each field.
 impl Drop for Ticket {
     fn drop(self) {
         let Ticket {
@@ -90,8 +90,8 @@ impl Ticket {
         true
     }
 
-    // Makes the ticket of a slot one of no Steps of this node. It is made in place of the one that lies there if it can
-    // be. After `NoMemory` the slot is what it was.
+    // Makes the ticket of a slot one of no Steps of this node. The ticket that lies there is used again if it can be.
+    // After `NoMemory` the slot is what it was.
     pub(crate) fn put(
         alloc: Global,
         slot: &mut Option<Ticket>,
@@ -144,7 +144,8 @@ impl Ticket {
         self.stepped_law();
     }
 
-    // Does Steps one by one, up to so many, until the copy is the start again. For how many it asked.
+    // Does Steps one by one, up to `most`, until the copy is the start again. Returns for how many it
+    // asked.
     fn burst_to_start(&mut self, most: u64) -> u64
         ensures few { result ≤ most }
         ensures bursts { Bursts result self.old self.new }
@@ -214,7 +215,7 @@ impl Ticket {
         self.last
     }
 
-    /// The copy is its start after the Steps since, each of which would be recorded.
+    /// The copy is its start after the Steps since, and each of them would be recorded.
     ///
     /// The call does nothing: its contract is the law.
     pub fn stepped_law(&self)

@@ -1,4 +1,4 @@
--- A run of a plan: calls of its domains in one order, and what each is told.
+-- A run of a plan: calls of its domains in one order, and the answer to each.
 use Rattle.std.specs.Prelude.{◌≡◌, ℕ, List, map, Some, None, Err, slice_get, All}
 use Rattle.plan_rules.specs.Data.{DomainData}
 use Rattle.domain_core.specs.declared.event.By.{By}
@@ -13,13 +13,13 @@ use Rattle.whole_farm.specs.Laws.{answers_among}
 abbrev pub calls_asked : List (ℕ × By × Event) → List (ℕ × Call)
 calls_asked asked = map (λ a. (a.0, record { by = a.1; event = a.2 })) asked
 
--- each domain of the plan is told what a farm that holds it alone answers to its own calls in the same order
+-- each domain of the plan gets the answers that a farm which holds it alone gives to its own calls in the same order
 abbrev pub EachToldAlone : List DomainData → List (ℕ × Call) → List Answer → Type 0
 EachToldAlone plan calls told =
     (domain : ℕ) (place : Place) → slice_get (places_of plan) domain ≡ Some place
     → answers_among domain calls told ≡ answers place.part (opening place.part) (own domain calls)
 
--- a call of a domain that isn't in the plan is told that there is none
+-- a call of a domain that isn't in the plan is answered that there is no such domain
 abbrev pub NobodyElsewhere : List DomainData → List (ℕ × Call) → List Answer → Type 0
 NobodyElsewhere plan calls told =
     (domain : ℕ) → slice_get (places_of plan) domain ≡ None

@@ -260,9 +260,9 @@ impl PlainFarm {
         }
     }
 
-    /// The switch word of a physical output, below 32: that of the domain whose output it is, and 0
-    /// where it is no domain's. It is proper: bits 0 to 7 are just those of what it says. In the whole farm the output is driven and ready as the word says.
-    /// Nothing changes.
+    /// The switch word of a physical output, below 32: that of the domain whose output it is, and 0 if it is no
+    /// domain's. It is proper: bits 0 to 7 are exactly those of what it says. In the whole farm the output is driven
+    /// and ready as the word says. Nothing changes.
     pub fn word(&mut self, output: u8) -> Word
         ensures proper { IsProper result }
         ensures owner { IsWordOfOwner self.old output result }

@@ -51,7 +51,7 @@ abbrev pub EndsByMemory : Ending → Option (List ℕ) → Option (List ℕ) →
 EndsByMemory ending out_before out_after errors_before errors_after =
     Keeps out_before out_after × EndsBy Memory ending errors_before errors_after
 
--- words end a run: by what `clap` finds in them, or for want of memory
+-- words end a run: by what `clap` finds in them, or since memory ran out
 abbrev pub EndsByWords : List Text → Ending → Option (List ℕ) → Option (List ℕ) → Option (List ℕ)
     → Option (List ℕ) → Type 0
 EndsByWords words ending out_before out_after errors_before errors_after =

@@ -1,4 +1,4 @@
--- Why a text has no output, and what is told of it.
+-- Why a text has no output, and what is written about it.
 use Rattle.std.specs.Prelude.{◌≡◌, ◌≢◌, ◌++◌, ◌⊎◌, ℕ, List, true, Option, Err, codes, ⊤}
 use Rattle.std.specs.Fmt.{decimal}
 use Rattle.std.specs.Io.KnownBytes.{Appends}
@@ -28,11 +28,11 @@ abbrev pub IsPlanFault : List ℕ → PlanFault → Type 0
 IsPlanFault text fault =
     ReadsPlan text (Err fault) ⊎ ((plan : List DomainData) × IsPlan text plan × IsSmallestFault plan fault)
 
--- a text is refused as a plan, for this fault. Want of memory is no fault of a text
+-- a text is refused as a plan, for this fault. That memory ran out is no fault of a text
 abbrev pub IsRefusedPlan : List ℕ → PlanFault → Type 0
 IsRefusedPlan text fault = (fault ≢ NoMemory) × IsPlanFault text fault
 
--- why a plan's text has no plan. Of want of memory nothing is said
+-- why a plan's text has no plan. If memory ran out nothing is said of the text
 abbrev pub IsPlanFailure : List ℕ → FarmFailure → Type 0
 IsPlanFailure text (Plan fault) = IsRefusedPlan text fault
 IsPlanFailure text Memory = ⊤
@@ -91,7 +91,7 @@ fault_word fault.Verb = codes "verb"
 fault_word fault.Args = codes "args"
 fault_word fault.Hex = codes "hex"
 
--- what standard error is told
+-- what is written to standard error
 abbrev pub failure_text : FarmFailure → List ℕ
 failure_text (Plan fault) = codes "plan: " ++ decimal (plan_fault_number fault) ++ codes "\n"
 failure_text (Line number fault) = codes "line " ++ decimal number ++ codes ": " ++ fault_word fault ++ codes "\n"

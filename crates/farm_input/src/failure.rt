@@ -1,4 +1,4 @@
-//! Why a run ends without its output, and what is told of it.
+//! Why a run ends without its output, and what is written about it.
 ghost use Rattle.std.specs.Prelude.{◌≡◌, OnOk, OnErr};
 ghost use Rattle.std.specs.Io.KnownBytes.{Appends};
 ghost use Rattle.script_text.specs.Writing.{AppendsBeginning};
@@ -30,7 +30,7 @@ pub enum FarmFailure {
 pub struct Ending {
     /// The status of the process.
     pub status: u8,
-    /// Whether standard error took all that is told there.
+    /// Whether standard error took all that is written there.
     pub stderr_written: bool,
 }
 
@@ -59,7 +59,7 @@ impl FarmFailure {
         }
     }
 
-    // Writes what is told of it.
+    // Writes the text of the failure.
     fn write<E: Write>(self, errors: &mut E) -> Result<(), WriteFailed>
         ensures whole { OnOk result (Appends (E.contents errors.old) (E.contents errors.new) (failure_text self)) }
         ensures begun { OnErr result (AppendsBeginning (E.contents errors.old) (E.contents errors.new) (failure_text self)) }
@@ -78,7 +78,8 @@ impl FarmFailure {
         }
     }
 
-    /// Ends a run by this failure: tells it, and gives its status, which stays if it can't be told.
+    /// Ends a run by this failure: writes its text, and returns its status. The status is the same
+    /// if the text can't be written.
     pub fn report<E: Write>(self, errors: &mut E) -> Ending
         ensures { EndsBy self result (E.contents errors.old) (E.contents errors.new) }
     {

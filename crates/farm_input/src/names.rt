@@ -21,7 +21,7 @@ fn add_names<'a>(
     Ok(())
 }
 
-/// The names of all users of a plan, in its order. The error is want of memory.
+/// The names of all users of a plan, in its order. The error is that memory ran out.
 pub fn names_of(alloc: Global, plan: &AcceptedPlan) -> Result<Vec<&str>, AllocError>
     ensures { IfOk result (λ names. map (λ n. n.now) names.items ≡ all_names plan.now) }
 {

@@ -14,7 +14,8 @@ use script_text::read_whole;
 use std::alloc::Global;
 use std::io::Read;
 
-/// The text of an input that is read to its end. The failure is that the input failed, or want of memory.
+/// The text of an input that is read to its end. The failure is that the input failed, or that memory ran
+/// out.
 pub fn text_read<I: Read>(alloc: Global, input: &mut I) -> Result<Vec<u8>, FarmFailure>
     ensures text { IfOk result (λ text. IfSome (I.remaining input.old) (λ left. text.items ≡ left)) }
     ensures failure { IfErr result (λ failure. IfSome (I.remaining input.old) (λ text. IsFailure text failure)) }
@@ -23,7 +24,8 @@ pub fn text_read<I: Read>(alloc: Global, input: &mut I) -> Result<Vec<u8>, FarmF
     Ok(read_whole(alloc, input)?)
 }
 
-/// The plan that a text gives, if the checker accepts it. Else the failure is why it is refused, or want of memory.
+/// The plan that a text gives, if the checker accepts it. Else the failure is why it is refused, or that memory ran
+/// out.
 pub fn accepted(alloc: Global, text: &[u8]) -> Result<AcceptedPlan, FarmFailure>
     ensures plan { IfOk result (IsAcceptedText text.now) }
     ensures fault { IfErr result (IsPlanFailure text.now) }
@@ -32,7 +34,8 @@ pub fn accepted(alloc: Global, text: &[u8]) -> Result<AcceptedPlan, FarmFailure>
     Ok(check(alloc, plan)?)
 }
 
-/// What the lines of a script ask, for which users of the plan. The failure is the first line that is wrong, or want of memory.
+/// What the lines of a script ask, and for which users of the plan. The failure is the first line that is wrong, or
+/// that memory ran out.
 pub fn lines_of(
     alloc: Global,
     plan: &AcceptedPlan,

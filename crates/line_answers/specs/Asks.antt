@@ -54,7 +54,7 @@ next_write host bytes told =
     if list_any had_no_room (write_replies told) then None
     else option_map (event.Write host) (slice_get bytes (length (write_replies told)))
 
--- bytes of a host: so many, until none has come
+-- bytes of a host: up to this number, until none has come
 abbrev pub next_read : ℕ → ℕ → List Told → Option Event
 next_read host count told =
     if list_all is_byte (read_replies told) && nat_lt (length (read_replies told)) count then Some (event.Read host)
@@ -69,7 +69,7 @@ abbrev pub once : Event → List Told → Option Event
 once e [] = Some e
 once e told = None
 
--- code for a host, behind its length, if a boot message can hold it
+-- code for a host, after its length, if a boot message can hold it
 abbrev pub next_boot : ℕ → List ℕ → List Told → Option Event
 next_boot host code told =
     if nat_le 2 (length code) && nat_le (length code) 255 then next_write host (length code ∷ code) told else None

@@ -1,4 +1,4 @@
--- What a user's lines come to: what they asked of his domain, with the replies, and their output lines.
+-- What a user's lines come to: what they asked of the user's domain, with the replies, and their output lines.
 use Rattle.std.specs.Prelude.{◌≡◌, ◌++◌, ◌⊎◌, ℕ, List, [], ◌∷◌, Some, None, Result, Ok, Err, ⊤}
 use Rattle.domain_core.specs.declared.event.Event.{Event}
 use Rattle.domain_core.specs.declared.event.Refusal.{Refusal}
@@ -12,7 +12,7 @@ use Rattle.answer_text.specs.Results.{line_text, replies_told}
 use Rattle.line_answers.specs.Asks.{read_replies, next_event, AreAsked}
 
 -- an event is refused as the farm that holds the domain alone refuses it; that the journal is full is said only if this
--- is so. Want of memory ends no line
+-- is so. A line doesn't end because memory ran out
 abbrev pub IsLineRefusal : Type 0 → SessionValue → Event → Refusal → Type 0
 IsLineRefusal IsFull s event NoSuch = IsTold s event (Err NoSuch)
 IsLineRefusal IsFull s event JournalFull = IsTold s event (Err JournalFull) × IsFull
@@ -40,7 +40,7 @@ pub record IsAnsweredLine (IsFull : Type 0) (s : SessionValue) (name : List ℕ)
   pub ended : LineHasEnded IsFull s command told result
   pub is_text : text ≡ line_text name command (replies_told told) result
 
--- lines one after another: their events stand together, and so do their output lines
+-- lines one after another: their events follow each other, and so do their output lines
 abbrev pub AreAnsweredLines : Type 0 → SessionValue → List ℕ → List Command → List Told → List ℕ
     → Type 0
 AreAnsweredLines IsFull s name [] told screen = (told ≡ []) × (screen ≡ [])

@@ -18,7 +18,7 @@ HasMetFull s = s.pass.met_full ≡ true
 abbrev pub with_all : SessionValue → List Told → Bool → SessionValue
 with_all s told full = record s { pass = record s.pass { told = s.pass.told ++ told; met_full = full } }
 
--- the session of the same user, whose list gained these; whoever has met a full journal has met it from then on
+-- the session of the same user, whose list gained these; a user who has met a full journal has met it from then on
 pub record HasGained (s t : SessionValue) (told : List Told) : Type 0 where
   pub list : t ≡ with_all s told t.pass.met_full
   pub full : HasMetFull s → HasMetFull t
@@ -35,7 +35,7 @@ HasEnded next told t (Err refusal) =
     (event : Event) × (next told ≡ Some event) × IsTold t event (Err refusal)
     × (refusal ≡ JournalFull → HasMetFull t)
 
--- a session asks just this, up to its end
+-- a session asks exactly this, up to its end
 pub record AsksJust {A : Type 0} (next : List Told → Option Event) (s : SessionValue) (result : Result A Refusal)
     (t : SessionValue) : Type 0 where
   pub told : List Told
@@ -57,7 +57,7 @@ pub record AsksLine {A : Type 0} (command : Command) (s : SessionValue) (result 
   pub asked : AreAsked (next_event command) [] told
   pub ended : IsOver command told t result
 
--- a line is answered: its user's session gains what it asked, and his screen gains its output line
+-- a line is answered: its user's session gains what it asked, and the user's screen gains its output line
 pub record IsAnswered (name : List ℕ) (command : Command) (s t : SessionValue) (screen more : List ℕ) : Type 0 where
   pub told : List Told
   pub line : List ℕ
@@ -65,7 +65,7 @@ pub record IsAnswered (name : List ℕ) (command : Command) (s t : SessionValue)
   pub is_line : IsAnsweredLine (HasMetFull t) s name command told line
   pub text : more ≡ screen ++ line
 
--- lines are answered, one after another: his screen shows their output lines
+-- lines are answered, one after another: the user's screen shows their output lines
 pub record AreAnswered (name : List ℕ) (commands : List Command) (s t : SessionValue) (screen : List ℕ)
     : Type 0 where
   pub told : List Told

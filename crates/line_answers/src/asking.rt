@@ -63,7 +63,7 @@ pub(crate) fn write_all<R: Wait>(
     Ok(())
 }
 
-// Bytes of a host, so many, until none has come.
+// Bytes of a host, up to `count`, until none has come.
 pub(crate) fn read_up_to<R: Wait>(
     rt: &R,
     alloc: Global,
@@ -178,9 +178,9 @@ fn boot<R: Wait>(
 ///
 /// # Errors
 ///
-/// The first refusal ends the line. What was taken before it stands. `NoMemory` too if a boot message can't be made. A peek is
-/// refused too as its settling is: `JournalFull` if the journal is full or has no room for a quantum of Steps of a node, and
-/// `NoMemory`.
+/// The first refusal ends the line. What was taken before it stays. `NoMemory` too if a boot message can't be made. A
+/// peek is refused too as its settling is: `JournalFull` if the journal is full or has no room for a quantum of Steps
+/// of a node, and `NoMemory`.
 pub(crate) fn ask_line<R: Wait>(
     rt: &R,
     alloc: Global,

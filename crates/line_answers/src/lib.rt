@@ -1,4 +1,4 @@
-//! What a script line asks of its user's domain, and its output line on his screen.
+//! What a script line asks of its user's domain, and its output line on the user's screen.
 #![tactic(auto)]
 
 mod asking;

@@ -11,13 +11,13 @@ use script_lines::Command;
 use std::alloc::Global;
 use std::sync::Wait;
 
-/// Asks what a line asks in its user's session, and appends its output line to his screen. A peek settles before it reads,
-/// and nothing else does. If that settling is refused for want of room in the journal, so is the peek.
+/// Asks what a line asks in its user's session, and appends its output line to the user's screen. A peek settles before
+/// it reads, and nothing else does. If that settling is refused since the journal has no room, so is the peek.
 ///
 /// # Errors
 ///
-/// `NoMemory` if a command, a boot message, the settling of a peek or the text ran out of memory. What was taken before it
-/// stands, and so may the beginning of the output line.
+/// `NoMemory` if a command, a boot message, the settling of a peek or the text ran out of memory. What was taken before
+/// it stays, and so may the beginning of the output line.
 pub fn answer_line<R: Wait>(
     rt: &R,
     alloc: Global,
@@ -35,8 +35,8 @@ pub fn answer_line<R: Wait>(
     write_line(screen, name, command, &session.told()[before..], ended)
 }
 
-/// Answers a user's lines in his session, one after another on his screen, which is empty. After each line the domain
-/// settles. Whether that is refused for its full journal is nobody's fault.
+/// Answers a user's lines in the user's session, one after another on the user's screen, which is empty. After each
+/// line the domain settles. It is no error if that is refused since the journal is full.
 ///
 /// # Errors
 ///

@@ -9,7 +9,7 @@ pub struct Quantum {
 }
 
 impl Quantum {
-    /// So many Steps, 1 to 4,096.
+    /// A quantum of `steps` Steps, 1 to 4,096.
     pub fn of(steps: u16) -> Quantum
         requires { (1 ≤ steps) × (steps ≤ 4096) }
         ensures { result.steps ≡ steps }

@@ -28,7 +28,7 @@ node n =
 abbrev pub range : RangePlan → Data
 range r = list integer (r.first ∷ r.last ∷ [])
 
--- a user is a table of his name and his hosts' ports
+-- a user is a table of the user's name and the ports of the user's hosts
 abbrev pub user : UserData → Data
 user u =
     table (member (codes "host") (list integer u.hosts)

@@ -1,7 +1,7 @@
 //! Reads a plan of the farm from TOML text, and accepts it where its domains are separate.
 //!
-//! The rules of a plan and their check stand in `plan_rules`, on which the farm's machines stand. Who reads plans finds here
-//! the reading and the check, with the types that they answer.
+//! The rules of a plan and their check are in `plan_rules`, which the farm's machines depend on. A program that reads
+//! plans finds here the reading and the check, with the types that they return.
 #![tactic(auto)]
 
 mod fields;
@@ -15,5 +15,5 @@ pub use plan_rules::{
 };
 pub use read::read_plan;
 
-/// Want of memory.
+/// Memory ran out.
 pub use std::alloc::AllocError as NoMemory;

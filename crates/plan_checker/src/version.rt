@@ -5,9 +5,9 @@ ghost use Rattle.plan_checker.specs.Version.{version_number};
 /// How the text of a plan spells a domain.
 #[derive(Clone, Copy)]
 pub enum PlanVersion {
-    /// One user and one range, whose fields stand among the domain's own.
+    /// One user and one range, whose fields are among the domain's own.
     One,
-    /// One user, whose fields stand among the domain's own, and a list of ranges.
+    /// One user, whose fields are among the domain's own, and a list of ranges.
     Two,
     /// A list of users and a list of ranges.
     Three,

@@ -3,7 +3,7 @@ use Rattle.std.specs.Prelude.{ℕ, ℤ, List}
 use Rattle.plan_rules.specs.declared.plan.NodePlan.{NodePlan}
 use Rattle.plan_rules.specs.declared.plan.RangePlan.{RangePlan}
 
--- a user of a domain: the bytes of his name, and the virtual ports of his hosts
+-- a user of a domain: the bytes of the user's name, and the virtual ports of the user's hosts
 pub record UserData : Type 0 where
   pub name : List ℕ
   pub hosts : List ℤ

@@ -84,7 +84,7 @@ port_range r = record { first = unsigned_abs r.first; last = unsigned_abs r.last
 abbrev pub range_at : List RangePlan → ℕ → Option PortRange
 range_at ranges place = option_map port_range (slice_get ranges place)
 
--- the ranges of a domain in a row of four places, of which the last are unused
+-- the ranges of a domain in a row of four places; the places after the last range are unused
 abbrev pub four_ranges : DomainData → List (Option PortRange)
 four_ranges d = map (λ r. Some (port_range r)) d.ranges ++ replicate (4 - length d.ranges) None
 

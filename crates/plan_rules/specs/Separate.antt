@@ -16,7 +16,7 @@ IsFrom least greatest n = (least ≤ n) × (n ≤ greatest)
 abbrev pub Lies : ℤ → ℤ → ℤ → Type 0
 Lies least greatest x = (least ≤ℤ x) × (x ≤ℤ greatest)
 
--- no element stands twice
+-- no element occurs twice
 abbrev pub IsDistinct : {X : Type 0} → List X → Type 0
 IsDistinct xs = AllPairs (λ x y. x ≢ y) xs
 

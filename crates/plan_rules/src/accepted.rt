@@ -21,7 +21,7 @@ pub struct AcceptedPlan {
     ports: Vec<Numbering>,
 }
 
-// It is dropped by one call.
+// Dropped by hand, since a derived `Drop` makes callers prove the drop of each field.
 impl Drop for AcceptedPlan {
     fn drop(self) {
         let AcceptedPlan {
@@ -92,7 +92,7 @@ impl AcceptedPlan {
         self.domains[usize::from(domain)].nodes.len() as u8
     }
 
-    /// The name of a user of a domain, by his number in the domain.
+    /// The name of a user of a domain, by the user's number in the domain.
     pub fn name(&self, domain: u8, user: u8) -> &str
         requires domain { domain < length self.now }
         requires user { IfSome (slice_get self.now domain) (λ d. user < length d.users) }

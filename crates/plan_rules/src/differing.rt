@@ -77,7 +77,7 @@ fn is_new<T: Differs>(earlier: &[T], item: &T) -> bool
     true
 }
 
-/// Whether no item stands twice.
+/// Whether no item occurs twice.
 pub fn are_apart<T: Differs>(items: &[T]) -> bool
     ensures { IsTrue result ↔ AllPairs T.differs_from items.now }
 {
@@ -114,7 +114,7 @@ fn are_new_after<T: PartOfDomain>(earlier: &[DomainPlan], items: &[T]) -> bool
     true
 }
 
-/// Whether no item stands twice in the lists of all domains.
+/// Whether no item occurs twice in the lists of all domains.
 pub fn differ<T: PartOfDomain>(domains: &[DomainPlan]) -> bool
     ensures { IsTrue result ↔ AllPairs T.differs_from (flat_map T.list domains.now) }
 {

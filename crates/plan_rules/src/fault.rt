@@ -7,7 +7,7 @@ use std::alloc::{AllocError, AllocFailed};
 use std::fmt;
 use thiserror::Error;
 
-/// Why a plan was refused. Each variant has its number behind it.
+/// Why a plan was refused. The number of each variant is in parentheses.
 #[derive(Clone, Copy, Debug, Error)]
 pub enum PlanFault {
     /// The text isn't UTF-8 or isn't TOML (1).
@@ -18,7 +18,7 @@ pub enum PlanFault {
     DomainCount,
     /// A name isn't 1 to 32 of `a` to `z`, `0` to `9` and hyphen (4).
     Name,
-    /// A name stands twice in the plan (5).
+    /// A name occurs twice in the plan (5).
     NameTwice,
     /// A range isn't within ports 0 to 31, or is empty (6).
     Range,

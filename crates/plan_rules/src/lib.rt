@@ -19,5 +19,5 @@ pub use fault::PlanFault;
 pub use part::{HostPart, NodePart, Part};
 pub use plan::{DomainPlan, NodePlan, Plan, RangePlan, UserPlan};
 
-/// Want of memory.
+/// Memory ran out.
 pub use std::alloc::AllocError as NoMemory;

@@ -35,7 +35,7 @@ pub struct Part {
     pub(crate) hosts: Vec<HostPart>,
 }
 
-// It is dropped by one call.
+// Dropped by hand, since a derived `Drop` makes callers prove the drop of each field.
 impl Drop for Part {
     fn drop(self) {
         let Part {

@@ -1,4 +1,4 @@
-//! A plan as its text gives it, with every number as it stands there.
+//! A plan as its text gives it, with every number as the text has it.
 ghost use Rattle.std.specs.Prelude.{ℕ, ℤ, List, string_bytes};
 
 use std::marker::Model;
@@ -23,13 +23,13 @@ pub struct RangePlan {
 
 /// A user of a domain.
 pub struct UserPlan {
-    /// His name.
+    /// The user's name.
     pub name: String,
-    /// The virtual port of each of his hosts.
+    /// The virtual port of each of the user's hosts.
     pub hosts: Vec<i64>,
 }
 
-// It is dropped by one call.
+// Dropped by hand, since a derived `Drop` makes callers prove the drop of each field.
 impl Drop for UserPlan {
     fn drop(self) {
         let UserPlan { name: _, hosts: _ } = self;
@@ -57,7 +57,7 @@ pub struct DomainPlan {
     pub nodes: Vec<NodePlan>,
 }
 
-// It is dropped by one call.
+// Dropped by hand, since a derived `Drop` makes callers prove the drop of each field.
 impl Drop for DomainPlan {
     fn drop(self) {
         let DomainPlan {

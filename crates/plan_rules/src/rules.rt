@@ -57,7 +57,7 @@ pub fn has_node_count(domain: &DomainPlan) -> bool
     (1..=8).contains(&domain.nodes.len())
 }
 
-/// Whether a memory of so many bytes is permitted.
+/// Whether a memory of this many bytes is permitted.
 pub fn is_memory_size(bytes: i64) -> bool
     ensures { IsTrue result ↔ IsPlannedMemory bytes }
 {

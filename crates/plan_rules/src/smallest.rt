@@ -14,7 +14,8 @@ use crate::rules::{
 };
 use std::alloc::Global;
 
-/// The faults from the third on, in the order of their numbers. Want of memory breaks no rule.
+/// The faults from the third on, in the order of their numbers. `NoMemory` isn't there, since it
+/// breaks no rule.
 const RULES: [PlanFault; 15] = [
     PlanFault::DomainCount,
     PlanFault::Name,

@@ -17,7 +17,7 @@ word_of bits = record { bits = bits }
 abbrev pub IsNewer : ℕ → ℕ → Type 0
 IsNewer new old = IsAtLeastAsNew (word_of new) (word_of old)
 
--- the word w may stand at the output i: its input lies in the domain of the output, and an output of no domain has 0
+-- the output i may have the word w: its input lies in the domain of the output, and an output of no domain has 0
 abbrev pub IsConfined : List (List ℕ) → ℕ → ℕ → Type 0
 IsConfined domains i w =
     ((n : ℕ) (d : List ℕ) → slice_get domains n ≡ Some d → Contains d i → IsWordOf d (word_of w))
@@ -52,11 +52,11 @@ pub record IsRuled {S : Type 0} (domains : List (List ℕ)) (s : State S View) :
 abbrev pub opening_view : List (List ℕ) → List (List ℕ) → View
 opening_view domains held = record { domains = domains; held = held; words = replicate 32 0 }
 
--- who holds every domain at the opening, and takes no slot
+-- the opener, which holds every domain at the opening, and takes no slot
 abbrev pub opener_of : List (List ℕ) → Me (Unit {0}) View
 opener_of domains = (opening_view domains domains, [])
 
--- and once the first domain that he holds is dealt
+-- its view once the first domain that it holds is dealt
 abbrev pub view_after_first : View → View
 view_after_first view = record view { held = drop 1 view.held }
 

@@ -20,7 +20,7 @@ pub struct DomainSeat {
     numbering: Numbering,
 }
 
-// It is dropped by one call.
+// Dropped by hand, since a derived `Drop` makes callers prove the drop of each field.
 impl Drop for DomainSeat {
     fn drop(self) {
         let DomainSeat {
@@ -44,7 +44,8 @@ impl Model for DomainSeat {
 
 impl DomainSeat {
     /// Cuts the first domain off what the opener holds.
-    // Eight clauses: the opener's seat is known by six facts, of which each is met by another, and both seats change.
+    // Eight clauses: six facts of the opener's seat, none of which follows from the others, and what both seats
+    // become.
     pub(crate) fn take_first_domain(
         shared_words: &Arc<SharedWords>,
         opener: &mut WordsSeat,

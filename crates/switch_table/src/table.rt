@@ -50,7 +50,8 @@ impl SwitchTable {
     ghost use Rattle.switch_table.specs.Seats.{table_of, seat_row, surveyed_table, surveyed_domains, seen_words, clear_row};
 
     /// A table with all words 0, one seat for each domain of the plan, in its order and with its
-    /// numbering, and the operator's, who has seen 0 everywhere. `NoMemory` leaves nothing behind.
+    /// numbering, and the seat of the operator, who has seen 0 everywhere. After `NoMemory` nothing
+    /// is left of them.
     // Six clauses: four of the seats, and two of the operator's.
     pub fn open(
         alloc: Global,

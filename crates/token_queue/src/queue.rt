@@ -225,8 +225,9 @@ fn drain<R: Wait>(
 }
 
 impl TokenQueue {
-    /// Takes the token that has waited longest; `None` where all are out with workers. Then the pass
-    /// holds what it held; a pass that has all parts is told so only where it knows each token itself.
+    /// Takes the token that has waited longest; `None` if all are out with workers. After `None` the
+    /// pass holds what it held. A pass that has all parts gets `None` only if it knows each token
+    /// itself.
     pub fn take<R: Wait>(&self, rt: &R, pass: &mut WorkerPass) -> Option<Token>
         requires { pass.old.queue ≡ self.now }
         ensures token { MatchOption result (pass.new ≡ pass.old) (λ token. pass.new ≡ record pass.old { held = token ∷ pass.old.held }) }
@@ -268,8 +269,8 @@ impl TokenQueue {
         Ok((TokenQueue { ruled_queue }, passes))
     }
 
-    /// Ends the queue: with all its passes back, each node of the plan is told just once in `tokens`,
-    /// which is empty and has room for every token.
+    /// Ends the queue. All its passes are handed back, and each node of the plan is put exactly once
+    /// in `tokens`, which is empty before and has room for every token.
     pub fn end<R: Wait>(
         self,
         rt: &R,

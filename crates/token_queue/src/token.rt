@@ -1,6 +1,6 @@
 //! The right to step a node.
 
-/// The right to step a node. Whoever holds it is the only worker that checks the node out.
+/// The right to step a node. The worker that holds it is the only one that checks the node out.
 #[derive(Clone, Copy, PartialEq, Eq)]
 pub struct Token {
     /// The number of the domain in the plan.

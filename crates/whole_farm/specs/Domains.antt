@@ -1,4 +1,4 @@
--- Of which domains' states a whole farm is made.
+-- The domains' states that a whole farm is made of.
 use Rattle.std.specs.Prelude.{◌≡◌, ℕ, Bool, false, List, length, Option, Some, None, Err, slice_get, slice_set, map, Contains}
 use Rattle.std.specs.Option.{option_map}
 use Rattle.std.specs.FinMap as fin

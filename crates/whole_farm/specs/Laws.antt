@@ -10,7 +10,7 @@ use Rattle.whole_farm.specs.Whole.{Farm, physical_answers, whole_after, whole_op
 use Rattle.whole_farm.specs.Projection.{projected, lowered_answer, lowered_for, own}
 use Rattle.whole_farm.specs.Domains.{DrivesItself}
 
--- what a domain is told of a run of the whole farm from its opening, in its own numbers
+-- what a domain is answered in a run of the whole farm from its opening, in its own numbers
 abbrev pub domain_answers : List Place → List (ℕ × Call) → ℕ → Place → List Answer
 domain_answers plan calls domain place =
     map (lowered_answer place) (own domain (physical_answers plan (whole_opening plan) calls))
@@ -39,20 +39,20 @@ EqualDomainsAreAnsweredAlike =
     → own domain calls ≡ own other other_calls
     → domain_answers plan calls domain place ≡ domain_answers other_plan other_calls other there
 
--- what all callers are told from a farm on, in order
+-- what all callers are answered from a farm on, in order
 abbrev pub caller_answers_from : List Place → Farm → List (ℕ × Call) → List Answer
 caller_answers_from plan farm calls =
     map (λ t. lowered_for (slice_get plan t.0) t.1) (physical_answers plan farm calls)
 
--- what all callers are told of a run from the opening, in order
+-- what all callers are answered in a run from the opening, in order
 abbrev pub caller_answers : List Place → List (ℕ × Call) → List Answer
 caller_answers plan calls = caller_answers_from plan (whole_opening plan) calls
 
--- what the callers of one domain are told among them
+-- what the callers of one domain are answered among them
 abbrev pub answers_among : ℕ → List (ℕ × Call) → List Answer → List Answer
 answers_among domain calls told = own domain (zip (map (λ c. c.0) calls) told)
 
--- what the callers of a domain are told is what a farm with it alone answers to their calls
+-- the callers of a domain get the answers that a farm with it alone gives to their calls
 abbrev pub EachIsToldPrivately : Type 0
 EachIsToldPrivately =
     (plan : List Place) (calls : List (ℕ × Call)) (domain : ℕ) (place : Place) → AreSeparatePlaces plan
@@ -85,7 +85,7 @@ EachDomainOfAPlanIsPrivate =
     → slice_get plan domain ≡ Some d
     → IsAlone (places_of plan) calls domain (place_of d)
 
--- and its callers are told what a farm with it alone answers to their calls
+-- and its callers get the answers that a farm with it alone gives to their calls
 abbrev pub EachOfAPlanIsToldPrivately : Type 0
 EachOfAPlanIsToldPrivately =
     (plan : List DomainData) (calls : List (ℕ × Call)) (domain : ℕ) (d : DomainData) → IsSeparate plan

@@ -14,7 +14,7 @@ abbrev pub journal_at : Option (List AnsweredCall) → List AnsweredCall
 journal_at None = []
 journal_at (Some journal) = journal
 
--- the merge has of each domain just its journal, in its order, and nothing of a domain without one
+-- the merge has of each domain exactly its journal, in its order, and nothing of a domain without one
 abbrev pub IsMerge : List (List AnsweredCall) → List (ℕ × AnsweredCall) → Type 0
 IsMerge journals merge = (domain : ℕ) → own domain merge ≡ journal_at (slice_get journals domain)
 

@@ -40,7 +40,7 @@ pub record AreSeparatePlaces (plan : List Place) : Type 0 where
 abbrev pub all_ports : List Place → List ℕ
 all_ports plan = flat_map (λ place. place.ports) plan
 
--- what each domain has, once one of them has this in place of what it had
+-- what each domain has, once one of them has this instead of what it had
 abbrev pub put_at : {X : Type 0} → ℕ → X → (ℕ → X) → ℕ → X
 put_at domain x all = λ d. if d == domain then x else all d
 
@@ -60,7 +60,7 @@ abbrev pub device_or : ℕ → Place → Option ℕ → Option Joined → Option
 device_or domain place None later = later
 device_or domain place (Some number) later = joined_to domain (device_at place.part number)
 
--- the same in all places, of which the first has this number
+-- the same in all places, where the first place has this number
 abbrev pub device_from : ℕ → List Place → ℕ → Option Joined
 device_from domain [] port = None
 device_from domain (place ∷ plan) port =

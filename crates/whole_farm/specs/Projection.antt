@@ -57,7 +57,7 @@ abbrev pub lowered_reply : List ℕ → Reply → Reply
 lowered_reply ports (reply.Config c) = reply.Config (lowered_config ports c)
 lowered_reply ports r = r
 
--- an answer as the domain is told it
+-- an answer as the domain gets it
 abbrev pub lowered_answer : Place → private.Answer → private.Answer
 lowered_answer place (Ok r) = Ok (lowered_reply place.ports r)
 lowered_answer place (Err refusal) = Err refusal

@@ -25,7 +25,8 @@ pub fn each_call_is_private()
     switches_say_their_words();
 }
 
-/// A physical output of the whole farm is driven and ready just as its domain, alone, says of its virtual number.
+/// A physical output of the whole farm is driven and ready exactly as its domain, alone, says of its virtual
+/// number.
 pub fn each_output_is_of_its_domain()
     ensures law { EachOutputIsOfItsDomain }
 {
@@ -39,8 +40,9 @@ pub fn runs_add_up()
 {}
 
 /// Under a separate plan, for every list of calls of all domains, each domain is answered as in a farm that holds it
-/// alone and that takes its own calls in the same order, and it ends in the state in which that farm ends. What all
-/// callers are told holds, at the domain's places, just these answers. No connection of its outputs comes from outside.
+/// alone and that takes its own calls in the same order, and it ends in the state in which that farm ends. The list of
+/// all callers' answers has exactly these answers at the domain's places. No connection of its outputs comes from
+/// outside.
 pub fn each_domain_is_private()
     ensures private { EachDomainIsPrivate }
     ensures told { EachIsToldPrivately }
@@ -49,8 +51,8 @@ pub fn each_domain_is_private()
     switches_say_their_words();
 }
 
-/// Two domains with equal parts and equal calls of their own are answered alike, each in its own farm, wherever their
-/// ports lie, whoever their neighbours are and whatever these call.
+/// Two domains with equal parts and equal calls of their own are answered alike, each in its own farm, no matter
+/// where their ports lie, who their neighbours are and what these call.
 pub fn equal_domains_are_answered_alike()
     ensures law { EqualDomainsAreAnsweredAlike }
 {
