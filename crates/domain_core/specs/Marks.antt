@@ -14,8 +14,7 @@ events_behind (suc entries) events (entry ∷ later) = events_behind entries eve
 abbrev pub events_from : Mark → List Entry → List AnsweredCall
 events_from mark journal = events_behind mark.entries mark.events journal
 
--- the mark lies in the journal: its entries are not past the journal's end, nor its events past the end of the next
--- entry
+-- the mark lies in the journal: its entries aren't past the journal's end, nor its events past that of the next entry
 pub record StandsIn (journal : List Entry) (mark : Mark) : Type 0 where
   pub entries : mark.entries ≤ length journal
   pub events : mark.events ≤ length (expanded (take 1 (drop mark.entries journal)))

@@ -37,8 +37,7 @@ abbrev pub fresh_ticket : ℕ → ℕ → Node → TicketValue
 fresh_ticket domain number node =
     record { domain = domain; number = number; start = node; node = node; steps = 0; last = None }
 
--- the copy did exactly the Steps up to the nth, before the first that would not be recorded, or up to the most of a
--- ticket
+-- the copy did exactly the Steps up to the nth, before the first that would not be recorded, or up to a ticket's most
 pub record Bursts (n : ℕ) (t u : TicketValue) : Type 0 where
   pub more : ℕ
   pub node : IsAfter t.node more u.node

@@ -6,8 +6,7 @@ ghost use Rattle.domain_core.specs.Marks.{Copies, StandsIn, events_from};
 
 use crate::journal::{Entry, Journal};
 
-/// How far a journal was copied: its first `entries` entries, and the first `events` events of the
-/// next one.
+/// How far a journal was copied: its first `entries` entries, and the first `events` events of the next one.
 #[derive(Clone, Copy)]
 pub struct Mark {
     entries: usize,

@@ -189,8 +189,7 @@ impl<O: Outputs + Drop> Domain<O> {
     }
 
     // Answers a look by what is seen. That is large, so that the other events are answered without it.
-    // Nine clauses: two of when it is asked, and those of `apply`, with one of them for a look and two for a
-    // refusal.
+    // Nine clauses: two of when it is asked, and those of `apply`, with one of them for a look and two for a refusal.
     #[inline(never)]
     #[tactic(auto, using(crate::proofs::Unchanged::counts_itself))]
     fn answer_look(&mut self, by: By, node: u8) -> Result<Seen, Refusal>

@@ -409,8 +409,7 @@ impl Entries {
         self.push_look(by, event, seen);
     }
 
-    /// Appends the Steps of a ticket. The last one answered `last`. There must be room for one more
-    /// entry.
+    /// Appends the Steps of a ticket. The last one answered `last`. There must be room for one more entry.
     pub(crate) fn push_ticket(&mut self, node: u8, count: u64, last: Option<Stepped>)
         requires room { 0 < self.old.room }
         requires few { length (expanded self.old.entries) + count ≤ 2 ^ 40 }

@@ -144,8 +144,7 @@ impl Ticket {
         self.stepped_law();
     }
 
-    // Does Steps one by one, up to `most`, until the copy is the start again. Returns for how many it
-    // asked.
+    // Does Steps one by one, up to `most`, until the copy is the start again. Returns for how many it asked.
     fn burst_to_start(&mut self, most: u64) -> u64
         ensures few { result ≤ most }
         ensures bursts { Bursts result self.old self.new }

@@ -14,8 +14,7 @@ use script_text::read_whole;
 use std::alloc::Global;
 use std::io::Read;
 
-/// The text of an input that is read to its end. The failure is that the input failed, or that memory ran
-/// out.
+/// The text of an input that is read to its end. The failure is that the input failed, or that memory ran out.
 pub fn text_read<I: Read>(alloc: Global, input: &mut I) -> Result<Vec<u8>, FarmFailure>
     ensures text { IfOk result (λ text. IfSome (I.remaining input.old) (λ left. text.items ≡ left)) }
     ensures failure { IfErr result (λ failure. IfSome (I.remaining input.old) (λ text. IsFailure text failure)) }

@@ -26,6 +26,6 @@ abbrev pub IsJournalOutOfRoom : List DomainData → ℕ → ℕ → Type 0
 IsJournalOutOfRoom plan domain reserved =
     (d : DomainValue) × IsFound plan domain d × (reserved ≤ d.reserved) × IsOutOfRoom d
 
--- a user's list, or the journal of his domain, has as many entries as memory is reserved for
+-- a user's list, or the journal of the user's domain, has as many entries as memory is reserved for
 abbrev pub HasNoRoomLeft : SessionValue → Type 0
 HasNoRoomLeft s = (s.pass.reserved ≤ length s.pass.told) ⊎ IsJournalOutOfRoom s.plan s.pass.domain s.pass.reserved

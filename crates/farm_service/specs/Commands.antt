@@ -1,4 +1,4 @@
--- What of a domain's journal is one user's own: his commands with their replies. And who asks for what.
+-- What of a domain's journal is one user's own: the user's commands with their replies. And who asks for what.
 use Rattle.std.specs.Prelude.{ℕ, ◌≡◌, Bool, true, false, List, Option, Some, None, All, cond, filter_map}
 use Rattle.domain_core.specs.declared.event.By.{By}
 use Rattle.domain_core.specs.declared.event.By.TheVariants.{User, Farm}

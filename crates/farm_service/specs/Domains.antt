@@ -1,4 +1,4 @@
--- What is told of a domain that was found under its lock.
+-- What is said of a domain that was found under its lock.
 use Rattle.std.specs.Prelude.{ℕ, ◌≡◌, ◌≤◌, ◌+◌, ◌↔◌, IsTrue, List, [], length}
 use Rattle.plan_rules.specs.Data.{DomainData}
 use Rattle.domain_core.specs.declared.copying.Mark.{Mark}
@@ -20,8 +20,8 @@ pub record IsStatusOf (d : DomainValue) (status : DomainStatus) : Type 0 where
   pub limit : status.limit ≡ d.machine.part.limit
   pub quiet : IsTrue status.is_quiet ↔ IsQuiet d.machine.part (machine_of d.machine)
 
--- entries of the journal of a domain of this number were put behind so many others, from a mark up to another: all from
--- the mark on, if so many places are enough; none, if the mark is past the journal's end
+-- entries of the journal of a domain of this number were appended to `held` others, from a mark up to another: all
+-- from the mark on, if `places` places are enough; none, if the mark is past the journal's end
 pub record GainsCopies (plan : List DomainData) (number : ℕ) (from to : Mark) (old new : List Entry)
     (held places : ℕ) : Type 0 where
   pub domain : DomainValue

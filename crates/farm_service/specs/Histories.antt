@@ -21,6 +21,6 @@ abbrev pub history_told : Option DomainValue → List AnsweredCall
 history_told None = []
 history_told (Some d) = expanded d.journal
 
--- the pass with just its user's commands in the history of his domain
+-- the pass with exactly its user's commands in the history of its domain
 abbrev pub with_history : List DomainValue → UserPassValue → UserPassValue
 with_history domains pass = record pass { told = commands_of pass.user (history_told (slice_get domains pass.domain)) }

@@ -1,4 +1,4 @@
--- What contracts see of a user's pass and of his session.
+-- What contracts see of a user's pass and of a user's session.
 use Rattle.std.specs.Prelude.{ℕ, zero, suc, Bool, true, false, List, [], ◌∷◌, ◌++◌, ◌≡◌, Ok, Err, length}
 use Rattle.plan_rules.specs.Data.{DomainData}
 use Rattle.domain_core.specs.declared.event.By.TheVariants.{User}
@@ -9,8 +9,9 @@ use Rattle.domain_core.specs.declared.event.Reply.{Reply}
 use Rattle.domain_core.specs.PrivateFarm.{Answer, Call}
 use Rattle.domain_core.specs.declared.event.Told.{Told}
 
--- whose it is, by the number of his domain in the plan and his number there; what he asked and was answered, in his
--- order; whether the journal of his domain was full when he asked; and for how many commands in all memory is reserved
+-- whose it is, by the number of the user's domain in the plan and the user's number there; what the user asked and was
+-- answered, in the user's order; whether the journal of the domain was full when the user asked; and for how many
+-- commands in all memory is reserved
 pub record UserPassValue : Type 0 where
   pub domain : ℕ
   pub user : ℕ
@@ -33,16 +34,16 @@ fresh_pass domain user = record { domain = domain; user = user; told = []; met_f
 abbrev pub pass_begun_anew : UserPassValue → UserPassValue
 pass_begun_anew pass = record pass { told = []; met_full = false }
 
--- the pass with memory reserved for so many commands
+-- the pass with memory reserved for this number of commands
 abbrev pub with_reserved : ℕ → UserPassValue → UserPassValue
 with_reserved count pass = record pass { reserved = count }
 
--- the passes of so many users of a domain
+-- the passes of a domain with this number of users
 abbrev pub passes_opened : ℕ → ℕ → List UserPassValue
 passes_opened domain zero = []
 passes_opened domain (suc count) = passes_opened domain count ++ fresh_pass domain count ∷ []
 
--- the passes of the users of domains, the first of which has this number
+-- the passes of the users of domains, where the first domain has this number
 abbrev pub passes_from : ℕ → List DomainData → List UserPassValue
 passes_from number [] = []
 passes_from number (d ∷ plan) = passes_opened number (length d.users) ++ passes_from (suc number) plan
@@ -53,7 +54,7 @@ fresh_passes plan = passes_from 0 plan
 
 -- ---- a command
 
--- the call that a user's event is in his domain
+-- the call that a user's event is in the user's domain
 abbrev pub call_of : UserPassValue → Event → Call
 call_of pass event = record { by = User pass.user; event = event }
 
@@ -67,7 +68,7 @@ with_refusal pass JournalFull = record pass { met_full = true }
 with_refusal pass NoSuch = pass
 with_refusal pass NoMemory = pass
 
--- the list gains just an answered event with its reply, and nothing if it was refused
+-- the list gains an answered event with its reply, and nothing else; it gains nothing if the event was refused
 abbrev pub Gains : SessionValue → Event → Answer → SessionValue → Type 0
 Gains s event (Ok reply) t = t ≡ record s { pass = with_told s.pass event reply }
 Gains s event (Err refusal) t = t ≡ record s { pass = with_refusal s.pass refusal }

@@ -12,7 +12,7 @@ use Rattle.domain_core.specs.Domain.{DomainValue, state_of, gained, UnlessNoMemo
 abbrev pub move_of : ℕ → Call
 move_of port = record { by = Farm; event = Move port }
 
--- its calls for a Move of each of the first ports, so many, in order
+-- its calls for a Move of each port below this number, in order
 abbrev pub moves_of : ℕ → List Call
 moves_of zero = []
 moves_of (suc port) = moves_of port ++ move_of port ∷ []
@@ -28,7 +28,7 @@ abbrev pub is_any : List AnsweredCall → Bool
 is_any [] = false
 is_any (a ∷ history) = true
 
--- calls were all answered; the domain is what they make of it, and its journal gained just what of them is recorded;
+-- calls were all answered; the domain is what they make of it, and its journal gained exactly what is recorded of them;
 -- and whether that was anything
 pub record AreDone (calls : List Call) (d : DomainValue) (went : Bool) (e : DomainValue) : Type 0 where
   pub answered : All IsOk (answers d.machine.part (state_of d) calls)
@@ -38,7 +38,7 @@ pub record AreDone (calls : List Call) (d : DomainValue) (went : Bool) (e : Doma
   pub part : e.machine.part ≡ d.machine.part
   pub ports : e.machine.switch.ports ≡ d.machine.switch.ports
 
--- a call is refused just as the farm refuses it, NoMemory aside
+-- a call is refused exactly as the farm refuses it, NoMemory aside
 abbrev pub IsRefused : Call → DomainValue → Refusal → Type 0
 IsRefused call d refusal = UnlessNoMemory (Err refusal) (Err refusal ≡ (next d.machine.part (state_of d) call).1)
 

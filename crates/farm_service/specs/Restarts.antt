@@ -1,4 +1,4 @@
--- A domain that is begun anew, with the sessions of all its users.
+-- A domain that is restarted, with the sessions of all its users.
 use Rattle.std.specs.Prelude.{ℕ, ◌≡◌, List, length, Some, slice_get}
 use Rattle.plan_rules.specs.Data.{DomainData}
 use Rattle.farm_service.specs.Passes.{SessionValue, pass_begun_anew}

@@ -27,7 +27,7 @@ pub record CommitsLent (d : DomainValue) (t : TicketValue) (told : Result Turned
   pub home : told ≡ Ok BurstRecorded → Commits d t e × (left ≡ Some (fresh_ticket t.domain t.number t.start))
   pub same : told ≢ Ok BurstRecorded → (e ≡ d) × (left ≡ Some t)
 
--- the same of a slot, of which is said whether its ticket is checked out; if none is, nothing changes
+-- the same for a slot, with whether its ticket is checked out; if none is, nothing changes
 abbrev pub CommitsSlot : Bool → DomainValue → Option TicketValue → Result Turned Refusal → DomainValue
     → Option TicketValue → Type 0
 CommitsSlot true d (Some t) told e left = CommitsLent d t told e left

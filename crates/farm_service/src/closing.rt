@@ -38,7 +38,7 @@ pub(crate) struct ClosingMemory {
 }
 
 impl ClosingMemory {
-    /// Room for so many domains.
+    /// Room for `count` domains.
     pub(crate) fn of(alloc: Global, count: usize) -> Result<ClosingMemory, NoMemory>
         ensures { IfOk result (λ room. length room.words.items ≡ count) }
     {

@@ -9,8 +9,8 @@ use std::sync::Wait;
 
 impl Service {
     /// Copies the entries that the journal of a domain gained after a mark, as far as there is room, under the domain's
-    /// lock; returns how far it came. See [`domain_core::Journal::copy_since`]. It takes no memory. After a restart of the
-    /// domain a mark begins anew: else it would leave out what came since.
+    /// lock; returns how far it came. See [`domain_core::Journal::copy_since`]. It takes no memory. After a restart of
+    /// the domain begin again with [`Mark::start`]: an older mark would leave out what came since.
     ///
     /// # Errors
     ///

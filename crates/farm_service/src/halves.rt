@@ -1,4 +1,4 @@
-//! The two halves of a turn, each of which is done in one hold of a domain's lock. Between them the ticket does its burst.
+//! The two halves of a turn. Each is done in one hold of a domain's lock. Between them the ticket does its burst.
 //!
 //! A ticket is kept in a slot: the memory of a spent one serves the next, if the nodes' memories are of one size.
 ghost use Rattle.std.specs.Prelude.{◌≡◌, ◌≢◌, true, Ok, Some, IfOk, IfErr, IfSome, slice_get};

@@ -19,8 +19,8 @@ use plan_rules::AcceptedPlan;
 use std::alloc::Global;
 use switch_table::{OperatorSeat, SwitchTable};
 
-/// The domains of a plan, each over its seat at one switch table, before a service is opened on them. Whoever has them does the
-/// events of their histories again, by `Domain::apply` or by tickets. So each domain is what its journal says.
+/// The domains of a plan, each over its seat at one switch table, before a service is opened on them. The caller does
+/// the events of their histories again, by `Domain::apply` or by tickets. So each domain is what its journal says.
 #[derive(Drop)]
 pub struct Histories {
     pub(crate) plan: AcceptedPlan,
@@ -104,7 +104,7 @@ fn are_domains_in(plan: &AcceptedPlan, domains: &[SeatedDomain]) -> bool
     true
 }
 
-// Adds what an entry has of a user's commands to his list.
+// Adds what an entry has of a user's commands to the user's list.
 fn list_command(entry: &Entry, user: u8, told: &mut Vec<Told>) -> Result<(), NoMemory>
     ensures listed { IfOk result (λ _. told.new.items ≡ told.old.items ++ commands_of user (expanded (entry.now ∷ []))) }
     ensures capacity { vec_capacity told.old ≤ vec_capacity told.new }
@@ -115,7 +115,7 @@ fn list_command(entry: &Entry, user: u8, told: &mut Vec<Told>) -> Result<(), NoM
     Ok(())
 }
 
-// Adds a user's commands in a journal to his list.
+// Adds a user's commands in a journal to the user's list.
 fn list_commands(journal: &Journal, user: u8, told: &mut Vec<Told>) -> Result<(), NoMemory>
     ensures listed { IfOk result (λ _. told.new.items ≡ told.old.items ++ commands_of user (expanded journal.now.entries)) }
     ensures capacity { vec_capacity told.old ≤ vec_capacity told.new }
@@ -131,7 +131,7 @@ fn list_commands(journal: &Journal, user: u8, told: &mut Vec<Told>) -> Result<()
     Ok(())
 }
 
-// Makes the list of a pass its user's commands in the history of his domain.
+// Replaces the list of a pass by its user's commands in the history of the domain.
 fn list_history(domains: &[SeatedDomain], pass: &mut UserPass) -> Result<(), NoMemory>
     ensures { IfOk result (λ _. pass.new ≡ with_history domains.now pass.old) }
 {
@@ -142,7 +142,7 @@ fn list_history(domains: &[SeatedDomain], pass: &mut UserPass) -> Result<(), NoM
     }
 }
 
-/// Makes the list of each pass its user's commands in the history of his domain.
+/// Replaces the list of each pass by its user's commands in the history of the domain.
 pub(crate) fn list_histories(
     domains: &[SeatedDomain],
     users: &mut [UserPass],

@@ -1,4 +1,4 @@
-//! Whether journals are full of which passes say that they met a full one.
+//! Whether each pass has met a full journal only if that of its domain is full.
 ghost use Rattle.std.specs.Prelude.{◌≡◌, ◌∷◌, [], length, true, IfSome};
 ghost use Rattle.domain_core.specs.Journal.{expanded};
 ghost use Rattle.farm_service.specs.Closed.{IsFull, MetFullTruly, AllMetFullTruly};
@@ -35,7 +35,7 @@ fn all_events(journal: &Journal) -> Option<u64>
     Some(events)
 }
 
-// Whether a journal has just as many events as this limit.
+// Whether a journal has exactly as many events as this limit.
 fn is_at(journal: &Journal, limit: u64) -> bool
     ensures { result ≡ true → length (expanded journal.now.entries) ≡ limit }
 {
@@ -45,7 +45,7 @@ fn is_at(journal: &Journal, limit: u64) -> bool
     }
 }
 
-// Whether the domain of this number is closed with just as many events as the plan's limit of it.
+// Whether the domain of this number is closed with exactly as many events as the plan's limit for it.
 fn is_full(plan: &AcceptedPlan, closed: &[ClosedDomain], domain: u8) -> bool
     ensures { result ≡ true → IsFull plan.now closed.now domain }
 {

@@ -1,4 +1,4 @@
-//! Whether journals have of each user what his pass lists.
+//! Whether each pass lists what its domain's journal has of its user.
 ghost use Rattle.std.specs.Prelude.{◌≡◌, ◌≤◌, ◌++◌, [], ◌∷◌, length, take, true, IfSome};
 ghost use Rattle.domain_core.specs.Journal.{expanded};
 ghost use Rattle.farm_service.specs.Commands.{commands_of};

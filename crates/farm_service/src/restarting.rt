@@ -1,4 +1,4 @@
-//! A domain that is begun anew, with the lists of all its users.
+//! A domain that is restarted, with the lists of all its users.
 ghost use Rattle.std.specs.Prelude.{◌≡◌, ◌↔◌, [], Err, IfOk, IfErr, MatchOption, IsTrue, map};
 ghost use Rattle.domain_core.specs.declared.event.Refusal.TheVariants.{NoSuch};
 ghost use Rattle.domain_core.specs.Domain.{Fits, state_of};

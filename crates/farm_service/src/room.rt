@@ -18,7 +18,7 @@ impl Room {
         Room { bytes: u64::MAX }
     }
 
-    /// So many bytes.
+    /// A room of `bytes` bytes.
     pub fn of(bytes: u64) -> Room
         ensures { result.bytes ≡ bytes }
     {

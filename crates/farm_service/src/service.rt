@@ -60,15 +60,15 @@ pub struct Service {
     tokens: TokenQueue,
     stopped: AtomicBool,
     room: Room,
-    // The domains whose nodes and packets rest until they begin anew, since there was no memory.
+    // The domains whose nodes and packets rest until the domain is restarted, since there was no memory.
     halted: Vec<AtomicBool>,
-    // The domains of which it was told that they rest.
+    // The domains of which it was noted that they rest.
     noted: Vec<AtomicBool>,
     // Which bursts are to be done next. Nobody relies on it: it spares bursts that would be stale, or too many.
     schedule: Schedule,
 }
 
-// It is dropped by one call.
+// Dropped by hand, since a derived `Drop` makes callers prove the drop of each field.
 impl Drop for Service {
     fn drop(self) {
         let Service {
@@ -117,8 +117,8 @@ fn ask(
     domain.apply(alloc, by, event)
 }
 
-// Asks a domain that is the plan's of this number. If that refuses for want of memory and no memory is reserved in it for so many
-// entries, which no run comes to, waits for ever.
+// Asks a domain that is the plan's of this number. If it refuses since memory ran out, and memory is reserved in it for
+// fewer than `reserved` entries, waits for ever. No run comes to that.
 fn ask_reserved<R: Wait>(
     rt: &R,
     alloc: Global,
@@ -141,7 +141,8 @@ fn ask_reserved<R: Wait>(
     told
 }
 
-// Domains, each under a lock of its own, which bursts are to be done next, and the tokens of a plan with the passes of workers.
+// The domains, each under a lock of its own; the schedule of bursts; the queue of the plan's tokens; and one pass for
+// each worker.
 fn open_parts<R: Wait>(
     rt: &R,
     alloc: Global,
@@ -168,7 +169,7 @@ fn open_parts<R: Wait>(
     Ok((locks, schedule, tokens, passes))
 }
 
-// So many flags, none of which is set.
+// `count` flags, none of them set.
 fn none_of(alloc: Global, count: usize) -> Result<Vec<AtomicBool>, NoMemory> {
     let mut flags = Vec::with_capacity(alloc, count)?;
     for _flag in 0..count {
@@ -242,12 +243,12 @@ impl Service {
         self.room
     }
 
-    /// Lets the nodes and packets of a domain rest until it begins anew, as if its room were used up.
+    /// Lets the nodes and packets of a domain rest until the domain is restarted, as if its room were used up.
     pub fn halt(&self, domain: u8) {
         self.note_halted(domain, true);
     }
 
-    // Notes whether the nodes and packets of a domain rest whatever its room.
+    // Notes whether the nodes and packets of a domain rest no matter what room it has.
     pub(crate) fn note_halted(&self, domain: u8, is_halted: bool) {
         if let Some(flag) = self.halted.get(usize::from(domain)) {
             flag.store(is_halted, Ordering::SeqCst);
@@ -262,7 +263,7 @@ impl Service {
         }
     }
 
-    // Notes that a domain begins anew.
+    // Notes that a domain was restarted.
     pub(crate) fn note_anew(&self, domain: u8) {
         self.note_halted(domain, false);
         if let Some(flag) = self.noted.get(usize::from(domain)) {
@@ -446,16 +447,15 @@ impl Service {
         &self.schedule
     }
 
-    /// Ends the service. Every merge of the journals is a run of the whole farm of the plan, which
-    /// answers the stored replies and ends as the words say; each user's commands in his domain's
-    /// journal, with their replies, are the list of the pass that was handed in for him, in its order;
-    /// a pass has met a full journal only if his domain's has as many events as its limit; users asked for
-    /// all commands, and the farm itself for nothing but Steps and Moves; and the tokens are the plan's
-    /// nodes, each once.
+    /// Ends the service. Every merge of the journals is a run of the whole farm of the plan, which answers the
+    /// stored replies and ends as the words say; each user's commands in the journal of the user's domain, with
+    /// their replies, are the list of the pass that was handed in for the user, in its order; a pass has met a
+    /// full journal only if its domain's journal has as many events as its limit; users asked for all commands,
+    /// and the farm itself for nothing but Steps and Moves; and the tokens are the plan's nodes, each once.
     ///
-    /// If a journal has other commands of a user than his pass lists, or isn't full though his pass has met a
-    /// full one, or has a command of the farm itself or a Step or a Move of a user, the call waits for ever. No
-    /// run comes to it, unless a history that was done again has such a call.
+    /// If a journal has other commands of a user than the user's pass lists, or isn't full though the user's
+    /// pass has met a full one, or has a command of the farm itself or a Step or a Move of a user, the call
+    /// waits for ever. No run comes to it, unless a history that was done again has such a call.
     ///
     /// # Errors
     ///

@@ -23,13 +23,13 @@ pub enum Settled {
     Busy,
 }
 
-/// A user at a service, which he borrows. Contracts see the service's plan, and the user's pass.
+/// A user at a service, which the session borrows. Contracts see the service's plan, and the user's pass.
 pub struct Session<'a> {
     service: &'a Service,
     pass: UserPass,
 }
 
-// It is dropped by one call.
+// Dropped by hand, since a derived `Drop` makes callers prove the drop of each field.
 impl Drop for Session<'_> {
     fn drop(self) {
         let Session {
@@ -70,7 +70,7 @@ impl Session<'_> {
         pass
     }
 
-    /// What the user asked and was answered so far, in his order.
+    /// What the user asked and was answered so far, in the user's order.
     pub fn told(&self) -> &[Told]
         ensures { result.now ≡ self.now.pass.told }
     {
@@ -183,15 +183,15 @@ impl Session<'_> {
         self.ask(rt, alloc, Event::Look(node))
     }
 
-    /// Rounds of the domain, up to so many, until it is quiet: in each round every node does up to
+    /// Does up to `rounds` rounds of the domain, until it is quiet: in each round every node does up to
     /// `quantum` Steps, 1 to 4,096, outside the lock, and then the packets of all ports move. While nothing
-    /// moves, a round has up to 256 quanta, never more than 65,536 Steps, and counts as as many rounds. The list
+    /// moves, a round has up to 256 quanta, never more than 65,536 Steps, and counts as that many rounds. The list
     /// of the user's pass stays.
     ///
     /// # Errors
     ///
     /// The first refusal ends it, as `NoSuch` where the pass is of no domain of the plan. What was
-    /// recorded before stands.
+    /// recorded before stays recorded.
     pub fn settle<R: Wait>(
         &self,
         rt: &R,

@@ -27,7 +27,7 @@ pub struct DomainStatus {
 pub struct RoomStatus {
     /// How many bytes of it are taken.
     pub bytes: u64,
-    /// Whether nodes and packets of the domain rest until it begins anew: its room is used up, or it was halted.
+    /// Whether nodes and packets of the domain rest until it is restarted: its room is used up, or it was halted.
     pub rests: bool,
 }
 
@@ -73,7 +73,7 @@ impl Service {
     /// # Errors
     ///
     /// `NoSuch` if the plan has no such domain.
-    // Five clauses: what is told of the domain, of its numbers, and when it is refused.
+    // Five clauses: what is said of the domain, of its numbers, and when it is refused.
     pub fn status<R: Wait>(&self, rt: &R, domain: u8) -> Result<DomainStatus, Refusal>
         ensures status { IfOk result (λ status. (d : SpecDomain) × IsFound self.now.plan domain d × IsStatusOf d status) }
         ensures limit { IfOk result (λ status. IfSome (slice_get self.now.plan domain) (λ d. status.limit ≡ (part_of d).limit)) }

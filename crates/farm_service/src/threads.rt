@@ -63,8 +63,8 @@ fn memory_result(out_of_memory: &AtomicBool) -> Result<(), NoMemory> {
     }
 }
 
-/// Works with each pass in a thread of its own, each for so many turns, as [`work`]. All have ended when
-/// the call returns, and the passes are what they were.
+/// Works with each pass in a thread of its own, each for `turns` turns, as [`work`] does. All have ended
+/// when the call returns, and the passes are what they were.
 ///
 /// # Errors
 ///
@@ -97,7 +97,7 @@ pub fn work_all<R: Threads + Wait + Sync, G: Gate + Sync>(
     memory_result(&out_of_memory)
 }
 
-// All users, each in a thread of his own; when the last has ended the service is stopped.
+// All users, each in a separate thread; when the last has ended the service is stopped.
 fn act_each<R: Threads + Wait + Sync, U: Send, F: Fn(usize, &mut U) + Sync>(
     rt: &R,
     service: &Service,
@@ -112,9 +112,9 @@ fn act_each<R: Threads + Wait + Sync, U: Send, F: Fn(usize, &mut U) + Sync>(
     service.stop();
 }
 
-/// Users at a service, each in a thread of his own, and its workers beside them in theirs. `act` is called with each
-/// user's place and the user. When the last user has ended the service is stopped, and all have ended when the call
-/// returns: each user is what `act` left, and the passes are what they were.
+/// Runs users at a service, each in a separate thread, and its workers beside them in threads of their own. `act` is
+/// called with each user's place and the user. When the last user has ended the service is stopped, and all have
+/// ended when the call returns: each user is what `act` left, and the passes are what they were.
 ///
 /// No user waits for a worker. If no thread can be started for the workers they come after the users, and find the
 /// service stopped.

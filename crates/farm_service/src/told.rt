@@ -27,7 +27,7 @@ fn is_own(user: u8, by: By, event: Event) -> bool
     }
 }
 
-/// A user's command in an entry of his domain's journal.
+/// A user's command in an entry of the journal of the user's domain.
 pub(crate) fn command_from(user: u8, entry: &Entry) -> Option<Told>
     ensures { commands_of user (expanded (entry.now ∷ [])) ≡ option_to_list result }
 {

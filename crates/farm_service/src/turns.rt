@@ -14,7 +14,7 @@ use std::sync::Wait;
 use token_queue::Token;
 use turn_schedule::{BurstLength, Pace, RoundEnd};
 
-// Does up to so many Steps of the ticket in a slot; how many it has then.
+// Does up to `steps` Steps of the ticket in a slot; returns how many it has then.
 fn burst(slot: &mut Option<Ticket>, steps: u64) -> u64 {
     match slot {
         Some(ticket) => {
@@ -123,7 +123,7 @@ impl Service {
         }
     }
 
-    // A turn of a node that was taken, of up to so many Steps.
+    // A turn of a node that was taken, of up to `steps` Steps.
     fn turn_alone<R: Wait, G: Gate>(
         &self,
         rt: &R,
@@ -146,7 +146,7 @@ impl Service {
         ended.done()
     }
 
-    // The same, of so many quanta. If the journal has no room for them, the turn is done once more, with one.
+    // The same, of `quanta` quanta. If the journal has no room for them, the turn is done once more, with one.
     fn turn_of<R: Wait, G: Gate>(
         &self,
         rt: &R,
@@ -165,8 +165,8 @@ impl Service {
         self.turn_alone(rt, alloc, token, gate, slot, quantum)
     }
 
-    // Notes what a turn found, which began after so many changes of its domain. A refusal for a full journal comes again
-    // until the domain is changed.
+    // Notes what a turn found. The turn began after `changes` changes of its domain. A refusal for a full journal comes
+    // again until the domain is changed.
     fn note_turn(&self, token: Token, changes: u64, ended: &Result<TurnDone, Refusal>) {
         let rest = self.schedule().rest();
         match ended {
@@ -210,7 +210,8 @@ impl Service {
         Ok(ended?.is_busy())
     }
 
-    // A burst of a node outside the lock, of up to so many Steps, if it has one to do. A stale ticket is passed over.
+    // A burst of a node outside the lock, of up to `steps` Steps, if the node has one to do. A stale ticket is passed
+    // over.
     fn burst_alone<R: Wait>(
         &self,
         rt: &R,
@@ -290,7 +291,8 @@ impl Service {
         }
     }
 
-    // How many quanta the bursts of a round used that could use so many: the most that one of them did, and at least one.
+    // How many quanta the bursts of a round used, of the `quanta` that each could use: the most that one of them did,
+    // and at least one.
     fn used(&self, domain: u8, nodes: u8, quantum: u64, quanta: u64) -> u64
         requires quantum { 1 ≤ quantum }
         requires quanta { 1 ≤ quanta }
@@ -302,7 +304,7 @@ impl Service {
         most.div_ceil(quantum).clamp(1, quanta)
     }
 
-    // The bursts of a round, of so many quanta each, whoever does them.
+    // The bursts of a round, of `quanta` quanta each, no matter who does them.
     fn bursts<R: Wait>(
         &self,
         rt: &R,
@@ -325,7 +327,8 @@ impl Service {
         Ok(())
     }
 
-    // A burst of each node of a domain that has a Step to do, of so many quanta, whoever does it, and then the Moves.
+    // A burst of each node of a domain that has a Step to do, of `quanta` quanta, no matter who does it, and then the
+    // Moves.
     pub(crate) fn round<R: Wait>(
         &self,
         rt: &R,
@@ -361,8 +364,8 @@ impl Service {
         }
     }
 
-    // Whether a domain is quiet after up to so many rounds of a quantum. As long as nothing moves, the bursts of a round are
-    // twice as long as those before, and it counts as several.
+    // Whether a domain is quiet after up to `rounds` rounds of a quantum. As long as nothing moves, the bursts of a
+    // round are twice as long as those before, and the round counts as several.
     pub(crate) fn settle<R: Wait>(
         &self,
         rt: &R,

@@ -13,23 +13,23 @@ use turn_schedule::{BurstLength, Idleness};
 /// As a number of turns: until the service is stopped.
 pub const UNTIL_STOPPED: u64 = u64::MAX;
 
-/// Who is told of a worker's turns. The calls come outside of every lock, and each `begins` is followed by one `ended` of
-/// the same token.
+/// What a worker calls at its turns. The calls come outside of every lock, and each `begins` is followed by one `ended`
+/// of the same token.
 pub trait Gate {
-    /// After the first hold of the domain's lock, in which the token's node was copied or found to have no Step to do, and
-    /// before the burst. If the node couldn't be copied, or rests, nobody is told of the turn.
+    /// After the first hold of the domain's lock, in which the token's node was copied or found to have no Step to do,
+    /// and before the burst. If the node couldn't be copied, or rests, the turn has no such call.
     fn begins<R: Wait>(&self, rt: &R, token: Token);
 
     /// After the second hold of the domain's lock, with what became of the node's ticket in it: it was committed, also one of
     /// no Steps, or it was stale, or why its Steps were refused.
     fn ended<R: Wait>(&self, rt: &R, token: Token, committed: &Result<Committed, Refusal>);
 
-    /// A worker found first that nodes and packets of a domain rest since it has no room, outside of every lock. It comes once until
-    /// the domain begins anew.
+    /// A worker found first that nodes and packets of a domain rest since it has no room. The call comes outside of
+    /// every lock, and once until the domain is restarted.
     fn rests<R: Wait>(&self, _rt: &R, _domain: u8) {}
 }
 
-/// Nobody is told.
+/// Does nothing at a worker's turns.
 pub struct NoGate;
 
 impl Gate for NoGate {
@@ -81,7 +81,7 @@ fn turn<R: Wait, G: Gate>(
     }
 }
 
-// Works for so many turns, beside so many workers that came before.
+// Works for `turns` turns, beside `workers_before` workers that came before.
 fn take_turns<R: Wait, G: Gate>(
     rt: &R,
     alloc: Global,
@@ -122,18 +122,18 @@ fn take_turns<R: Wait, G: Gate>(
     worked
 }
 
-/// Works for so many turns. In each a token is taken, its node does up to `quantum` Steps, 1 to 4,096,
-/// outside the lock of its domain, the packets of the domain's ports move, and the token goes back. A worker
-/// for [`UNTIL_STOPPED`] turns does up to 256 quanta in a turn while nothing moves, but never more than 65,536 Steps. A
-/// turn that finds no token is spent all the same, and so is one of a node that rests, since nothing has changed in its
-/// domain since it had nothing to do; `JournalFull` ends a turn alone, and so does `NoMemory` if the domains have rooms. Of a
-/// domain whose room is used up no turn does anything.
+/// Works for `turns` turns. In each a token is taken, its node does up to `quantum` Steps, 1 to 4,096, outside the lock
+/// of its domain, the packets of the domain's ports move, and the token goes back. A worker for [`UNTIL_STOPPED`] turns
+/// does up to 256 quanta in a turn while nothing moves, but never more than 65,536 Steps. A turn that finds no token is
+/// spent all the same. So is a turn of a node that rests, since nothing has changed in its domain since the node had
+/// nothing to do. `JournalFull` ends only the turn, and so does `NoMemory` if the domains have rooms. No turn does
+/// anything in a domain whose room is used up.
 ///
 /// The pass holds no token before the call and none after it, whatever it answers. Users go first: a thread with
-/// nothing to do gives its core away, and while somebody settles in a domain, his round and the workers do one
-/// burst of each node there, and workers for whom there is no core nap. A worker for [`UNTIL_STOPPED`] turns that has
-/// looked through all tokens in vain sleeps until a domain is changed by others than workers, or more nodes are busy than
-/// workers are awake.
+/// nothing to do gives its core away. While somebody settles in a domain, that thread and the workers together do one
+/// burst of each node there in each round, and workers for which there is no core nap. A worker for [`UNTIL_STOPPED`]
+/// turns that has looked through all tokens in vain sleeps until a domain is changed by others than workers, or more
+/// nodes are busy than workers are awake.
 pub fn work<R: Wait, G: Gate>(
     rt: &R,
     alloc: Global,

@@ -27,8 +27,7 @@ fn without_return(line: &[u8]) -> &[u8]
     }
 }
 
-/// The text before and after the first line that is exactly `mark`; without such a line, the whole text
-/// and nothing.
+/// The text before and after the first line that is exactly `mark`; without such a line, the whole text and nothing.
 pub fn divide<'a>(text: &'a [u8], mark: &[u8]) -> (&'a [u8], &'a [u8])
     ensures { IsDivided text.now mark.now result.0.now result.1.now }
 {

@@ -226,8 +226,7 @@ fn drain<R: Wait>(
 
 impl TokenQueue {
     /// Takes the token that has waited longest; `None` if all are out with workers. After `None` the
-    /// pass holds what it held. A pass that has all parts gets `None` only if it knows each token
-    /// itself.
+    /// pass holds what it held. A pass that has all parts gets `None` only if it knows each token itself.
     pub fn take<R: Wait>(&self, rt: &R, pass: &mut WorkerPass) -> Option<Token>
         requires { pass.old.queue ≡ self.now }
         ensures token { MatchOption result (pass.new ≡ pass.old) (λ token. pass.new ≡ record pass.old { held = token ∷ pass.old.held }) }

@@ -19,7 +19,7 @@ pub struct BurstLength {
     pub may_grow: bool,
 }
 
-/// How many quanta come after so many, as long as nothing moves: twice as many, unless that is too long for a burst.
+/// How many quanta come after `quanta`, as long as nothing moves: twice as many, unless that is too long for a burst.
 pub(crate) fn longer(quanta: u64, quantum: u64) -> u64 {
     let twice = quanta.saturating_mul(2);
     if twice <= MOST_QUANTA && twice.saturating_mul(quantum) <= BURST_STEPS {
@@ -56,7 +56,7 @@ pub struct Pace {
 }
 
 impl Pace {
-    /// The pace at the beginning of so many rounds, after so many changes of the domain by others.
+    /// The pace at the beginning of `rounds` rounds, after `changes` changes of the domain by others.
     pub fn of(rounds: u64, changes: u64) -> Pace {
         Pace {
             quanta: 1,
@@ -78,8 +78,8 @@ impl Pace {
         self.quanta.min(self.left).max(1)
     }
 
-    /// The pace after a round, by quanta of so many Steps each, and after so many changes of the domain by others. Bursts
-    /// become no longer any more once the journal had no room for one.
+    /// The pace after a round, by quanta of `quantum` Steps each, and after `changes` changes of the domain by others.
+    /// Bursts no longer grow once the journal had no room for one.
     pub fn after(self, round: RoundEnd, changes: u64, quantum: u64) -> Pace {
         let may_grow = self.may_grow && !round.was_shortened;
         let quanta = if round.moved || changes != self.changes || !may_grow {

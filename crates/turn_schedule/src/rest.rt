@@ -38,7 +38,7 @@ struct Changes {
     calls: AtomicU64,
 }
 
-// It is dropped by one call.
+// Dropped by hand, since a derived `Drop` makes callers prove the drop of each field.
 impl Drop for Changes {
     fn drop(self) {
         let Changes { all: _, calls: _ } = self;
@@ -47,13 +47,13 @@ impl Drop for Changes {
 
 // What the last turn of a node found.
 struct LastTurn {
-    // Nothing to do, after so many changes of the domain.
+    // Nothing to do, in a turn that began after this many changes of the domain.
     nothing_after: AtomicU64,
     // Something to do.
     is_busy: AtomicBool,
 }
 
-// It is dropped by one call.
+// Dropped by hand, since a derived `Drop` makes callers prove the drop of each field.
 impl Drop for LastTurn {
     fn drop(self) {
         let LastTurn {
@@ -74,7 +74,7 @@ pub struct Rest {
     bed: AtomicU64,
 }
 
-// It is dropped by one call.
+// Dropped by hand, since a derived `Drop` makes callers prove the drop of each field.
 impl Drop for Rest {
     fn drop(self) {
         let Rest {
@@ -115,7 +115,7 @@ impl Rest {
         })
     }
 
-    /// How often a domain was changed, by whomever, modulo 2^64; 0 of a domain that no plan can have.
+    /// How often a domain was changed, by anybody, modulo 2^64; 0 for a domain that no plan can have.
     pub fn changes(&self, domain: u8) -> u64 {
         match self.domains.get(usize::from(domain)) {
             Some(changes) => changes.all.load(Ordering::SeqCst),
@@ -133,7 +133,7 @@ impl Rest {
         }
     }
 
-    /// Notes that a turn of a node found nothing to do, which began after so many changes of its domain.
+    /// Notes that a turn of a node found nothing to do. The turn began after `changes` changes of the node's domain.
     pub fn note_idle(&self, token: Token, changes: u64) {
         if let Some(turn) = self.nodes.get(place_of(token)) {
             turn.nothing_after.store(changes, Ordering::SeqCst);
@@ -212,7 +212,8 @@ impl Rest {
         self.bed.wake_all();
     }
 
-    /// Sleeps until it is woken, unless others than workers changed domains since there were so many changes of theirs.
+    /// Sleeps until it is woken. It doesn't sleep if others than workers have changed domains since they had done so
+    /// `calls` times.
     pub(crate) fn sleep<R: Wait>(&self, rt: &R, calls: u64) {
         let bed = (self.bed.load(Ordering::SeqCst) & 0xffff_ffff) as u32;
         self.sleepers.fetch_add(1, Ordering::SeqCst);

@@ -1,5 +1,6 @@
-//! Which bursts are to be done next, how long, and by whom, so that no two threads do the Steps of one node at once, since all
-//! bursts but one would be stale, and so that a round of `settle` does one burst of each node, whoever does it.
+//! Which bursts are to be done next, how long they are, and by whom. So no two threads do the Steps of one node at the
+//! same time, since all bursts but one would be stale, and a round of `settle` does one burst of each node, no matter
+//! who does it.
 //!
 //! All of it is advice: no contract speaks of it, and a commit compares the node all the same. What is noted of one node or
 //! one domain shares no cache line with what is noted of another.
@@ -16,19 +17,21 @@ use std::thread;
 use std::time::Duration;
 use token_queue::Token;
 
-/// After so many turns with nothing to do, some milliseconds, a worker naps, if somebody settles and cores are free.
+/// After this many turns with nothing to do, which take some milliseconds, a worker naps, if somebody settles and
+/// cores are free.
 const TURNS_BEFORE_NAP: u32 = 20_000;
 
-/// After so many turns with nothing to do a worker looks through all tokens once more, and then sleeps, if nobody settles.
+/// After this many turns with nothing to do a worker looks through all tokens once more, and then sleeps, if nobody
+/// settles.
 const TURNS_BEFORE_SLEEP: u32 = 256;
 
-/// One of so many turns with nothing to do a worker gives its core away before.
+/// A worker with nothing to do gives its core away once in this many turns.
 const TURNS_A_YIELD: u32 = 8;
 
 /// How often the end of a round looks whether a burst of no Steps is over, with a pause after each time.
 const PAUSES: u64 = 64;
 
-/// For so many Steps of a burst it looks once more. In such a time a core that steps does several times as many.
+/// It looks once more for every four Steps of the burst. A core does several times as many Steps between two looks.
 const STEPS_A_PAUSE: u64 = 4;
 
 /// The turns since a worker had something to do.
@@ -73,7 +76,7 @@ struct NodeMarks {
     changes: AtomicU64,
 }
 
-// It is dropped by one call.
+// Dropped by hand, since a derived `Drop` makes callers prove the drop of each field.
 impl Drop for NodeMarks {
     fn drop(self) {
         let NodeMarks {
@@ -94,7 +97,7 @@ struct DomainMarks {
     quanta: AtomicU64,
 }
 
-// It is dropped by one call.
+// Dropped by hand, since a derived `Drop` makes callers prove the drop of each field.
 impl Drop for DomainMarks {
     fn drop(self) {
         let DomainMarks {
@@ -121,7 +124,7 @@ pub struct Schedule {
     rest: Rest,
 }
 
-// It is dropped by one call.
+// Dropped by hand, since a derived `Drop` makes callers prove the drop of each field.
 impl Drop for Schedule {
     fn drop(self) {
         let Schedule {
@@ -149,7 +152,7 @@ fn mark(place: &AtomicBool, mark: bool) {
     }
 }
 
-// Whether a node is out that was taken and given back so many times.
+// Whether a node is out, if it was taken and given back `takes` times.
 fn is_out(takes: u64) -> bool {
     takes % 2 == 1
 }
@@ -166,7 +169,7 @@ impl NodeMarks {
         }
     }
 
-    // Counts one take more, if nobody else has counted since there were so many; whether it did.
+    // Counts one more, if nobody else has counted since there were `takes`; returns whether it did.
     fn count(&self, takes: u64) -> bool {
         let (seqcst, more) = (Ordering::SeqCst, takes.wrapping_add(1));
         self.takes
@@ -174,7 +177,8 @@ impl NodeMarks {
             .is_ok()
     }
 
-    // Waits until the node is back, but no longer than a burst of so many Steps takes; how often it was taken and given back.
+    // Waits until the node is back, but no longer than a burst of `steps` Steps takes; returns how often it was taken
+    // and given back.
     fn wait(&self, steps: u64) -> u64 {
         let pauses = PAUSES.saturating_add(steps / STEPS_A_PAUSE);
         for _pause in 0..pauses {
@@ -254,7 +258,7 @@ impl Schedule {
         }
     }
 
-    /// How many quanta a burst of a round has, in the domain of somebody who settles: one before his first round.
+    /// How many quanta a burst of a round has, in a domain where somebody settles: one before the first round.
     pub fn round_quanta(&self, domain: u8) -> u64 {
         match self.domain(domain) {
             Some(marks) => marks.quanta.load(Ordering::SeqCst),
@@ -262,9 +266,9 @@ impl Schedule {
         }
     }
 
-    /// How many quanta of so many Steps the turn of a node has that was taken, which began after so many changes of its domain:
-    /// as many as the round if somebody settles there, and else twice as many as the turn before, up to 256 and to 65,536
-    /// Steps, or one if the domain was changed since.
+    /// How many quanta of `quantum` Steps a turn of a node has. The node was taken, and the turn began after `changes`
+    /// changes of its domain. The turn has as many as the round if somebody settles there. Else it has twice as many as
+    /// the turn before, up to 256 and to 65,536 Steps, or one if the domain was changed since that turn.
     pub fn turn_quanta(&self, token: Token, changes: u64, quantum: u64) -> u64 {
         if self.has_settler(token.domain) {
             return self.round_quanta(token.domain);
@@ -302,7 +306,7 @@ impl Schedule {
         }
     }
 
-    /// The most Steps that a node of a domain did in its last burst that was noted, of the domain's first nodes, so many.
+    /// The most Steps that one of a domain's first `nodes` nodes did in its last burst that was noted.
     pub fn most_steps(&self, domain: u8, nodes: u8) -> u64 {
         let mut most = 0_u64;
         for node in 0..nodes {
@@ -313,7 +317,7 @@ impl Schedule {
         most
     }
 
-    /// Begins a round of a domain's first nodes, so many: a burst of each is due, of so many quanta.
+    /// Begins a round of a domain's first `nodes` nodes: a burst of each is due, of `quanta` quanta.
     pub fn begin_round(&self, domain: u8, nodes: u8, quanta: u64) {
         if let Some(marks) = self.domain(domain) {
             put(&marks.quanta, quanta);
@@ -325,8 +329,9 @@ impl Schedule {
         }
     }
 
-    /// Waits for the commit of a node that another thread has out, about as long as a burst of so many Steps takes; whether its
-    /// burst of this round is over then. If it isn't, the node is due and out no more: the caller does it.
+    /// Waits for the commit of a node that another thread has out, about as long as a burst of `steps` Steps takes.
+    /// Returns whether the node's burst of this round is over then. If it isn't, the node is no longer due and no
+    /// longer out: the caller does the burst.
     pub fn await_commit(&self, token: Token, steps: u64) -> bool {
         let Some(marks) = self.marks(token) else {
             return true;
@@ -348,7 +353,7 @@ impl Schedule {
         }
     }
 
-    /// He has settled.
+    /// Somebody ends settling in a domain, after a call of `begin_settling`.
     pub fn end_settling(&self, domain: u8) {
         if let Some(marks) = self.domain(domain) {
             marks.settlers.fetch_sub(1, Ordering::SeqCst);

@@ -25,8 +25,7 @@ pub fn each_call_is_private()
     switches_say_their_words();
 }
 
-/// A physical output of the whole farm is driven and ready exactly as its domain, alone, says of its virtual
-/// number.
+/// A physical output of the whole farm is driven and ready exactly as its domain, alone, says of its virtual number.
 pub fn each_output_is_of_its_domain()
     ensures law { EachOutputIsOfItsDomain }
 {
