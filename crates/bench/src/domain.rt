@@ -3,8 +3,7 @@
 //! - `steps`: Steps of a node that runs a loop of two instruction bytes;
 //! - `pings`: a byte from host to host, and its acknowledge back: a Write, two Moves and a Read each;
 //! - `configs`: three configuration bytes that connect an output, and two that enquire it;
-//! - `checkouts-2048`, `checkouts-65536`: tickets of a node with that many bytes of memory, dropped
-//!   immediately;
+//! - `checkouts-2048`, `checkouts-65536`: tickets of a node with that many bytes of memory, dropped immediately;
 //! - `turns-2048`, `turns-65536`: such tickets that do 256 Steps and are committed;
 //! - `checkouts-used`, `turns-used`: the same with 65,536 bytes, where the last word was written too.
 

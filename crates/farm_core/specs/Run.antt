@@ -19,7 +19,7 @@ EachToldAlone plan calls told =
     (domain : ℕ) (place : Place) → slice_get (places_of plan) domain ≡ Some place
     → answers_among domain calls told ≡ answers place.part (opening place.part) (own domain calls)
 
--- a call of a domain that isn't in the plan is answered that there is no such domain
+-- each call of a domain that isn't in the plan is refused with NoSuch
 abbrev pub NobodyElsewhere : List DomainData → List (ℕ × Call) → List Answer → Type 0
 NobodyElsewhere plan calls told =
     (domain : ℕ) → slice_get (places_of plan) domain ≡ None

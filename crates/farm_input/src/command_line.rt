@@ -68,9 +68,9 @@ fn farm_command<'a>(alloc: Global) -> Result<Command<'a>, AllocError>
     command.arg(quantum)
 }
 
-/// Reads the words of the command line. The first is the program's name. The options are `--workers
-/// N`, 1 to 8, default 2, and `--quantum N`, 1 to 4,096, default 256. The error is `clap`'s:
-/// `--help` is one, and that memory ran out another.
+/// Reads the words of the command line. The first is the program's name. The options are
+/// `--workers N`, 1 to 8, default 2, and `--quantum N`, 1 to 4,096, default 256. The error is
+/// `clap`'s: `--help` is one, and that memory ran out another.
 pub fn settings<S: AsStr>(alloc: Global, words: &[S]) -> Result<Settings, clap::Error>
     ensures in_range { IfOk result InRange }
     ensures said { IfOk result (AreSaid (map S.text words.now)) }

@@ -12,7 +12,7 @@ use Rattle.answer_text.specs.Results.{line_text, replies_told}
 use Rattle.line_answers.specs.Asks.{read_replies, next_event, AreAsked}
 
 -- an event is refused as the farm that holds the domain alone refuses it; that the journal is full is said only if this
--- is so. A line doesn't end because memory ran out
+-- is so. That memory ran out is never the end of an answered line
 abbrev pub IsLineRefusal : Type 0 → SessionValue → Event → Refusal → Type 0
 IsLineRefusal IsFull s event NoSuch = IsTold s event (Err NoSuch)
 IsLineRefusal IsFull s event JournalFull = IsTold s event (Err JournalFull) × IsFull

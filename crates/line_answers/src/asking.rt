@@ -108,7 +108,7 @@ fn without_reply(answer: Result<Reply, Refusal>) -> Result<(), Refusal>
     }
 }
 
-/// Settles as long as the program does after each line. Whether that came to rest is nobody's fault.
+/// Settles as long as the program does after each line. It is no error if the domain didn't come to rest.
 ///
 /// # Errors
 ///

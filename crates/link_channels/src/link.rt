@@ -18,7 +18,7 @@ pub struct Link {
     pub output_pointer: u32,
     /// How many bytes are sent after the one under way.
     pub output_count: u32,
-    /// Whether an alternative waits to hear that a byte has arrived.
+    /// Whether an alternative watches for a byte to arrive.
     pub watched: bool,
 }
 

@@ -44,7 +44,7 @@ impl Model for DomainSeat {
 
 impl DomainSeat {
     /// Cuts the first domain off what the opener holds.
-    // Eight clauses: six facts of the opener's seat, none of which follows from the others, and what both seats become.
+    // Eight clauses: six say what the opener's seat is, and two what both seats are then.
     pub(crate) fn take_first_domain(
         shared_words: &Arc<SharedWords>,
         opener: &mut WordsSeat,

@@ -13,8 +13,7 @@ use process_queue::Queue;
 pub struct Cpu {
     /// Iptr, the address of the next instruction byte.
     pub instruction: u32,
-    // A, B and C lie apart, so that a push moves them one by one: it is slower to read two together right after a
-    // write.
+    // A, B and C lie apart, so that a push moves them one by one: it is slower to read two together right after writes.
     pub a: u32,
     /// W, the workspace pointer of the current process.
     pub workspace: u32,

@@ -269,7 +269,7 @@ impl TokenQueue {
     }
 
     /// Ends the queue. All its passes are handed back, and each node of the plan is put exactly once
-    /// in `tokens`, which is empty before and has room for every token.
+    /// in `tokens`, which must be empty and have room for every token.
     pub fn end<R: Wait>(
         self,
         rt: &R,

@@ -5,7 +5,7 @@ use crossbeam_queue::protocol::{Join, Lesson, Outcome, Protocol, Split};
 use crossbeam_queue::{Pass, RuledArrayQueue};
 use std::collections::LinkedList;
 
-/// What a pass knows. Only contracts have it, and no value of it is made.
+/// What a pass knows. Only contracts use it, and no value of it is made.
 pub struct KnownTokens {
     /// Its parts of the right to know the whole. All passes have nine together.
     pub parts: u64,
