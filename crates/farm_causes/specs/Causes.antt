@@ -39,7 +39,7 @@ saved_process m (Ok (Some workspace)) = saved_with workspace (word_at m (workspa
 saved_process m (Ok None) = None
 saved_process m (Err fault) = None
 
--- the process whose descriptor stands in a channel's word
+-- the process whose descriptor is in a channel's word
 abbrev pub waiter_at : List ℕ → ℕ → Option Process
 waiter_at m channel = saved_process m (described (word_at m channel))
 
@@ -67,7 +67,7 @@ output_wait n number l =
     then Some (record { process = waiter_at n.memory (output_channel number); behind = l.output_count })
     else None
 
--- an alternative is to be told of a byte
+-- an alternative is to be notified of a byte
 abbrev pub watcher : Node → LinkNumber → Link → Option Process
 watcher n number l = if l.watched then waiter_at n.memory (input_channel number) else None
 
@@ -103,7 +103,7 @@ is_waiting (Ok word) = word == waiting
 is_waiting (Err fault) = false
 
 -- what the instruction does that ends with this byte, for a process whose word 12 below its workspace is this one: f7
--- is in, fb out, fe outbyte and ff outword. Behind f4, the end of altwt, the word says whether it waits
+-- is in, fb out, fe outbyte and ff outword. After f4, the end of altwt, the word says whether it waits
 abbrev pub met_by : ℕ → Result ℕ Fault → Option Rendezvous
 met_by byte state =
     if byte == 0xF7 then Some Receives
@@ -121,12 +121,12 @@ abbrev pub meets_at : List ℕ → ℕ → Process → Result ℕ Fault → Opti
 meets_at m channel p (Ok byte) = met_there channel p (met_by byte (word_at m (state_address p.workspace)))
 meets_at m channel p (Err fault) = None
 
--- who waits at the channel in this word, if its process stands behind an instruction that waits
+-- who waits at the channel in this word, if its process goes on after an instruction that waits
 abbrev pub inside_wait_at : List ℕ → ℕ → Option InsideWait
 inside_wait_at m channel =
     option_and_then (λ p. meets_at m channel p (byte_at m (p.instruction ⊖ 1))) (waiter_at m channel)
 
--- the words that can be channels in memory, behind the nine of the links and of the event channel
+-- the words that can be channels in memory, which follow the nine of the links and of the event channel
 abbrev pub inside_channels : List ℕ
 inside_channels = map (λ k. 0x80000024 + 4 * k) (range_with_len 0 16375)
 

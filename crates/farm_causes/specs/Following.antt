@@ -9,7 +9,7 @@ use Rattle.domain_core.specs.Moments.{MomentValue, state_at, LeadsOn}
 use Rattle.domain_core.specs.PrivateFarm.{State, Call}
 use Rattle.farm_causes.specs.declared.line.SaidCall.{SaidCall}
 
--- the calls that a line says: one, so many times
+-- the calls that a line says: one call, as often as it was made
 abbrev pub calls_said : SaidCall → List Call
 calls_said said = replicate said.times (record { by = said.by; event = said.event })
 
@@ -17,15 +17,15 @@ calls_said said = replicate said.times (record { by = said.by; event = said.even
 abbrev pub all_said : List SaidCall → List Call
 all_said lines = flat_map calls_said lines
 
--- the calls for which entries stand
+-- the calls that entries stand for
 abbrev pub entry_calls : List Entry → List Call
 entry_calls entries = calls_of (expanded entries)
 
--- of some calls those that come before so many events are recorded
+-- the first of some calls: those that are made before `most` events are recorded
 abbrev pub calls_before : ℕ → MomentValue → List Call → List Call
 calls_before most m calls = take (most - m.recorded) calls
 
--- just these calls lead from one state to another, and each of them was recorded
+-- exactly these calls lead from one state to another, and each of them was recorded
 pub record FollowsCalls (part : PartData) (s : State) (calls : List Call) (t : State) : Type 0 where
   pub gain : List AnsweredCall
   pub calls_are : calls_of gain ≡ calls
@@ -37,7 +37,7 @@ pub record MovesOn (old : MomentValue) (calls : List Call) (new : MomentValue) :
   pub part : new.machine.part ≡ old.machine.part
   pub follows : FollowsCalls old.machine.part (state_at old) calls (state_at new)
 
--- the state to which just these calls lead from the opening, each of which was recorded
+-- the state to which exactly these calls lead from the opening. Each of them was recorded
 pub record IsStateAfter (part : PartData) (calls : List Call) (s : State) : Type 0 where
   pub history : List AnsweredCall
   pub calls_are : calls_of history ≡ calls

@@ -29,7 +29,7 @@ pub struct OutputWait {
 pub struct LinkWaits {
     pub input: Option<InputWait>,
     pub output: Option<OutputWait>,
-    /// The process of an alternative that is to be told of a byte.
+    /// The process of an alternative that is to be notified of a byte.
     pub watch: Option<Process>,
 }
 
@@ -44,7 +44,7 @@ pub enum Cause {
     Answers { link: LinkNumber, left: u8 },
     /// It has a process to run, or a link to serve.
     Runs,
-    /// No process can go on before a link is served. Links stand in the order of their numbers.
+    /// No process can go on before a link is served. What each link is waited for, in the order of their numbers.
     Rests([LinkWaits; 4]),
     /// It met a fault.
     Halted(Fault),

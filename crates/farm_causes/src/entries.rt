@@ -9,7 +9,7 @@ use domain_core::laws::journals_add_up;
 use domain_core::{By, Entry, Event, Reply};
 use t414_step::Stepped;
 
-// What an entry stands for up to so many events.
+// The entry for the first `most` events of this entry.
 #[tactic(auto, using(crate::proofs::EntryCalls::one_whole, crate::proofs::EntryCalls::run_cut, crate::proofs::EntryCalls::run_whole))]
 fn beginning(entry: Entry, most: u64) -> Entry
     requires { 0 < most }
@@ -49,7 +49,7 @@ impl Follower {
         }
     }
 
-    // Does Steps of a node, all of which ran. Only the farm steps.
+    // Does `count` Steps of a node, which all ran. `NoEvent` if a user asked for them: only the farm steps.
     #[tactic(auto, using(crate::proofs::EntryCalls::stays_by))]
     fn follow_ran(&mut self, by: By, node: u8, count: u64) -> Result<(), FollowFault>
         ensures { OnOk result (MovesOn self.old (replicate count (record { by = by; event = Event.Step node })) self.new) }
@@ -66,7 +66,7 @@ impl Follower {
         }
     }
 
-    // Does Steps of a node, of which the last came to this.
+    // Does `count` Steps of a node: the last one came to `last`, and those before it ran.
     #[tactic(auto, using(crate::proofs::EntryCalls::stays_by))]
     fn follow_run(&mut self, by: By, node: u8, count: u64, last: Stepped) -> Result<(), FollowFault>
         ensures { OnOk result (MovesOn self.old (replicate count (record { by = by; event = Event.Step node })) self.new) }
@@ -96,7 +96,7 @@ impl Follower {
         }
     }
 
-    // Does what an entry stands for, until so many events are recorded.
+    // Does what an entry stands for, until `most` events are recorded.
     #[tactic(auto, using(crate::proofs::EntryCalls::none_before, crate::proofs::EntryCalls::moves_before))]
     fn follow_before(&mut self, entry: Entry, most: u64) -> Result<(), FollowFault>
         ensures { OnOk result (MovesOn self.old (calls_before most self.old (entry_calls (entry ∷ []))) self.new) }
@@ -108,8 +108,8 @@ impl Follower {
         self.follow_entry(beginning(entry, left))
     }
 
-    /// Does what the next entries of the domain's journal stand for, until so many events are recorded, and compares what the
-    /// domain answers with what they say. After an error nothing is said of the moment.
+    /// Does what the next entries of the domain's journal stand for, until `most` events are recorded, and compares what the
+    /// domain answers with what they say. After an error nothing is guaranteed of the moment.
     pub fn follow_entries(&mut self, entries: &[Entry], most: u64) -> Result<(), FollowFault>
         ensures { OnOk result (MovesOn self.old (calls_before most self.old (entry_calls entries.now)) self.new) }
     {

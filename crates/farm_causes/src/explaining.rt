@@ -1,4 +1,4 @@
-//! A record is read, and what its nodes wait for is told.
+//! Reads a record, and explains what the nodes of its domain wait for.
 
 use crate::fault::RecordStop;
 use crate::following::Follower;
@@ -11,17 +11,17 @@ use script_text::TextWriter;
 use std::alloc::Global;
 use step_meter::StepMeter;
 
-/// Of so many processes that wait at channels in a node's memory is told, if the record isn't at hand.
+/// How many processes that wait at channels in a node's memory `explain_moment` lists at most.
 const MOST_INSIDE: usize = 100;
 
-/// Says why each node of a record's domain does no more than it does, after the first `most` events of the record. What stands
-/// behind its last line feed is left out, and that is said.
+/// Says why each node of a record's domain does no more than it does, after the first `most` events of the record. What comes
+/// after its last line feed is left out, and the text says so.
 ///
 /// # Errors
 ///
-/// `Record` with `NoMark` if no line `---` stands in the text, with `Plan` and `Domains` if what stands before it is no plan of one
-/// domain, with `Wrong` and `Line` and the first line that isn't one of this domain's record, and with `Memory`; `Steps` if its
-/// lines have more Steps than the meter allows.
+/// `Record` with `NoMark` if the text has no line `---`, with `Plan` and `Domains` if what comes before that line is no plan of
+/// one domain, with `Wrong` and `Line` and the first line that isn't one of this domain's record, and with `Memory`; `Steps` if
+/// its lines have more Steps than the meter allows.
 pub fn explain_record<M: StepMeter>(
     alloc: Global,
     text: &[u8],
@@ -48,8 +48,8 @@ fn explain_followed(alloc: Global, follower: &Follower, is_cut: bool) -> Result<
     told.finish()
 }
 
-/// Says why each node does no more than it does, or one of them, at the moment to which a domain was led. Of the processes that
-/// wait at channels in a node's memory the first hundred are told, and how many more there are.
+/// Says why each node, or one of them, does no more than it does, at the moment to which a domain was led. Of the processes that
+/// wait at channels in a node's memory the first hundred are listed, and the number of the others is given.
 pub fn explain_moment(
     alloc: Global,
     follower: &Follower,

@@ -58,13 +58,13 @@ impl From<Refusal> for FollowFault {
 /// Why nothing is said of a text.
 #[derive(Clone, Copy, Debug, Error)]
 pub enum WhyFault {
-    /// It has no line behind a plan.
+    /// It has no line `---` after a plan.
     #[error("it is no record: a record is a plan, a line ---, and the events of its domain, as `live --record` writes it")]
     NoMark,
     /// Its plan is refused, with the number of its smallest fault.
     #[error("plan: {0}: `lab plan` says where and why")]
     Plan(u8),
-    /// Its plan has so many domains.
+    /// Its plan doesn't have one domain, but this number of them.
     #[error("the plan of a record has one domain, and this one has {0} (of a script, `lab run SCRIPT --record D` prints the record of domain D)")]
     Domains(u8),
     /// The line of this number in the whole text isn't done.

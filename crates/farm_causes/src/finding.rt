@@ -11,13 +11,13 @@ use node_memory::{Fault, Memory, NoMemory};
 use process_queue::NOT_PROCESS;
 use std::alloc::Global;
 
-/// The first word that can be a channel in memory, behind the nine of links and of the event channel.
+/// The first word that can be a channel in memory. It follows the nine words of the links and of the event channel.
 const FIRST_INSIDE: u32 = 0x8000_0024;
 
 /// How many words follow in the largest memory, that one counted.
 const INSIDE_WORDS: u32 = 16_375;
 
-// The process whose descriptor stands in a channel's word, and where it goes on.
+// The process whose descriptor is in a channel's word, and where it goes on.
 fn waiter_at(memory: &Memory, channel: u32) -> Option<Process>
     ensures { result ≡ waiter_at memory.now channel }
 {
@@ -79,7 +79,7 @@ fn output_wait(node: &Node, number: LinkNumber, link: Link) -> Option<OutputWait
     })
 }
 
-// Whose alternative is to be told of a byte.
+// The process of an alternative that is to be notified of a byte.
 fn watcher(node: &Node, number: LinkNumber, link: Link) -> Option<Process>
     ensures { result ≡ watcher node.now number link }
 {
@@ -130,7 +130,7 @@ pub fn cause_in(node: &Node) -> Cause
     }
 }
 
-// Whether the word behind the end of an alternative says that it waits.
+// Whether the word for the state of an alternative says that it waits.
 fn is_waiting(state: Result<u32, Fault>) -> bool
     ensures { result ≡ is_waiting state }
 {
@@ -171,7 +171,7 @@ fn inside_wait_at(memory: &Memory, channel: u32) -> Option<InsideWait>
 
 /// Who waits at channels in memory, lowest channel first. `NoMemory` where the list can't be kept.
 ///
-/// A word counts as a channel if it is the descriptor of a process that goes on behind an instruction which waits. So does a copy
+/// A word counts as a channel if it is the descriptor of a process that goes on after an instruction which waits. So does a copy
 /// of such a descriptor that a program keeps for itself.
 pub fn inside_waits(alloc: Global, memory: &Memory) -> Result<Vec<InsideWait>, NoMemory>
     ensures { IfOk result (λ waits. waits.items ≡ inside_waits memory.now) }

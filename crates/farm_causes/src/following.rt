@@ -35,7 +35,7 @@ pub struct Follower {
     past: Past,
 }
 
-// It is dropped by one call.
+// Dropped by hand, since a derived `Drop` makes callers prove the drop of each field.
 impl Drop for Follower {
     fn drop(self) {
         let Follower {
@@ -141,7 +141,7 @@ impl Follower {
         Ok(reply)
     }
 
-    // Does Steps of a node at once, of which all run.
+    // Does Steps of a node in one burst. `Fewer` if not all of them run.
     pub(crate) fn follow_steps(&mut self, node: u8, times: u64) -> Result<Reply, FollowFault>
         ensures { IfOk result (λ reply. MovesOn self.old (calls_said (record { times = times; by = By.Farm; event = Event.Step node })) self.new) }
     {
@@ -157,7 +157,8 @@ impl Follower {
         Ok(Reply::Stepped(Stepped::Ran))
     }
 
-    /// Does a call as often as it was made. Only Steps stand together. After an error nothing is said of the moment.
+    /// Does a call as often as it was made. `NoEvent` if it was made several times, unless it is a Step for which the farm asks.
+    /// After an error nothing is guaranteed of the moment.
     pub fn follow_call(&mut self, call: SaidCall) -> Result<Reply, FollowFault>
         ensures { IfOk result (λ reply. MovesOn self.old (calls_said call) self.new) }
     {

@@ -65,7 +65,7 @@ pub fn next_registers(node: &Node) -> Result<Option<Cpu>, NoMemory> {
     }
 }
 
-/// The address behind the code that a node loads.
+/// The address after the last byte of the code that a node loads.
 pub fn code_end_of(node: &Node) -> Option<u32> {
     match node.state() {
         NodeState::Takes {

@@ -5,7 +5,7 @@ use domain_core::{By, Event};
 use farm_replay::{RepeatedRequest, Request, read_request};
 use std::alloc::Global;
 
-/// What stands between a call and its answer.
+/// What is between a call and its answer.
 const BEFORE_THE_ANSWER: &str = " = ";
 
 /// A call, and how often it was made.

@@ -13,7 +13,7 @@ use step_meter::StepMeter;
 use t414_step::Stepped;
 
 impl Follower {
-    // Does Steps of a node, of which all run. The meter is asked for them, and told of them.
+    // Does Steps of a node. `Fewer` if not all of them run. The meter allows them before they are done, and notes them after.
     fn follow_counted<M: StepMeter>(
         &mut self,
         node: u8,
@@ -35,7 +35,7 @@ impl Follower {
         Ok(Reply::Stepped(Stepped::Ran))
     }
 
-    // Does a call as often as it was made. Only Steps stand together.
+    // Does a call as often as it was made. `NoEvent` if it was made several times, unless it is a Step for which the farm asks.
     pub(crate) fn follow_said<M: StepMeter>(
         &mut self,
         call: SaidCall,

@@ -27,7 +27,7 @@ pub struct FaultPast {
 /// What was noted of a node.
 #[derive(Clone, Copy)]
 pub struct NodePast {
-    /// The address behind the code that was loaded last.
+    /// The address after the last byte of the code that was loaded last.
     pub code_end: Option<u32>,
     /// How many Steps it has done since a packet came or went.
     pub steps: u64,

@@ -19,7 +19,7 @@ pub struct Record<'a> {
     pub plan: AcceptedPlan,
     /// The lines of its events. The last one may be cut to the events that were asked for.
     pub lines: Vec<RecordedLine<'a>>,
-    /// Whether something stands behind its last line feed, which is left out.
+    /// Whether something comes after its last line feed. It is left out.
     pub is_cut: bool,
 }
 
@@ -36,7 +36,7 @@ fn read_head(alloc: Global, text: &[u8]) -> Result<AcceptedPlan, WhyFault>
     }
 }
 
-// What stands up to the last line feed.
+// What a text has up to its last line feed, that one included.
 fn whole_lines(text: &[u8]) -> &[u8] {
     match text.iter().rposition(|byte| *byte == b'\n') {
         Some(place) => &text[..=place],
@@ -66,7 +66,7 @@ fn cut_line<'a>(line: RecordedLine<'a>, left: u64) -> RecordedLine<'a> {
     cut
 }
 
-// The lines of the first so many events, behind so many lines of a whole text.
+// The lines of the first `most` events. `before` is the number of lines that come before them in the whole text.
 fn read_lines<'a>(
     alloc: Global,
     numbered: &[NumberedLine<'a>],
@@ -105,8 +105,8 @@ fn read_numbered<'a>(alloc: Global, line: NumberedLine<'a>) -> Result<RecordedLi
 ///
 /// # Errors
 ///
-/// `NoMark` if no line `---` stands in the text; `Plan` and `Domains` if what stands before it is no plan of one domain; `Wrong` and
-/// `Line` with the first line that asks no single event of domain 0; `Memory`.
+/// `NoMark` if the text has no line `---`; `Plan` and `Domains` if what comes before that line is no plan of one domain; `Wrong`
+/// and `Line` with the first line that asks no single event of domain 0; `Memory`.
 pub fn read_record<'a>(alloc: Global, text: &'a [u8], most: u64) -> Result<Record<'a>, WhyFault>
     ensures { IfOk result (λ read. length read.plan ≡ 1) }
 {

@@ -19,16 +19,16 @@ const MANY_STEPS: u64 = 100_000;
 /// How many packets among nodes are said to be many.
 const MANY_PACKETS: u64 = 256;
 
-/// Of what is said.
+/// What is explained.
 #[derive(Clone, Copy)]
 pub struct Chosen {
     /// One node, or all of the domain.
     pub node: Option<u8>,
-    /// So many processes that wait at channels in a node's memory.
+    /// How many processes that wait at channels in a node's memory are listed at most.
     pub most_inside: usize,
 }
 
-/// A domain of which something is said.
+/// A domain whose nodes are explained.
 #[derive(Drop)]
 pub struct Scene<'a> {
     alloc: Global,
@@ -315,7 +315,7 @@ impl Scene<'_> {
         self.write_of(number, wait.process, text);
     }
 
-    // That a process waits, with the instruction in which it does, if that still stands in memory.
+    // That a process waits, with the instruction in which it does, if that is still in memory.
     fn sending_words(&self, number: u8, process: Option<Process>) -> &'static str {
         let (Some(node), Some(process)) = (self.moment.node(number), process) else {
             return " waits";
@@ -335,7 +335,7 @@ impl Scene<'_> {
         }
     }
 
-    // Says so if a workspace is where the boot left it, right behind the code.
+    // Says so if a workspace is where the boot left it, right after the code.
     fn write_workspace(&self, number: u8, workspace: u32, text: &mut TextWriter) {
         let Some(end) = self.past.node(number).code_end else {
             return;

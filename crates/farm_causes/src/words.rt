@@ -9,7 +9,7 @@ use t414_assembly::{Instruction, write_instruction};
 use t414_decode::{Function, decode};
 use t414_step::Cpu;
 
-/// Writes a fault in words behind something else, and ends the line.
+/// Writes a text, then a fault in words, and ends the line.
 pub fn push_text(text: &mut TextWriter, before: &str, fault: Fault) {
     text.push(before);
     let written = write!(text.as_mut_string(), "{fault}");
@@ -60,7 +60,7 @@ pub fn push_at(text: &mut TextWriter, process: Option<Process>) {
     }
 }
 
-/// Writes an address, and the instruction whose byte stands there.
+/// Writes an address, and the instruction whose byte is there.
 pub fn push_instruction(text: &mut TextWriter, cpu: Cpu, byte: Option<u8>) {
     text.push_word(cpu.instruction);
     if let Some(byte) = byte {
