@@ -1,4 +1,4 @@
--- What one domain of a plan is told, as if it were alone.
+-- What one domain of a plan is answered, as if it were alone.
 use Rattle.std.specs.Prelude.{◌≡◌, ℕ, List, Some, slice_get}
 use Rattle.plan_rules.specs.Data.{DomainData}
 use Rattle.domain_core.specs.PrivateFarm.{Answer, Call, answers, opening}

@@ -1,4 +1,4 @@
-//! Standing on a proof: what the calls of one domain are answered is what it is answered alone.
+//! How to use a proof: the calls of one domain have the answers that they have on a farm of their own.
 ghost use Rattle.std.specs.Prelude.{IfOk};
 ghost use Rattle.farm_core.specs.Run.{calls_asked};
 ghost use Rattle.farm_example.specs.Alone.{IsToldAlone};
@@ -9,8 +9,8 @@ use farm_core::{Answers, run};
 use plan_checker::AcceptedPlan;
 use std::alloc::Global;
 
-/// Runs the calls of all domains, and gives the answers to those of one: just those that a farm which holds this domain alone
-/// gives to its own calls.
+/// Runs the calls of all domains, and returns the answers to those of one. They are exactly the answers that a farm which holds
+/// this domain alone gives to its own calls.
 ///
 /// # Errors
 ///

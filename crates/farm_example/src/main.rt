@@ -72,7 +72,7 @@ fn accepted_plan(alloc: Global) -> Result<AcceptedPlan, PlanFault> {
     check(alloc, plan)
 }
 
-// The same calls, with one of bob's after each: he disconnects all outputs, which are his.
+// The same calls, with one of bob's after each: it disconnects all outputs of bob's domain.
 fn beside_bob(alloc: Global, calls: &[FarmCall]) -> Result<Vec<FarmCall>, NoMemory> {
     let mut both = Vec::new(alloc);
     for call in calls {

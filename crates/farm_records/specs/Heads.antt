@@ -26,13 +26,13 @@ pub record IsOnlyDomain (plan : List DomainData) (number : ℕ) (other : List Do
   pub there : slice_get plan number ≡ Some domain
   pub alike : AreAlike alone domain
 
--- before the first line `---`, behind which nothing stands, the text is such a plan
+-- the text is such a plan up to its first line `---`, and nothing comes after that line
 pub record ReadsAs (text : List ℕ) (plan : List DomainData) : Type 0 where
   pub before : List ℕ
   pub divided : IsDivided text (codes "---") before []
   pub reads : IsPlan before plan
 
--- the text is the plan of the domain of this number alone, and the line behind it
+-- the text is the plan of the domain of this number alone, and the line `---` after it
 pub record IsHead (plan : List DomainData) (number : ℕ) (text : List ℕ) : Type 0 where
   pub other : List DomainData
   pub reads : ReadsAs text other

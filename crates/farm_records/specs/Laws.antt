@@ -13,6 +13,6 @@ pub record IsCutBehind (count : ℕ) (lines : List RecordLine) : Type 0 where
   pub text : record_text lines ≡ record_text (take count lines) ++ record_text (drop count lines)
   pub history : record_history lines ≡ record_history (take count lines) ++ record_history (drop count lines)
 
--- a record can be cut behind each of its lines
+-- a record can be cut after each of its lines
 abbrev pub BeginningsAreRecords : Type 0
 BeginningsAreRecords = (lines : List RecordLine) (count : ℕ) → IsCutBehind count lines

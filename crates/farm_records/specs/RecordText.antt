@@ -1,4 +1,4 @@
--- The record of a domain: a line for each event, or for Steps that were answered alike, with the answer that was told.
+-- The record of a domain: a line for each event, or for Steps that were answered alike, with the answer that was given.
 -- `lab rows` reads such lines (docs/LAB.md); the domain is the only one of its plan, so its number is 0.
 use Rattle.std.specs.Prelude.{ℕ, zero, suc, List, [], ◌∷◌, ◌++◌, codes, replicate, nat_lt, if◌then◌else◌}
 use Rattle.std.specs.List.{flat_map}
@@ -12,12 +12,12 @@ use Rattle.domain_core.specs.Journal.{AnsweredCall, answered_step}
 use Rattle.farm_replay.specs.Events.{user_text, event_text}
 use Rattle.answer_text.specs.Replies.{reply_text}
 
--- a call that was made so many times, one after another, and answered alike each time
+-- a call that was made `times` times, one after another, and answered alike each time
 pub record RecordLine : Type 0 where
   pub times : ℕ
   pub answered : AnsweredCall
 
--- what stands only before what there is more than one of
+-- this text if the number is more than one, else nothing
 abbrev pub if_several : ℕ → List ℕ → List ℕ
 if_several times text = if nat_lt 1 times then text else []
 
@@ -33,11 +33,11 @@ record_line_text l =
 abbrev pub record_text : List RecordLine → List ℕ
 record_text lines = flat_map record_line_text lines
 
--- the history for which a line stands
+-- the history that a line stands for
 abbrev pub line_history : RecordLine → List AnsweredCall
 line_history l = replicate l.times l.answered
 
--- the history for which lines stand
+-- the history that lines stand for
 abbrev pub record_history : List RecordLine → List AnsweredCall
 record_history lines = flat_map line_history lines
 
@@ -46,7 +46,7 @@ abbrev pub ran_lines : By → ℕ → ℕ → List RecordLine
 ran_lines by node zero = []
 ran_lines by node (suc more) = record { times = suc more; answered = answered_step by node stepped.Ran } ∷ []
 
--- Steps of a node, of which the last came to this
+-- Steps of a node: the last one came to `last`, and those before it ran
 abbrev pub run_lines : By → ℕ → ℕ → Stepped → List RecordLine
 run_lines by node zero last = []
 run_lines by node (suc more) stepped.Ran = ran_lines by node (suc more)

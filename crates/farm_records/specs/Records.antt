@@ -10,13 +10,13 @@ pub record GainsHistory (gain : List AnsweredCall) (old new : DomainValue) : Typ
   pub part : new.machine.part ≡ old.machine.part
   pub ports : new.machine.switch.ports ≡ old.machine.switch.ports
 
--- the bytes are the line of a call that the domain answered just so, as often as the line says
+-- the bytes are the line of a call that the domain answered exactly as the line says, and as often
 pub record RedoesLine (bytes : List ℕ) (old new : DomainValue) : Type 0 where
   pub line : RecordLine
   pub text : record_line_text line ≡ bytes
   pub gains : GainsHistory (line_history line) old new
 
--- the bytes are lines of calls that the domain answered just so, and behind them what stands behind the last line feed
+-- the bytes are lines of calls that the domain answered exactly so, and then what comes after the last line feed
 pub record RedoesLines (bytes behind : List ℕ) (old new : DomainValue) : Type 0 where
   pub lines : List RecordLine
   pub text : bytes ≡ record_text lines ++ behind

@@ -23,7 +23,7 @@ abbrev pub TakesHead : Option (List ℕ) → Option (List ℕ) → List ℕ → 
 TakesHead before after head true = Consumes before after head
 TakesHead before after head false = HasBeginning before head
 
--- a reader had just lines that the domain did again, with so many bytes behind the last line feed
+-- a reader had nothing but lines that the domain did again, and `torn` bytes after the last line feed
 pub record TakesLines (known : Option (List ℕ)) (torn : ℕ) (old new : DomainValue) : Type 0 where
   pub bytes : List ℕ
   pub behind : List ℕ
@@ -31,7 +31,7 @@ pub record TakesLines (known : Option (List ℕ)) (torn : ℕ) (old new : Domain
   pub redone : RedoesLines bytes behind old new
   pub torn_is : length behind ≡ torn
 
--- a reader had just a head, and then such lines
+-- a reader had nothing but a head, and then such lines
 pub record TakesAll (known : Option (List ℕ)) (head : List ℕ) (torn : ℕ) (old new : DomainValue) : Type 0 where
   pub bytes : List ℕ
   pub behind : List ℕ

@@ -11,7 +11,7 @@ use std::alloc::Global;
 /// What divides the plan from the events.
 const BEHIND_THE_PLAN: &[u8] = b"---";
 
-// Appends what stands before an entry of a list.
+// Appends what comes before an entry of a list: a comma, unless it is the first.
 fn write_comma(text: &mut String, is_first: bool) -> Result<(), HeadFault> {
     if !is_first {
         text.push_str(", ")?;
@@ -47,7 +47,7 @@ fn write_hosts(text: &mut String, hosts: &[HostPart], user: u8) -> Result<(), He
     Ok(())
 }
 
-// Appends the users, each with his hosts.
+// Appends the users, each with their hosts.
 fn write_users(text: &mut String, plan: &AcceptedPlan, number: u8) -> Result<(), HeadFault>
     requires { number < length plan.now }
 {
@@ -88,7 +88,7 @@ fn write_nodes(text: &mut String, nodes: &[NodePart]) -> Result<(), HeadFault> {
     Ok(())
 }
 
-// The plan of a domain alone, and the line behind it.
+// The plan of a domain alone, and the line `---` after it.
 fn head_text(alloc: Global, plan: &AcceptedPlan, number: u8) -> Result<String, HeadFault>
     requires { number < length plan.now }
 {
@@ -111,7 +111,7 @@ impl From<PlanFault> for HeadFault {
     }
 }
 
-// The plan before the mark of a text behind which nothing stands.
+// The plan before the line `---` of a text. `Unlike` if anything follows that line.
 fn plan_of_head(alloc: Global, text: &[u8]) -> Result<AcceptedPlan, HeadFault>
     ensures { IfOk result (ReadsAs text.now) }
 {
@@ -163,8 +163,8 @@ fn is_alike(alone: &AcceptedPlan, plan: &AcceptedPlan, number: u8) -> bool
     are_named_alike(alone, plan, number)
 }
 
-/// The head of the record of a domain of this number: the plan that has this domain alone, and the line behind which its events
-/// stand. It is read back before it is given.
+/// The head of the record of the domain of this number: the plan that has this domain alone, and the line `---`, after which
+/// the events come. It is read back before it is returned.
 ///
 /// # Errors
 ///

@@ -6,7 +6,7 @@ use farm_replay::{RepeatedRequest, Request, read_request};
 use line_words::WordFault;
 use std::alloc::Global;
 
-/// What stands between a call and its answer.
+/// What is between a call and its answer.
 const BEFORE_THE_ANSWER: &str = " = ";
 
 /// A call of a record, and how often it was made.

@@ -15,11 +15,11 @@ use std::io::{self, BufRead};
 pub enum Redone {
     /// A beginning of its head, which isn't whole: it says nothing yet.
     Beginning,
-    /// Its head and whole lines, behind which so many bytes stand without a line feed.
+    /// Its head and whole lines, and then `torn` bytes without a line feed.
     Lines { torn: usize },
 }
 
-// Reads the next line with its line feed. At the end of the input it is empty; what stands behind the last line feed has none.
+// Reads the next line with its line feed. At the end of the input it is empty; what comes after the last line feed has none.
 fn next_line<I: BufRead>(input: &mut I, line: &mut Vec<u8>) -> Result<(), RecordFault>
     ensures taken { OnOk result (Consumes (I.remaining input.old) (I.remaining input.new) line.new.items) }
     ensures end { OnOk result (line.new.items ≡ [] → IsAtEnd (I.remaining input.old)) }
@@ -72,7 +72,7 @@ fn take_head<I: BufRead>(
     Err(RecordFault::Head)
 }
 
-// Nothing stands behind the line that was read last.
+// Checks that the input ends after the line that was read last. `Io` if it doesn't.
 fn take_end<I: BufRead>(input: &mut I, line: &mut Vec<u8>) -> Result<(), RecordFault>
     ensures { OnOk result (IsAtEnd (I.remaining input.old)) }
 {
@@ -84,7 +84,8 @@ fn take_end<I: BufRead>(input: &mut I, line: &mut Vec<u8>) -> Result<(), RecordF
     }
 }
 
-// Does lines again up to the end of the input. The first has this number. How many bytes stand behind the last line feed.
+// Does lines again up to the end of the input. `first` is the number of the first line. Returns how many bytes come after the
+// last line feed.
 fn redo_lines<I: BufRead, O: Outputs + Drop>(
     input: &mut I,
     line: &mut Vec<u8>,
@@ -113,13 +114,14 @@ fn lines_in(text: &[u8]) -> u64 {
     text.iter().filter(|byte| **byte == b'\n').count() as u64
 }
 
-/// Reads a record of a domain that was opened anew, and does again what it says. Each line is compared with what the domain
-/// answers, byte by byte. What stands behind the last line feed isn't done: it is the beginning of a line that nobody was told.
+/// Reads the record of a freshly opened domain, and does again what it says. Each line is compared with what the domain
+/// answers, byte by byte. What comes after the last line feed isn't done: it is the beginning of a line, and nobody was given
+/// the answer in it.
 ///
 /// # Errors
 ///
 /// `Head` if it begins with another head than this; `Line` with the number of the first line that isn't one of a record or that
-/// the domain answers otherwise; `Io` if a read fails; `Memory`. What was done till then stands.
+/// the domain answers otherwise; `Io` if a read fails; `Memory`. What was done until then stays done.
 pub fn redo_record<I: BufRead, O: Outputs + Drop>(
     alloc: Global,
     input: &mut I,

@@ -24,7 +24,7 @@ pub struct Redoing {
     text: String,
 }
 
-// It is dropped by one call.
+// Dropped by hand, since a derived `Drop` makes callers prove the drop of each field.
 impl Drop for Redoing {
     fn drop(self) {
         let Redoing {
@@ -132,7 +132,7 @@ fn is_rightly_asked(by: By, event: Event) -> bool {
     }
 }
 
-// Does a call as often as it was made. Only Steps stand together.
+// Does a call as often as it was made. `NoLine` if it was made several times, unless it is a Step.
 fn redo_call<O: Outputs + Drop>(
     alloc: Global,
     domain: &mut Domain<O>,
@@ -158,8 +158,8 @@ fn redo_call<O: Outputs + Drop>(
     }
 }
 
-/// Does again what a line says, with its line feed, and compares what the domain answers. Steps that stand together are done
-/// in bursts, in which the periods of an endless loop are counted and not done.
+/// Does again what a line says, with its line feed, and compares what the domain answers. The Steps of one line are done in
+/// bursts, in which the periods of an endless loop are counted and not done.
 ///
 /// # Errors
 ///

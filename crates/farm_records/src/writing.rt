@@ -8,7 +8,7 @@ use domain_core::{By, Entry, Event, NoMemory, Reply};
 use farm_replay::{write_event, write_user};
 use t414_step::Stepped;
 
-// Appends a number and what stands behind it, if it is more than one.
+// Appends a number and the text after it, if the number is more than one.
 fn write_if_several(text: &mut String, times: u64, behind: &str) -> Result<(), NoMemory>
     ensures text { OnOk result (string_bytes text.new ≡ string_bytes text.old ++ if_several times (decimal times ++ behind.now)) }
 {
@@ -19,7 +19,7 @@ fn write_if_several(text: &mut String, times: u64, behind: &str) -> Result<(), N
     text.push_str(behind)
 }
 
-/// Appends a line: a call that was answered alike so many times.
+/// Appends a line: a call that was made `times` times, and answered alike each time.
 pub(crate) fn write_line(
     text: &mut String,
     times: u64,
@@ -57,7 +57,7 @@ fn write_ran(text: &mut String, by: By, node: u8, count: u64) -> Result<(), NoMe
     )
 }
 
-// Appends the lines of Steps of a node, of which the last came to this.
+// Appends the lines of `count` Steps of a node: the last one came to `last`, and those before it ran.
 #[tactic(auto, using(crate::proofs::Lines::ended_run_text))]
 fn write_run(text: &mut String, by: By, node: u8, count: u64, last: Stepped) -> Result<(), NoMemory>
     ensures text { OnOk result (string_bytes text.new ≡ string_bytes text.old ++ record_text (run_lines by node count last)) }
@@ -74,8 +74,8 @@ fn write_run(text: &mut String, by: By, node: u8, count: u64, last: Stepped) -> 
     }
 }
 
-// Appends the lines of an entry of a journal. Steps that stand together are one line, or two if the last didn't run as the
-// others did.
+// Appends the lines of an entry of a journal. The Steps of one entry are one line, or two if the last didn't run as the others
+// did.
 fn write_record_of(text: &mut String, entry: Entry) -> Result<(), NoMemory>
     ensures text { OnOk result (string_bytes text.new ≡ string_bytes text.old ++ record_text (entry_lines entry)) }
 {

@@ -31,15 +31,15 @@ StayIfUnrecorded domain old new =
     recorded_there (slice_get new domain) ≡ recorded_there (slice_get old domain)
     → all_states new ≡ all_states old
 
--- so many Steps of a node for which the farm asks
+-- `count` Steps of a node for which the farm asks
 abbrev pub step_calls : ℕ → ℕ → ℕ → List (ℕ × Call)
 step_calls domain node count = repeat count (event_calls domain ByTheFarm (Step node ∷ []))
 
--- what they are told if all but the last ran
+-- what they are answered if all but the last ran
 abbrev pub steps_answers : ℕ → Stepped → List Answer
 steps_answers before last = replicate before (Ok (reply.Stepped Ran)) ++ Ok (reply.Stepped last) ∷ []
 
--- Steps of a node were done, so many at most, or none
+-- Steps of a node were done, at most `most`, or none
 abbrev pub HaveStepped : ℕ → ℕ → ℕ → Option DoneSteps → List DomainValue → List DomainValue → Type 0
 HaveStepped domain node most None old new = HaveRun old new [] []
 HaveStepped domain node most (Some done) old new =

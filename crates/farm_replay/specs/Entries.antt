@@ -6,7 +6,7 @@ use Rattle.domain_core.specs.declared.journal.Entry.TheVariants.{One, Run}
 use Rattle.farm_replay.specs.Events.{user_text, event_text}
 use Rattle.answer_text.specs.Replies.{reply_text, stepped_text}
 
--- one event; or Steps of a node that stand together: how many, and what the last of them came to
+-- one event; or Steps of a node that are one entry: how many, and what the last of them came to
 abbrev pub entry_text : Entry → List ℕ
 entry_text (One by event reply) = user_text by ++ codes " " ++ event_text event ++ codes ": " ++ reply_text reply
 entry_text (Run by node count last) =

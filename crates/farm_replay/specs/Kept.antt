@@ -13,7 +13,7 @@ pub record KeptList : Type 0 where
 abbrev pub last_group : KeptList → Group
 last_group l = record { count = l.count; text = l.last }
 
--- these groups are written, each with a comma behind it, and with the last one they are all texts
+-- these groups are written, each with a comma after it, and with the last one they are all texts
 pub record IsBehind (texts : List (List ℕ)) (l : KeptList) : Type 0 where
   pub groups : List Group
   pub apart : AreGroups (groups ++ last_group l ∷ [])
@@ -25,7 +25,7 @@ pub record IsUnwritten (texts : List (List ℕ)) (l : KeptList) : Type 0 where
   pub none : texts ≡ []
   pub text : l.text ≡ []
 
--- the list has these texts, if it has so many of the last
+-- the list has these texts, if this is the count of its last group
 abbrev pub HoldsTextsAt : List (List ℕ) → KeptList → ℕ → Type 0
 HoldsTextsAt texts l zero = IsUnwritten texts l
 HoldsTextsAt texts l (suc more) = IsBehind texts l

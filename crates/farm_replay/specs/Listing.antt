@@ -1,4 +1,5 @@
--- Several texts in one line, divided by commas: equal neighbours stand once, behind their number. The form is our own.
+-- Several texts in one line, divided by commas: equal neighbours are written once, after their number. The form is our
+-- own.
 use Rattle.std.specs.Prelude.{◌≡◌, ◌≢◌, ◌<◌, ℕ, List, [], ◌∷◌, ◌++◌, codes, replicate, nat_lt, if◌then◌else◌, ⊤}
 use Rattle.std.specs.List.{flat_map, join_by}
 use Rattle.std.specs.Fmt.{decimal}
@@ -18,7 +19,7 @@ AreGroups [] = ⊤
 AreGroups (g ∷ []) = 0 < g.count
 AreGroups (g ∷ h ∷ groups) = (0 < g.count) × (g.text ≢ h.text) × AreGroups (h ∷ groups)
 
--- a group in words: the text, behind its number if that is more than one
+-- a group in words: the text, after its number if that is more than one
 abbrev pub group_text : Group → List ℕ
 group_text g = if nat_lt 1 g.count then decimal g.count ++ codes " " ++ g.text else g.text
 

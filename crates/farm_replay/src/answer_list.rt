@@ -7,16 +7,16 @@ use domain_core::NoMemory;
 use std::alloc::Global;
 use std::marker::Model;
 
-/// Answers in their order, divided by commas. Equal neighbours stand once, with their number: `3 nothing, 81`.
+/// Answers in their order, divided by commas. Equal neighbours are written once, with their number: `3 nothing, 81`.
 pub struct AnswerList {
-    // All but the last of the texts that differ from their neighbours, each with a comma behind it.
+    // All but the last of the texts that differ from their neighbours, each with a comma after it.
     text: String,
-    // The last of them, and how often it stands at the end.
+    // The last of them, and how often it comes at the end.
     last: String,
     count: u64,
 }
 
-// It is dropped by one call.
+// Dropped by hand, since a derived `Drop` makes callers prove the drop of each field.
 impl Drop for AnswerList {
     fn drop(self) {
         let AnswerList {
@@ -55,7 +55,7 @@ impl AnswerList {
         self.push_many(answer, 1)
     }
 
-    /// The same answer so many times more. `NoMemory` also if the number of equal neighbours no longer fits 64 bits.
+    /// Adds the same answer `times` times. `NoMemory` also if the number of equal neighbours no longer fits 64 bits.
     #[tactic(auto, using(crate::proofs::Groups::push_alike, crate::proofs::Groups::push_other))]
     pub fn push_many(&mut self, answer: String, times: u64) -> Result<(), NoMemory>
         ensures kept { OnOk result (TakesTexts self.old self.new (replicate times (string_bytes answer))) }
@@ -82,7 +82,7 @@ impl AnswerList {
         Ok(())
     }
 
-    // Puts the last text behind the others, with its number if it is more than one.
+    // Writes the last text after the others, with its number if it is more than one.
     fn write_last(&mut self) -> Result<(), NoMemory>
         ensures text { OnOk result (self.new.text ≡ self.old.text ++ group_text (record { count = self.old.count; text = self.old.last })) }
         ensures last { self.new.last ≡ self.old.last }

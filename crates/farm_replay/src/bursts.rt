@@ -1,4 +1,4 @@
-//! Steps of a node that are done at once.
+//! Steps of a node that are done together.
 ghost use Rattle.std.specs.Prelude.{◌≡◌, ◌+◌, ◌<◌, ◌≤◌, None, IfOk, OnErr, OnOk, slice_get};
 ghost use Rattle.domain_core.specs.Ticket.{Bursts};
 ghost use Rattle.farm_replay.specs.Answering.{HaveStepped, IsAtRest};
@@ -15,14 +15,14 @@ use whole_farm::laws::each_call_is_private;
 /// Steps of a node for which the farm asked, one after another.
 #[derive(Clone, Copy)]
 pub struct DoneSteps {
-    /// How many stand before the last. They answered `Ran`.
+    /// How many come before the last. They answered `Ran`.
     pub before: u64,
     /// What the last of them answered.
     pub last: Stepped,
 }
 
-/// Does Steps of a ticket: so many at most, up to the first that would not be recorded. The meter is asked for them, and told
-/// of them.
+/// Does at most `most` Steps of a ticket, up to the first that would not be recorded. The meter allows them before they are
+/// done, and notes them after.
 ///
 /// # Errors
 ///
@@ -53,12 +53,12 @@ pub fn run_ticket<M: StepMeter>(
     Ok(())
 }
 
-/// Does Steps of a node, for which the farm asks: so many at most, up to the first that would not be recorded. `None` if
-/// none was asked for, or the first of them would not be recorded.
+/// Does at most `most` Steps of a node, for which the farm asks, up to the first that would not be recorded. `None` if none was
+/// asked for, or the first of them would not be recorded.
 ///
 /// # Errors
 ///
-/// `Refused` with `NoSuch` if there is no such domain or node, with `JournalFull` if the domain's journal has no room for so
+/// `Refused` with `NoSuch` if there is no such domain or node, with `JournalFull` if the domain's journal has no room for that
 /// many, and with `NoMemory` if the node can't be copied, or the journal can't grow; `Steps` if more Steps are wanted than the
 /// meter allows. Nothing has changed then.
 pub fn try_burst<M: StepMeter>(
@@ -90,7 +90,7 @@ pub fn try_burst<M: StepMeter>(
     Ok(Some(DoneSteps { before, last }))
 }
 
-/// The same, if a refusal but for want of memory is none of the asker's business: `None` then, and nothing has changed.
+/// Like `try_burst`, but any refusal except `NoMemory` gives `None`. Nothing has changed then.
 pub fn burst<M: StepMeter>(
     alloc: Global,
     farm: &mut PlainFarm,

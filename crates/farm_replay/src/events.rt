@@ -38,7 +38,7 @@ pub fn write_event(text: &mut String, event: Event) -> Result<(), NoMemory>
     }
 }
 
-/// Appends an entry of a journal: who asked, what, and the answer. Steps stand together as `run`, the node, how many,
+/// Appends an entry of a journal: who asked, what, and the answer. Steps are written together as `run`, the node, how many,
 /// and what the last of them answered.
 pub fn write_entry(text: &mut String, entry: Entry) -> Result<(), NoMemory>
     ensures text { OnOk result (string_bytes text.new ≡ string_bytes text.old ++ entry_text entry) }

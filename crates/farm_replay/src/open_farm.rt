@@ -33,7 +33,7 @@ pub struct OpenFarm {
     tickets: Vec<Option<Ticket>>,
 }
 
-// It is dropped by one call.
+// Dropped by hand, since a derived `Drop` makes callers prove the drop of each field.
 impl Drop for OpenFarm {
     fn drop(self) {
         let OpenFarm {
@@ -155,7 +155,7 @@ impl OpenFarm {
         Ok(())
     }
 
-    /// Adds the answers to an event that is asked so often. Steps for which the farm asks are done at once, as far as they
+    /// Adds the answers to an event that is asked `times` times. Steps for which the farm asks are done together, as far as they
     /// are recorded and the meter allows them.
     pub fn answer_repeated<M: StepMeter>(
         &mut self,
@@ -175,8 +175,8 @@ impl OpenFarm {
         Ok(self.answer_each(domain, by, event, times - done, answers)?)
     }
 
-    // Adds the answers to Steps that are done at once, if the event is a Step for which the farm asks: how many there were,
-    // so many at most.
+    // Adds the answers to Steps that are done together, if the event is a Step for which the farm asks. Returns how many there
+    // were, which is at most `most`.
     fn answer_burst<M: StepMeter>(
         &mut self,
         plan: &AcceptedPlan,
@@ -390,13 +390,13 @@ impl OpenFarm {
         Ok(())
     }
 
-    /// Rounds of a domain, up to so many, until it is quiet, and whether it is. In each round every node does up to `quantum`
-    /// Steps, and then the packets of all ports move, as in the rounds of a service's sessions.
+    /// Does rounds of a domain until it is quiet, at most `rounds`, and returns whether it is quiet. In each round every node does
+    /// up to `quantum` Steps, and then the packets of all ports move, as in the rounds of a service's sessions.
     ///
     /// # Errors
     ///
     /// `Refused` with `NoSuch` if there is no such domain, and else with the first refusal of a Step or Move; `Steps` if more
-    /// Steps are wanted than the meter allows. What was recorded before stands.
+    /// Steps are wanted than the meter allows. What was recorded before stays recorded.
     #[tactic(auto, using(crate::proofs::Running::gone_nowhere, crate::proofs::Running::gone_still, crate::proofs::Running::gone_further, crate::proofs::Running::gone_on_from))]
     pub fn settle<M: StepMeter>(
         &mut self,
@@ -442,7 +442,7 @@ impl OpenFarm {
         self.has_domain(domain) && self.farm.quiet(domain)
     }
 
-    // Up to so many Steps of each node of a domain.
+    // Does up to `quantum` Steps of each node of a domain.
     #[tactic(auto, using(crate::proofs::Running::gone_nowhere, crate::proofs::Running::gone_further, crate::proofs::Running::gone_by_steps))]
     fn step_nodes<M: StepMeter>(
         &mut self,

@@ -12,7 +12,7 @@ const MOST_TIMES: u64 = 1_000_000;
 /// The greatest quantum, in Steps.
 const MOST_QUANTUM: u64 = 4096;
 
-// The word behind the number of a domain.
+// The word after the number of a domain.
 #[derive(Clone, Copy)]
 enum RequestVerb {
     Quiet,
@@ -78,13 +78,13 @@ const VERBS: [(&str, RequestVerb); 19] = [
     ("look", RequestVerb::Events(EventVerb::One(EventKind::Look))),
 ];
 
-// The names of the verbs, as they are told.
+// The names of the verbs, as messages list them.
 const VERB_NAMES: [&str; 19] = [
     "config", "configs", "write", "writes", "read", "reset", "look", "step", "move", "moves",
     "word", "quiet", "recorded", "journal", "restart", "checkout", "burst", "commit", "settle",
 ];
 
-/// What a line asks, and how often. `Wrong` with the first word that is wrong or missing, or that stands behind the end.
+/// What a line asks, and how often. `Wrong` with the first word that is wrong or missing, or that comes after the end.
 pub fn read_request(alloc: Global, line: &str) -> Result<RepeatedRequest, WordFault> {
     let mut words = Words::of(line);
     let begin = words.place();
@@ -170,7 +170,7 @@ fn usual_asker(verb: EventVerb) -> By {
     }
 }
 
-// Who asks, if the next word says so behind `@`.
+// Who asks, if the next word says so after `@`.
 fn read_asker(usual: By, words: &mut Words) -> By {
     let place = words.place();
     match words.peek().strip_prefix("@") {
@@ -191,7 +191,7 @@ fn asker_named(name: &str) -> Option<By> {
     Some(By::User(user))
 }
 
-// The events that a verb asks for, of which a plural asks for several.
+// The events that a verb asks for. A plural asks for several.
 fn read_events(
     alloc: Global,
     verb: EventVerb,

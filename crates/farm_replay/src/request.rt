@@ -25,7 +25,7 @@ pub enum Request {
 }
 
 impl Request {
-    /// The event that is asked, with its domain and who asks, if there is just one.
+    /// The event that is asked, with its domain and who asks, if there is only one.
     pub(crate) fn one_event(&self) -> Option<(u8, By, Event)>
         ensures event { IfSome result (λ one. asked_once self.now ≡ Calls (event_calls one.0 one.1 (one.2 ∷ []))) }
     {
@@ -54,10 +54,10 @@ pub enum DomainRequest {
     Journal,
     /// A ticket of a node.
     Checkout(u8),
-    /// Steps of a ticket, at most so many.
+    /// Steps of the ticket of this number, and how many at most.
     Burst(usize, u64),
     /// To commit a ticket.
     Commit(usize),
-    /// To let its nodes run, in bursts of so many Steps, for at most so many rounds.
+    /// To let its nodes run: how many Steps each does in a round, and how many rounds there are at most.
     Settle(u64, u64),
 }
