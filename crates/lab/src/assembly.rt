@@ -5,8 +5,8 @@ use script_text::TextWriter;
 use std::alloc::{AllocError, Global};
 use t414_assembly::{Assembly, BOOTED, Image, TextFault, assemble, code_as_text, hexadecimal};
 
-/// What a row is answered. In it stands a program, whose lines ` / ` divides, and the answer is its code in hexadecimal or
-/// its fault; or `hex` and digits, and the answer is the instructions that they are. The code of a program is also
+/// The answer to a row. The row is a program, whose lines ` / ` divides, and the answer is its code in hexadecimal or its
+/// fault; or it is `hex` and digits, and the answer is the instructions that they are. The code of a program is also
 /// disassembled and assembled again.
 pub fn answer_row(alloc: Global, row: &str) -> Result<String, AllocError> {
     let answered = match row.strip_prefix("hex ") {
@@ -62,7 +62,7 @@ fn code_of(alloc: Global, text: &[u8]) -> Result<Vec<u8>, TextFault> {
     Ok(bytes)
 }
 
-// An answer without the line feed at its end, or a fault as it is told.
+// An answer without the line feed at its end, or a fault in words.
 fn without_end(alloc: Global, answer: Result<String, TextFault>) -> Result<String, AllocError> {
     match answer {
         Ok(text) => trimmed(alloc, text.as_str()),

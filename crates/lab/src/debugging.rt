@@ -18,7 +18,7 @@ impl ProgramTexts for Files<'_> {
 }
 
 /// Reads commands from standard input to its end, and shows what they ask of the record in a file. Nothing is left to print.
-/// Wrong words are told before the file is read.
+/// Wrong words of the command line are reported before the file is read.
 pub fn print_debugging(rt: &HostRuntime, asked: &Debugging) -> Result<String, LabFailure> {
     match read_programs(rt.alloc(), asked.programs.as_slice()) {
         Ok(programs) => {

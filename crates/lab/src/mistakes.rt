@@ -1,4 +1,4 @@
-//! Lines that are read and not done, each with the mistake that is told of it.
+//! Lines that are read and not done, each with the mistake that is found in it.
 
 use farm_replay::read_request;
 use line_mistakes::{Wanted, WordForm, WordMistake, WordRole, WrongLine};
@@ -6,8 +6,8 @@ use line_words::{NumberedLineFault, Question, WordFault};
 use node_trace::read_trace_line;
 use std::alloc::Global;
 
-/// What is told of the line of a row, in which stands `replay` or `trace`, a blank, and a line as that subcommand reads it. The
-/// answer is the mistake of the line as it is told behind the line's number, or `right`.
+/// The answer to a row, which is `replay` or `trace`, a blank, and a line as that subcommand reads it. The answer is the mistake
+/// of that line, in the words that follow the line's number in a message, or `right`.
 ///
 /// `Wrong` if the row begins otherwise.
 pub fn tell_mistake(alloc: Global, row: &Question) -> Result<String, NumberedLineFault> {
@@ -24,7 +24,7 @@ fn read_replayed(alloc: Global, line: &str) -> Result<(), WordFault> {
     Ok(())
 }
 
-// What is told of a line that is read.
+// The answer for a line that was read.
 fn tell_read(alloc: Global, read: Result<(), WordFault>) -> Result<String, NumberedLineFault> {
     match read {
         Ok(()) => Ok(String::from_str(alloc, "right")?),

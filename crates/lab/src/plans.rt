@@ -1,4 +1,4 @@
-//! Plans that stand in files, each with what the checker is to answer.
+//! Plans in files, each with what the checker is to answer.
 
 use line_mistakes::{
     NumberedLine, Wanted, WordForm, WordMistake, WordRole, WrongLine, numbered_lines,
@@ -8,7 +8,7 @@ use plan_faults::{PlanRefusal, accepted};
 use script_text::TextWriter;
 use std::alloc::{AllocError, Global};
 
-/// What stands before a text that is replaced.
+/// What comes before a text that is replaced.
 const REPLACE: &str = "replace: ";
 
 const CHANGES: Wanted = Wanted::Word(WordRole::Change, WordForm::OneOf(&["replace:"]));
@@ -23,10 +23,10 @@ struct Heading<'a> {
     is_base: bool,
 }
 
-/// Tries each plan of a text. A plan stands below a heading `=== EXPECTED`, where `accepted`, the number of its fault or
-/// the line of its refusal, which begins with `plan: `, is expected; ` - ` and why may follow. Below `=== base EXPECTED` stands a plan of which the next are changes: each
-/// `replace: OLD` has a line `with: NEW` after it, and OLD stands exactly once in the plan so far; empty lines are
-/// passed over. What stands below `=== # ...` or before the first heading is a remark.
+/// Tries each plan of a text. A plan is below a heading `=== EXPECTED`, where EXPECTED is `accepted`, the number of its fault,
+/// or the line of its refusal, which begins with `plan: `; ` - ` and why may follow. Below `=== base EXPECTED` is a plan that
+/// the next ones change: each `replace: OLD` has a line `with: NEW` after it, and OLD is in the plan so far exactly once.
+/// Empty lines are passed over. What is below `=== # ...` or before the first heading is a remark.
 ///
 /// `Wrong` if a line isn't UTF-8 or a change can't be made.
 pub fn try_plans(alloc: Global, text: &[u8]) -> Result<Vec<Answered<'_>>, NumberedLineFault> {
@@ -162,7 +162,7 @@ struct ReplacedText<'a> {
     text: &'a str,
 }
 
-// The base after the changes of lines, before which stands the line of this number.
+// The base after the changes of lines. `number` is that of the line before the first of them.
 fn changed_plan(
     alloc: Global,
     base: &str,
@@ -217,7 +217,7 @@ fn wrong_change(number: u64, line: &str, wanted: Wanted) -> NumberedLineFault {
     })
 }
 
-// What is to be replaced doesn't stand once in the plan.
+// What is to be replaced isn't in the plan exactly once.
 fn not_once(replaced: ReplacedText) -> NumberedLineFault {
     let wanted = Wanted::Word(WordRole::Replaced, WordForm::Once);
     let column = (REPLACE.len() as u64).saturating_add(1);
@@ -227,7 +227,7 @@ fn not_once(replaced: ReplacedText) -> NumberedLineFault {
     })
 }
 
-// The plan with `new` in the place of `old`, if that stands in it exactly once.
+// The plan with `new` instead of `old`, if `old` is in it exactly once.
 fn replaced_once(
     alloc: Global,
     plan: &str,

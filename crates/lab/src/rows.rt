@@ -1,4 +1,4 @@
-//! Worked rows that stand in files, compared with the answers that they expect.
+//! Worked rows in files, compared with the answers that they expect.
 
 use crate::assembly::answer_row;
 use crate::failure::wrong_replay;
@@ -99,7 +99,7 @@ fn answer_lines<'a>(
     }
 }
 
-// What stands in rows that are answered one by one.
+// What is in rows that are answered one by one.
 #[derive(Clone, Copy)]
 enum RowKind {
     // A program, which is assembled, or code.
@@ -108,7 +108,7 @@ enum RowKind {
     Line,
 }
 
-// The answers to the rows of a text, each of which is answered by itself.
+// The answers to the rows of a text. Each row is answered by itself.
 fn answer_each(
     alloc: Global,
     kind: RowKind,

@@ -27,7 +27,7 @@ pub fn print_script(
     }
 }
 
-/// The folder in which a file stands, if its path names one.
+/// The folder that a file is in, if its path names one.
 pub fn folder_of(path: &str) -> Option<&str> {
     match path.rsplit_once('/') {
         Some((folder, _)) => Some(folder),
@@ -145,7 +145,7 @@ pub fn read_files<'a>(
     Ok(files)
 }
 
-// A file with what stands in it, if it can be read.
+// A file with its text, if it can be read.
 fn loaded_file<'a>(
     rt: &HostRuntime,
     folder: Option<&str>,

@@ -22,7 +22,7 @@ fn table(alloc: Global, text: &[u8]) -> Result<String, LabFailure> {
     }
 }
 
-// What is told of a plan that is refused. If what can't be read of it is a line of a script, the mark before that is missing.
+// Why a plan is refused, in words. If what can't be read of it is a line of a script, the mark before that line is missing.
 fn tell_refused(alloc: Global, plan: &[u8], refusal: &PlanRefusal) -> LabFailure {
     match script_line(alloc, plan) {
         Ok(Some(line)) => LabFailure::of_text(

@@ -32,7 +32,7 @@ fn trace_record(rt: &HostRuntime, record: &[u8], steps: u64) -> Result<String, L
     }
 }
 
-// What the events of a record do, up to so many Steps.
+// What the events of a record do, up to `steps` Steps.
 fn traced_record(rt: &HostRuntime, record: &[u8], steps: u64) -> Result<String, DebugFault> {
     let mut debugger = opened(rt, record, None)?;
     trace_of(rt.alloc(), &mut debugger, steps)

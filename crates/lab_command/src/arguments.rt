@@ -8,21 +8,21 @@ use std::alloc::Global;
 enum Form {
     // An option with a word.
     Word,
-    // The same, which may stand several times.
+    // The same, which may be given several times.
     Words,
-    // An option with two words, which may stand several times.
+    // An option with two words, which may be given several times.
     Pairs,
     // An option with a number.
     Number,
-    // The same, with this number unless it stands.
+    // The same, with this number unless it is given.
     NumberOr(&'static str),
     // An option with the number of a domain.
     Domain,
-    // An option that stands or doesn't.
+    // An option that is given or isn't.
     Flag,
-    // A word by itself, which must stand.
+    // A word by itself, which must be given.
     Required,
-    // A word by itself, which may stand.
+    // A word by itself, which may be given.
     Optional,
     // One word by itself, or several.
     Several,

@@ -18,7 +18,7 @@ pub const USUAL_STEPS: u64 = 1000;
 // How many frames a film has at most unless the words say it.
 const USUAL_COUNT: u64 = 100_000;
 
-/// What stands below the help.
+/// What is printed below the help.
 const AFTER_HELP: &str = "\
 Example:
   lab plan < examples/two-users.farm
@@ -34,7 +34,7 @@ pub enum CommandLine<'a> {
     Request(LabRequest<'a>),
 }
 
-/// The words of the command line, of which the first is the program's name.
+/// The words of the command line. The first is the program's name.
 pub fn words_of(rt: &HostRuntime) -> Result<Vec<String>, LabFailure> {
     match env::args(rt) {
         Ok(words) => Ok(words.collect(rt.alloc())?),
@@ -104,7 +104,7 @@ fn unread_file(alloc: Global, subcommand: Subcommand, file: &str) -> LabFailure 
     )
 }
 
-// The subcommand, and the file that stands last behind it, if only standard input is read.
+// The subcommand, and the file that is the last word after it, if only standard input is read.
 fn file_named(words: &[String]) -> Option<(Subcommand, &str)> {
     let [_, name, behind @ ..] = words else {
         return None;
@@ -114,7 +114,7 @@ fn file_named(words: &[String]) -> Option<(Subcommand, &str)> {
     Some((subcommand, file))
 }
 
-// The last of the words behind a subcommand, if it is no option, and each of them that is one may stand there.
+// The last of the words after a subcommand, if it is no option, and if each of them that is one belongs to the subcommand.
 fn file_behind(subcommand: Subcommand, behind: &[String]) -> Option<&str> {
     let last = behind.last()?.as_str();
     if !subcommand.reads_input() || last.starts_with("-") {
@@ -178,7 +178,7 @@ fn read_matches<'a>(
     }
 }
 
-// What is asked by what stands behind a subcommand.
+// What the words after a subcommand ask for.
 fn read_subcommand<'a>(
     alloc: Global,
     subcommand: Subcommand,

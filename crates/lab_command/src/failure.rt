@@ -33,16 +33,16 @@ pub enum ArgumentFault {
     /// The code of `--boot` isn't hexadecimal digits.
     #[error("the code is not hexadecimal digits, two for each byte and no 0x before them (`lab assemble` prints them of a program)")]
     Code,
-    /// The code has so many bytes, which no boot takes.
+    /// The code has this number of bytes, which no boot takes.
     #[error("the code has {0} bytes, and a boot takes 2 to 255{hint}", hint = hint_of_length(*.0))]
     Length(usize),
-    /// What stands behind `--program` is no node and file.
+    /// What comes after `--program` is no node and file.
     #[error("--program takes the number of a node, and a file")]
     Program,
-    /// More than one of `--boot`, `--program` and `--plan` stand there.
+    /// More than one of `--boot`, `--program` and `--plan` are given.
     #[error("--boot, --program and --plan each say what is traced: write one of them")]
     TwoCodes,
-    /// Other options of `trace` stand there than go with what is traced.
+    /// Options of `trace` are given that don't go with what is traced.
     #[error("--until and --input go with --boot or --program, and --domain with --plan")]
     TraceOptions,
     /// `--until` is no address, and no label of a program.
@@ -58,7 +58,7 @@ pub enum ArgumentFault {
     Memory(#[from(alloc)] AllocError),
 }
 
-// What loads code of so many bytes, if there are too many for a boot.
+// A hint at what loads code of `count` bytes, if there are too many for a boot.
 fn hint_of_length(count: usize) -> &'static str {
     if count > 255 {
         " (`lab assemble --pokes HOST USER` prints the lines of a script that load more)"
@@ -70,7 +70,7 @@ fn hint_of_length(count: usize) -> &'static str {
 /// Why the lab ends without its output.
 #[derive(Drop)]
 pub enum LabFailure {
-    /// This is told, and the process has this status.
+    /// This text is written to standard error, and the process ends with this status.
     Told { text: String, status: u8 },
     Memory,
     /// Standard input can't be read, or standard output can't be written.
@@ -78,7 +78,7 @@ pub enum LabFailure {
 }
 
 impl LabFailure {
-    /// This text is told, if there was memory for it.
+    /// The failure with this text, or `Memory` if there was no memory for the text.
     pub fn of_text(text: Result<String, AllocError>, status: u8) -> LabFailure {
         match text {
             Ok(text) => LabFailure::Told { text, status },
@@ -117,7 +117,7 @@ impl LabFailure {
         LabFailure::of_line(alloc, &end, OUT_OF_STEPS)
     }
 
-    /// The same, with the name of the file of which it is told.
+    /// The same failure, with the name of the file that it is about before its text.
     pub fn in_file(self, alloc: Global, file: &str) -> LabFailure {
         let status = self.status();
         LabFailure::of_text(format!(in alloc; "{file}: {}", self.text()), status)

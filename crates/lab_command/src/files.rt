@@ -4,7 +4,7 @@ use crate::failure::{LabFailure, NOT_READ};
 use std::alloc::AllocError;
 use std::{fs, io};
 
-/// What stands in a file. A failure names it.
+/// The bytes of a file. A failure names the file.
 pub fn read_file(rt: &HostRuntime, path: &str) -> Result<Vec<u8>, LabFailure> {
     match readable_bytes(rt, path) {
         Ok(Some(bytes)) => Ok(bytes),
@@ -16,7 +16,7 @@ pub fn read_file(rt: &HostRuntime, path: &str) -> Result<Vec<u8>, LabFailure> {
     }
 }
 
-/// What stands in a file, or `None` if it can't be read.
+/// The bytes of a file, or `None` if it can't be read.
 pub fn readable_bytes(rt: &HostRuntime, path: &str) -> Result<Option<Vec<u8>>, AllocError> {
     match fs::read(rt, path) {
         Ok(bytes) => Ok(Some(bytes)),

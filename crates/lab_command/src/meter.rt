@@ -5,7 +5,7 @@ use std::io::IsTerminal;
 use std::time::Instant;
 use step_meter::{StepBound, StepMeter, StepsEnd};
 
-/// How many milliseconds there are from one time that it is told to the next.
+/// How many milliseconds there are at least from one report to the next.
 const BETWEEN: u128 = 500;
 
 /// A meter that tells on standard error how many Steps were done, if that is a terminal.
@@ -13,13 +13,13 @@ const BETWEEN: u128 = 500;
 pub struct TerminalMeter<'a> {
     rt: &'a HostRuntime,
     bound: StepBound,
-    // When it was told last, or begun, if standard error is a terminal.
+    // When the last report was written, or else the meter begun, if standard error is a terminal.
     told: Option<Instant>,
     is_shown: bool,
 }
 
 impl<'a> TerminalMeter<'a> {
-    /// A meter that allows so many Steps, or any number.
+    /// A meter that allows `most` Steps, or any number of them.
     pub fn begin(rt: &'a HostRuntime, most: Option<u64>) -> TerminalMeter<'a> {
         let told = if rt.stderr().is_terminal() {
             Instant::now(rt).ok()
@@ -42,7 +42,7 @@ impl<'a> TerminalMeter<'a> {
         }
     }
 
-    /// Wipes what was told.
+    /// Wipes the last report off the terminal.
     pub fn wipe(&mut self) {
         if self.is_shown {
             let _ = write_whole(&mut self.rt.stderr(), b"\r\x1b[K");

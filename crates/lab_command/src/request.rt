@@ -82,7 +82,7 @@ pub enum ScriptUse {
     Record { domain: u8, most: Option<u64> },
 }
 
-/// Of which script what is traced.
+/// What is traced of a script.
 #[derive(Clone, Copy)]
 pub struct TracedScript<'a> {
     /// The file of the script.
@@ -96,7 +96,7 @@ pub struct TracedScript<'a> {
 /// Which rows are compared.
 #[derive(Drop)]
 pub struct RowFiles<'a> {
-    /// The files in which they stand.
+    /// The files that they are in.
     pub files: Vec<&'a str>,
     /// How many Steps may be done for all of them, or any number.
     pub most: Option<u64>,

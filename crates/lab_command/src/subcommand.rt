@@ -60,7 +60,7 @@ impl Subcommand {
         )
     }
 
-    /// What may stand behind it.
+    /// What may come after it.
     pub(crate) fn arguments(self) -> &'static [Argument] {
         match self {
             Subcommand::Replay => &[Argument::Steps],
