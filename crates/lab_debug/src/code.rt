@@ -17,7 +17,7 @@ const WINDOW: u32 = 136;
 /// How far before the next instruction the code of a program begins.
 const BEFORE: u32 = 12;
 
-/// The most bytes of an instruction that stand beside it in a column.
+/// The most bytes of an instruction that are shown beside it in a column.
 const COLUMN: usize = 4;
 
 /// The address of the byte that a node does next, if its next Step does one.
@@ -41,7 +41,7 @@ fn has_prefixes(node: &Node) -> bool {
     }
 }
 
-// The first byte of the instruction of which this address has a byte, if prefixes before it were done.
+// The address of the first byte of the instruction that has a byte at this address, if prefixes before that byte were done.
 fn begin_of(node: &Node, address: u32) -> u32 {
     let mut begin = address;
     if has_prefixes(node) {
@@ -80,7 +80,7 @@ fn bytes_at(alloc: Global, memory: &Memory, address: u32) -> Result<Vec<u8>, All
     Ok(bytes)
 }
 
-// Writes the labels that stand by themselves at an address.
+// Writes the labels at an address that have a line to themselves.
 fn write_labels(lines: &[ProgramLine], address: u32, text: &mut TextWriter) {
     for line in lines {
         if line.length == 0
@@ -190,7 +190,7 @@ fn write_instructions(
     }
 }
 
-// Whether the next byte is among so many from an address on.
+// Whether the next byte is among the `length` bytes from an address on.
 fn is_among(address: u32, length: u32, next: Option<u32>) -> bool {
     match next {
         Some(next) => next.wrapping_sub(address) < length,

@@ -28,7 +28,7 @@ pub enum Sought<'a> {
     Lost,
 }
 
-/// What the debugger is told to do.
+/// What the debugger is asked to do.
 #[derive(Clone, Copy)]
 pub enum DebugCommand<'a> {
     /// An empty line.
@@ -39,7 +39,7 @@ pub enum DebugCommand<'a> {
     },
     Go(u64),
     Next(u64),
-    /// So many events on, of which each is shown, or those alone that concern a node.
+    /// To go `count` events on, and to show each of them, or only those that concern a node.
     Trace {
         count: u64,
         node: Option<u8>,
@@ -115,7 +115,7 @@ const FIRST_WORDS: [(&str, FirstWord); 18] = [
     ("quit", FirstWord::Quit),
 ];
 
-/// The word behind `until`.
+/// The word after `until`.
 #[derive(Clone, Copy)]
 enum SoughtWord {
     Node,
@@ -139,7 +139,7 @@ enum Mistake {
     /// It is missing.
     Missing,
     NoCommand,
-    /// It is not what is looked for behind `until`.
+    /// It names nothing that `until` looks for.
     NoSought,
     NoNumber,
     Unexpected,
@@ -332,7 +332,7 @@ impl<'a> CommandWords<'a> {
         }
     }
 
-    // What stands behind `until`.
+    // What comes after `until`.
     fn sought(&mut self) -> Result<Sought<'a>, Mistake> {
         self.verb = FirstWord::Until;
         match value_named(&SOUGHT_WORDS, self.word()?) {
@@ -345,7 +345,7 @@ impl<'a> CommandWords<'a> {
         }
     }
 
-    // What stands behind `until node`.
+    // What comes after `until node`.
     fn sought_at(&mut self) -> Result<Sought<'a>, Mistake> {
         let node = self.small()?;
         self.expect("at")?;
@@ -353,7 +353,7 @@ impl<'a> CommandWords<'a> {
         Ok(Sought::At { node, address })
     }
 
-    // What stands behind `until write`.
+    // What comes after `until write`.
     fn sought_write(&mut self) -> Result<Sought<'a>, Mistake> {
         let address = self.address()?;
         self.expect("of")?;
@@ -362,7 +362,7 @@ impl<'a> CommandWords<'a> {
         Ok(Sought::Write { node, address })
     }
 
-    // What stands behind `back`.
+    // What comes after `back`.
     fn back(&mut self) -> Result<DebugCommand<'a>, Mistake> {
         let mut ahead = *self;
         if ahead.next_word() == Some("until") {
@@ -372,7 +372,7 @@ impl<'a> CommandWords<'a> {
         Ok(DebugCommand::Back(self.number_or(1)?))
     }
 
-    // What stands behind `trace`.
+    // What comes after `trace`.
     fn trace(&mut self) -> Result<DebugCommand<'a>, Mistake> {
         let count = self.number_or(10)?;
         let node = if self.is_empty() {
@@ -424,7 +424,7 @@ impl<'a> CommandWords<'a> {
         Ok(DebugCommand::Program { node, file })
     }
 
-    // What stands behind the first word.
+    // What comes after the first word.
     fn command(&mut self, verb: FirstWord) -> Result<DebugCommand<'a>, Mistake> {
         match verb {
             FirstWord::Events => self.events(),
@@ -448,7 +448,7 @@ impl<'a> CommandWords<'a> {
         }
     }
 
-    // The command that this word begins, with all words behind it.
+    // The command that this word begins, with all words after it.
     fn whole_command(&mut self, name: &str) -> Result<DebugCommand<'a>, Mistake> {
         let Some(verb) = value_named(&FIRST_WORDS, name) else {
             return Err(Mistake::NoCommand);

@@ -22,7 +22,7 @@ use std::alloc::Global;
 use step_meter::StepMeter;
 use t414_assembly::TextFault;
 
-/// The most events that are shown at once.
+/// The most events that one command shows.
 const MOST_TRACED: u64 = 100_000;
 
 /// The program of a node.
@@ -39,7 +39,7 @@ pub struct Debugger<'a> {
     programs: Vec<NodeProgram>,
 }
 
-// It is dropped by one call.
+// Dropped by hand, since a derived `Drop` makes callers prove the drop of each field.
 impl Drop for Debugger<'_> {
     fn drop(self) {
         let Debugger {
@@ -173,7 +173,7 @@ impl<'a> Debugger<'a> {
         Err(DebugFault::from(WhyFault::of_line(number, fault)))
     }
 
-    // Goes to the moment after so many events, and says where that is.
+    // Goes to the moment after this number of events, and says where that is.
     fn go_to(&mut self, event: u64, text: &mut TextWriter) -> Result<(), FollowFault>
         ensures { OnOk result (IsMomentAt self.new.timeline.plan self.new.timeline.lines event self.new.timeline.here) }
     {
@@ -223,7 +223,7 @@ impl<'a> Debugger<'a> {
         self.timeline.go(next)
     }
 
-    // Goes so many events on, and shows what each does, or those alone that concern a node.
+    // Goes `count` events on, at most `MOST_TRACED`, and shows what each does, or only those that concern a node.
     fn trace(
         &mut self,
         count: u64,
@@ -245,7 +245,7 @@ impl<'a> Debugger<'a> {
         Ok(())
     }
 
-    /// Goes to the opening, and shows what each event does, up to so many Steps.
+    /// Goes to the opening, and shows what each event does, up to `most` Steps.
     pub fn trace_from_opening(
         &mut self,
         most: u64,

@@ -16,7 +16,7 @@ pub enum TypedLine {
     End,
 }
 
-/// Reads the next line. What stands behind the last line feed is a line too, if it isn't empty.
+/// Reads the next line. What comes after the last line feed is a line too, if it isn't empty.
 pub fn next_line<R: BufRead>(alloc: Global, input: &mut R) -> Result<TypedLine, DebugFault> {
     let mut bytes = Vec::new(alloc);
     let mut head = Read::take(&mut *input, MOST_BYTES as u64 + 1);

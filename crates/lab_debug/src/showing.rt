@@ -13,10 +13,10 @@ use process_queue::{LINK_BELOW, NOT_PROCESS};
 use script_text::TextWriter;
 use std::collections::VecDeque;
 
-/// The most words of memory that are shown at once.
+/// The most words of memory that one command shows.
 const MOST_WORDS: u64 = 16_384;
 
-/// How many words stand in a line.
+/// How many words are in a line.
 const WORDS_A_LINE: u32 = 4;
 
 /// The most bytes of a host's queue that are shown.
@@ -55,7 +55,7 @@ fn write_line(line: &RecordedLine, first: u64, text: &mut TextWriter) {
     text.push("\n");
 }
 
-// Writes so many lines of the record, from the one that has this event on. The one that comes next is marked.
+// Writes `count` lines of the record, from the one with the event `from` on. The line of the next event is marked.
 fn write_lines(timeline: &Timeline, from: u64, count: u64, text: &mut TextWriter) {
     let next = timeline.here().recorded().saturating_add(1);
     let mut first: u64 = 1;
@@ -82,7 +82,7 @@ fn write_lines(timeline: &Timeline, from: u64, count: u64, text: &mut TextWriter
     }
 }
 
-// The event with which so many lines begin that have the next event among them.
+// The first event of the line that is `before` lines before the one with the next event, or of the first line.
 fn events_around(timeline: &Timeline, before: usize) -> u64 {
     let next = timeline.here().recorded().saturating_add(1);
     let mut first: u64 = 1;
@@ -381,7 +381,7 @@ pub fn write_switch(timeline: &Timeline, text: &mut TextWriter) -> Result<(), No
     Ok(())
 }
 
-/// Writes so many lines of the record, from an event on, or around the next one.
+/// Writes `count` lines of the record, from an event on, or around the next one.
 pub fn write_events(timeline: &Timeline, from: Option<u64>, count: u64, text: &mut TextWriter) {
     let from = match from {
         Some(from) => from,

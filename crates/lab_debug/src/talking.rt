@@ -84,14 +84,14 @@ fn answer<T: ProgramTexts, W: Write>(
     Ok(goes_on)
 }
 
-// Writes a text, so that it is seen at once.
+// Writes a text, so that it is seen immediately.
 fn write_text<W: Write>(text: TextWriter, output: &mut W) -> Result<(), DebugFault> {
     let text = text.finish()?;
     write_whole(output, text.as_bytes())?;
     Ok(output.flush()?)
 }
 
-// Writes what stands before a command: how many events were done.
+// Writes the prompt before a command: how many events were done.
 fn prompt<W: Write>(alloc: Global, debugger: &Debugger, output: &mut W) -> Result<(), DebugFault> {
     let mut text = TextWriter::new(alloc);
     text.push_decimal(debugger.recorded());
@@ -115,7 +115,7 @@ fn greet<T: ProgramTexts, W: Write>(
     write_text(text, output)
 }
 
-// Reads a command and answers it, and tells whether more commands are read. On a terminal a prompt stands before it.
+// Reads a command and answers it, and returns whether more commands are read. On a terminal a prompt comes before it.
 fn answer_next<R: BufRead, W: Write, T: ProgramTexts>(
     alloc: Global,
     debugger: &mut Debugger,
@@ -132,7 +132,7 @@ fn answer_next<R: BufRead, W: Write, T: ProgramTexts>(
 }
 
 /// Reads commands to the end of the input or to `quit`, and shows what they ask of a record that was opened. On a terminal a
-/// prompt stands before each command.
+/// prompt comes before each command.
 ///
 /// # Errors
 ///

@@ -118,7 +118,8 @@ fn is_loss(past: &Past, event: u64) -> bool {
     false
 }
 
-// Behind how many of so many Steps of a node, all of which run, a goal is met.
+// After how many of the next `most` Steps of a node a goal is met: the first time, or the last, as `taken` says. `None` if it
+// isn't met. All these Steps run.
 fn steps_to(goal: Goal, node: &Node, most: u64, taken: Taken) -> Result<Option<u64>, AllocError> {
     let mut copy = node.copy(node.memory().allocator())?;
     let mut before = goal.seen_in(&copy)?;
@@ -154,7 +155,8 @@ fn pass_one(timeline: &mut Timeline, goal: Goal, event: Event) -> Result<Option<
     Ok(None)
 }
 
-// Does Steps that stand together, up to the first that is looked for, if that is the one that is taken. Which one it is.
+// Does `times` Steps of a node, which are in one line, but only those up to the first that is looked for if that is the one to
+// take. Returns the event that is looked for, if it is among them.
 fn pass_steps(
     timeline: &mut Timeline,
     goal: Goal,
@@ -178,7 +180,7 @@ fn pass_steps(
     })
 }
 
-// Does a call, at most so many events of it. The event that is looked for, if it is among them.
+// Does a call, but at most `most` events of it. Returns the event that is looked for, if it is among them.
 fn pass(
     timeline: &mut Timeline,
     goal: Goal,
