@@ -9,7 +9,7 @@ use Rattle.lab_film.specs.declared.frame.NodeFrame.{NodeFrame}
 use Rattle.lab_film.specs.declared.frame.HostFrame.{HostFrame}
 use Rattle.lab_film.specs.declared.frame.Frame.{Frame}
 
--- what is told of a node: what a look shows of it, and what it is doing
+-- what a film shows of a node: what a look shows of it, and what it is doing
 abbrev pub node_frame : Node → NodeFrame
 node_frame n = record { seen = seen n; state = n.state }
 

@@ -27,7 +27,7 @@ pub struct FrameChanges {
     hosts: Vec<ChangedHost>,
 }
 
-// It is dropped by one call.
+// Dropped by hand, since a derived `Drop` makes callers prove the drop of each field.
 impl Drop for FrameChanges {
     fn drop(self) {
         let FrameChanges {
@@ -60,7 +60,7 @@ struct ChangedNode {
     code: Option<CodeBytes>,
 }
 
-// It is dropped by one call.
+// Dropped by hand, since a derived `Drop` makes callers prove the drop of each field.
 impl Drop for ChangedNode {
     fn drop(self) {
         let ChangedNode {
@@ -82,7 +82,7 @@ struct ChangedHost {
     received: Option<ChangedQueue>,
 }
 
-// It is dropped by one call.
+// Dropped by hand, since a derived `Drop` makes callers prove the drop of each field.
 impl Drop for ChangedHost {
     fn drop(self) {
         let ChangedHost {
@@ -93,7 +93,7 @@ impl Drop for ChangedHost {
     }
 }
 
-/// How many bytes left the front of a queue, and which came behind its end, in hexadecimal digits.
+/// How many bytes left the front of a queue, and which were added at its end, in hexadecimal digits.
 #[derive(Drop, Serialize)]
 struct ChangedQueue {
     left: u64,
@@ -173,7 +173,7 @@ fn look_change(
     }
 }
 
-// What is told of the code of a node that runs.
+// The bytes around the instruction pointer of a node that runs, if not all of them are known.
 fn code_change(
     alloc: Global,
     known: &mut KnownCode,
@@ -222,7 +222,7 @@ fn hexadecimal(alloc: Global, bytes: &[u8]) -> Result<String, NoMemory> {
     text.finish()
 }
 
-// What became of a queue. The least number of bytes left that explains it is told.
+// What became of a queue: the least number of bytes that can have left it, and the bytes that came.
 fn queue_change(alloc: Global, old: &[u8], new: &[u8]) -> Result<Option<ChangedQueue>, NoMemory> {
     if old == new {
         return Ok(None);
@@ -274,7 +274,7 @@ fn changed_word(alloc: Global, output: u8, word: Word) -> Result<ChangedWord, No
     })
 }
 
-// The words that changed. An output of which nothing was told had the word 0.
+// The words that changed. An output that `old` doesn't have had the word 0.
 fn word_changes(alloc: Global, old: &[Word], new: &[Word]) -> Result<Vec<ChangedWord>, NoMemory> {
     let mut changes = Vec::new(alloc);
     for output in 0u8..32 {
@@ -348,7 +348,7 @@ fn host_changes(
     Ok(changes)
 }
 
-/// What changed from a frame, or from a domain of which nothing is told, to the frame of a moment.
+/// What changed from a frame to the frame of a moment. `old` is `None` if nothing is known of the domain before.
 pub fn changes_of(
     alloc: Global,
     known: &mut KnownCode,

@@ -7,29 +7,29 @@ use script_text::TextWriter;
 use serde::Serialize;
 use std::alloc::Global;
 
-/// How many bytes are told before the instruction pointer.
+/// How many bytes before the instruction pointer a film has.
 const BEFORE: usize = 16;
 
-/// How many bytes are told from the instruction pointer on.
+/// How many bytes from the instruction pointer on a film has.
 const BEHIND: usize = 32;
 
 /// The most bytes that a memory has.
 const MOST_BYTES: usize = 65_536;
 
-/// Bytes of memory, in hexadecimal digits, of which the first stands so far behind the first byte of memory.
+/// Bytes of memory, in hexadecimal digits. `offset` is how many bytes of memory come before them.
 #[derive(Drop, Serialize)]
 pub struct CodeBytes {
     offset: u64,
     bytes: String,
 }
 
-/// What is known of the nodes' memories: the bytes that were told last. A byte that was never told is none.
+/// What a film has shown of the nodes' memories: each byte as it was shown last. A byte that was never shown is `None`.
 #[derive(Drop)]
 pub struct KnownCode {
     nodes: Vec<Vec<Option<u8>>>,
 }
 
-// The byte so far behind the first of a memory.
+// The byte of a memory that has `offset` bytes before it.
 fn byte_at(memory: &Memory, offset: usize) -> Option<u8> {
     let offset = u32::try_from(offset).ok()?;
     memory.byte(MEMORY_START.wrapping_add(offset)).ok()
@@ -59,7 +59,7 @@ fn learn(known: &mut [Option<u8>], start: usize, bytes: &[u8]) -> bool {
 }
 
 impl KnownCode {
-    /// Nothing is known of so many nodes.
+    /// Nothing is known of this number of nodes.
     pub fn none(alloc: Global, nodes: usize) -> Result<KnownCode, NoMemory> {
         let mut known = Vec::new(alloc);
         for _ in 0..nodes {

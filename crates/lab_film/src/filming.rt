@@ -24,15 +24,15 @@ pub struct Span {
     pub count: u64,
 }
 
-// Where a film begins: behind so many lines, and so many events of the next one.
+// Where a film begins: after this number of lines, and this number of events of the next one.
 #[derive(Clone, Copy)]
 struct Beginning {
     lines: usize,
     events: u64,
 }
 
-// A domain that does the lines of its record, what is known of its memories, the frame that was told last, and how many frames
-// may still follow.
+// A domain that does the lines of its record, what is known of its memories, the last frame that was written, and how many
+// frames may still follow.
 struct Filming {
     alloc: Global,
     follower: Follower,
@@ -41,7 +41,7 @@ struct Filming {
     left: u64,
 }
 
-// It is dropped by one call.
+// Dropped by hand, since a derived `Drop` makes callers prove the drop of each field.
 impl Drop for Filming {
     fn drop(self) {
         let Filming {
@@ -55,7 +55,7 @@ impl Drop for Filming {
 }
 
 impl Filming {
-    // What changed since the frame that was told last.
+    // Makes this frame the last one, and returns what changed since the one before.
     fn turn_to(&mut self, frame: Frame) -> Result<FrameChanges, FollowFault> {
         let changes = changes_of(
             self.alloc,
@@ -69,7 +69,7 @@ impl Filming {
         Ok(changes)
     }
 
-    // Does so many Steps of a line, or the event that it asks.
+    // Does `steps` Steps of a line, or the event that it asks.
     fn show_part<M: StepMeter>(
         &mut self,
         line: &RecordedLine,
@@ -96,7 +96,7 @@ impl Filming {
         Ok(())
     }
 
-    // The frames of a line, as many as may follow. So many of its Steps are done already. Whether all of it is shown is told too.
+    // The frames of a line, as many as may follow, and whether they show all of it. `done` of its Steps are done already.
     fn frames_of<M: StepMeter>(
         &mut self,
         line: &RecordedLine,
@@ -114,7 +114,7 @@ impl Filming {
         Ok((frames, is_whole))
     }
 
-    // Does so many events of a line, or as many as may follow, and tells whether all are done.
+    // Does `times` events of a line, or as many as may follow, and returns whether all are done.
     fn show_parts<M: StepMeter>(
         &mut self,
         line: &RecordedLine,
@@ -134,7 +134,7 @@ impl Filming {
         Ok(shown >= times)
     }
 
-    // Writes the frames of a line, and tells whether all of it is shown.
+    // Writes the frames of a line, and returns whether they show all of it.
     fn show_line<M: StepMeter>(
         &mut self,
         line: &RecordedLine,
@@ -161,7 +161,7 @@ fn write_line(
     Ok(())
 }
 
-// Where the film begins that is to begin behind so many events.
+// Where a film begins that is to begin after `from` events.
 fn beginning_of(lines: &[RecordedLine], from: u64) -> Beginning {
     let mut left = from;
     for (place, line) in lines.iter().enumerate() {
@@ -216,7 +216,7 @@ fn follow_lines<M: StepMeter>(
     }
 }
 
-// Does so many of the Steps of a line.
+// Does `steps` of the Steps of a line.
 fn follow_part<M: StepMeter>(
     alloc: Global,
     follower: &mut Follower,
@@ -237,7 +237,7 @@ fn at_line<T>(line: &RecordedLine, done: Result<T, LineStop>) -> Result<T, Recor
     }
 }
 
-// Writes the first frame, by what changed since nothing was told.
+// Writes the first frame: what changed from a domain that nothing is known of.
 fn write_first(
     alloc: Global,
     known: &mut KnownCode,
@@ -377,7 +377,7 @@ fn film_of_record<M: StepMeter>(
 
 /// A record in JSON, which the page shows: the plan of its domain, the domain where the film begins, and for each line of the span
 /// what it asks, what it is answered, and what it changes. Each Step is a frame of its own, but for those in the middle of a line of
-/// more than 1,000. What changes is told by the frames of the moments before and after it (`shot_of`).
+/// more than 1,000. What changes is found from the frames of the moments before and after it (`shot_of`).
 ///
 /// # Errors
 ///

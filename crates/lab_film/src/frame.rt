@@ -11,7 +11,7 @@ use farm_causes::Follower;
 use std::alloc::Global;
 use std::collections::VecDeque;
 
-/// What is told of a node.
+/// What a film shows of a node.
 #[derive(Clone, Copy)]
 pub struct NodeFrame {
     /// What a look shows of it.
@@ -28,7 +28,7 @@ pub struct HostFrame {
     pub received: Vec<u8>,
 }
 
-// It is dropped by one call.
+// Dropped by hand, since a derived `Drop` makes callers prove the drop of each field.
 impl Drop for HostFrame {
     fn drop(self) {
         let HostFrame {
@@ -50,7 +50,7 @@ pub struct Frame {
     pub hosts: [Option<HostFrame>; 4],
 }
 
-// It is dropped by one call.
+// Dropped by hand, since a derived `Drop` makes callers prove the drop of each field.
 impl Drop for Frame {
     fn drop(self) {
         let Frame {

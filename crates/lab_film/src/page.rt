@@ -7,7 +7,7 @@ use crate::style::STYLE;
 use script_text::TextWriter;
 use std::alloc::Global;
 
-/// What stands before the style.
+/// What comes before the style.
 const HEAD: &str = r##"<!DOCTYPE html>
 <html lang="en">
 <head>
@@ -17,7 +17,7 @@ const HEAD: &str = r##"<!DOCTYPE html>
 <style>
 "##;
 
-/// What stands between the style and the film.
+/// What comes between the style and the film.
 const BODY: &str = r##"</style>
 </head>
 <body>

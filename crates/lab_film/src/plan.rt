@@ -27,7 +27,7 @@ pub struct PlanTold {
     operations: Vec<OperationTold>,
 }
 
-// It is dropped by one call.
+// Dropped by hand, since a derived `Drop` makes callers prove the drop of each field.
 impl Drop for PlanTold {
     fn drop(self) {
         let PlanTold {

@@ -1,17 +1,17 @@
-//! How the Steps that stand in one line of a record are divided into frames.
+//! How the Steps of one line of a record are divided into frames.
 ghost use Rattle.std.specs.Prelude.{◌<◌, ◌≤◌, ◌+◌};
 
 use domain_core::{By, Event, NoMemory};
 use farm_causes::{FollowFault, RecordedLine};
 use std::alloc::Global;
 
-/// So many Steps at each end of a line have a frame of their own, and those between have one together.
+/// How many Steps at each end of a line have a frame of their own. Those between them have one together.
 const AT_EACH_END: u64 = 500;
 
 /// What a Step is answered that ran.
 const RAN: &str = "ran";
 
-/// How many Steps the next frame does, if so many of a line's are done: one at least, and none that the line hasn't.
+/// How many Steps the next frame does, if `done` of a line's `times` Steps are done: one at least, and none that the line hasn't.
 pub fn next_steps(done: u64, times: u64) -> u64
     requires { done < times }
     ensures some { 1 ≤ result }
@@ -24,7 +24,7 @@ pub fn next_steps(done: u64, times: u64) -> u64
     }
 }
 
-/// A line that does so many of the Steps of a line, or the line itself if it asks one event.
+/// A line that does `steps` of the Steps of a line, or the line itself if it asks one event.
 pub fn part_of_line<'a>(line: &RecordedLine<'a>, steps: u64) -> RecordedLine<'a> {
     let mut part = *line;
     if line.call.times != 1 {
@@ -34,13 +34,13 @@ pub fn part_of_line<'a>(line: &RecordedLine<'a>, steps: u64) -> RecordedLine<'a>
     part
 }
 
-// Whether an answer says that so many Steps ran.
+// Whether an answer says that all `times` Steps ran: it is `ran`, or their number and `ran`.
 fn is_all_ran(alloc: Global, answer: &str, times: u64) -> Result<bool, NoMemory> {
     let several = format!(in alloc; "{times} {RAN}")?;
     Ok(answer == RAN || several.as_str() == answer)
 }
 
-/// Tests that a line asks one event, or Steps for which the farm asks and of which it says no other than that all ran.
+/// Tests that a line asks one event, or Steps for which the farm asks. Of the Steps it may say only that all ran.
 ///
 /// # Errors
 ///

@@ -1,4 +1,4 @@
-//! What is told of a line of a record, as it is written in JSON.
+//! What a film shows of a line of a record, as it is written in JSON.
 
 use crate::NoMemory;
 use crate::changes::FrameChanges;
@@ -20,7 +20,7 @@ struct PacketTold {
     drives: u32,
 }
 
-/// What is told of a line: what it asks and is answered, and what changed from frame to frame.
+/// What a film shows of a line: what it asks and is answered, and what changed from frame to frame.
 #[derive(Serialize)]
 pub struct LineTold {
     /// The number of the line in the whole text.
@@ -42,7 +42,7 @@ pub struct LineTold {
     then: Vec<FrameChanges>,
 }
 
-// It is dropped by one call.
+// Dropped by hand, since a derived `Drop` makes callers prove the drop of each field.
 impl Drop for LineTold {
     fn drop(self) {
         let LineTold {
@@ -96,7 +96,7 @@ fn reply_text(alloc: Global, reply: Option<Reply>) -> Result<String, NoMemory> {
     Ok(text)
 }
 
-/// What is told of a line, of which so many Steps were done before its first frame.
+/// What a film shows of a line, if `done` of its Steps were done before its first frame.
 pub fn line_told(
     alloc: Global,
     line: &RecordedLine,
