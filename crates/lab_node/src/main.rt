@@ -1,4 +1,4 @@
-//! The lab's program for whoever assembles a text or traces a node, and needn't wait for the proof of the whole lab.
+//! The lab's program for anyone who assembles a text or traces a node, and needn't wait for the proof of the whole lab.
 #![tactic(auto)]
 
 use lab_command::{CommandLine, LabFailure, Report, end_with, read_command_line, words_of};

@@ -10,9 +10,9 @@ use std::alloc::{AllocError, Global};
 /// A file that a line loads.
 #[derive(Drop)]
 pub struct LoadedFile<'a> {
-    /// Its name, as it stands in the line.
+    /// Its name, as it is in the line.
     pub name: &'a str,
-    /// What stands in it, if it can be read.
+    /// Its text, if it can be read.
     pub text: Option<Vec<u8>>,
 }
 
@@ -72,8 +72,8 @@ pub fn file_loaded(line: &str) -> Option<&str> {
     }
 }
 
-/// The plain lines for which a line stands that helps, or why there are none; `None` if the line doesn't help. `number` is
-/// that of the line, as it is told.
+/// The plain lines into which a line that helps is spelled out, or why there are none; `None` if the line doesn't help. `number`
+/// is that of the line in messages.
 pub fn expanded_line(
     alloc: Global,
     number: u64,
@@ -93,7 +93,7 @@ pub fn expanded_line(
 }
 
 /// Spells out the lines of a script that help: the plan and the line `---` before it stay as they are, and so do all other
-/// lines of the script. Before what stands for a line stands the line itself as a remark.
+/// lines of the script. Before the lines into which a line is spelled out comes the line itself as a remark.
 ///
 /// `Wrong` if a line isn't UTF-8.
 pub fn expand(

@@ -24,7 +24,7 @@ const VERBS: [(&str, HelpVerb); 4] = [
 ];
 
 impl HelpVerb {
-    // What stands behind the user's name in a line.
+    // What comes after the user's name in a line.
     fn form(self) -> &'static str {
         match self {
             HelpVerb::Load => " load HOST FILE",
@@ -44,7 +44,7 @@ impl HelpVerb {
     }
 }
 
-/// The words of a line that helps: who asks, the verb, and what stands behind it.
+/// The words of a line that helps: who asks, the verb, and what comes after it.
 #[derive(Clone, Copy)]
 pub struct HelpLine<'a> {
     /// The number of the line in its script, from 1.
@@ -83,12 +83,12 @@ fn with_verb<'a>(number: u64, user: &'a str, verb: &str, rest: &'a str) -> Optio
 }
 
 impl<'a> HelpLine<'a> {
-    /// The first word behind the verb, and what stands behind that; both empty if there is none.
+    /// The first word after the verb, and what comes after that word; both are empty if there is none.
     pub fn halves(self) -> (&'a str, &'a str) {
         self.rest.split_once(' ').unwrap_or((self.rest, ""))
     }
 
-    /// Appends where the line stands, who asks and the verb: `line 3, ann load: `.
+    /// Appends the number of the line, who asks and the verb: `line 3, ann load: `.
     pub fn write_head(self, text: &mut TextWriter) {
         text.push("line ");
         text.push_decimal(self.number);

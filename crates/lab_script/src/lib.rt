@@ -1,4 +1,4 @@
-//! Lines that help in a script, and the plain lines for which they stand.
+//! Lines that help in a script, and the plain lines into which they are spelled out.
 #![tactic(auto)]
 
 mod bytes;

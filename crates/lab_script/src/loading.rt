@@ -13,7 +13,7 @@ use t414_assembly::{
 pub enum LoadFault {
     /// Its text is wrong.
     Text(TextFault),
-    /// Its code has so many bytes.
+    /// Its code has this number of bytes, and can't be loaded.
     Length(usize),
     Memory,
 }

@@ -1,4 +1,4 @@
-//! The plain lines for which a line stands that helps.
+//! The plain lines into which a line that helps is spelled out.
 
 use crate::bytes::digits_of;
 use crate::expanding::{Expansion, LoadedFile};
@@ -104,7 +104,7 @@ fn spell_program(alloc: Global, expansion: &mut Expansion, line: HelpLine<'_>, p
     }
 }
 
-// Whether a word is a host's number; if it is none that is told.
+// Whether a word is a host's number. If it isn't, a message says so.
 fn is_host(expansion: &mut Expansion, line: HelpLine<'_>, word: &str) -> bool {
     let is_number = number_up_to(word, 255).is_some();
     if !is_number {

@@ -7,7 +7,7 @@ use Rattle.farm_causes.specs.Following.{calls_said, all_said, IsMomentAfter}
 use Rattle.lab_timeline.specs.declared.progress.Progress.{Progress}
 use Rattle.lab_timeline.specs.Timeline.{IsMomentAt}
 
--- these calls of a record were done, and led to this moment: then come the rest of a line, and the lines behind it
+-- these calls of a record were done, and led to this moment: then come the rest of a line, and the lines after it
 pub record IsProgress (plan : List DomainData) (lines : List SaidCall) (p : Progress) : Type 0 where
   pub done : List Call
   pub whole : done ++ (calls_said p.rest ++ all_said (drop p.next lines)) ≡ all_said lines
@@ -22,7 +22,7 @@ GoesOnIn lines old new = (plan : List DomainData) → IsProgress plan lines old 
 abbrev pub GoesOn : Progress → Progress → Type 0
 GoesOn old new = (lines : List SaidCall) → GoesOnIn lines old new
 
--- what is done of a record by then leads to the moment after its first so many events
+-- what is done of a record by then leads to the moment after its first `event` events
 abbrev pub ComesTo : List SaidCall → ℕ → Progress → Progress → Type 0
 ComesTo lines event old new =
     (plan : List DomainData) → IsProgress plan lines old → IsMomentAt plan lines event new.follower

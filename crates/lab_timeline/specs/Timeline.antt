@@ -10,7 +10,7 @@ use Rattle.farm_causes.specs.Following.{all_said, IsMomentAfter}
 abbrev pub said_by : List RecordedLine → List SaidCall
 said_by lines = map (λ l. l.call) lines
 
--- the moment after the first so many events of a record: after all of them if it has fewer
+-- the moment after the first `event` events of a record: after all of them if it has fewer
 abbrev pub IsMomentAt : List DomainData → List SaidCall → ℕ → MomentValue → Type 0
 IsMomentAt plan lines event m = IsMomentAfter plan 0 (take event (all_said lines)) m
 

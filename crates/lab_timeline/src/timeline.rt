@@ -37,7 +37,7 @@ pub struct Timeline<'a> {
     is_led: bool,
 }
 
-// It is dropped by one call.
+// Dropped by hand, since a derived `Drop` makes callers prove the drop of each field.
 impl Drop for Timeline<'_> {
     fn drop(self) {
         let Timeline {
@@ -74,7 +74,7 @@ struct Keeping {
     since: u64,
 }
 
-// How much there is to do for a call: Steps that stand together are done fast.
+// How much there is to do for a call: Steps of one line are done fast.
 fn work_of(call: SaidCall) -> u64 {
     (call.times / STEPS_AS_ONE).saturating_add(1)
 }
@@ -182,7 +182,7 @@ impl Keeping {
     }
 }
 
-// The kept moment nearest to an event, not behind it.
+// The kept moment nearest to an event that doesn't come after it.
 fn nearest<'b>(opening: &'b Progress, kept: &'b [Progress], event: u64) -> &'b Progress
     requires { opening.now.follower.recorded ≤ event }
     ensures progress { IsOfKept opening.now kept.now result.now }
@@ -197,7 +197,8 @@ fn nearest<'b>(opening: &'b Progress, kept: &'b [Progress], event: u64) -> &'b P
     found
 }
 
-// Begins at the moment that is shown, if it was led there and isn't behind the event nor the kept one, or else at the kept one.
+// Begins at the moment that is shown, if that is one of the record, doesn't come after the event and doesn't come before the kept
+// moment. Else begins at the kept moment.
 fn begin(here: &mut Progress, is_led: bool, near: &Progress, event: u64) -> Result<(), NoMemory>
     requires { near.now.follower.recorded ≤ event }
     ensures progress { OnOk result (Begins is_led here.old near.now here.new) }
@@ -212,11 +213,11 @@ fn begin(here: &mut Progress, is_led: bool, near: &Progress, event: u64) -> Resu
 }
 
 impl<'a> Timeline<'a> {
-    /// Reads a record, does all its lines, and is at its end then. What stands behind its last line feed is left out.
+    /// Reads a record, does all its lines, and is at its end then. What comes after its last line feed is left out.
     ///
     /// # Errors
     ///
-    /// `Record` with `NoMark` if no line `---` stands in the text, with `Plan` and `Domains` if what stands before it is no plan of
+    /// `Record` with `NoMark` if the text has no line `---`, with `Plan` and `Domains` if what comes before that line is no plan of
     /// one domain, with `Line` and the first line that isn't one of this domain's record, and with `Memory`; `Steps` if its lines
     /// have more Steps than the meter allows.
     pub fn open<M: StepMeter>(
@@ -271,7 +272,7 @@ impl<'a> Timeline<'a> {
         self.events
     }
 
-    /// Whether something stood behind the last line feed of the record.
+    /// Whether something came after the last line feed of the record.
     pub fn is_cut(&self) -> bool {
         self.is_cut
     }
@@ -306,7 +307,7 @@ impl<'a> Timeline<'a> {
         Some(line)
     }
 
-    /// The event at which the nearest kept moment stands that isn't behind this event.
+    /// The event of the nearest kept moment that doesn't come after this event.
     pub fn kept_before(&self, event: u64) -> u64
         ensures { result ≤ event }
     {
@@ -315,8 +316,8 @@ impl<'a> Timeline<'a> {
             .recorded()
     }
 
-    /// Goes to the moment after the first so many events of the record, or to its end if it has fewer. After an error nothing is
-    /// said of the moment that is shown.
+    /// Goes to the moment after the first `event` events of the record, or to its end if it has fewer. After an error nothing is
+    /// guaranteed of the moment that is shown.
     #[tactic(auto, using(crate::proofs::Led::unled, crate::proofs::Led::led_on, crate::proofs::Led::come_to))]
     pub fn go(&mut self, event: u64) -> Result<(), FollowFault>
         ensures state { OnOk result (IsMomentAt self.new.plan self.new.lines event self.new.here) }

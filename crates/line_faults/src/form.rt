@@ -1,4 +1,4 @@
-//! The forms of script lines, as a person is told them.
+//! The forms of script lines, as messages show them.
 
 use line_mistakes::{Wanted, WordForm, WordRole};
 use script_lines::parse_place;
@@ -12,7 +12,7 @@ pub const VERBS: WordForm = WordForm::OneOf(&[
 /// The verbs of lines that help, and no others. Not every program takes them.
 pub const VERBS_THAT_HELP: [&str; 4] = ["load", "join", "send", "text"];
 
-/// What a word behind a verb stands for.
+/// What a word after a verb stands for.
 #[derive(Clone, Copy)]
 pub enum ScriptArgument {
     Host,
@@ -86,7 +86,7 @@ pub fn no_digit_of(word: &[u8]) -> Option<usize> {
     None
 }
 
-// What stands behind each verb.
+// What comes after each verb.
 const ARGUMENTS: [(&str, &[ScriptArgument]); 8] = [
     ("config", &[ScriptArgument::Bytes]),
     ("write", &[ScriptArgument::Host, ScriptArgument::Bytes]),
@@ -105,7 +105,7 @@ const ARGUMENTS: [(&str, &[ScriptArgument]); 8] = [
     ("look", &[ScriptArgument::Node]),
 ];
 
-/// What stands behind the verb of this name; nothing if it is no verb.
+/// What comes after the verb of this name; nothing if it is no verb.
 pub fn arguments_of(verb: &[u8]) -> &'static [ScriptArgument] {
     for (name, arguments) in &ARGUMENTS {
         if name.as_bytes() == verb {

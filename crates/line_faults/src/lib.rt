@@ -1,4 +1,4 @@
-//! What is told of the lines of a script that are wrong: who wrote them, which word is wrong, and what should stand there.
+//! Messages about lines of a script that are wrong: who wrote them, which word is wrong, and what should be there.
 #![tactic(auto)]
 
 mod form;

@@ -6,10 +6,10 @@ use script_lines::{LineFault, LineWords, ScriptFault, read_script};
 use script_text::TextWriter;
 use std::alloc::{AllocError, Global};
 
-/// How many wrong lines are told.
+/// How many wrong lines have a message of their own.
 const MOST_TOLD: u64 = 100;
 
-/// What is told of the lines that are wrong: the first 100 of them, and how many more there are.
+/// The messages about the lines that are wrong: the first 100 of them, and how many more there are.
 #[derive(Drop)]
 pub struct WrongLines {
     text: TextWriter,
@@ -25,7 +25,7 @@ impl WrongLines {
         }
     }
 
-    /// One more line is wrong, of which this is told.
+    /// One more line is wrong, and this is the message about it.
     pub fn add(&mut self, told: &str) {
         if self.count < MOST_TOLD {
             self.text.push(told);
@@ -33,7 +33,7 @@ impl WrongLines {
         self.count = self.count.saturating_add(1);
     }
 
-    /// All that is told, which is nothing if no line is wrong.
+    /// The text of all messages, which is empty if no line is wrong.
     pub fn finish(mut self) -> Result<String, AllocError> {
         let more = self.count.saturating_sub(MOST_TOLD);
         if more > 0 {

@@ -1,4 +1,4 @@
-//! A wrong line of a script, and what is told of it.
+//! A wrong line of a script, and the message about it.
 
 use crate::form::{ScriptArgument, VERBS, VERBS_THAT_HELP, arguments_of, no_digit_of, write_form};
 use line_mistakes::{
@@ -7,7 +7,7 @@ use line_mistakes::{
 use script_lines::{LineFault, LineWords};
 use script_text::TextWriter;
 
-/// How many users' names are told.
+/// How many users' names are listed at most.
 const MOST_NAMES: usize = 8;
 
 /// A line of a script that is wrong.
@@ -180,7 +180,7 @@ fn write_wrong_arguments(text: &mut TextWriter, words: &[&[u8]]) {
     }
 }
 
-// The first word behind a verb that doesn't spell what it stands for.
+// The first word after a verb that doesn't spell what it stands for.
 fn write_wrong_argument(text: &mut TextWriter, wanted: &[ScriptArgument], arguments: &[&[u8]]) {
     for (argument, word) in wanted.iter().zip(arguments.iter()) {
         if !argument.is_spelled_by(*word) {
@@ -247,7 +247,7 @@ fn length_of_character(first: u8) -> usize {
     }
 }
 
-// What stands in place of something else: a word in quotes, its beginning if it is long.
+// What is there instead of something else: a word in quotes, or its beginning if it is long.
 fn write_met(text: &mut TextWriter, word: &[u8]) {
     if word.is_empty() {
         text.push("an empty word");
@@ -274,7 +274,7 @@ fn write_hint(text: &mut TextWriter, word: &[u8], wanted: Wanted) {
     }
 }
 
-// What helps with the first of some words of which there are too few or too many.
+// A hint for the first word that has one, where there are too few words or too many.
 fn write_hint_of_words(text: &mut TextWriter, words: &[&[u8]]) {
     for word in words {
         if let Some(hint) = hint_of(*word, Wanted::End) {
