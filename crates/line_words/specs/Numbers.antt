@@ -2,7 +2,7 @@
 use Rattle.std.specs.Prelude.{◌≡◌, ◌<◌, ◌^◌, ℕ, List, Option, Some, None}
 use Rattle.std.specs.Str.Parse.{IsNumeral, digits_value}
 
--- the word is digits in the radix, one or more, of a number with so many bits
+-- the word is digits in the radix, one or more, of a number that fits in `bits` bits
 abbrev pub IsNumber : ℕ → ℕ → List ℕ → Type 0
 IsNumber radix bits word = IsNumeral radix word × (digits_value radix word < 2 ^ bits)
 

@@ -7,7 +7,7 @@ use thiserror::Error;
 /// Why the words of a line ask nothing.
 #[derive(Clone, Copy, Debug, Error)]
 pub enum WordFault {
-    /// A word is wrong or missing, or one stands behind the last.
+    /// A word is wrong or missing, or there is one after the last.
     #[error("{0}")]
     Wrong(WordMistake),
     #[error("memory")]

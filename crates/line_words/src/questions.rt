@@ -70,8 +70,8 @@ fn next_expected(expected: &[u8]) -> Option<(u8, &[u8])>
 }
 
 /// The lines of a text that ask something, in their order: all but the empty ones and those that begin with `#`. What
-/// follows the first ` = ` of a line is the answer that it expects. The text stands behind so many lines of a whole one, in
-/// which its lines are counted.
+/// follows the first ` = ` of a line is the answer that it expects. The text is part of a whole one, in which `before` lines
+/// come before it, and its lines are counted in the whole one.
 ///
 /// `Wrong` if a line isn't UTF-8, with the first byte that isn't.
 pub fn read_questions<'a>(
@@ -89,7 +89,7 @@ pub fn read_questions<'a>(
     Ok(questions)
 }
 
-// Reads the question of a line behind so many others, and puts it behind these.
+// Reads the question of a line, and appends it to these. `before` lines of the whole text come before its part.
 fn push_question<'a>(
     questions: &mut Vec<Question<'a>>,
     line: NumberedLine<'a>,
@@ -99,7 +99,7 @@ fn push_question<'a>(
     Ok(())
 }
 
-// The question of a line behind so many others.
+// The question of a line. `before` lines of the whole text come before its part.
 fn read_question(line: NumberedLine<'_>, before: u64) -> Result<Question<'_>, NumberedLineFault> {
     let line = NumberedLine {
         number: line.number.saturating_add(before),

@@ -10,7 +10,7 @@ use line_mistakes::{
 use script_text::{HexFault, bytes_of};
 use std::alloc::{AllocError, Global};
 
-/// A place of a line: a word and what stands behind it, or the line's end.
+/// A place of a line: a word and what comes after it, or the line's end.
 #[derive(Clone, Copy)]
 pub struct WordPlace<'a> {
     rest: Option<&'a str>,
@@ -22,7 +22,7 @@ impl<'a> WordPlace<'a> {
         self.split().0
     }
 
-    // The word there, and the place behind it.
+    // The word there, and the place after it.
     fn split(self) -> (&'a str, WordPlace<'a>) {
         match self.rest {
             Some(rest) => match rest.split_once(' ') {

@@ -46,7 +46,7 @@ fn trace_digits(
     )
 }
 
-// Wrong bytes of the words are told before the file is read.
+// Wrong bytes in the words of the command line are reported before the file is read.
 fn print_program(
     rt: &HostRuntime,
     options: &BootOptions,

@@ -5,7 +5,7 @@ use node_trace::TraceFault;
 use std::alloc::Global;
 use t414_assembly::TextFault;
 
-/// A boot can't take so many bytes of code.
+/// A boot can't take `count` bytes of code.
 pub fn wrong_length(alloc: Global, count: usize) -> LabFailure {
     LabFailure::of_line(alloc, &ArgumentFault::Length(count), WRONG_TEXT)
 }

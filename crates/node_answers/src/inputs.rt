@@ -1,4 +1,4 @@
-//! Bytes that stand in the words of the command line.
+//! Bytes in the words of the command line.
 
 use lab_command::ArgumentFault;
 use line_words::decimal_number;

@@ -35,13 +35,13 @@ enum TraceEnd {
     Stopped,
     /// The instruction at this address is next.
     Before(u32),
-    /// So many Steps were traced.
+    /// This number of Steps was traced.
     Counted(u64),
 }
 
-/// Boots a node of 4,096 bytes with code by link 0, and gives a line for each Step that follows, up to so many, to the
-/// first that is idle, to a fault, or to an address: the address of the instruction, the instruction, and what changed. If the
-/// lines of a program are given, the nearest label and the line stand behind an instruction of it.
+/// Boots a node of 4,096 bytes with code by link 0, and gives a line for each Step that follows: the address of the instruction,
+/// the instruction, and what changed. If the lines of a program are given, the nearest label and the line come after an
+/// instruction of it. The trace stops after `trace.steps` Steps, at the first that is idle, at a fault, or at an address.
 ///
 /// Packets have lines of their own. A host at each link takes those that leave, acknowledges each byte, and sends the bytes
 /// of its inputs, each as soon as the one before it is acknowledged. The last lines say why the trace stops, if no Step
@@ -107,7 +107,7 @@ fn write_lines<M: StepMeter>(
     Ok(TraceEnd::Counted(trace.steps))
 }
 
-// The address at which the trace stops, if the next instruction byte stands there.
+// The address at which the trace stops, if the next instruction byte is there.
 fn met_address(next: Option<InstructionByte>, until: Option<u32>) -> Option<u32> {
     match (next, until) {
         (Some(next), Some(address)) if next.address == address => Some(address),
@@ -162,7 +162,7 @@ fn write_end(end: TraceEnd, text: &mut TextWriter) {
     }
 }
 
-/// Writes that a trace ends after so many Steps, as was said.
+/// Writes that a trace ends after `steps` Steps, the most that it may have.
 pub fn write_stopped(steps: u64, text: &mut TextWriter) {
     text.push("stopped after ");
     text.push_decimal(steps);

@@ -35,8 +35,8 @@ impl ChangedField {
     }
 }
 
-/// Writes a blank, a name and a value for each thing that changed. After so many bytes of instructions Iptr is expected
-/// that much further, the count of bytes that much greater, to 1,024, and O to be 0: they are left out where they are so.
+/// Writes a blank, a name and a value for each thing that changed. After `bytes` bytes of instructions Iptr is expected to be
+/// greater by that number, the count of bytes too, up to 1,024, and O to be 0: what is as expected is left out.
 pub fn write_changes(text: &mut TextWriter, before: &Snapshot, node: &Node, bytes: u32) {
     if let Some(new) = node.registers() {
         match before.registers {
@@ -52,7 +52,7 @@ pub fn write_changes(text: &mut TextWriter, before: &Snapshot, node: &Node, byte
     write_links(text, &before.links, &node.links().four());
 }
 
-// The registers after so many bytes of instructions that change no others.
+// The registers after `bytes` bytes of instructions that change no others.
 fn after_bytes(registers: Cpu, bytes: u32) -> Cpu {
     if bytes == 0 {
         return registers;

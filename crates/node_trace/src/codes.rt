@@ -10,8 +10,8 @@ use t414_decode::Function;
 /// An instruction, as the assembler has it.
 pub const INSTRUCTION: Wanted = Wanted::Word(WordRole::Instruction, WordForm::Instruction);
 
-/// Reads an instruction as the assembler does, and puts its bytes behind others: a function and its operand, an operation,
-/// or `hex` and bytes. Whether there was one; if there was none nothing is read.
+/// Reads an instruction as the assembler does, and appends its bytes to `code`: a function and its operand, an operation, or
+/// `hex` and bytes. Returns whether there was one; if there was none nothing is read.
 pub fn read_instruction(
     alloc: Global,
     words: &mut Words,
@@ -34,12 +34,12 @@ pub fn read_instruction(
     Ok(true)
 }
 
-/// Notes that something else is wanted at a place, where an instruction might stand.
+/// Notes that something else is wanted at a place, where an instruction might be.
 pub fn reject_instruction<'a>(words: &mut Words<'a>, place: WordPlace<'a>, wanted: Wanted) {
     words.reject_with(place, wanted, instruction_hint(place.word(), wanted));
 }
 
-// What helps where a word stands in place of an instruction.
+// A hint where a word is there instead of an instruction.
 fn instruction_hint(word: &str, wanted: Wanted) -> Option<WordHint> {
     match left_out(word) {
         Some(group) => Some(WordHint::LeftOut(group)),

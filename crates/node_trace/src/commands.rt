@@ -10,7 +10,7 @@ use std::alloc::{AllocError, Global};
 /// What a line asks for.
 #[derive(Drop)]
 pub enum TraceCommand {
-    /// A fresh node that runs, of so many bytes of memory, and what is put into it.
+    /// A fresh node that runs: how many bytes of memory it has, and what is put into it.
     Node(usize, NodeSettings),
     /// A fresh node that boots.
     Open(usize),
@@ -22,13 +22,13 @@ pub enum TraceCommand {
     Decode(Vec<u8>),
     /// Something that is seen of the node.
     Ask(Query),
-    /// Steps, each told.
+    /// Steps, each shown.
     Step(u64),
     /// Takes the packet that leaves a link next.
     Take(LinkNumber),
     /// A host asks by link 0 for a word of memory.
     Peek(u32),
-    /// Something whose changes are told.
+    /// Something whose changes are shown.
     NodeChange(NodeChange),
 }
 
@@ -48,7 +48,7 @@ pub enum Query {
 /// What is done to a node.
 #[derive(Drop)]
 pub enum NodeChange {
-    /// Steps up to one that would not be recorded, told together.
+    /// Steps up to one that would not be recorded, shown together.
     Run(u64),
     /// A packet arrives at a link.
     Deliver(LinkNumber, Packet),
@@ -128,7 +128,7 @@ const PACKET_KINDS: [(&str, PacketKind); 2] = [
     ("acknowledge", PacketKind::Acknowledge),
 ];
 
-// The names of the verbs, as they are told.
+// The names of the verbs, as messages list them.
 const VERB_NAMES: [&str; 20] = [
     "node",
     "open",
@@ -152,7 +152,7 @@ const VERB_NAMES: [&str; 20] = [
     "decode",
 ];
 
-/// What a line asks for. `Wrong` with the first word that is wrong or missing, or that stands behind the end.
+/// What a line asks for. `Wrong` with the first word that is wrong or missing, or that comes after the end.
 pub fn read_command(alloc: Global, line: &str) -> Result<TraceCommand, WordFault> {
     let mut words = Words::of(line);
     let wanted = Wanted::Word(WordRole::NodeVerb, WordForm::OneOf(&VERB_NAMES));
@@ -206,7 +206,7 @@ fn read_behind(
     })
 }
 
-// How many bytes of memory a node has: a multiple of 4 from 2,048 to 65,536, or 4,096 if no number stands here.
+// How many bytes of memory a node has: a multiple of 4 from 2,048 to 65,536, or 4,096 if no number is here.
 fn read_size(words: &mut Words) -> usize {
     let [b'0'..=b'9', ..] = words.peek().as_bytes() else {
         return 4096;

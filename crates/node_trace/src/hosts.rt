@@ -23,7 +23,7 @@ pub struct LinkHost {
     awaits: bool,
 }
 
-// It is dropped by one call.
+// Dropped by hand, since a derived `Drop` makes callers prove the drop of each field.
 impl Drop for LinkHost {
     fn drop(self) {
         let LinkHost {
@@ -78,7 +78,7 @@ impl LinkHost {
     }
 
     /// Takes the packets that leave the link, acknowledges each byte, and writes their lines. An acknowledge and a byte may
-    /// wait at once.
+    /// both wait.
     pub fn take_packets(&mut self, node: &mut Node, text: &mut TextWriter) {
         for _ in 0..2 {
             let Some(packet) = node.take(self.link) else {

@@ -1,7 +1,7 @@
 //! One node from a text: each line puts something into it or has it do Steps, and is answered by all that changed.
 //!
-//! A text stands alone: `node` opens a node that runs, `open` one that boots, and `try` does one instruction on a node of
-//! its own. Instructions are written as for the assembler, words are hexadecimal, counts decimal.
+//! A text needs nothing else: `node` opens a node that runs, `open` one that boots, and `try` does one instruction on a node
+//! of its own. Instructions are written as for the assembler, words are hexadecimal, counts decimal.
 #![tactic(auto)]
 
 mod boot;

@@ -29,7 +29,7 @@ pub fn open_running(alloc: Global, size: usize) -> Result<Node, NoMemory> {
     Ok(Node::running(memory, Links::new(), registers))
 }
 
-/// A text without the blank before it and behind it, or `-` if it is empty.
+/// A text without the blanks before and after it, or `-` if it is empty.
 pub fn or_dash(alloc: Global, text: &str) -> Result<String, NoMemory> {
     let text = text.trim();
     String::from_str(alloc, if text.is_empty() { "-" } else { text })
@@ -132,7 +132,7 @@ fn make_change<M: StepMeter>(
     Ok(())
 }
 
-// Writes that a boot doesn't take so many bytes of code.
+// Writes that a boot doesn't take `count` bytes of code.
 fn write_refused(text: &mut TextWriter, fault: BootFault, count: usize) {
     text.push("refused ");
     text.push_decimal(u64::from(fault.number()));
@@ -173,7 +173,7 @@ fn run<M: StepMeter>(
     Ok(())
 }
 
-// Does Steps up to one that doesn't run, each of which has a line: its instruction, what it answered, what changed.
+// Does Steps up to one that doesn't run, and writes a line for each: its instruction, what it answered, what changed.
 fn write_steps<M: StepMeter>(
     node: &mut Node,
     count: u64,
@@ -194,7 +194,7 @@ fn write_steps<M: StepMeter>(
     Ok(())
 }
 
-/// The lines of a program, as a column of so many letters.
+/// The lines of a program, as a column of `width` letters.
 #[derive(Clone, Copy)]
 pub struct ProgramColumn<'a> {
     pub lines: &'a [ProgramLine<'a>],

@@ -52,7 +52,7 @@ pub struct Program {
     made: Assembly,
 }
 
-// It is dropped by one call.
+// Dropped by hand, since a derived `Drop` makes callers prove the drop of each field.
 impl Drop for Program {
     fn drop(self) {
         let Program {
@@ -64,7 +64,7 @@ impl Drop for Program {
 }
 
 impl Program {
-    /// Assembles a text. Code that a boot takes stands where a boot puts it, and longer code where it is poked.
+    /// Assembles a text. Code that a boot takes begins at the address where a boot puts it, and longer code where it is poked.
     ///
     /// A fault of the text is answered as `assemble` answers it.
     pub fn read(alloc: Global, text: Vec<u8>) -> Result<Program, TextFault>
@@ -132,7 +132,7 @@ impl Program {
     }
 }
 
-// Whether a byte can stand in a label.
+// Whether a byte can be in a label.
 fn is_of_label(byte: u8) -> bool {
     byte.is_ascii_alphanumeric() || byte == b'_' || byte == b'.'
 }
@@ -173,7 +173,7 @@ fn letters_of(text: &str) -> usize {
     text.chars().count()
 }
 
-// Writes blanks behind what was written from a byte of the text on, so that it is so wide.
+// Writes blanks after what was written from the byte `begin` of the text on, so that it has `width` bytes.
 fn pad(text: &mut TextWriter, begin: usize, width: usize) {
     let written = text.as_mut_string().len().saturating_sub(begin);
     for _ in written..width {
@@ -181,7 +181,7 @@ fn pad(text: &mut TextWriter, begin: usize, width: usize) {
     }
 }
 
-// Writes the nearest label, and how many bytes an address is behind it, `-` if there is none.
+// Writes the nearest label, and how many bytes an address is after it, `-` if there is none.
 fn write_place(label: Option<PlacedLabel>, address: u32, text: &mut TextWriter) {
     let begin = text.as_mut_string().len();
     match label {
@@ -208,9 +208,9 @@ fn line_with<'a>(lines: &[ProgramLine<'a>], address: u32) -> Option<ProgramLine<
     None
 }
 
-/// Writes behind an instruction, which stands in the text from the byte `begin` on, where its address is in a program: the
-/// nearest label, and the line as it is written, in a column that is so wide at least. Nothing, and `false`, if no line has
-/// the address.
+/// Writes where the address of an instruction is in a program: the nearest label, and the line as it is written, in a column
+/// that is at least `width` letters wide. It comes after the instruction, which is in the text from the byte `begin` on. Writes
+/// nothing, and returns `false`, if no line has the address.
 pub fn write_source(
     text: &mut TextWriter,
     begin: usize,

@@ -1,4 +1,4 @@
-//! What a line puts into a node: registers, flags, words of memory, code, and what stands at links.
+//! What a line puts into a node: registers, flags, words of memory, code, and what is at links.
 
 use crate::codes::{read_instruction, reject_instruction};
 use bootstrap::{Cpu, Fault, LinkNumber, Links, Memory, Node, link_of};
@@ -40,7 +40,7 @@ pub enum Flag {
     Running,
 }
 
-/// One thing that stands at a link.
+/// One thing that is put at a link.
 #[derive(Clone, Copy)]
 pub enum LinkSetting {
     /// The byte that waits to leave.
@@ -71,7 +71,7 @@ pub struct NodeSettings {
     pub code: Vec<u8>,
 }
 
-// It is dropped by one call.
+// Dropped by hand, since a derived `Drop` makes callers prove the drop of each field.
 impl Drop for NodeSettings {
     fn drop(self) {
         let NodeSettings {
@@ -90,7 +90,7 @@ impl NodeSettings {
         }
     }
 
-    /// Reads settings to the end of a line. After `code` stand instructions, and so they do at once if `begins_with_code`.
+    /// Reads settings to the end of a line. Instructions come after `code`, or from the beginning if `begins_with_code`.
     pub fn read(
         alloc: Global,
         words: &mut Words,
@@ -267,7 +267,7 @@ const FIELDS: [(&str, SettingField); 22] = [
 // How many of these states aren't those of a link.
 const OF_THE_NODE: usize = 15;
 
-// The states of a node, as they are told: its own, and then those of a link.
+// The states of a node, as messages list them: its own, and then those of a link.
 const STATES: [&str; 24] = [
     "Iptr",
     "W",
@@ -295,7 +295,7 @@ const STATES: [&str; 24] = [
     "output",
 ];
 
-// What may stand where a setting is read.
+// What may come where a setting is read.
 fn wanted_setting(has_link: bool, is_code: bool) -> Wanted {
     let names: &'static [&'static str] = if has_link {
         &STATES

@@ -25,7 +25,7 @@ pub fn trace<'a, M: StepMeter>(
     answer_all(alloc, questions.as_slice(), commands.as_slice(), meter)
 }
 
-/// Reads a line, and does nothing. `Wrong` with the first word that is wrong or missing, or that stands behind the end.
+/// Reads a line, and does nothing. `Wrong` with the first word that is wrong or missing, or that comes after the end.
 pub fn read_trace_line(alloc: Global, line: &str) -> Result<(), WordFault> {
     match read_command(alloc, line) {
         Ok(_) => Ok(()),

@@ -22,7 +22,7 @@ const LEGEND: u32 = 60;
 
 /// Draws the crossbar of a farm in SVG: a column for each physical input that a domain has and a row for each output, each with
 /// its domain, its virtual number and the device that is joined there. The squares whose input and output are both of one
-/// domain have its colour. A dot stands where an input drives an output: a full one if the output is ready.
+/// domain have its colour. There is a dot where an input drives an output: a full one if the output is ready.
 ///
 /// `words` are the switch words of the physical outputs, from 0; an output without one is drawn as disconnected.
 pub fn draw(alloc: Global, plan: &AcceptedPlan, words: &[Word]) -> Result<String, NoMemory> {
@@ -77,7 +77,7 @@ fn is_of_a_domain(plan: &AcceptedPlan, physical: u8) -> bool {
     false
 }
 
-// The place at which the column or row of a physical port begins: behind those of the ports below it.
+// The place at which the column or row of a physical port begins: after those of the ports with smaller numbers.
 fn place(order: &[u8], physical: u8) -> u32 {
     let mut place = NAMES;
     for port in order {

@@ -23,7 +23,7 @@ const COLUMN: u32 = 230;
 
 const ROW: u32 = 190;
 
-/// How many nodes stand in a row.
+/// How many nodes are in a row.
 const NODES_IN_A_ROW: u32 = 4;
 
 /// From one host to the next.
@@ -224,7 +224,7 @@ fn draw_heading(svg: &mut TextWriter, domain: u8, height: u32) {
     );
 }
 
-// A box but for what stands in it.
+// A box without what is in it.
 fn draw_box(svg: &mut TextWriter, corner: (u32, u32), size: (u32, u32), round: u32) {
     push_all(
         svg,
