@@ -13,9 +13,9 @@ pub record IsSameRecord {S : Type 0} {g : _} (old new : DomainRecord S g) : Type
   pub places : vec_capacity new.room ≡ vec_capacity old.room
   pub store : IsSome new.store ↔ IsSome old.store
 
--- a record kept what the journal of a domain of this number gained: pieces up to the mark that the record has now, of
--- which the last leaves room, unless there may be more; and what is whole of it gained just the lines of their entries.
--- If the journal began anew, so did the record
+-- a record kept what the journal of a domain of this number gained: pieces up to the mark that the record has now, and
+-- the last of them leaves room, unless there may be more. What is whole of the record gained exactly the lines of their
+-- entries. If the journal began again, so did the record
 pub record KeepsGained {S : Type 0} {g : _} (whole : S → Option (List ℕ)) (plan : List DomainData) (number : ℕ)
     (anew more : Bool) (old new : DomainRecord S g) : Type 0 where
   pub from : Mark
@@ -27,7 +27,7 @@ pub record KeepsGained {S : Type 0} {g : _} (whole : S → Option (List ℕ)) (p
       (record_text (lines_of (entries_of pieces)))
   pub begun : new.owes_next ≡ false
 
--- the next record is still owed to a journal that began anew: the mark and what is whole of the record stay
+-- the next record is still owed to a journal that began again: the mark and what is whole of the record stay
 pub record StillOwes {S : Type 0} {g : _} (whole : S → Option (List ℕ)) (anew : Bool) (old new : DomainRecord S g)
     : Type 0 where
   pub is_anew : anew ≡ true
@@ -35,8 +35,8 @@ pub record StillOwes {S : Type 0} {g : _} (whole : S → Option (List ℕ)) (ane
   pub mark : new.mark ≡ old.mark
   pub text : stored_text whole new.store ≡ stored_text whole old.store
 
--- after an error nothing that the journal gained is left out and nothing stands there twice: the record kept some
--- pieces whole, and the mark is behind them, or the next record is still owed
+-- after an error nothing that the journal gained is left out and nothing is there twice: the record kept some pieces
+-- whole, and the mark is after them, or the next record is still owed
 abbrev pub KeepsSome : {S : Type 0} {g : _} → (S → Option (List ℕ)) → List DomainData → ℕ → Bool
     → DomainRecord S g → DomainRecord S g → Type 0
 KeepsSome whole plan number anew old new =

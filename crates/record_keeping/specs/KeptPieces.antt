@@ -7,7 +7,7 @@ use Rattle.record_keeping.specs.declared.domain_record.DomainRecord.{DomainRecor
 use Rattle.record_keeping.specs.Pieces.{JournalPiece, entries_of, AreGained, EndWithRoom}
 use Rattle.record_keeping.specs.Writing.{stored_text}
 
--- a record kept pieces, of which the last leaves room, unless there may be more
+-- a record kept pieces, and the last of them leaves room, unless there may be more
 pub record KeepsPieces {S : Type 0} {g : _} (whole : S → Option (List ℕ)) (plan : List DomainData) (number : ℕ)
     (more : Bool) (old new : DomainRecord S g) : Type 0 where
   pub pieces : List JournalPiece

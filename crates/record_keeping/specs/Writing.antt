@@ -8,7 +8,7 @@ Becomes None after text = ⊤
 Becomes (Some was) None text = ⊥
 Becomes (Some was) (Some is) text = is ≡ text
 
--- this text is written behind a known one; or, if the record begins anew, it is written behind the head alone
+-- this text is written after a known one; or, if the record begins again, it is written after the head alone
 abbrev pub IsWritten : Bool → List ℕ → Option (List ℕ) → Option (List ℕ) → List ℕ → Type 0
 IsWritten false head before after text = Appends before after text
 IsWritten true head before after text = Becomes before after (head ++ text)

@@ -17,9 +17,9 @@ pub struct DomainRecord<S: RecordStore> {
     pub(crate) text: String,
     // Whether the last call was an error, so that what isn't whole has to be cut off.
     pub(crate) failed: bool,
-    // Whether the journal began anew, and the next record isn't begun yet.
+    // Whether the journal began again, and the next record isn't begun yet.
     pub(crate) owes_next: bool,
-    // Whether the record can't be taken, and the journal hasn't begun anew since.
+    // Whether the record can't be taken, and the journal hasn't begun again since.
     pub(crate) is_out: bool,
     // Whether it is known that the record holds its head alone.
     pub(crate) is_bare: bool,
@@ -29,7 +29,7 @@ pub struct DomainRecord<S: RecordStore> {
     ghost out: { is_out ≡ true → (failed ≡ true) × (owes_next ≡ true) },
 }
 
-// It is dropped by one call.
+// Dropped by hand, since a derived `Drop` makes callers prove the drop of each field.
 impl<S: RecordStore> Drop for DomainRecord<S> {
     fn drop(self) {
         let DomainRecord {

@@ -1,4 +1,4 @@
-//! The record of a domain: what it answered is written before it is told.
+//! The record of a domain: an answer is written to it before anybody is given the answer.
 ghost use Rattle.std.specs.Prelude.{◌≡◌, ◌↔◌, ◌<◌, ◌||◌, ◌&&◌, [], false, true, not, None, Some, Ok, IfOk, OnOk, OnErr, IsErr, IsTrue, IsSome, IfSome, MatchResult, length, vec_capacity, string_bytes};
 ghost use Rattle.std.specs.Io.KnownBytes.{Appends};
 ghost use Rattle.farm_records.specs.RecordText.{record_text, lines_of};
@@ -19,7 +19,7 @@ use std::sync::Wait;
 /// The most entries that are copied under a domain's lock at a time.
 pub const PIECE: usize = 1024;
 
-// The mark behind all that a journal has.
+// The mark after all that a journal has.
 fn end_of(journal: &Journal, room: &mut Vec<Entry>) -> Mark
     ensures { vec_capacity room.new ≡ vec_capacity room.old }
 {
@@ -53,7 +53,7 @@ impl<S: RecordStore> DomainRecord<S> {
         }
     }
 
-    /// A store that holds this head, and behind it what this journal has.
+    /// A store that holds this head, and after it what this journal has.
     // Six clauses: what the store holds, and with what the record begins.
     pub fn of(
         alloc: Global,
@@ -83,7 +83,7 @@ impl<S: RecordStore> DomainRecord<S> {
         })
     }
 
-    /// A store whose record can't be taken, for a domain with this head: nothing is recorded until its journal begins anew.
+    /// A store whose record can't be taken, for a domain with this head: nothing is recorded until its journal begins again.
     pub fn out(alloc: Global, store: S, head: String) -> Result<DomainRecord<S>, NoMemory>
         ensures store { IfOk result (λ opened. opened.store ≡ Some store) }
         ensures head { IfOk result (λ opened. opened.head ≡ head) }
@@ -210,7 +210,7 @@ impl<S: RecordStore> DomainRecord<S> {
         Ok(())
     }
 
-    // Begins the next record, for a journal that began anew.
+    // Begins the next record, for a journal that began again.
     // Eleven clauses: a record that is written to and not out, what is begun then or after an error, and what stays.
     fn begin_next(&mut self) -> Result<(), NotKept>
         requires store { IsSome self.old.store }
@@ -289,14 +289,14 @@ impl<S: RecordStore> DomainRecord<S> {
         self.keep_owed(rt, service, domain)
     }
 
-    /// Records all that the domain has answered by now, in the next record if its journal began anew. A record that holds no line
-    /// serves again then. Where nothing is recorded, nothing changes.
+    /// Records all that the domain has answered by now, in the next record if its journal began again. A record that holds no line
+    /// is used again then. Where nothing is recorded, nothing changes.
     ///
     /// # Errors
     ///
-    /// `Out` if the domain's record can't be taken, as long as its journal doesn't begin anew; nothing has changed then. Else why
-    /// it can't be written: what was recorded by then stays, and the next call cuts off what isn't whole and goes on behind it,
-    /// so that nothing is missing and nothing stands there twice.
+    /// `Out` if the domain's record can't be taken, as long as its journal doesn't begin again; nothing has changed then. Else why
+    /// it can't be written: what was recorded by then stays, and the next call cuts off what isn't whole and goes on after what is,
+    /// so that nothing is missing and nothing is there twice.
     // Eight clauses: what is kept then or after an error, of no store, of a record that is out, and what stays.
     pub fn keep<R: Wait>(
         &mut self,
@@ -374,7 +374,7 @@ impl<S: RecordStore> DomainRecord<S> {
         self.failed
     }
 
-    /// Whether the domain's record can't be taken, and the domain hasn't begun anew since.
+    /// Whether the domain's record can't be taken, and the domain hasn't begun again since.
     pub fn is_out(&self) -> bool
         ensures { result ≡ self.now.is_out }
     {

@@ -81,7 +81,7 @@ pub enum NotKept {
     Failed(io::Error),
     /// There is no memory for its text.
     Memory,
-    /// The domain's record can't be taken, and the domain hasn't begun anew since.
+    /// The domain's record can't be taken, and the domain hasn't begun again since.
     Out,
 }
 
