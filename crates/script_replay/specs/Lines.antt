@@ -25,7 +25,7 @@ use Rattle.script_replay.specs.declared.asks.UserLine.{UserLine}
 abbrev pub call_of_line : UserLine → Event → ℕ × Call
 call_of_line l event = (l.domain, record { by = User l.user; event = event })
 
--- his events, as calls
+-- events of a line's user, as calls
 abbrev pub calls_of_line : UserLine → List Told → List (ℕ × Call)
 calls_of_line l told = map (λ t. call_of_line l t.event) told
 
@@ -47,7 +47,7 @@ pub record AsksOn (l : UserLine) (before after : List Told) (old new : List Doma
   pub asked : AreAsked (next_event l.command) before more
   pub run : HaveRun old new (calls_of_line l more) (answers_told more)
 
--- a refusal ends it. Of want of memory nothing is said
+-- a refusal ends it. Nothing is said of NoMemory
 abbrev pub IsStoppedBy : UserLine → List Told → List DomainValue → Refusal → Type 0
 IsStoppedBy l told domains NoMemory = ⊤
 IsStoppedBy l told domains refusal = IsRefusedNext l told domains refusal
@@ -78,7 +78,7 @@ abbrev pub HasEndedOn : {A : Type 0} → UserLine → List Told → List DomainV
 HasEndedOn l told domains (Ok done) = next_event l.command told ≡ None
 HasEndedOn l told domains (Err refusal) = IsStoppedBy l told domains refusal ⊎ (is_peek l.command ≡ true)
 
--- a line asks all that it asks: some events, and those behind the settling of a peek
+-- a line asks all that it asks: some events, and those after the settling of a peek
 pub record AsksWhole {A : Type 0} (l : UserLine) (told : List Told) (old new : List DomainValue)
     (result : Result A Refusal) : Type 0 where
   pub first : List Told
@@ -101,7 +101,7 @@ pub record ShowsUserLine (l : UserLine) (old new : List DomainValue) (text : Lis
   pub asks : AsksWhole l told old new result
   pub is_text : text ≡ line_text l.name.now l.command (replies_told told) result
 
--- the same, and then his domain goes on, as far as the farm lets it
+-- the same, and then the user's domain goes on, as far as the farm lets it
 pub record IsSettledLine (l : UserLine) (old new : List DomainValue) (text : List ℕ) : Type 0 where
   pub before : List DomainValue
   pub line : ShowsUserLine l old before text

@@ -7,7 +7,7 @@ use Rattle.farm_core.specs.PlainFarm.{journal_there}
 use Rattle.farm_records.specs.Heads.{IsHead}
 use Rattle.farm_records.specs.RecordText.{record_text, lines_of}
 
--- a record has the head of the domain of this number, and behind it the lines of the domain's journal
+-- a record has the head of the domain of this number, and after it the lines of the domain's journal
 pub record IsRecord (plan : List DomainData) (number : ℕ) (domains : List DomainValue) (text : List ℕ)
     : Type 0 where
   pub head : List ℕ

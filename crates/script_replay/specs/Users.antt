@@ -6,6 +6,6 @@ use Rattle.plan_rules.specs.Data.{DomainData}
 abbrev pub HasName : List ℕ → ℕ → DomainData → Type 0
 HasName name user d = IfSome (slice_get d.users user) (λ u. u.name ≡ name)
 
--- the same of a user of a plan, by the number of his domain and his number there
+-- the same of a user of a plan, by the number of the user's domain and the user's number there
 abbrev pub IsPlanUser : List DomainData → List ℕ → ℕ → ℕ → Type 0
 IsPlanUser plan name domain user = IfSome (slice_get plan domain) (HasName name user)

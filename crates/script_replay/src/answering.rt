@@ -26,7 +26,7 @@ pub struct AnsweredLines {
 ///
 /// # Errors
 ///
-/// `Steps` if more Steps are wanted than the meter allows, and `Memory` if memory is wanted anywhere.
+/// `Steps` if more Steps are wanted than the meter allows, and `Memory` if memory runs out anywhere.
 pub fn answer_user_line<M: StepMeter>(
     alloc: Global,
     farm: &mut OpenFarm,
@@ -42,7 +42,7 @@ pub fn answer_user_line<M: StepMeter>(
     Ok(text)
 }
 
-// The same, and then his domain settles. Whether that is refused for its full journal is nobody's fault.
+// The same, and then the user's domain settles. It is no error if that is refused because the journal is full.
 fn answer_settled<M: StepMeter>(
     alloc: Global,
     farm: &mut OpenFarm,
@@ -89,12 +89,12 @@ fn answer_line<M: StepMeter>(
     }
 }
 
-/// Asks the farm of a plan, from its opening, what one line asks after another, and answers each. After a user's line his
-/// domain settles.
+/// Asks the farm of a plan, from its opening, what one line asks after another, and answers each. After a user's line the
+/// user's domain settles.
 ///
 /// # Errors
 ///
-/// `Steps` if more Steps are wanted than the meter allows, and `Memory` if memory is wanted anywhere.
+/// `Steps` if more Steps are wanted than the meter allows, and `Memory` if memory runs out anywhere.
 pub fn answer_asked_lines<M: StepMeter>(
     alloc: Global,
     plan: &AcceptedPlan,

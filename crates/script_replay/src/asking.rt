@@ -1,4 +1,4 @@
-//! What a user's line asks of his domain, on a farm on one thread.
+//! What a user's line asks of the user's domain, on a farm on one thread.
 ghost use Rattle.std.specs.Prelude.{◌≡◌, [], IfOk};
 ghost use Rattle.script_replay.specs.Lines.{AsksOn, AsksWhole, HasStopped};
 
@@ -10,10 +10,10 @@ use line_answers::ROUNDS;
 use step_meter::{StepMeter, StepsEnd};
 use whole_farm::laws::runs_add_up;
 
-/// How many Steps a node does at a time while a domain settles, as in the program unless it is told otherwise.
+/// How many Steps a node does at a time while a domain settles, as in the program unless an option says otherwise.
 pub(crate) const QUANTUM: u64 = 256;
 
-// Asks what a line asks behind the events that were answered, up to its end or, if that is so said, before it reads. Each
+// Asks what a line asks after the events that were answered, up to its end or, if `stops_to_read`, up to its first read. Each
 // event is listed with its reply. The first refusal ends it.
 #[tactic(auto, using(crate::proofs::Exchanges::asks_nothing, crate::proofs::Exchanges::asks_still, crate::proofs::Exchanges::stops_at_end, crate::proofs::Exchanges::before_reads, crate::proofs::Exchanges::stops_refused))]
 fn ask_on(
@@ -27,7 +27,7 @@ fn ask_on(
 {
     // A run of calls and then of others is the run of all.
     runs_add_up();
-    // So many events are never asked: the bound shows that the loop ends.
+    // No line asks that many events: the bound shows that the loop ends.
     for _ in 0..u64::MAX {
         let Some(event) = next_event(&line.command, told.as_slice()) else {
             return Ok(());
@@ -43,7 +43,7 @@ fn ask_on(
 }
 
 /// Asks what a line asks, and lists each event with its reply. A peek lets its domain settle before it reads. The first
-/// refusal ends the line, and what was taken before it stands.
+/// refusal ends the line, and what was done before it stays done.
 ///
 /// # Errors
 ///

@@ -6,11 +6,11 @@ use script_lines::Command;
 /// A line of a user, as the program has them.
 #[derive(Drop)]
 pub struct UserLine<'a> {
-    /// His name.
+    /// The user's name.
     pub name: &'a str,
-    /// The number of his domain in the plan.
+    /// The number of the user's domain in the plan.
     pub domain: u8,
-    /// His number in the domain.
+    /// The user's number in the domain.
     pub user: u8,
     /// What the line asks.
     pub command: Command,
@@ -21,6 +21,6 @@ pub struct UserLine<'a> {
 pub enum AskedLine<'a> {
     /// It asks the farm as the lab does.
     OfLab(RepeatedRequest),
-    /// A user asks his domain.
+    /// A user asks their domain.
     OfUser(UserLine<'a>),
 }

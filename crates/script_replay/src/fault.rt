@@ -16,13 +16,13 @@ pub enum ReplayFault {
     /// The plan that begins at this line is refused.
     #[error("plan: {number}: {fault}, in the plan that begins at line {line} (`lab plan` says where)", number = .fault.number())]
     Plan { fault: PlanFault, line: u64 },
-    /// The plan that begins at this line is refused, and no line divides it from what stands behind it.
+    /// The plan that begins at this line is refused, and no line divides it from what comes after it.
     #[error("plan: {number}: {fault}, in the plan that begins at line {line} (no line behind it is just ---, so all was read as the plan)", number = .fault.number())]
     NoMark { fault: PlanFault, line: u64 },
     /// A line of the whole text is wrong.
     #[error("{0}")]
     Line(WrongLine),
-    /// A user's line is wrong, with what is told of it.
+    /// A user's line is wrong, with the message about it.
     #[error("{0}")]
     OfUser(String),
     /// More Steps are wanted than may be done.
@@ -33,7 +33,7 @@ pub enum ReplayFault {
 }
 
 impl ReplayFault {
-    /// The plan that begins at this line is refused, and a mark stands behind it or doesn't.
+    /// The plan that begins at this line is refused, and a mark comes after it or doesn't.
     pub(crate) fn of_plan(fault: PlanFault, line: u64, is_marked: bool) -> ReplayFault {
         match fault {
             PlanFault::NoMemory => ReplayFault::Memory(AllocError),
@@ -67,10 +67,10 @@ pub enum RunFault {
     /// The plan is refused, with the place and the reason.
     #[error("{0}")]
     Plan(PlanRefusal),
-    /// The same, and no line divides it from what stands behind it.
+    /// The same, and no line divides it from what comes after it.
     #[error("{0} (no line behind it is just ---, so all was read as the plan)")]
     NoMark(PlanRefusal),
-    /// Lines are wrong, with what is told of each.
+    /// Lines are wrong, with a message about each.
     #[error("{0}")]
     Lines(String),
     /// The plan has no domain of this number.
@@ -87,7 +87,7 @@ pub enum RunFault {
 }
 
 impl RunFault {
-    /// The plan is refused, and a mark stands behind it or doesn't.
+    /// The plan is refused, and a mark comes after it or doesn't.
     pub(crate) fn of_plan(refusal: PlanRefusal, is_marked: bool) -> RunFault {
         match refusal {
             PlanRefusal::NoMemory => RunFault::Memory(AllocError),

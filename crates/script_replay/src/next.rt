@@ -114,7 +114,7 @@ fn next_write(host: u8, bytes: &[u8], told: &[Told]) -> Option<Event>
     }
 }
 
-// A byte of a boot message: the length of the code, and the code behind it.
+// A byte of a boot message: the length of the code, and the code after it.
 fn boot_byte(code: &[u8], index: usize) -> Option<u8>
     requires { length code.now ≤ 255 }
     ensures { result ≡ slice_get (length code.now ∷ code.now) index }

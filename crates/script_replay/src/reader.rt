@@ -9,7 +9,7 @@ use plan_checker::AcceptedPlan;
 use script_lines::{LineFault, LineWords, Unread, parse_request};
 use std::alloc::{AllocError, Global};
 
-/// A user, with the name as it stands in his line.
+/// A user, with the name as it is in the user's line.
 #[derive(Clone, Copy)]
 pub(crate) struct NamedUser<'a> {
     name: &'a str,
@@ -84,8 +84,8 @@ impl<'p> LineReader<'p> {
         }
     }
 
-    /// Adds what a line of this user asks: one line of the program, or those for which it stands if it helps. What is told of
-    /// it if it is wrong.
+    /// Adds what a line of this user asks: one line of the program, or those into which it is spelled out if it helps. Returns the
+    /// message about it if it is wrong.
     pub(crate) fn read<'a>(
         &self,
         user: NamedUser<'a>,
@@ -102,12 +102,12 @@ impl<'p> LineReader<'p> {
         self.read_all(user, line.number, text.as_bytes(), asked)
     }
 
-    /// What is told of a line that begins with no user's name.
+    /// The message about a line that begins with no user's name.
     pub(crate) fn tell_no_user(&self, line: NumberedLine<'_>) -> Result<String, AllocError> {
         tell_wrong_line(self.alloc, self.names.as_slice(), line, LineFault::User)
     }
 
-    // The plain lines for which a line stands, if it helps.
+    // The plain lines into which a line is spelled out, if it helps.
     fn expanded(&self, line: NumberedLine<'_>) -> Result<Option<Expanded>, AllocError> {
         match std::str::from_utf8(line.text) {
             Ok(text) => expanded_line(self.alloc, line.number, text, self.files),
@@ -161,7 +161,7 @@ fn begins_requests(name: &str) -> bool {
     name == "words" || name == "reopen" || name.bytes().all(|byte| byte.is_ascii_digit())
 }
 
-// Whether the last word of a line is `@` with what stands behind it.
+// Whether the last word of a line begins with `@`. The first word doesn't count.
 fn says_who_asks(line: &str) -> bool {
     match line.rsplit_once(' ') {
         Some((_, last)) => last.starts_with("@"),

@@ -15,13 +15,13 @@ use script_text::{TextWriter, divide, is_passed_over};
 use std::alloc::Global;
 use step_meter::StepMeter;
 
-/// Runs the script of a text, which stands behind its plan and a line `---`, and gives the output lines of each user, in the
+/// Runs the script of a text, which comes after its plan and a line `---`, and gives the output lines of each user, in the
 /// order of the plan. Lines that help may load these files.
 ///
 /// # Errors
 ///
-/// `Plan` if the plan is refused; `Lines` with what is told of each line that is wrong, which count from behind the mark; `Steps`
-/// if more Steps are wanted than the meter allows; `Memory` if memory is wanted anywhere.
+/// `Plan` if the plan is refused; `Lines` with a message about each line that is wrong, where lines are counted after the mark;
+/// `Steps` if more Steps are wanted than the meter allows; `Memory` if memory runs out anywhere.
 pub fn run_script<M: StepMeter>(
     alloc: Global,
     text: &[u8],
@@ -61,7 +61,7 @@ pub fn record_script<M: StepMeter>(
     Ok(record_of(alloc, &plan, domain, &farm)?)
 }
 
-// The plan of a text, behind which a mark stands or doesn't.
+// The plan of a text. A mark comes after it or doesn't.
 fn plan_of(alloc: Global, text: &[u8], is_marked: bool) -> Result<AcceptedPlan, RunFault> {
     match accepted(alloc, text) {
         Ok(plan) => Ok(plan),

@@ -46,7 +46,7 @@ struct FarmText<'a> {
 /// A farm after the lines of its text.
 #[derive(Drop)]
 pub struct ReplayedFarm {
-    /// The plan that it stands under.
+    /// Its plan.
     pub plan: AcceptedPlan,
     /// The switch words of the 32 physical outputs.
     pub words: [Word; PORTS as usize],
@@ -87,10 +87,10 @@ fn asked_part(line: &str) -> &str {
     }
 }
 
-/// Replays a text: for each of its farms, which stand between lines `===`, a plan, a line `---`, and lines that ask. All
+/// Replays a text: for each of its farms, which lines `===` divide, a plan, a line `---`, and lines that ask. All
 /// is read before any line asks; then each line has its answer, in order. A line that begins with the name of a user of the
 /// plan is a line of the program, which may load these files. If that name is a number, `words` or `reopen`, a line with `@` and
-/// who asks as its last word, or with no verb of a user as its second, isn't his.
+/// who asks as its last word, or with no verb of a user as its second, isn't that user's.
 ///
 /// # Errors
 ///
@@ -133,13 +133,13 @@ fn read_farms<'a>(
     Ok(farms)
 }
 
-// How many lines of the whole text stand before what follows the mark behind this part of it.
+// How many lines of the whole text come before what follows the mark after this part of it.
 fn lines_with_mark(part: &[u8], before: u64) -> u64 {
     let lines = part.iter().filter(|byte| **byte == b'\n').count() as u64;
     lines.saturating_add(before).saturating_add(1)
 }
 
-// A farm whose plan begins after so many lines of the text.
+// A farm whose plan begins after `before` lines of the text.
 fn read_farm<'a>(
     alloc: Global,
     text: &'a [u8],

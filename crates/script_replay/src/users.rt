@@ -8,9 +8,9 @@ use std::alloc::{AllocError, Global};
 /// A user of a plan.
 #[derive(Clone, Copy)]
 pub(crate) struct PlanUser {
-    /// The number of his domain in the plan.
+    /// The number of the user's domain in the plan.
     pub domain: u8,
-    /// His number in the domain.
+    /// The user's number in the domain.
     pub user: u8,
 }
 
@@ -39,7 +39,7 @@ pub(crate) fn user_called(plan: &AcceptedPlan, name: &str) -> Option<PlanUser>
     None
 }
 
-/// The names of all users of a plan, in its order, as they are told.
+/// The names of all users of a plan, in its order, as messages list them.
 pub(crate) fn names_of(alloc: Global, plan: &AcceptedPlan) -> Result<Vec<&str>, AllocError> {
     let mut names = Vec::new(alloc);
     for domain in 0..plan.domains() {
