@@ -17,11 +17,11 @@ pub enum Action {
     Config(&'static [u8]),
     /// Writes bytes to a host.
     Write(u8, &'static [u8]),
-    /// Reads a host so many times.
+    /// Reads a host this number of times.
     Read(u8, usize),
     /// Looks at a node.
     Look(u8),
-    /// Settles by so many Steps, for so many rounds at most.
+    /// Settles: how many Steps each node does in a round, and how many rounds there are at most.
     Rounds(u64, u64),
 }
 
@@ -29,7 +29,7 @@ pub enum Action {
 pub const SETTLE: Action = Action::Rounds(QUANTUM, 10_000);
 
 impl Action {
-    // What is asked in this place, none behind the last.
+    // What is asked in this place, `None` after the last.
     fn event(self, place: usize) -> Option<Event> {
         match self {
             Action::Config(bytes) => Some(Event::Config(*bytes.get(place)?)),
@@ -87,7 +87,7 @@ fn ask_once<R: Wait>(
     }
 }
 
-/// Asks, and asks again where memory was wanting: what was refused has changed nothing.
+/// Asks, and asks again if there was no memory: what was refused has changed nothing.
 pub fn ask<R: Wait>(
     rt: &R,
     alloc: Global,
@@ -100,7 +100,7 @@ pub fn ask<R: Wait>(
     }
 }
 
-/// Settles, and settles again where memory was wanting, by 1 to 4,096 Steps.
+/// Settles, and settles again if there was no memory, by 1 to 4,096 Steps.
 pub fn settle<R: Wait>(
     rt: &R,
     alloc: Global,

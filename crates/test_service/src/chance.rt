@@ -8,7 +8,7 @@ use farm_service::Session;
 use std::alloc::Global;
 use std::sync::Wait;
 
-/// Boot messages: a loop of two instruction bytes, a program that sends 41, and two that destroy what they stand on.
+/// Boot messages: a loop of two instruction bytes, a program that sends 41, and two that destroy what they depend on.
 const PROGRAMS: [&[u8]; 4] = [
     &[6, 0x60, 0x0e, 0, 0, 0, 0],
     &[8, 0xb5, 0x24, 0xf2, 0x24, 0x41, 0xfe, 0x21, 0xf5],
@@ -114,8 +114,8 @@ fn ask_line<R: Wait>(
     Ok(answered)
 }
 
-/// Asks for anything so many times, and settles now and then; how many commands were answered, `NoMemory` where one met
-/// NoMemory twice.
+/// Asks for anything `count` times, and settles now and then. Returns how many commands were answered, or `NoMemory` if one
+/// met NoMemory twice.
 pub fn ask_anything<R: Wait>(
     rt: &R,
     alloc: Global,

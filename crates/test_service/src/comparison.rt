@@ -14,7 +14,7 @@ use std::alloc::Global;
 /// The most domains of a plan.
 const DOMAINS: usize = 16;
 
-// Asks, and asks again where memory was wanting. The farm lists what it answers.
+// Asks, and asks again if there was no memory. The farm lists what it answers.
 fn ask(alloc: Global, farm: &mut PlainFarm, domain: u8, by: By, event: Event) {
     if farm.apply(alloc, domain, by, event) == Err(Refusal::NoMemory) {
         let _ = farm.apply(alloc, domain, by, event);
@@ -54,7 +54,7 @@ fn next_place(closed: &[ClosedDomain], done: &[usize; DOMAINS], place: usize) ->
     None
 }
 
-// Does up to 40 entries of a journal again, those behind the first that are done; how many are done then.
+// Does up to 40 entries of a journal again, after the first `done`, which are done already. Returns how many are done then.
 fn do_turn(
     alloc: Global,
     farm: &mut PlainFarm,
@@ -94,7 +94,7 @@ fn is_same(journal: &Journal, other: &Journal) -> bool {
     journal.len() == other.len()
 }
 
-// Whether all domains have answered just what the journals list.
+// Whether all domains have answered exactly what the journals list.
 fn are_journals(farm: &PlainFarm, closed: &[ClosedDomain]) -> bool {
     for domain in closed {
         match farm.journal(domain.domain) {

@@ -33,7 +33,7 @@ pub enum Ground {
 }
 
 impl Ground {
-    // The plan, unless memory is wanting.
+    // The plan, unless memory runs out.
     fn plan_once(self, alloc: Global) -> Option<AcceptedPlan> {
         match self {
             Ground::Listed(plan) => plan_of(alloc, plan).ok(),
@@ -41,7 +41,7 @@ impl Ground {
         }
     }
 
-    /// The plan, unless memory is wanting twice.
+    /// The plan, unless memory runs out twice.
     pub fn plan(self, alloc: Global) -> Option<AcceptedPlan> {
         match self.plan_once(alloc) {
             None => self.plan_once(alloc),
@@ -79,8 +79,8 @@ fn open_once<R: Wait>(
     }
 }
 
-/// The service of a plan for 1 to 8 workers, its users' passes in plan order, and what an operator may see; `None` where
-/// memory is wanting twice.
+/// The service of a plan for 1 to 8 workers, its users' passes in plan order, and what an operator may see; `None` if memory
+/// runs out twice.
 pub fn open<R: Wait>(
     rt: &R,
     alloc: Global,
@@ -97,7 +97,7 @@ pub fn open<R: Wait>(
 ///
 /// # Errors
 ///
-/// `AllocError` where memory is wanting twice.
+/// `AllocError` if memory runs out twice.
 pub fn close<R: Wait>(
     rt: &R,
     alloc: Global,

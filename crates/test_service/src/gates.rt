@@ -1,4 +1,4 @@
-//! Who is told of the workers' turns.
+//! The gates, which are notified of the workers' turns.
 
 use crate::actions::QUANTUM;
 use farm_service::{Committed, Gate, Refusal, Service, Token};
@@ -88,7 +88,7 @@ impl Holding {
     }
 }
 
-/// A burst of a node that no gate is told of.
+/// A burst of a node that no gate is notified of.
 pub fn burst<R: Wait>(
     rt: &R,
     alloc: Global,

@@ -1,6 +1,6 @@
 //! The service on trial: users, workers and an operator, on one thread and in threads of their own. It prints a line for
 //! each part below it that may be out of memory, one for each row, the same whatever the schedule, and then that of a short
-//! soak, in which they do anything at once.
+//! soak, in which they do anything at the same time.
 //!
 //! `rows` prints the parts and the rows alone. `soak ROUNDS SEED WORKERS [COMMANDS]` soaks alone, and tells what it compared.
 #![tactic(auto)]

@@ -1,4 +1,4 @@
-//! Users, workers and the operator at once, each in a thread of his own.
+//! Users, workers and the operator at the same time, each in a thread of their own.
 
 ghost use Rattle.std.specs.Prelude.{◌≡◌};
 ghost use Rattle.farm_service.specs.Services.{IsItsOperator};
@@ -17,12 +17,12 @@ use std::thread;
 use std::thread::Threads;
 use switch_table::OperatorSeat;
 
-/// Who acts at once, while the operator watches.
+/// Who acts at the same time, while the operator watches.
 #[derive(Clone, Copy)]
 pub enum Meeting {
     /// All users.
     Users(Doing),
-    /// All workers, for so many turns each. Some of their bursts are held.
+    /// All workers, for this number of turns each. Some of their bursts are held.
     Workers(u64, Hold),
     /// All users, and beside them all workers, until the last user has ended. The service is stopped then.
     Both(Doing, Hold),
@@ -46,7 +46,7 @@ struct AfterWork {
     out_of_memory: bool,
 }
 
-// Each user acts in a thread of his own.
+// Each user acts in a thread of their own.
 fn act_each<R: Threads + Wait + Sync>(
     rt: &R,
     alloc: Global,
@@ -62,7 +62,7 @@ fn act_each<R: Threads + Wait + Sync>(
     );
 }
 
-// Users and workers at once; whether a worker ran out of memory.
+// Lets users and workers act at the same time. Returns whether a worker ran out of memory.
 fn act_and_work<R: Threads + Wait + Sync>(
     rt: &R,
     alloc: Global,
@@ -123,7 +123,7 @@ fn act_all<R: Threads + Wait + Sync>(
     (shift, users)
 }
 
-// All of them. If no thread can be started for the operator, he surveys once when all is over.
+// All of them. If no thread can be started for the operator, there is one survey when all is over.
 fn watched<R: Threads + Wait + Sync>(
     rt: &R,
     alloc: Global,

@@ -9,7 +9,7 @@ use plan_rules::{AcceptedPlan, PlanFault};
 use std::alloc::{AllocError, Global};
 use virtual_switch::{ConfigReply, VirtualSwitch};
 
-/// Something was otherwise than it must be, or memory was wanting twice.
+/// Something was otherwise than it must be, or memory ran out twice.
 #[derive(Clone, Copy)]
 pub struct Otherwise;
 

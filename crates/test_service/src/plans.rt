@@ -1,4 +1,4 @@
-//! Plans of which the trials open services and farms.
+//! The plans by which the trials open services and farms.
 
 use plan_rules::{AcceptedPlan, DomainPlan, NodePlan, Plan, PlanFault, RangePlan, UserPlan, check};
 use std::alloc::{AllocError, Global};
@@ -12,7 +12,7 @@ pub enum TrialPlan {
     AnnOfThreeEvents,
     /// Two nodes on ports 0 and 1, host 0 on port 3 and host 1 on port 2.
     TwoNodes,
-    /// Ann and cas are users of one domain, with ports 0 to 7. Her host is host 0, and his is host 1.
+    /// Ann and cas are users of one domain, with ports 0 to 7. Ann's host is host 0, and cas's is host 1.
     AnnAndCas,
 }
 
@@ -65,7 +65,7 @@ fn domain_of_one(
     domain(alloc, first, last, limit, users, nodes)
 }
 
-// Ann with so many events, and bob.
+// Ann, whose domain records at most `limit` events, and bob.
 fn ann_and_bob(alloc: Global, limit: i64) -> Result<Vec<DomainPlan>, AllocError> {
     let ann = domain_of_one(alloc, "ann", 0, 7, limit)?;
     let bob = domain_of_one(alloc, "bob", 8, 15, LIMIT)?;
@@ -79,7 +79,7 @@ fn two_nodes(alloc: Global) -> Result<DomainPlan, AllocError> {
     domain(alloc, 0, 3, LIMIT, users, nodes)
 }
 
-// A domain of ann's and cas's with a node at port 0, her host at port 7 and his at port 6.
+// A domain of ann's and cas's with a node at port 0, ann's host at port 7 and cas's at port 6.
 fn ann_and_cas(alloc: Global) -> Result<DomainPlan, AllocError> {
     let ann = user(alloc, "ann", &[7])?;
     let cas = user(alloc, "cas", &[6])?;

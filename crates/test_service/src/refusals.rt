@@ -28,7 +28,7 @@ const WRITTEN: [Event; 3] = [
     Event::Write(0, 0x0e),
 ];
 
-/// Connects bob's input 2 to his output 5, makes that ready, and asks what drives it.
+/// Connects bob's input 2 to bob's output 5, makes that ready, and asks what drives it.
 const ENQUIRED: [Event; 6] = [
     Event::Config(0),
     Event::Config(2),
@@ -38,7 +38,7 @@ const ENQUIRED: [Event; 6] = [
     Event::Config(5),
 ];
 
-/// Connects ann's input 0 to her output 1, and asks what drives output 0.
+/// Connects ann's input 0 to ann's output 1, and asks what drives output 0.
 const CALLS: [(u8, By, Event); 6] = [
     (ANN, USER, Event::Config(1)),
     (ANN, USER, Event::Config(0)),
@@ -182,7 +182,7 @@ fn boot_again(alloc: Global, farm: &mut PlainFarm) -> Result<(), Otherwise> {
     Ok(())
 }
 
-// A farm in which ann's node runs a loop. Bob's input 2 is connected to his output 5, which is made ready and enquired.
+// A farm in which ann's node runs a loop. Bob's input 2 is connected to bob's output 5, which is made ready and enquired.
 fn loaded_again(alloc: Global) -> Result<PlainFarm, Otherwise> {
     let mut farm = opened_again(alloc)?;
     boot_again(alloc, &mut farm)?;
@@ -223,7 +223,7 @@ fn are_journals_alike(farm: &PlainFarm, other: &PlainFarm) -> bool {
     true
 }
 
-// Goes on if another farm, of which no call is refused, comes to the same.
+// Goes on if another farm, which refuses no call, comes to the same.
 fn compare(alloc: Global, farm: &PlainFarm, seen: &Sight) -> Result<(), Otherwise> {
     let (other, told) = stepped_again(alloc)?;
     holds(told == *seen && are_journals_alike(farm, &other))

@@ -13,7 +13,7 @@ use crate::stages::Stage::{
 use crate::telling::ToldAtEnd;
 use crate::users::Doing;
 
-/// A row: its name, the plan, how many workers there are, what is done, and what is told of what is left.
+/// A row: its name, the plan, how many workers there are, what is done, and what is printed of what is left.
 #[derive(Clone, Copy)]
 pub struct WorkedRow {
     pub name: &'static str,

@@ -1,22 +1,22 @@
-//! Plans of so many domains, nodes and users, all domains alike.
+//! Plans by their numbers of domains, nodes and users, with all domains alike.
 
 use plan_rules::{AcceptedPlan, DomainPlan, NodePlan, Plan, PlanFault, RangePlan, UserPlan, check};
 use std::alloc::{AllocError, Global};
 
-/// How many domains, how many nodes each of them has, and how many users, each with a host of his own.
+/// How many domains, how many nodes each of them has, and how many users, each with a host of their own.
 #[derive(Clone, Copy)]
 pub struct Size {
     /// How many domains, 1 to 16.
     pub domains: u8,
     /// How many nodes each domain has, at virtual ports from 0 on.
     pub nodes: u8,
-    /// How many users each domain has, with a host each at the ports behind the nodes.
+    /// How many users each domain has, with a host each at the ports after those of the nodes.
     pub users: u8,
     /// How many events each domain's journal holds, 1 to 2^40.
     pub limit: i64,
 }
 
-// The users of a domain, with their hosts behind the nodes.
+// The users of a domain, with their hosts at the ports after those of the nodes.
 fn users_of(alloc: Global, domain: u8, size: Size) -> Result<Vec<UserPlan>, AllocError> {
     let mut users = Vec::with_capacity(alloc, usize::from(size.users))?;
     for user in 0..size.users {

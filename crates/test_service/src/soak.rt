@@ -1,4 +1,4 @@
-//! Users, workers and an operator who do anything at once, and what they left done again on one thread.
+//! Users, workers and an operator who do anything at the same time, and what they left done again on one thread.
 
 use crate::actions::Action::{self, Config, Read, Write};
 use crate::actions::SETTLE;
@@ -17,8 +17,8 @@ use std::io;
 use std::sync::Wait;
 use std::thread::Threads;
 
-/// What a user does first, if his domain has so many nodes: he boots node 0 with a program that sends 41, and reads it. So
-/// each journal of his begins with Steps and bytes of which none can be lost unnoticed.
+/// What a user does first in a domain of one node, of four, or of seven: the user boots node 0 with a program that sends 41,
+/// and reads it. So the domain's journal begins with Steps and bytes, and none of them can be lost unnoticed.
 const BESIDE_1: [Action; 4] = [
     Config(&[1, 0, 1, 3]),
     Write(0, &SAYS_41),
@@ -40,7 +40,7 @@ const BESIDE_7: [Action; 4] = [
     Read(0, 2),
 ];
 
-/// 16 domains; 28 nodes; 16 users in 4 domains; 16 users in 4 domains whose journals are soon full. Behind each stands what
+/// 16 domains; 28 nodes; 16 users in 4 domains; 16 users in 4 domains whose journals are soon full. After each comes what
 /// the first user of the first domain does first.
 const SIZES: [(Size, &[&[Action]]); 4] = [
     (
@@ -190,7 +190,7 @@ fn compared<R: Threads + Wait + Sync>(
     })
 }
 
-// Runs the rounds, each of which opens a service of each size, and tells what was compared if that is wanted; how much was
+// Runs the rounds, which each open a service of each size, and prints what was compared if `is_told`. Returns how much was
 // wrong. In the first round losses are planted.
 fn run<R: Threads + Wait + Sync + Print>(
     rt: &R,
@@ -223,7 +223,7 @@ fn run<R: Threads + Wait + Sync + Print>(
     Ok(wrong)
 }
 
-/// Rounds as the words after `soak` say: `ROUNDS SEED WORKERS [COMMANDS]`. What was compared is told, and how much was wrong.
+/// Rounds as the words after `soak` say: `ROUNDS SEED WORKERS [COMMANDS]`. What was compared is printed, and how much was wrong.
 pub fn soak<R: Threads + Wait + Sync + Print>(
     rt: &R,
     alloc: Global,
@@ -239,7 +239,7 @@ pub fn soak<R: Threads + Wait + Sync + Print>(
     println!(rt; "{wrong} wrong")
 }
 
-/// One short round by 8 workers. Only how much was wrong is told, since the rest depends on the schedule.
+/// One short round by 8 workers. Only how much was wrong is printed, since the rest depends on the schedule.
 pub fn short_soak<R: Threads + Wait + Sync + Print>(rt: &R, alloc: Global) -> io::Result<()> {
     let rounds = Rounds {
         count: 1,

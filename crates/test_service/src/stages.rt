@@ -16,21 +16,21 @@ use std::thread::Threads;
 /// A stage of a trial.
 #[derive(Clone, Copy)]
 pub enum Stage {
-    /// Users, by their places in the plan, act one after another, and what they are told follows.
+    /// Users, by their places in the plan, act one after another, and what they are answered follows.
     Alone(&'static [(usize, Action)]),
-    /// Each user does what is listed in his place of the plan, all at once.
+    /// Each user does what is listed in the user's place of the plan, all at the same time.
     AtOnce(&'static [&'static [Action]]),
-    /// All workers work for so many turns.
+    /// All workers work for this number of turns.
     Workers(u64),
     /// The same for ten turns, while node 0's burst is held until one of node 1 was committed.
     Held,
     /// Each user does this, and workers work beside them until the last has ended. The service is stopped then.
     Meet(Doing, Hold),
-    /// What a user was told since the last such stage follows, under a name.
+    /// What a user was answered since the last such stage follows, under a name.
     Tell(usize, &'static str),
-    /// How many users were told this follows.
+    /// How many users were answered this follows.
     Count(&'static str),
-    /// Whether each user, in his place of the plan, was told just this text so many times follows.
+    /// Whether each user was answered exactly the text in the user's place of the plan, that number of times, follows.
     Expect(&'static [(&'static str, usize)]),
     /// The newest word that the operator saw of a physical output follows.
     Word(u8),
@@ -38,7 +38,7 @@ pub enum Stage {
     Say(&'static str),
     /// The service is stopped.
     Stop,
-    /// One worker works for so many turns; why he came back follows.
+    /// One worker works for this number of turns; why it came back follows.
     Work(u64),
     /// Somebody does a burst of a node of a domain; what became of it follows.
     Burst(u8, u8),
@@ -62,7 +62,7 @@ pub struct Trial<'a> {
 /// What is left of a trial.
 #[derive(Drop)]
 pub struct StageEnd {
-    /// What was told.
+    /// The text that the stages wrote.
     pub said: String,
     /// How many commands by chance were answered.
     pub answered: u64,
@@ -79,7 +79,7 @@ fn name_of(worked: Worked) -> &'static str {
     }
 }
 
-// How many users were told this.
+// How many users were answered this.
 fn count_of(users: &[TestUser], text: &str) -> usize {
     let mut count = 0_usize;
     for user in users {
@@ -90,7 +90,7 @@ fn count_of(users: &[TestUser], text: &str) -> usize {
     count
 }
 
-// Whether a text is another one so many times.
+// Whether a text is another one, repeated `times` times.
 fn is_repeated(said: &str, text: &str, times: usize) -> bool {
     let mut rest = said;
     for _time in 0..times {
@@ -102,7 +102,7 @@ fn is_repeated(said: &str, text: &str, times: usize) -> bool {
     rest.is_empty()
 }
 
-// Whether each user was told his text so many times, and nothing else.
+// Whether each user was answered the expected text as often as expected, and nothing else.
 fn are_told(users: &[TestUser], expected: &[(&str, usize)]) -> bool {
     for (user, (text, times)) in users.iter().zip(expected.iter()) {
         if !is_repeated(user.said.as_str(), *text, *times) {
@@ -132,7 +132,7 @@ fn act_alone<R: Wait>(
     Ok(())
 }
 
-// Tells what a user was told.
+// Writes what a user was answered.
 fn tell_user(
     users: &mut [TestUser],
     place: usize,
@@ -250,7 +250,7 @@ fn answered_by(users: &[TestUser]) -> u64 {
     answered
 }
 
-// Whether memory was wanting.
+// Whether memory ran out.
 fn was_out_of_memory(party: &Party) -> bool {
     let mut wants = party.out_of_memory;
     for user in party.users.iter() {
@@ -306,7 +306,7 @@ fn party_of<R: Wait>(rt: &R, alloc: Global, trial: &Trial<'_>) -> Result<Party, 
 ///
 /// # Errors
 ///
-/// `AllocError` where memory is wanting.
+/// `AllocError` if memory runs out.
 pub fn run<R: Threads + Wait + Sync>(
     rt: &R,
     alloc: Global,

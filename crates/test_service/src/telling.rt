@@ -8,7 +8,7 @@ use farm_service::{Closed, Token};
 use plan_rules::AcceptedPlan;
 use std::alloc::{AllocError, Global};
 
-/// What is told of what is left, after all was compared with the farm on one thread.
+/// What is printed of what is left, after all was compared with the farm on one thread.
 #[derive(Clone, Copy)]
 pub enum ToldAtEnd {
     /// Nothing.
@@ -29,7 +29,7 @@ pub enum ToldAtEnd {
     Losses,
 }
 
-/// What is told of something by whether it is as it must be.
+/// What is printed of something: whether it is as it must be.
 pub fn verdict(is_right: bool) -> &'static str {
     if is_right {
         "as it must be"

@@ -1,4 +1,4 @@
-//! Users: what each does in a session of his own, and what came of it.
+//! Users: what each does in a session of their own, and what came of it.
 
 use crate::actions::{Action, perform};
 use crate::chance::ask_anything;
@@ -11,28 +11,28 @@ use std::sync::Wait;
 /// What users do.
 #[derive(Clone, Copy)]
 pub enum Doing {
-    /// Each what is listed in his place of the plan.
+    /// Each what is listed in the user's place of the plan.
     Listed(&'static [&'static [Action]]),
     /// All the same.
     Same(&'static [Action]),
     /// One thing.
     One(Action),
-    /// Each asks for anything so many times.
+    /// Each asks for anything this number of times.
     Anything(Size, u64),
 }
 
-/// A user between his sessions.
+/// A user between sessions.
 #[derive(Drop)]
 pub struct TestUser {
-    // None while he is in a session.
+    // None during a session.
     pass: Option<UserPass>,
-    /// What he was told.
+    /// What the user was answered, in words.
     pub said: String,
-    // What he draws his commands from.
+    // What the user's commands are drawn from.
     draws: Draws,
-    /// How many of the commands that he drew were answered.
+    /// How many of the commands that were drawn were answered.
     pub answered: u64,
-    /// Whether one of them was answered NoMemory twice, or there was none for what he was told.
+    /// Whether one of them was answered NoMemory twice, or there was no memory for what the user was answered.
     pub out_of_memory: bool,
 }
 
@@ -51,7 +51,7 @@ fn act_all<R: Wait>(
 }
 
 impl TestUser {
-    // Does what he is to do in a session; whether there was memory.
+    // Does what the user is to do in a session. Returns whether there was memory.
     fn act_in<R: Wait>(
         &mut self,
         rt: &R,
@@ -80,7 +80,7 @@ impl TestUser {
         }
     }
 
-    /// Does what he is to do, in a session of his own.
+    /// Does what the user is to do, in a session of their own.
     pub fn act<R: Wait>(
         &mut self,
         rt: &R,
