@@ -109,7 +109,7 @@ impl Follower {
     }
 
     /// Does what the next entries of the domain's journal stand for, until `most` events are recorded, and compares what the
-    /// domain answers with what they say. After an error nothing is guaranteed of the moment.
+    /// domain answers with what they say. After an error nothing is guaranteed about the moment.
     pub fn follow_entries(&mut self, entries: &[Entry], most: u64) -> Result<(), FollowFault>
         ensures { OnOk result (MovesOn self.old (calls_before most self.old (entry_calls entries.now)) self.new) }
     {

@@ -63,7 +63,7 @@ pub record AnswersCalls (calls : List (ℕ × Call)) (old new : List DomainValue
   pub run : HaveRun old new calls told
   pub gains : (earlier : List Answer) → HasAnswers earlier before → HasAnswers (earlier ++ told) after
 
--- an event is asked so often, and a list gains the answers
+-- an event is asked `times` times, and a list gains the answers
 abbrev pub AnswersTimes : ℕ → ℕ → By → Event → List DomainValue → List DomainValue → KeptList
     → KeptList → Type 0
 AnswersTimes times domain by event old new before after =

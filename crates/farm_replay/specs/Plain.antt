@@ -47,12 +47,12 @@ asked_once Reopen = Opens
 asked_once (Events domain by events) = Calls (event_calls domain by events.items)
 asked_once (Domain domain request) = asked_of_domain request
 
--- a fresh farm so often
+-- to open the farm again `times` times
 abbrev pub opens_times : ℕ → Asked
 opens_times zero = Looks
 opens_times (suc times) = Opens
 
--- the same so often
+-- what a request asks, `times` times
 abbrev pub asked_times : ℕ → Asked → Asked
 asked_times times (Calls calls) = Calls (repeat times calls)
 asked_times times Looks = Looks

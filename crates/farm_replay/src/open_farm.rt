@@ -232,8 +232,8 @@ impl OpenFarm {
         Ok(answer)
     }
 
-    // Adds the answers to an event that is asked so often, one time after another. A time that isn't recorded changes
-    // nothing, so that all others are answered as it is.
+    // Adds the answers to an event that is asked `times` times, one after another. A time that isn't recorded changes nothing,
+    // so all later ones are answered alike.
     fn answer_each(
         &mut self,
         domain: u8,

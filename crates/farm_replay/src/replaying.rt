@@ -27,7 +27,7 @@ pub struct AnsweredRequests {
 ///
 /// # Errors
 ///
-/// `Steps` if more Steps are wanted than the meter allows, and `Memory` if memory is wanted anywhere.
+/// `Steps` if more Steps are wanted than the meter allows, and `Memory` if memory runs out anywhere.
 pub fn answer_requests<M: StepMeter>(
     alloc: Global,
     plan: &AcceptedPlan,
@@ -50,7 +50,7 @@ pub fn answer_requests<M: StepMeter>(
 ///
 /// # Errors
 ///
-/// `Steps` if more Steps are wanted than the meter allows, and `Memory` if memory is wanted anywhere.
+/// `Steps` if more Steps are wanted than the meter allows, and `Memory` if memory runs out anywhere.
 pub fn answer_times<M: StepMeter>(
     alloc: Global,
     plan: &AcceptedPlan,

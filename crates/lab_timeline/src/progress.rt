@@ -63,7 +63,7 @@ impl Progress {
         })
     }
 
-    /// Does `times` of the events that are left of the line, at most all. After an error nothing is guaranteed of the progress.
+    /// Does `times` of the events that are left of the line, at most all. After an error nothing is guaranteed about the progress.
     #[tactic(auto, using(crate::proofs::Led::some_followed))]
     pub fn follow_some(&mut self, times: u64) -> Result<Reply, FollowFault>
         requires { times ≤ self.old.rest.times }
@@ -108,7 +108,7 @@ impl Progress {
         Ok(())
     }
 
-    /// Goes on to the moment after `event` events of a record, or to its end. After an error nothing is guaranteed of the progress.
+    /// Goes on to the moment after `event` events of a record, or to its end. After an error nothing is guaranteed about the progress.
     #[tactic(auto, using(crate::proofs::Led::led))]
     pub fn lead(&mut self, lines: &[RecordedLine], event: u64) -> Result<(), FollowFault>
         requires { self.old.follower.recorded ≤ event }
