@@ -64,7 +64,7 @@ IsSent part m device (sent.Left port mask) =
     IsPortOf part device (Some port) × (is_some (end_at m.devices device).latch.byte ≡ false)
     × Marks mask (drives m.switch port)
 
--- what became of a byte that came to an output: no device is there; it lies in the buffer; its acknowledge waits at the
+-- what became of a byte that came to an output: no device is there; it is in the buffer; its acknowledge waits at the
 -- port; or neither
 abbrev pub IsArrival : PartData → Machine → ℕ → Arrival → Type 0
 IsArrival part m output arrival.Nobody = device_at part output ≡ None
@@ -77,8 +77,8 @@ IsArrival part m output (arrival.Gone device) =
     (device_at part output ≡ Some device) × (is_some (end_at m.devices device).input.buffer ≡ false)
     × ((end_at m.devices device).latch.acknowledge ≡ false)
 
--- whence bytes come to a device: it has no port; no input drives its port's output; or this one does, with what waits
--- there
+-- from where bytes come to a device: it has no port; no input drives its port's output; or this one does, with what
+-- waits there
 abbrev pub IsSupply : PartData → Machine → Device → Supply → Type 0
 IsSupply part m device supply.Unwired = IsPortOf part device None
 IsSupply part m device (supply.Undriven port) = IsPortOf part device (Some port) × IsInputOf part m port None

@@ -176,7 +176,7 @@ impl Follower {
     /// # Errors
     ///
     /// `Follow` with why the line can't be done, and `Differs` there if the domain answers otherwise than it says; `Steps` if the
-    /// line has more Steps than the meter allows. After either nothing is said of the moment.
+    /// line has more Steps than the meter allows. After either nothing is guaranteed about the moment.
     pub fn answer<M: StepMeter>(
         &mut self,
         line: &RecordedLine,

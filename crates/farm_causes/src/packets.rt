@@ -82,7 +82,7 @@ impl Scene<'_> {
         }
     }
 
-    /// Says whence bytes come to a link, if it is joined to a port.
+    /// Says from where bytes come to a link, if it is joined to a port.
     pub(crate) fn write_supply_if_wired(
         &mut self,
         node: u8,
@@ -95,7 +95,7 @@ impl Scene<'_> {
         }
     }
 
-    /// Says whence bytes come to a link.
+    /// Says from where bytes come to a link.
     pub(crate) fn write_supply(&mut self, node: u8, link: LinkNumber, text: &mut TextWriter) {
         match supply_of(&mut self.moment, Device::Link { node, link }) {
             Supply::Unwired => push_unjoined(text, link),

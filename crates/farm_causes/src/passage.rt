@@ -25,7 +25,7 @@ pub enum SentByte {
 pub enum Arrival {
     /// No device is joined there.
     Nobody,
-    /// It lies in the buffer of the device.
+    /// It is in the buffer of the device.
     Held(Device),
     /// The device took it. The acknowledge waits at the port, and a Move of that would come to this.
     Acknowledged { device: Device, moved: Moved },
@@ -33,7 +33,7 @@ pub enum Arrival {
     Gone(Device),
 }
 
-/// Whence bytes come to a device.
+/// From where bytes come to a device.
 #[derive(Clone, Copy)]
 pub enum Supply {
     /// The device has no port, so that nothing comes to it.
@@ -146,7 +146,7 @@ pub fn arrival_at(moment: &mut Moment, output: u8) -> Arrival
     }
 }
 
-/// Whence bytes come to a device. Nothing changes.
+/// From where bytes come to a device. Nothing changes.
 pub fn supply_of(moment: &mut Moment, device: Device) -> Supply
     ensures supply { IsSupply moment.old.machine.part (machine_of moment.old.machine) device result }
     ensures unchanged { moment.new ≡ moment.old }

@@ -8,7 +8,7 @@ use step_meter::{StepBound, StepMeter, StepsEnd};
 /// How many milliseconds there are at least from one report to the next.
 const BETWEEN: u128 = 500;
 
-/// A meter that tells on standard error how many Steps were done, if that is a terminal.
+/// A meter that reports on standard error how many Steps were done, if that is a terminal.
 #[derive(Drop)]
 pub struct TerminalMeter<'a> {
     rt: &'a HostRuntime,

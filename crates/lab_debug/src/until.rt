@@ -22,7 +22,7 @@ pub enum Goal {
     Lost,
 }
 
-/// Which of several events that are so is taken.
+/// Which of several events that meet a goal is taken.
 #[derive(Clone, Copy)]
 enum Taken {
     First,
@@ -217,13 +217,13 @@ fn look_through(
     Ok(found)
 }
 
-/// Goes on to the next event that is looked for, and tells whether there is one.
+/// Goes on to the next event that is looked for, and returns whether there is one.
 pub fn seek(timeline: &mut Timeline, goal: Goal) -> Result<bool, FollowFault> {
     let last = timeline.events();
     Ok(look_through(timeline, goal, last, Taken::First)?.is_some())
 }
 
-/// Goes back to the last event before the moment that is shown that is looked for, and tells whether there is one.
+/// Goes back from the moment that is shown to the last event before it that is looked for, and returns whether there is one.
 pub fn seek_back(timeline: &mut Timeline, goal: Goal) -> Result<bool, FollowFault> {
     let mut last = timeline.here().recorded().saturating_sub(1);
     for _ in 0..last {

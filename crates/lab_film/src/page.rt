@@ -52,7 +52,7 @@ const BODY: &str = r##"</style>
 <script id="film" type="application/json">
 "##;
 
-/// The page with a film's JSON. The JSON must hold no `<`, as is so of numbers, names of users and answers.
+/// The page with a film's JSON. The JSON must hold no `<`: numbers, names of users and answers hold none.
 pub fn page_of(alloc: Global, film: &str) -> Result<String, NoMemory> {
     let mut page = TextWriter::new(alloc);
     page.push(HEAD);

@@ -108,7 +108,8 @@ impl Progress {
         Ok(())
     }
 
-    /// Goes on to the moment after `event` events of a record, or to its end. After an error nothing is guaranteed about the progress.
+    /// Goes on to the moment after `event` events of a record, or to its end. After an error nothing is guaranteed about the
+    /// progress.
     #[tactic(auto, using(crate::proofs::Led::led))]
     pub fn lead(&mut self, lines: &[RecordedLine], event: u64) -> Result<(), FollowFault>
         requires { self.old.follower.recorded ≤ event }

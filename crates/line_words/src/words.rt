@@ -44,7 +44,7 @@ struct NotedMistake<'a> {
 
 /// The words of a line that are still to be read, with single blanks between them.
 ///
-/// The first wrong word is noted, and reading goes on: what is read in its place is 0, `false` or empty. `finish` tells of it.
+/// The first wrong word is noted, and reading goes on: what is read in its place is 0, `false` or empty. `finish` returns it.
 #[derive(Clone, Copy)]
 pub struct Words<'a> {
     line: &'a str,
@@ -96,7 +96,7 @@ impl<'a> Words<'a> {
         word
     }
 
-    /// Takes the next word if it is this one, and tells whether it was.
+    /// Takes the next word if it is this one, and returns whether it was.
     pub fn take_if(&mut self, word: &str) -> bool {
         let (there, next) = self.next.split();
         if there != word {

@@ -73,7 +73,7 @@ fn print_boot(alloc: Global, code: &[u8]) -> Result<String, LabFailure> {
     Ok(line.finish()?)
 }
 
-/// The instructions that hexadecimal digits spell, one a line. The failure tells why they spell none.
+/// The instructions that hexadecimal digits spell, one a line. The failure says why they spell none.
 pub fn print_disassembled(alloc: Global, text: &[u8]) -> Result<String, LabFailure> {
     match disassembled(alloc, text) {
         Ok(text) => Ok(text),

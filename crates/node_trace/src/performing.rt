@@ -35,7 +35,7 @@ pub fn or_dash(alloc: Global, text: &str) -> Result<String, NoMemory> {
     String::from_str(alloc, if text.is_empty() { "-" } else { text })
 }
 
-/// Does what a line asks for on a node, and writes the answer; the node as it is then.
+/// Does what a line asks for on a node, and writes the answer. Returns the node as it is then.
 pub fn perform<M: StepMeter>(
     alloc: Global,
     node: Node,

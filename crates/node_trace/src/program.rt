@@ -157,7 +157,7 @@ fn are_of_label(name: &[u8]) -> bool {
     true
 }
 
-/// How wide the lines of a program are, but for the blanks around them: the widest, or `most` if that is less.
+/// How wide the lines of a program are, without the blanks around them: the widest, or `most` if that is less.
 pub fn width_of(lines: &[ProgramLine], most: usize) -> usize {
     let mut width = 0;
     for line in lines {

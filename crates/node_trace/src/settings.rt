@@ -51,11 +51,11 @@ pub enum LinkSetting {
     Flag(LinkFlag, bool),
     /// Where the next byte that arrives is stored, and how many are still awaited.
     Input(u32, u32),
-    /// Where the byte lies that is sent next, and how many are still to be sent.
+    /// Where the byte is that is sent next, and how many are still to be sent.
     Output(u32, u32),
 }
 
-/// What is so at a link or isn't.
+/// What is true of a link or isn't.
 #[derive(Clone, Copy)]
 pub enum LinkFlag {
     /// An acknowledge waits to leave.

@@ -1,4 +1,4 @@
-//! What users do in a session, and what they tell of its answers. Who is answered NoMemory asks once more.
+//! What users do in a session, and what is written of its answers. A user who is answered NoMemory asks once more.
 
 use bootstrap::{Activity, Seen};
 use domain_core::{Event, Refusal, Reply};
@@ -124,7 +124,7 @@ fn tell_settled(said: &mut String, told: Result<Settled, Refusal>) -> Result<(),
     }
 }
 
-/// Does it, and tells what was answered.
+/// Does it, and writes what was answered.
 pub fn perform<R: Wait>(
     rt: &R,
     alloc: Global,

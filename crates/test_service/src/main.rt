@@ -2,7 +2,7 @@
 //! each part below it that may be out of memory, one for each row, the same whatever the schedule, and then that of a short
 //! soak, in which they do anything at the same time.
 //!
-//! `rows` prints the parts and the rows alone. `soak ROUNDS SEED WORKERS [COMMANDS]` soaks alone, and tells what it compared.
+//! `rows` prints only the parts and the rows. `soak ROUNDS SEED WORKERS [COMMANDS]` only soaks, and prints what it compared.
 #![tactic(auto)]
 
 mod actions;

@@ -8,7 +8,7 @@ use std::alloc::{AllocError, Global};
 pub enum TrialPlan {
     /// Ann has ports 0 to 7, bob ports 8 to 15.
     AnnAndBob,
-    /// The same, but that three events of ann's are recorded at most.
+    /// The same, but at most three events of ann's are recorded.
     AnnOfThreeEvents,
     /// Two nodes on ports 0 and 1, host 0 on port 3 and host 1 on port 2.
     TwoNodes,

@@ -1,4 +1,4 @@
-//! What a row tells of what a service left.
+//! What a row prints of what a service left.
 
 use crate::comparison::is_alike;
 use crate::losses::{LOSSES, Loss};
