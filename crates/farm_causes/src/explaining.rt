@@ -48,8 +48,8 @@ fn explain_followed(alloc: Global, follower: &Follower, is_cut: bool) -> Result<
     told.finish()
 }
 
-/// Says why each node, or one of them, does no more than it does, at the moment to which a domain was led. Of the processes that
-/// wait at channels in a node's memory the first hundred are listed, and the number of the others is given.
+/// Says why each node, or one of them, does no more than it does, at the moment to which a domain was led. Of the processes
+/// that wait at channels in a node's memory the first hundred are listed, and the number of the others is given.
 pub fn explain_moment(
     alloc: Global,
     follower: &Follower,

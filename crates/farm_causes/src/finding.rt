@@ -171,8 +171,8 @@ fn inside_wait_at(memory: &Memory, channel: u32) -> Option<InsideWait>
 
 /// Who waits at channels in memory, lowest channel first. `NoMemory` where the list can't be kept.
 ///
-/// A word counts as a channel if it is the descriptor of a process that goes on after an instruction which waits. So does a copy
-/// of such a descriptor that a program keeps for itself.
+/// A word counts as a channel if it is the descriptor of a process that goes on after an instruction which waits. So does a
+/// copy of such a descriptor that a program keeps for itself.
 pub fn inside_waits(alloc: Global, memory: &Memory) -> Result<Vec<InsideWait>, NoMemory>
     ensures { IfOk result (λ waits. waits.items ≡ inside_waits memory.now) }
 {

@@ -157,8 +157,8 @@ impl Follower {
         Ok(Reply::Stepped(Stepped::Ran))
     }
 
-    /// Does a call as often as it was made. `NoEvent` if it was made several times, unless it is a Step for which the farm asks.
-    /// After an error nothing is guaranteed about the moment.
+    /// Does a call as often as it was made. `NoEvent` if it was made several times, unless it is a Step for which the farm
+    /// asks. After an error nothing is guaranteed about the moment.
     pub fn follow_call(&mut self, call: SaidCall) -> Result<Reply, FollowFault>
         ensures { IfOk result (λ reply. MovesOn self.old (calls_said call) self.new) }
     {

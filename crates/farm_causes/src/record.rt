@@ -105,8 +105,8 @@ fn read_numbered<'a>(alloc: Global, line: NumberedLine<'a>) -> Result<RecordedLi
 ///
 /// # Errors
 ///
-/// `NoMark` if the text has no line `---`; `Plan` and `Domains` if what comes before that line is no plan of one domain; `Wrong`
-/// and `Line` with the first line that asks no single event of domain 0; `Memory`.
+/// `NoMark` if the text has no line `---`; `Plan` and `Domains` if what comes before that line is no plan of one domain;
+/// `Wrong` and `Line` with the first line that asks no single event of domain 0; `Memory`.
 pub fn read_record<'a>(alloc: Global, text: &'a [u8], most: u64) -> Result<Record<'a>, WhyFault>
     ensures { IfOk result (λ read. length read.plan ≡ 1) }
 {

@@ -155,8 +155,8 @@ impl OpenFarm {
         Ok(())
     }
 
-    /// Adds the answers to an event that is asked `times` times. Steps for which the farm asks are done together, as far as they
-    /// are recorded and the meter allows them.
+    /// Adds the answers to an event that is asked `times` times. Steps for which the farm asks are done together, as far as
+    /// they are recorded and the meter allows them.
     pub fn answer_repeated<M: StepMeter>(
         &mut self,
         plan: &AcceptedPlan,
@@ -390,8 +390,8 @@ impl OpenFarm {
         Ok(())
     }
 
-    /// Does rounds of a domain until it is quiet, at most `rounds`, and returns whether it is quiet. In each round every node does
-    /// up to `quantum` Steps, and then the packets of all ports move, as in the rounds of a service's sessions.
+    /// Does rounds of a domain until it is quiet, at most `rounds`, and returns whether it is quiet. In each round every
+    /// node does up to `quantum` Steps, and then the packets of all ports move, as in the rounds of a service's sessions.
     ///
     /// # Errors
     ///

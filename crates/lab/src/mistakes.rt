@@ -6,8 +6,8 @@ use line_words::{NumberedLineFault, Question, WordFault};
 use node_trace::read_trace_line;
 use std::alloc::Global;
 
-/// The answer to a row, which is `replay` or `trace`, a blank, and a line as that subcommand reads it. The answer is the mistake
-/// of that line, in the words that follow the line's number in a message, or `right`.
+/// The answer to a row, which is `replay` or `trace`, a blank, and a line as that subcommand reads it. The answer is the
+/// mistake of that line, in the words that follow the line's number in a message, or `right`.
 ///
 /// `Wrong` if the row begins otherwise.
 pub fn tell_mistake(alloc: Global, row: &Question) -> Result<String, NumberedLineFault> {

@@ -375,9 +375,10 @@ fn film_of_record<M: StepMeter>(
     Ok(film.finish()?)
 }
 
-/// A record in JSON, which the page shows: the plan of its domain, the domain where the film begins, and for each line of the span
-/// what it asks, what it is answered, and what it changes. Each Step is a frame of its own, except those in the middle of a line
-/// of more than 1,000. What changes is found from the frames of the moments before and after it (`shot_of`).
+/// A record in JSON, which the page shows: the plan of its domain, the domain where the film begins, and for each line of
+/// the span what it asks, what it is answered, and what it changes. Each Step is a frame of its own, except those in the
+/// middle of a line of more than 1,000. What changes is found from the frames of the moments before and after it
+/// (`shot_of`).
 ///
 /// # Errors
 ///

@@ -11,7 +11,8 @@ const AT_EACH_END: u64 = 500;
 /// What a Step is answered that ran.
 const RAN: &str = "ran";
 
-/// How many Steps the next frame does, if `done` of a line's `times` Steps are done: one at least, and none that the line hasn't.
+/// How many Steps the next frame does, if `done` of a line's `times` Steps are done: one at least, and none that the line
+/// hasn't.
 pub fn next_steps(done: u64, times: u64) -> u64
     requires { done < times }
     ensures some { 1 ≤ result }

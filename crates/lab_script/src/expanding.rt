@@ -72,8 +72,8 @@ pub fn file_loaded(line: &str) -> Option<&str> {
     }
 }
 
-/// The plain lines into which a line that helps is spelled out, or why there are none; `None` if the line doesn't help. `number`
-/// is that of the line in messages.
+/// The plain lines into which a line that helps is spelled out, or why there are none; `None` if the line doesn't help.
+/// `number` is that of the line in messages.
 pub fn expanded_line(
     alloc: Global,
     number: u64,

@@ -63,7 +63,8 @@ impl Progress {
         })
     }
 
-    /// Does `times` of the events that are left of the line, at most all. After an error nothing is guaranteed about the progress.
+    /// Does `times` of the events that are left of the line, at most all. After an error nothing is guaranteed about the
+    /// progress.
     #[tactic(auto, using(crate::proofs::Led::some_followed))]
     pub fn follow_some(&mut self, times: u64) -> Result<Reply, FollowFault>
         requires { times ≤ self.old.rest.times }

@@ -197,8 +197,8 @@ fn nearest<'b>(opening: &'b Progress, kept: &'b [Progress], event: u64) -> &'b P
     found
 }
 
-// Begins at the moment that is shown, if that is one of the record, doesn't come after the event and doesn't come before the kept
-// moment. Else begins at the kept moment.
+// Begins at the moment that is shown, if that is one of the record, doesn't come after the event and doesn't come before
+// the kept moment. Else begins at the kept moment.
 fn begin(here: &mut Progress, is_led: bool, near: &Progress, event: u64) -> Result<(), NoMemory>
     requires { near.now.follower.recorded ≤ event }
     ensures progress { OnOk result (Begins is_led here.old near.now here.new) }
@@ -217,9 +217,9 @@ impl<'a> Timeline<'a> {
     ///
     /// # Errors
     ///
-    /// `Record` with `NoMark` if the text has no line `---`, with `Plan` and `Domains` if what comes before that line is no plan of
-    /// one domain, with `Line` and the first line that isn't one of this domain's record, and with `Memory`; `Steps` if its lines
-    /// have more Steps than the meter allows.
+    /// `Record` with `NoMark` if the text has no line `---`, with `Plan` and `Domains` if what comes before that line is no
+    /// plan of one domain, with `Line` and the first line that isn't one of this domain's record, and with `Memory`;
+    /// `Steps` if its lines have more Steps than the meter allows.
     pub fn open<M: StepMeter>(
         alloc: Global,
         text: &'a [u8],
@@ -316,8 +316,8 @@ impl<'a> Timeline<'a> {
             .recorded()
     }
 
-    /// Goes to the moment after the first `event` events of the record, or to its end if it has fewer. After an error nothing is
-    /// guaranteed of the moment that is shown.
+    /// Goes to the moment after the first `event` events of the record, or to its end if it has fewer. After an error
+    /// nothing is guaranteed about the moment that is shown.
     #[tactic(auto, using(crate::proofs::Led::unled, crate::proofs::Led::led_on, crate::proofs::Led::come_to))]
     pub fn go(&mut self, event: u64) -> Result<(), FollowFault>
         ensures state { OnOk result (IsMomentAt self.new.plan self.new.lines event self.new.here) }

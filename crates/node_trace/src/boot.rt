@@ -39,9 +39,10 @@ enum TraceEnd {
     Counted(u64),
 }
 
-/// Boots a node of 4,096 bytes with code by link 0, and gives a line for each Step that follows: the address of the instruction,
-/// the instruction, and what changed. If the lines of a program are given, the nearest label and the line come after an
-/// instruction of it. The trace stops after `trace.steps` Steps, at the first that is idle, at a fault, or at an address.
+/// Boots a node of 4,096 bytes with code by link 0, and gives a line for each Step that follows: the address of the
+/// instruction, the instruction, and what changed. If the lines of a program are given, the nearest label and the line come
+/// after an instruction of it. The trace stops after `trace.steps` Steps, at the first that is idle, at a fault, or at an
+/// address.
 ///
 /// Packets have lines of their own. A host at each link takes those that leave, acknowledges each byte, and sends the bytes
 /// of its inputs, each as soon as the one before it is acknowledged. The last lines say why the trace stops, if no Step

@@ -289,14 +289,14 @@ impl<S: RecordStore> DomainRecord<S> {
         self.keep_owed(rt, service, domain)
     }
 
-    /// Records all that the domain has answered by now, in the next record if its journal began again. A record that holds no line
-    /// is used again then. Where nothing is recorded, nothing changes.
+    /// Records all that the domain has answered by now, in the next record if its journal began again. A record that holds
+    /// no line is used again then. Where nothing is recorded, nothing changes.
     ///
     /// # Errors
     ///
-    /// `Out` if the domain's record can't be taken, as long as its journal doesn't begin again; nothing has changed then. Else why
-    /// it can't be written: what was recorded by then stays, and the next call cuts off what isn't whole and goes on after what is,
-    /// so that nothing is missing and nothing is there twice.
+    /// `Out` if the domain's record can't be taken, as long as its journal doesn't begin again; nothing has changed then.
+    /// Else why it can't be written: what was recorded by then stays, and the next call cuts off what isn't whole and goes
+    /// on after what is, so that nothing is missing and nothing is there twice.
     // Eight clauses: what is kept then or after an error, of no store, of a record that is out, and what stays.
     pub fn keep<R: Wait>(
         &mut self,

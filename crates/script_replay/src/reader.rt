@@ -84,8 +84,8 @@ impl<'p> LineReader<'p> {
         }
     }
 
-    /// Adds what a line of this user asks: one line of the program, or those into which it is spelled out if it helps. Returns the
-    /// message about it if it is wrong.
+    /// Adds what a line of this user asks: one line of the program, or those into which it is spelled out if it helps.
+    /// Returns the message about it if it is wrong.
     pub(crate) fn read<'a>(
         &self,
         user: NamedUser<'a>,

@@ -223,7 +223,8 @@ fn run<R: Threads + Wait + Sync + Print>(
     Ok(wrong)
 }
 
-/// Rounds as the words after `soak` say: `ROUNDS SEED WORKERS [COMMANDS]`. What was compared is printed, and how much was wrong.
+/// Rounds as the words after `soak` say: `ROUNDS SEED WORKERS [COMMANDS]`. What was compared is printed, and how much was
+/// wrong.
 pub fn soak<R: Threads + Wait + Sync + Print>(
     rt: &R,
     alloc: Global,

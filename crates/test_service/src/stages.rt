@@ -18,7 +18,7 @@ use std::thread::Threads;
 pub enum Stage {
     /// Users, by their places in the plan, act one after another, and what they are answered follows.
     Alone(&'static [(usize, Action)]),
-    /// Each user does what is listed in the user's place of the plan, all at the same time.
+    /// Each user does what is listed for the user's place in the plan, all at the same time.
     AtOnce(&'static [&'static [Action]]),
     /// All workers work for this number of turns.
     Workers(u64),
@@ -30,7 +30,7 @@ pub enum Stage {
     Tell(usize, &'static str),
     /// How many users were answered this follows.
     Count(&'static str),
-    /// Whether each user was answered exactly the text in the user's place of the plan, that number of times, follows.
+    /// Whether each user was answered exactly the text for the user's place in the plan, this number of times, follows.
     Expect(&'static [(&'static str, usize)]),
     /// The newest word that the operator saw of a physical output follows.
     Word(u8),

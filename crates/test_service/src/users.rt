@@ -11,7 +11,7 @@ use std::sync::Wait;
 /// What users do.
 #[derive(Clone, Copy)]
 pub enum Doing {
-    /// Each what is listed in the user's place of the plan.
+    /// Each does what is listed for the user's place in the plan.
     Listed(&'static [&'static [Action]]),
     /// All the same.
     Same(&'static [Action]),
