@@ -23,7 +23,7 @@ USER, SCRIPT = "student", "test.farm"
 SECONDS, MOST_BYTES = 60, 1 << 20
 # The status of `lab` that had to do more Steps than it may.
 TOO_MANY = 7
-ENDING = ".s"
+ENDING, LINE_END = ".s", "\n"
 OK, WRONG, LONG, NONE = "ok", "wrong", "too long", "-"
 # How many lines of `lab why` are kept.
 MOST_WHY = 12
@@ -114,7 +114,7 @@ def check_programs(own, room):
             status, _, told = lab(room, "assemble", "--listing", text=it.read())
         if status != 0:
             where = f"{name.removeprefix(OWN_FOLDER)}: " if name != OWN else ""
-            raise Refused(f"{where}{told or 'it can not be assembled'}")
+            raise Refused(f"{where}{told.partition(LINE_END)[0] or 'it can not be assembled'}")
 
 
 def script_of(exercise, test):

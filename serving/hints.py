@@ -9,7 +9,8 @@ testhalterr byte word align space def local""".split())
 # Those of other processors.
 FOREIGN = frozenset("""mov movb movw movl movq lea push pop jmp jz jnz je jne jg jl jge jle jsr bne beq bra cmp test inc dec nop
 hlt int syscall iret lda sta ldx stx ldr str ldm stm ldi li lw sw addi beqz bnez neg shl sal sar rol ror loop equ db dw dd org
-section global""".split())
+section global blt bl rts subi dcb dcd resb ecall svc swi lsl lsr asr sll srl sra .byte .word .long .string .ascii .space .align .equ .org
+.section .text .data .bss .global .globl""".split())
 # Languages have these, or write so.
 LANGUAGE = frozenset("""seq par if while for do else return print printf println puts echo let var const import include from class
 function fun fn val proc chan skip main begin end begin: goto gosub rem dim printf( #include""".split())

@@ -206,8 +206,9 @@ def a_person_is_asked(live, _):
 ELSEWHERE = [("run hello", "load assembles a program and boots it"), ("stop", "stop is a verb of the operator. reset resets a node"),
              ("read 0", "collect takes all bytes"), ("disconnect 0", "Try: config 0500"), ("ls", "a command of the shell"),
              ("ldc 5", "an instruction of a program"), ("mov ax, 5", "an instruction of other processors"),
-             ("nop", "an instruction of other processors"), ("x=5", "Here are verbs alone"), ("SEQ", "Here are verbs alone"),
-             ("print(1)", "Here are verbs alone"), ("ps", "look tells a node's state"), ("EXIT", "Is it exit? Try: exit"),
+             ("nop", "an instruction of other processors"), (".data", "an instruction of other processors"),
+             ("x=5", "Here are verbs alone"), ("SEQ", "Here are verbs alone"), ("print(1)", "Here are verbs alone"),
+             ("ps", "look tells a node's state"), ("EXIT", "Is it exit? Try: exit"),
              ("lok 0", "Is it look? Try: look 0"), ("xyzzy", "Try: help"), ("man", "help lists the verbs")]
 
 

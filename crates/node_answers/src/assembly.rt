@@ -1,12 +1,12 @@
 //! Texts as code, and code as text.
 
-use crate::failure::{wrong_length, wrong_program};
+use crate::failure::{wrong_length, wrong_lines, wrong_program};
 use lab_command::{AssemblyOptions, LabFailure, WRONG_TEXT};
 use script_text::TextWriter;
 use std::alloc::Global;
 use t414_assembly::{
-    Assembly, BOOTED, LOADED, MOST_CODE, TextFault, assemble, bytes_of_digits, code_as_text,
-    listing, loader, pokes,
+    Assembly, BOOTED, LOADED, MOST_CODE, TextFault, assemble_or_list, bytes_of_digits,
+    code_as_text, listing, loader, pokes,
 };
 
 /// The code of a text: a line of digits, a listing or the lines of a script.
@@ -22,10 +22,10 @@ pub fn print_assembled(
     } else {
         BOOTED
     };
-    match assemble(alloc, origin, text) {
+    match assemble_or_list(alloc, origin, text) {
         Ok(made) if options.listing => print_listing(alloc, origin, &made, text),
         Ok(made) => print_code(alloc, options, made.image.bytes.as_slice()),
-        Err(fault) => Err(wrong_program(alloc, &fault)),
+        Err(fault) => Err(wrong_lines(alloc, &fault)),
     }
 }
 

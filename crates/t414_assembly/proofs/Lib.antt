@@ -7,3 +7,4 @@ pub mod Growing
 pub mod Usual
 pub mod Nibbles
 pub mod Reassembling
+pub mod Wrong

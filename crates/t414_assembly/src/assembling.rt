@@ -1,9 +1,11 @@
 //! A text as a program, with its bytes.
-ghost use Rattle.std.specs.Prelude.{◌≤◌, IfOk, length};
+ghost use Rattle.std.specs.Prelude.{◌≡◌, ◌≤◌, ◌⊎◌, ℕ, IfOk, IfErr, Some, length, slice_get};
+ghost use Rattle.t414_assembly.specs.Faults.{IsProgramFaultOf, IsTextFaultOf};
 ghost use Rattle.t414_assembly.specs.Program.{IsImage};
 
 use crate::cursor::Cursor;
-use crate::fault::{Expected, TextFault, fault_before, fault_in};
+use crate::fault::{Expected, Mismatch, TextFault};
+use crate::faults::{FaultList, ProgramFault, first_faults};
 use crate::layout::{Image, LayoutFault, lay_out};
 use crate::parsing::Reader;
 use crate::statement::Statement;
@@ -44,14 +46,47 @@ impl Assembly {
 
 /// Assembles a text, whose first byte stands at `origin`.
 ///
-/// A fault says where something else was expected: first what isn't written as it should be, then names that aren't
-/// defined and labels that stand where no label can, then code that is too long.
+/// # Errors
+///
+/// The first of the faults of `assemble_or_list`.
 pub fn assemble(alloc: Global, origin: u32, text: &[u8]) -> Result<Assembly, TextFault>
     requires { origin ≤ 0xffff_0000 }
-    ensures { IfOk result (λ made. IsImage origin made.statements.items made.image.starts.items (length made.statements.items) made.image.bytes.items) }
+    ensures image { IfOk result (λ made. IsImage origin made.statements.items made.image.starts.items (length made.statements.items) made.image.bytes.items) }
+    ensures fault { IfErr result (λ fault. IsTextFaultOf text.now fault) }
+{
+    match assemble_or_list(alloc, origin, text) {
+        Ok(made) => Ok(made),
+        Err(ProgramFault::Wrong(list)) => {
+            let FaultList {
+                mut faults,
+                has_more: _,
+            } = list;
+            Err(TextFault::Wrong(faults.remove(0)))
+        }
+        Err(ProgramFault::NoMemory) => Err(TextFault::Memory(AllocError)),
+    }
+}
+
+/// The same with the faults of all lines that are wrong, up to `MOST_FAULTS`.
+///
+/// # Errors
+///
+/// A fault says where something else is expected in a line: what isn't written as it should be, a name that isn't defined, a
+/// label where no label can be. Of a text without such faults the code may be too long: then the one fault is of the line
+/// with which it is. A name that a wrong line defines is no fault where it is used.
+pub fn assemble_or_list(alloc: Global, origin: u32, text: &[u8]) -> Result<Assembly, ProgramFault>
+    requires { origin ≤ 0xffff_0000 }
+    ensures image { IfOk result (λ made. IsImage origin made.statements.items made.image.starts.items (length made.statements.items) made.image.bytes.items) }
+    ensures faults { IfErr result (λ fault. IsProgramFaultOf text.now fault) }
 {
     let source = numbered_lines(alloc, text)?;
-    let (statements, lines) = read_program(alloc, source.as_slice())?;
+    let source = source.as_slice();
+    let mut mismatches = Vec::new(alloc);
+    let (statements, lines) = read_program(alloc, source, &mut mismatches)?;
+    let list = first_faults(alloc, source, mismatches.as_slice())?;
+    if !list.faults.as_slice().is_empty() {
+        return Err(ProgramFault::Wrong(list));
+    }
     match lay_out(alloc, origin, statements.as_slice()) {
         Ok(image) => Ok(Assembly {
             statements,
@@ -59,59 +94,61 @@ pub fn assemble(alloc: Global, origin: u32, text: &[u8]) -> Result<Assembly, Tex
             image,
         }),
         Err(LayoutFault::TooLong(place)) => {
-            Err(too_long(alloc, source.as_slice(), lines.as_slice(), place))
+            let line = line_of(source, lines.as_slice(), place);
+            let list = first_faults(alloc, &[line], &[Some(too_long(line))])?;
+            Err(ProgramFault::Wrong(list))
         }
-        Err(LayoutFault::NoMemory) => Err(TextFault::Memory(AllocError)),
+        Err(LayoutFault::NoMemory) => Err(ProgramFault::NoMemory),
     }
 }
 
-// The statements of all lines, and how many of them stand before each line and behind the last.
-fn read_program(
+// The statements of all lines, and how many of them stand before each line and behind the last; and, in `mismatches`, what is
+// wrong with each line, if anything is.
+fn read_program<'a>(
     alloc: Global,
-    source: &[NumberedLine<'_>],
-) -> Result<(Vec<Statement>, Vec<usize>), TextFault> {
-    let mut reader = Reader::new(alloc);
-    read_lines(alloc, &mut reader, source)?;
-    reader.begin_again();
-    read_lines(alloc, &mut reader, source)?;
-    Ok(reader.finish()?)
-}
-
-// Reads all lines.
-fn read_lines<'a>(
-    alloc: Global,
-    reader: &mut Reader<'a>,
     source: &[NumberedLine<'a>],
-) -> Result<(), TextFault> {
+    mismatches: &mut Vec<Option<Mismatch<'a>>>,
+) -> Result<(Vec<Statement>, Vec<usize>), AllocError> {
+    let mut reader = Reader::new(alloc);
     for line in source {
-        if let Some(mismatch) = reader.read_line(*line) {
-            return Err(fault_in(alloc, *line, mismatch));
-        }
+        mismatches.push(reader.read_line(*line))?;
     }
-    Ok(())
+    reader.begin_again();
+    for (line, mismatch) in source.iter().zip(mismatches.as_mut_slice()) {
+        let again = reader.read_line(*line);
+        *mismatch = mismatch.or(again);
+    }
+    reader.finish()
 }
 
-// The statement of a place, as what is too much.
-fn too_long(
-    alloc: Global,
-    source: &[NumberedLine<'_>],
-    lines: &[usize],
-    place: usize,
-) -> TextFault {
+// The line of the statement of this place.
+fn line_of<'a>(source: &[NumberedLine<'a>], lines: &[usize], place: usize) -> NumberedLine<'a>
+    ensures { (result.number ≡ 1) ⊎ ((k : ℕ) × (slice_get source.now k ≡ Some result)) }
+{
     let mut number: usize = 0;
     for count in lines {
         if *count <= place {
             number = number.saturating_add(1);
         }
     }
-    let line = match source.get(number.saturating_sub(1)) {
-        Some(line) => *line,
-        None => NumberedLine {
+    let index = number.saturating_sub(1);
+    if index < source.len() {
+        source[index]
+    } else {
+        NumberedLine {
             number: 1,
             text: &[],
-        },
-    };
+        }
+    }
+}
+
+// With a line the code is too long.
+fn too_long(line: NumberedLine<'_>) -> Mismatch<'_> {
     let mut cursor = Cursor::of(line.text);
     cursor.skip_blanks();
-    fault_before(alloc, line, cursor.left(), Expected::Length)
+    Mismatch {
+        expected: Expected::Length,
+        left: cursor.left(),
+        hint: None,
+    }
 }

@@ -1,4 +1,5 @@
 //! What is wrong with a text.
+ghost use Rattle.std.specs.Prelude.{◌≡◌, IfOk};
 
 use crate::cursor::{name_length, without_blanks};
 use crate::hints::{Hint, hint_of};
@@ -88,18 +89,32 @@ pub struct Mismatch<'a> {
     pub hint: Option<Hint<'a>>,
 }
 
+/// Something else was expected at a place of a text.
+#[derive(Drop, Error)]
+#[error("line {line}, column {column}: {expected}{details}")]
+pub struct FaultyLine {
+    /// The number of the line in its text, from 1.
+    pub line: u64,
+    /// The number of the character in the line, from 1.
+    pub column: u64,
+    pub expected: Expected,
+    /// What is there, and what helps: what follows in the sentence, or nothing.
+    pub details: String,
+}
+
+/// As it is shown.
+impl fmt::Debug for FaultyLine {
+    fn fmt<W: fmt::Write>(&self, f: &mut fmt::Formatter<W>) -> fmt::Result {
+        fmt::Display::fmt(self, f)
+    }
+}
+
 /// Why a text is no program, or no bytes.
 #[derive(Drop, Error)]
 pub enum TextFault {
-    /// Something else was expected at a place: a line, and a character in it, both from 1.
-    #[error("line {line}, column {column}: {expected}{details}")]
-    Wrong {
-        line: u64,
-        column: u64,
-        expected: Expected,
-        /// What stands there, and what helps: what follows in the sentence, or nothing.
-        details: String,
-    },
+    /// A line of it is wrong.
+    #[error("{0}")]
+    Wrong(FaultyLine),
     #[error("out of memory")]
     Memory(#[from(alloc)] AllocError),
 }
@@ -112,7 +127,13 @@ impl fmt::Debug for TextFault {
 }
 
 /// A fault of a line.
-pub fn fault_in(alloc: Global, line: NumberedLine<'_>, mismatch: Mismatch<'_>) -> TextFault {
+pub fn fault_in(
+    alloc: Global,
+    line: NumberedLine<'_>,
+    mismatch: Mismatch<'_>,
+) -> Result<FaultyLine, AllocError>
+    ensures { IfOk result (λ fault. fault.line ≡ line.entry.number) }
+{
     let Mismatch {
         expected,
         left,
@@ -122,15 +143,14 @@ pub fn fault_in(alloc: Global, line: NumberedLine<'_>, mismatch: Mismatch<'_>) -
     let rest = line.text.get(before..).unwrap_or(&[]);
     let mut details = TextWriter::new(alloc);
     write_details(&mut details, expected, rest, hint);
-    match details.finish() {
-        Ok(details) => TextFault::Wrong {
-            line: line.number,
-            column: column_behind(line.text.get(..before).unwrap_or(line.text)),
-            expected,
-            details,
-        },
-        Err(error) => TextFault::Memory(error),
-    }
+    let details = details.finish()?;
+    let column = column_behind(line.text.get(..before).unwrap_or(line.text));
+    Ok(FaultyLine {
+        line: line.number,
+        column,
+        expected,
+        details,
+    })
 }
 
 /// A fault before the last `left` bytes of a line, without a hint of its own.
@@ -140,15 +160,15 @@ pub fn fault_before(
     left: usize,
     expected: Expected,
 ) -> TextFault {
-    fault_in(
-        alloc,
-        line,
-        Mismatch {
-            expected,
-            left,
-            hint: None,
-        },
-    )
+    let mismatch = Mismatch {
+        expected,
+        left,
+        hint: None,
+    };
+    match fault_in(alloc, line, mismatch) {
+        Ok(fault) => TextFault::Wrong(fault),
+        Err(error) => TextFault::Memory(error),
+    }
 }
 
 // The number of the character behind these.

@@ -2,6 +2,7 @@
 
 use crate::cursor::without_blanks;
 use crate::fault::Expected;
+use crate::foreign::{Advice, advice_on};
 use crate::mnemonics::{Omission, name_in_lower_case, nearest_statement, omission_named};
 use script_text::TextWriter;
 
@@ -18,6 +19,8 @@ pub enum Hint<'a> {
     LowerCase(&'static str),
     /// The name of an instruction or a directive that is mistyped.
     Nearest(&'static str),
+    /// What is written here in place of a word of another assembler.
+    Foreign(Advice),
     /// An operation that the processor leaves out.
     Omitted(Omission),
     /// An operation that takes no operand.
@@ -51,6 +54,7 @@ impl<'a> Hint<'a> {
             Hint::Sums => "Operands have + and - alone, and no parentheses",
             Hint::LowerCase(_) => "It is written in lower case: ",
             Hint::Nearest(_) => "Is it ",
+            Hint::Foreign(advice) => advice.text(),
             Hint::Omitted(omission) => omission.text(),
             Hint::Colon => "The colon of a label stands right behind its name",
             Hint::OneLabel => "A line defines one label at most",
@@ -128,11 +132,18 @@ fn statement_hint<'a>(rest: &[u8], word: &'a str) -> Option<Hint<'a>> {
         (Some(b':'), _) => Some(Hint::OneLabel),
         (_, Some(b':')) => Some(Hint::Colon),
         (_, Some(b'=')) => Some(Hint::Naming),
-        _ => match nearest_statement(word) {
-            Some(name) => Some(Hint::Nearest(name)),
-            None => None,
-        },
+        _ => foreign_hint(word).or(nearest_hint(word)),
     }
+}
+
+fn foreign_hint(word: &str) -> Option<Hint<'_>> {
+    let advice = advice_on(word)?;
+    Some(Hint::Foreign(advice))
+}
+
+fn nearest_hint(word: &str) -> Option<Hint<'_>> {
+    let name = nearest_statement(word)?;
+    Some(Hint::Nearest(name))
 }
 
 // The first byte that is no blank and no tab.

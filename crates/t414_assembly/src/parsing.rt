@@ -30,6 +30,8 @@ pub struct Definition<'a> {
 enum Named {
     Place(usize),
     Number(u32),
+    /// A number that isn't known, since its line is wrong.
+    Open,
 }
 
 /// What a list of data has.
@@ -243,10 +245,11 @@ impl<'a> Reader<'a> {
         sum.number()
     }
 
-    // A sum without labels. While names are gathered one with names is 1, which is right wherever a number stands.
+    // A sum without labels. While names are gathered one with names is 1, which is right wherever a number stands; and so is
+    // one with a name whose own line is wrong.
     fn read_constant(&self, cursor: &mut Cursor<'a>, expected: Expected) -> Sum<'a> {
         let sum = self.read_sum(cursor, expected);
-        if self.gathers && sum.has_names() {
+        if sum.is_open() || self.gathers && sum.has_names() {
             return Sum::of(1);
         }
         refuse_label(cursor, sum, expected);
@@ -301,6 +304,7 @@ impl<'a> Reader<'a> {
         match self.definition_of(name) {
             Some(definition) => match definition.value {
                 Named::Number(number) => sum.put_named(number, is_subtracted),
+                Named::Open => sum.put_open(),
                 Named::Place(place) => {
                     sum.put_label(LabelTerm { name, place, left }, is_subtracted);
                 }
@@ -333,7 +337,13 @@ impl<'a> Reader<'a> {
             cursor.refuse_before(Expected::KnownNumber, left);
         }
         refuse_label(cursor, sum, Expected::KnownNumber);
-        self.define(name, Named::Number(sum.number()), left, cursor);
+        let is_open = sum.is_open() || cursor.mismatch().is_some();
+        let value = if is_open {
+            Named::Open
+        } else {
+            Named::Number(sum.number())
+        };
+        self.define(name, value, left, cursor);
     }
 
     // Names for the next words of the workspace.

@@ -20,6 +20,8 @@ pub struct Sum<'a> {
     surplus: Option<LabelTerm<'a>>,
     // How much of the line is left where a name stands that isn't defined yet.
     unknown: Option<usize>,
+    // Whether a name stands there whose number isn't known, since the line that defines it is wrong.
+    is_open: bool,
     has_names: bool,
     terms: usize,
 }
@@ -33,6 +35,7 @@ impl<'a> Sum<'a> {
             subtracted: None,
             surplus: None,
             unknown: None,
+            is_open: false,
             has_names: false,
             terms: 0,
         }
@@ -74,6 +77,12 @@ impl<'a> Sum<'a> {
         }
     }
 
+    /// Notes a name whose number isn't known, since the line that defines it is wrong.
+    pub fn put_open(&mut self) {
+        self.has_names = true;
+        self.is_open = true;
+    }
+
     /// The sum of the numbers.
     pub fn number(&self) -> u32 {
         self.number
@@ -87,6 +96,11 @@ impl<'a> Sum<'a> {
     /// Where a name stands that isn't defined yet, if there is one.
     pub fn unknown(&self) -> Option<usize> {
         self.unknown
+    }
+
+    /// Whether a name of the sum has no known number, since the line that defines it is wrong.
+    pub fn is_open(&self) -> bool {
+        self.is_open
     }
 
     /// Whether the sum has a name, of a number or of a place.
