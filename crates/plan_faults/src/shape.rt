@@ -1,6 +1,7 @@
 //! Where a text isn't TOML, or a document isn't a plan's.
 
 use crate::names::{write_place, write_quoted};
+use line_mistakes::nearest_entry;
 use script_text::{TextWriter, split_line};
 use std::alloc::{AllocError, Global};
 use toml::{Table, Value};
@@ -255,7 +256,8 @@ fn write_value_misfit(
     }
 }
 
-// Writes the first field that a table lacks, has of a wrong kind or has too much, if no misfit is written yet.
+// Writes the first field that a table lacks, has of a wrong kind or has too much, if no misfit is written yet. In place of a
+// field that it lacks the one is written that is nearly it.
 fn write_table_misfit(
     misfit: &mut TextWriter,
     table: &Table,
@@ -263,14 +265,51 @@ fn write_table_misfit(
     place: PlanPlace,
 ) {
     for (name, kind) in fields {
+        if misfit.is_empty() && table.get(*name).is_none() {
+            write_mistyped_field(misfit, table, fields, name, place);
+        }
         if misfit.is_empty() {
             write_wanted_field(misfit, table.get(*name), name, *kind, place);
         }
     }
+    write_unknown_fields(misfit, table, fields, place);
+}
+
+// Writes the first field that is unknown, if no misfit is written yet.
+fn write_unknown_fields(
+    misfit: &mut TextWriter,
+    table: &Table,
+    fields: &[PlanField],
+    place: PlanPlace,
+) {
     for name in table.keys() {
         if misfit.is_empty() && !has_field(fields, name.as_str()) {
-            write_unknown_field(misfit, name.as_str(), place);
+            write_unknown_field(misfit, name.as_str(), fields, place);
         }
+    }
+}
+
+// Writes the first unknown field whose name is nearest to that of this one, which the table lacks.
+fn write_mistyped_field(
+    misfit: &mut TextWriter,
+    table: &Table,
+    fields: &[PlanField],
+    lacking: &str,
+    place: PlanPlace,
+) {
+    for name in table.keys() {
+        let name = name.as_str();
+        if misfit.is_empty() && !has_field(fields, name) && is_meant(fields, name, lacking) {
+            write_unknown_field(misfit, name, fields, place);
+        }
+    }
+}
+
+// Whether an unknown name is nearest to this field.
+fn is_meant(fields: &[PlanField], name: &str, field: &str) -> bool {
+    match nearest_entry(name, fields) {
+        Some(nearest) => nearest == field,
+        None => false,
     }
 }
 
@@ -301,11 +340,21 @@ fn write_wanted_field(
     }
 }
 
-fn write_unknown_field(misfit: &mut TextWriter, name: &str, place: PlanPlace) {
+fn write_unknown_field(
+    misfit: &mut TextWriter,
+    name: &str,
+    fields: &[PlanField],
+    place: PlanPlace,
+) {
     write_table_place(misfit, place);
     misfit.push(": there is no field `");
     write_quoted(misfit, name);
     misfit.push("`");
+    if let Some(field) = nearest_entry(name, fields) {
+        misfit.push(". Is it `");
+        misfit.push(field);
+        misfit.push("`?");
+    }
 }
 
 fn write_field_misfit(
