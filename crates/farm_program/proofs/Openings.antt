@@ -1,15 +1,13 @@
 -- The users of a plan, one after another, and what their lines ask: the contracts of `users_of` and `commands_at`.
 use Rattle.std.proofs.Common.{◌≡◌, ◌<◌, ◌+◌, ℕ, zero, suc, List, [], ◌∷◌, ◌++◌, Bor, length}
-use Rattle.std.proofs.Common.{map, take, get_or, slice_get, Option, Some, None, IfSome, All}
-use Rattle.std.proofs.Common.{refl, sym, ap, ◌∙◌, subst, arith, append_assoc, length-append}
+use Rattle.std.proofs.Common.{map, take, get_or, All}
+use Rattle.std.proofs.Common.{refl, sym, ap, ◌∙◌, subst, arith, length-append}
 use Rattle.std.specs.Prelude.{◌==◌, false, filter}
 use Rattle.std.specs.List.{range_with_len, flat_map}
 use Rattle.std.proofs.lemmas.Bool.{eq-eqb}
 use Rattle.std.proofs.lemmas.List.{append-nil, length-map, map-append, map-id, take_more, take_all, get_or-map}
 use Rattle.std.proofs.lemmas.List.Elements.{All-append, All-from_recursion, filter-append}
 use Rattle.std.proofs.lemmas.List.FromFn.{map-range_with_len_more}
-use Rattle.std.proofs.lemmas.Grind.{flat_map-append}
-use Rattle.std.proofs.lemmas.Option.{slice_get_within, get_or_from_slice_get}
 use Rattle.plan_rules.specs.Data.{DomainData, UserData}
 use Rattle.script_lines.specs.declared.command.Command.{Command}
 use Rattle.script_lines.specs.declared.script.ScriptLine.{ScriptLine}
@@ -97,10 +95,10 @@ as_many plan = length_names 0 plan
 pub record AreUsersSoFar (plan : List DomainData) (lines : List ScriptLine) (steps : ℕ)
     (passes : List UserPassValue) (users : List User) : Type 0 where
   pub count : length users ≡ length passes
-  pub sessions : map (λ u. u.session) users ≡ map (session_of plan) passes
+  pub sessions : map (λ u. session_of u.service.now.plan u.pass) users ≡ map (session_of plan) passes
   pub names : map (λ u. u.name.now) users ≡ take (length passes) (all_names plan)
   pub commands :
-      map (λ u. map (λ c. c.now) u.commands.items) users ≡ map (commands_at lines) (range_with_len 0 (length passes))
+      map (λ u. commands_at u.lines.now u.place) users ≡ map (commands_at lines) (range_with_len 0 (length passes))
   pub quantum : All (λ u. u.quantum.steps ≡ steps) users
 
 -- the place of the next pass has a name
@@ -123,8 +121,8 @@ place_within plan names passes n place less fresh named is =
 pub user_more : (plan : List DomainData) (lines : List ScriptLine) (steps : ℕ) (passes : List UserPassValue)
     (pass : UserPassValue) (users more : List User) (u : User) (names : List (Bor (List ℕ))) (place : ℕ)
     → AreUsersSoFar plan lines steps passes users → texts names ≡ all_names plan → place ≡ length passes
-    → place < length names → u.session ≡ session_of plan pass → u.name ≡ get_or names place u.name
-    → map (λ c. c.now) u.commands.items ≡ commands_at lines place → u.quantum.steps ≡ steps → more ≡ users ++ u ∷ []
+    → place < length names → session_of u.service.now.plan u.pass ≡ session_of plan pass
+    → u.name ≡ get_or names place u.name → commands_at u.lines.now u.place ≡ commands_at lines place → u.quantum.steps ≡ steps → more ≡ users ++ u ∷ []
     → AreUsersSoFar plan lines steps (passes ++ pass ∷ []) more
 user_more plan lines steps passes pass users more u names place before named at within session name asked quantum is =
     let n : ℕ = length passes in
@@ -138,8 +136,8 @@ user_more plan lines steps passes pass users more u names place before named at 
     record {
       count = omega (arith, before.count, ap length is, length-append users (u ∷ []), longer);
       sessions =
-          ap (map (λ (v : User). v.session)) is
-          ∙ map-append (λ (v : User). v.session) users (u ∷ [])
+          ap (map (λ (v : User). session_of v.service.now.plan v.pass)) is
+          ∙ map-append (λ (v : User). session_of v.service.now.plan v.pass) users (u ∷ [])
           ∙ (λ k. before.sessions k ++ session k ∷ [])
           ∙ sym (map-append (session_of plan) passes (pass ∷ []));
       names =
@@ -149,8 +147,8 @@ user_more plan lines steps passes pass users more u names place before named at 
           ∙ sym (take_more (all_names plan) n u.name.now (omega (arith, at, within, names_there)))
           ∙ ap (λ (m : ℕ). take m (all_names plan)) (sym longer);
       commands =
-          ap (map (λ (v : User). map (λ c. c.now) v.commands.items)) is
-          ∙ map-append (λ (v : User). map (λ c. c.now) v.commands.items) users (u ∷ [])
+          ap (map (λ (v : User). commands_at v.lines.now v.place)) is
+          ∙ map-append (λ (v : User). commands_at v.lines.now v.place) users (u ∷ [])
           ∙ (λ k. before.commands k ++ (asked ∙ ap (commands_at lines) at) k ∷ [])
           ∙ sym (map-range_with_len_more (commands_at lines) 0 n n (omega arith))
           ∙ ap (λ (m : ℕ). map (commands_at lines) (range_with_len 0 m)) (sym longer);

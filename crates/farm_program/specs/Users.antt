@@ -1,5 +1,5 @@
 -- Users at a service.
-use Rattle.std.specs.Prelude.{ℕ, List, ◌≡◌, ◌==◌, ◌<◌, length, map, filter, slice_index_or, string_bytes, All, OnOk}
+use Rattle.std.specs.Prelude.{ℕ, List, ◌≡◌, ◌==◌, ◌<◌, Some, length, map, filter, slice_get, string_bytes, All}
 use Rattle.std.specs.List.{range_with_len}
 use Rattle.plan_rules.specs.Data.{DomainData}
 use Rattle.script_lines.specs.declared.command.Command.{Command}
@@ -8,6 +8,7 @@ use Rattle.farm_service.specs.Passes.{SessionValue, UserPassValue, fresh_pass, f
 use Rattle.line_answers.specs.Sessions.{AreAnswered}
 use Rattle.farm_input.specs.Names.{all_names}
 use Rattle.farm_program.specs.declared.users.User.{User}
+use Rattle.farm_program.specs.declared.users.UserEnd.{UserEnd}
 
 -- what a script's lines ask for the user of a place among all, in order
 abbrev pub commands_at : List ScriptLine → ℕ → List Command
@@ -21,34 +22,36 @@ session_of plan pass = record { plan = plan; pass = pass }
 abbrev pub unasked : UserPassValue → UserPassValue
 unasked pass = fresh_pass pass.domain pass.user
 
--- the session as it was before its user asked anything
-abbrev pub as_opened : SessionValue → SessionValue
-as_opened s = session_of s.plan (unasked s.pass)
-
--- each user is still the same, whatever he asked
-abbrev pub AreStill : List User → List User → Type 0
-AreStill before after =
-    (i : ℕ) (d : User) → i < length before
-    → as_opened (slice_index_or after i d).session ≡ as_opened (slice_index_or before i d).session
-
--- the users of a plan, in its order, each in a session of his own and with his lines of the script; no line is of
--- anybody else. All settle by so many Steps
+-- the users of a plan, in its order, each with his pass and with his lines of the script; no line is of anybody else. All
+-- settle by so many Steps
 pub record AreUsersOf (plan : List DomainData) (lines : List ScriptLine) (steps : ℕ) (users : List User)
     : Type 0 where
-  pub sessions : map (λ u. u.session) users ≡ map (session_of plan) (fresh_passes plan)
+  pub sessions : map (λ u. session_of u.service.now.plan u.pass) users ≡ map (session_of plan) (fresh_passes plan)
   pub names : map (λ u. u.name.now) users ≡ all_names plan
-  pub commands : map (λ u. map (λ c. c.now) u.commands.items) users
+  pub commands : map (λ u. commands_at u.lines.now u.place) users
       ≡ map (commands_at lines) (range_with_len 0 (length users))
   pub nobody_else : All (λ l. l.user < length users) lines
   pub quantum : All (λ u. u.quantum.steps ≡ steps) users
 
--- a user's lines were answered: his list gained their events, and his screen shows their output lines
-abbrev pub HasAnswered : User → User → Type 0
-HasAnswered u v =
-    AreAnswered u.name.now (map (λ c. c.now) u.commands.items) u.session v.session (string_bytes v.screen)
+-- the lines of the user of this name and pass were answered: his list gained their events, and his screen shows their output
+-- lines
+abbrev pub IsAnswered : List DomainData → UserPassValue → List ℕ → List Command → UserEnd → Type 0
+IsAnswered plan pass name commands end =
+    AreAnswered name commands (session_of plan pass) (session_of plan end.pass) (string_bytes end.screen)
 
--- so were those of each user who didn't run out of memory
-abbrev pub HaveAnswered : List User → List User → Type 0
-HaveAnswered before after =
-    (i : ℕ) (d : User) → i < length before
-    → OnOk (slice_index_or after i d).ended (HasAnswered (slice_index_or before i d) (slice_index_or after i d))
+-- so were those of this user
+abbrev pub HasAnswered : User → UserEnd → Type 0
+HasAnswered u end = IsAnswered u.service.now.plan u.pass u.name.now (commands_at u.lines.now u.place) end
+
+-- so were those of each of these users, in their order
+pub record AreEndsOf (users : List User) (ends : List UserEnd) : Type 0 where
+  pub count : length ends ≡ length users
+  pub each : (place : ℕ) (u : User) (end : UserEnd) → slice_get users place ≡ Some u → slice_get ends place ≡ Some end
+      → HasAnswered u end
+
+-- so were those of each user of a plan, in its order, and of nobody else
+pub record HaveAnswered (plan : List DomainData) (lines : List ScriptLine) (ends : List UserEnd) : Type 0 where
+  pub count : length ends ≡ length (fresh_passes plan)
+  pub each : (place : ℕ) (pass : UserPassValue) (name : List ℕ) (end : UserEnd)
+      → slice_get (fresh_passes plan) place ≡ Some pass → slice_get (all_names plan) place ≡ Some name
+      → slice_get ends place ≡ Some end → IsAnswered plan pass name (commands_at lines place) end

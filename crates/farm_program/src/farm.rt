@@ -1,5 +1,5 @@
 //! A script on a service: all users in sessions of their own, and workers beside them.
-ghost use Rattle.std.specs.Prelude.{◌≡◌, ◌<◌, IfOk, IsOk, All, length, map, string_bytes};
+ghost use Rattle.std.specs.Prelude.{◌≡◌, ◌<◌, IfOk, All, length, map, string_bytes};
 ghost use Rattle.token_queue.specs.Passes.{AreItsPasses};
 ghost use Rattle.whole_farm.specs.Places.{places_of};
 ghost use Rattle.farm_service.specs.Closed.{AreDomainsOf, AreListed, AllMetFullTruly, AllAreRightlyAsked, EachMergeRuns};
@@ -7,44 +7,16 @@ ghost use Rattle.farm_input.specs.Names.{all_names};
 ghost use Rattle.farm_input.specs.Settings.{InRange};
 ghost use Rattle.farm_program.specs.Closing.{AreAllListed};
 ghost use Rattle.farm_program.specs.Screens.{AreScreens};
-ghost use Rattle.farm_program.specs.Users.{AreStill, HaveAnswered};
 
-use crate::users::{User, users_of};
+use crate::threads::{Passes, ThreadEnds, run_threads};
+use crate::users::UserEnd;
 use farm_input::Settings;
-use farm_service::{
-    Closed, NoGate, NoMemory, Opened, Service, UserPass, WorkerPass, run_users_and_workers,
-};
-use line_answers::Quantum;
+use farm_service::{Closed, NoMemory, Opened, Service, UserPass, WorkerPass};
 use plan_checker::AcceptedPlan;
 use script_lines::ScriptLine;
 use std::alloc::Global;
 use std::sync::Wait;
 use std::thread::Threads;
-
-// All users run their lines, each in a thread of his own, with as many workers beside them as the settings say.
-// Eight clauses: the settings with the workers' number and passes and the users' quantum, what is the same afterwards, and
-// what the screens show.
-fn run_all<R: Threads + Wait + Sync>(
-    rt: &R,
-    alloc: Global,
-    service: &Service,
-    settings: Settings,
-    passes: &mut Vec<WorkerPass>,
-    users: &mut [User<'_>],
-) -> Result<(), NoMemory>
-    requires settings { InRange settings }
-    requires workers { length passes.old.items ≡ settings.workers }
-    requires quantum { All (λ u. u.quantum.steps ≡ settings.quantum) users.old }
-    requires passes { AreItsPasses service.now.plan service.now.queue passes.old.items }
-    ensures passes { AreItsPasses service.now.plan service.now.queue passes.new.items }
-    ensures users { AreStill users.old users.new }
-    ensures lines { HaveAnswered users.old users.new }
-    ensures count { length users.new ≡ length users.old }
-{
-    let steps = u64::from(settings.quantum);
-    let act = |_place: usize, user: &mut User<'_>| user.run(rt, alloc);
-    run_users_and_workers(rt, alloc, service, passes, &NoGate, steps, &act, users)
-}
 
 /// What the users leave behind, in their order.
 #[derive(Drop)]
@@ -55,16 +27,15 @@ struct UsersEnd {
     screens: Vec<String>,
 }
 
-// Ends the users' sessions. The first who ran out of memory is an error.
-fn end_all(alloc: Global, users: Vec<User<'_>>) -> Result<UsersEnd, NoMemory>
-    ensures passes { IfOk result (λ left. left.passes.items ≡ map (λ u. u.session.pass) users.entry.items) }
-    ensures screens { IfOk result (λ left. map string_bytes left.screens.items ≡ map (λ u. string_bytes u.screen) users.entry.items) }
-    ensures ended { IfOk result (λ _. All (λ u. IsOk u.ended) users.entry.items) }
+// Parts what the users leave into passes and output lines.
+fn parted(alloc: Global, ends: Vec<UserEnd>) -> Result<UsersEnd, NoMemory>
+    ensures passes { IfOk result (λ left. left.passes.items ≡ map (λ end. end.pass) ends.items) }
+    ensures screens { IfOk result (λ left. map string_bytes left.screens.items ≡ map (λ end. string_bytes end.screen) ends.items) }
 {
-    let mut passes = Vec::with_capacity(alloc, users.len())?;
-    let mut screens = Vec::with_capacity(alloc, users.len())?;
-    for user in users {
-        let (pass, screen) = user.end()?;
+    let mut passes = Vec::with_capacity(alloc, ends.len())?;
+    let mut screens = Vec::with_capacity(alloc, ends.len())?;
+    for end in ends {
+        let UserEnd { pass, screen } = end;
         passes.push(pass)?;
         screens.push(screen)?;
     }
@@ -130,20 +101,13 @@ pub fn run_script<R: Threads + Wait + Sync>(
     };
     let Opened {
         service,
-        mut passes,
+        passes: workers,
         users,
         operator: _,
     } = opened;
-    let quantum = Quantum::of(settings.quantum);
-    let mut users = users_of(alloc, &service, users, lines, quantum)?;
-    run_all(
-        rt,
-        alloc,
-        &service,
-        settings,
-        &mut passes,
-        users.as_mut_slice(),
-    )?;
-    let left = end_all(alloc, users)?;
-    close(rt, alloc, service, passes, left)
+    let passes = Passes { workers, users };
+    let ends = run_threads(rt, alloc, &service, settings, lines, passes)?;
+    let ThreadEnds { workers, users } = ends;
+    let left = parted(alloc, users)?;
+    close(rt, alloc, service, workers, left)
 }

@@ -7,6 +7,7 @@ mod farm;
 mod program;
 #[cfg(test)]
 mod tests;
+mod threads;
 mod users;
 
 pub use farm_input::{Settings, settings};

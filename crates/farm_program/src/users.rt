@@ -1,44 +1,40 @@
 //! Users at a service, each in a session of his own, and what they are shown.
-ghost use Rattle.std.specs.Prelude.{◌≡◌, ◌<◌, length, map, All, Err, IfErr, IfOk, IsOk, OnOk};
+ghost use Rattle.std.specs.Prelude.{◌≡◌, ◌<◌, length, map, All, IfOk};
 ghost use Rattle.farm_service.specs.Passes.{fresh_passes};
 ghost use Rattle.farm_input.specs.Names.{all_names};
-ghost use Rattle.farm_program.specs.Users.{AreUsersOf, HasAnswered, as_opened, commands_at};
+ghost use Rattle.farm_program.specs.Users.{AreUsersOf, HasAnswered, commands_at};
 
 use farm_input::names_of;
-use farm_service::{NoMemory, Service, Session, UserPass};
+use farm_service::{NoMemory, Service, UserPass};
 use line_answers::{Quantum, answer_lines};
 use script_lines::{Command, ScriptLine};
 use std::alloc::Global;
 use std::sync::Wait;
 
-/// A user at a service.
+/// A user of a script at a service.
+#[derive(Drop)]
 pub struct User<'a> {
+    /// The service.
+    pub service: &'a Service,
+    /// His pass.
+    pub pass: UserPass,
     /// His name in the plan.
     pub name: &'a str,
-    /// His session, from the opening of the service on.
-    pub session: Session<'a>,
-    /// What his lines ask, in order.
-    pub commands: Vec<&'a Command>,
+    /// His place among all users, in the order of the plan, from 0 on.
+    pub place: usize,
+    /// The lines of the script, of which his are those of his place.
+    pub lines: &'a [ScriptLine],
     /// By how many Steps at a time he settles.
     pub quantum: Quantum,
-    /// His output lines so far.
-    pub screen: String,
-    /// Whether there was memory for all that he did. If there was none, he stopped.
-    pub ended: Result<(), NoMemory>,
 }
 
-// It is dropped by one call.
-impl Drop for User<'_> {
-    fn drop(self) {
-        let User {
-            name: _,
-            session: _,
-            commands: _,
-            quantum: _,
-            screen: _,
-            ended: _,
-        } = self;
-    }
+/// What a user leaves whose lines were answered.
+#[derive(Drop)]
+pub struct UserEnd {
+    /// His pass.
+    pub pass: UserPass,
+    /// His output lines.
+    pub screen: String,
 }
 
 // What a script's lines ask for the user of a place, in order.
@@ -54,7 +50,7 @@ fn commands_at(alloc: Global, lines: &[ScriptLine], place: usize) -> Result<Vec<
     Ok(commands)
 }
 
-/// The users of a service, in the order of its plan, each in a session of his own, with his lines of a script.
+/// The users of a service, in the order of its plan, each with his pass and his lines of a script.
 pub fn users_of<'a>(
     alloc: Global,
     service: &'a Service,
@@ -71,55 +67,40 @@ pub fn users_of<'a>(
     for pass in passes {
         let place = users.len();
         users.push(User {
+            service,
+            pass,
             name: names[place],
-            session: service.session(pass),
-            commands: commands_at(alloc, lines, place)?,
+            place,
+            lines,
             quantum,
-            screen: String::new(alloc),
-            ended: Ok(()),
         })?;
     }
     Ok(users)
 }
 
 impl User<'_> {
-    /// Ends his session: his pass, and his output lines.
+    /// Answers his lines of the script in a session of his own, in their order.
     ///
     /// # Errors
     ///
-    /// `NoMemory` if there was no memory for all that he did.
-    pub fn end(self) -> Result<(UserPass, String), NoMemory>
-        ensures left { IfOk result (λ left. (left.0 ≡ self.entry.session.pass) × (left.1 ≡ self.entry.screen)) }
-        ensures ended { IfOk result (λ _. IsOk self.entry.ended) }
-        ensures failed { IfErr result (λ fault. self.entry.ended ≡ Err fault) }
+    /// `NoMemory` if there was no memory for all that he did. He stopped there.
+    pub fn run<R: Wait>(self, rt: &R, alloc: Global) -> Result<UserEnd, NoMemory>
+        ensures { IfOk result (HasAnswered self.entry) }
     {
         let User {
-            name: _,
-            session,
-            commands: _,
-            quantum: _,
-            screen,
-            ended,
+            service,
+            pass,
+            name,
+            place,
+            lines,
+            quantum,
         } = self;
-        ended?;
-        Ok((session.end(), screen))
-    }
-
-    /// His lines of the script, in their order. What is on his screen before goes.
-    #[tactic(auto, using(crate::proofs::Sessions::gains_keep))]
-    pub fn run<R: Wait>(&mut self, rt: &R, alloc: Global)
-        ensures unchanged { as_opened self.new.session ≡ as_opened self.old.session }
-        ensures lines { OnOk self.new.ended (HasAnswered self.old self.new) }
-    {
-        self.screen.clear();
-        self.ended = answer_lines(
-            rt,
-            alloc,
-            &mut self.session,
-            self.quantum,
-            self.name,
-            self.commands.as_slice(),
-            &mut self.screen,
-        );
+        let commands = commands_at(alloc, lines, place)?;
+        let commands = commands.as_slice();
+        let mut session = service.session(pass);
+        let mut screen = String::new(alloc);
+        answer_lines(rt, alloc, &mut session, quantum, name, commands, &mut screen)?;
+        let pass = session.end();
+        Ok(UserEnd { pass, screen })
     }
 }

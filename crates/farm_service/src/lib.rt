@@ -36,6 +36,6 @@ pub use session::{Session, Settled};
 pub use status::{DomainStatus, RoomStatus};
 pub use std::alloc::AllocError as NoMemory;
 pub use switch_table::OperatorSeat;
-pub use threads::{run_users_and_workers, work_all};
+pub use threads::{note_cores, run_users_and_workers, work_all};
 pub use token_queue::{Token, WorkerPass};
 pub use worker::{Gate, NoGate, UNTIL_STOPPED, Worked, work};

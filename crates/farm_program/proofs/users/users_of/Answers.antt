@@ -35,8 +35,7 @@ loop-pass-preserved c =
     c.len-place.result turn.0 c.requires.passes names place in
     user_more c.args.service.now.plan c.args.lines.now c.args.quantum.steps c.loop-pass.yielded c.in-Some.pass
     c.loop-pass.users.items c.push.new.self.items _ c.in_ok-names.names.items c.len-place.result
-    c.loop-pass.invariant names place within (search rules) c.index.ensures c.in_ok-commands_at.ensures
-    refl c.in_ok-push.ensures.items
+    c.loop-pass.invariant names place within refl c.index.ensures refl refl c.in_ok-push.ensures.items
 
 pub returns : goal.returns
 returns c =
