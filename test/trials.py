@@ -59,10 +59,11 @@ def library(name, folder):
 
 
 @contextlib.contextmanager
-def no_threads():
-    """Programs that begin meanwhile can start no thread but the first: its stack would be larger than all memory that a
-    process may have. The limits hold for this process too, whose own threads, if it had some, might be too much for them."""
-    told = {resource.RLIMIT_STACK: 1 << 30, resource.RLIMIT_AS: 1 << 29}
+def few_threads(most):
+    """Programs that begin meanwhile can start at most so many threads beside their first: the stack of one more would be larger
+    than the memory that is left to the process. The limits hold for this process too, whose own threads, if it had some, might
+    be too much for them."""
+    told = {resource.RLIMIT_STACK: 1 << 30, resource.RLIMIT_AS: (most << 30) + (1 << 29)}
     kept = {it: resource.getrlimit(it) for it in told}
     for it, most in told.items():
         resource.setrlimit(it, (most, kept[it][1]))
@@ -71,6 +72,11 @@ def no_threads():
     finally:
         for it, limits in kept.items():
             resource.setrlimit(it, limits)
+
+
+def no_threads():
+    """Programs that begin meanwhile can start no thread but the first."""
+    return few_threads(0)
 
 
 def run(call, text=b"", more=None, limits=contextlib.nullcontext, seconds=MOST_SECONDS, folder=None):

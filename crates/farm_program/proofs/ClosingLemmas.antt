@@ -15,7 +15,7 @@ use Rattle.farm_service.specs.Closed.{AreListed}
 use Rattle.farm_input.specs.Names.{all_names}
 use Rattle.farm_program.specs.declared.users.UserEnd.{UserEnd}
 use Rattle.farm_program.specs.Closing.{ArePassesOf, AreAllListed}
-use Rattle.farm_program.specs.Users.{commands_at, unasked, IsAnswered, HaveAnswered}
+use Rattle.farm_program.specs.Users.{commands_at, unasked, IsLeftBy, HaveAnswered}
 use Rattle.farm_program.proofs.Openings.{as_many}
 use Rattle.farm_program.proofs.Places.{same_lists, there_is}
 
@@ -41,7 +41,7 @@ fresh_from number (d ∷ plan) =
 
 -- a pass that gained answered commands alone is the same user's
 same_pass : (plan : List DomainData) (pass : UserPassValue) (name : List ℕ) (commands : List Command) (end : UserEnd)
-    → IsAnswered plan pass name commands end → unasked end.pass ≡ unasked pass
+    → IsLeftBy plan pass name commands end → unasked end.pass ≡ unasked pass
 same_pass plan pass name commands end answered =
     ap (λ (s : SessionValue). unasked s.pass) answered.gains.list
 
@@ -52,9 +52,9 @@ passes_kept plan lines ends answered =
     map-map unasked (λ (e : UserEnd). e.pass) ends
     ∙ same_lists (λ (e : UserEnd). unasked e.pass) unasked ends (fresh_passes plan) answered.count
     (λ place end pass at_end at_pass.
-        let name =
-        there_is (all_names plan) place
-        (omega (arith, as_many plan, slice_get_within (fresh_passes plan) place pass at_pass)) in
-        same_pass plan pass name.0 (commands_at lines place) end
-        (answered.each place pass name.0 end at_pass name.1 at_end))
+    let name =
+    there_is (all_names plan) place
+    (omega (arith, as_many plan, slice_get_within (fresh_passes plan) place pass at_pass)) in
+    same_pass plan pass name.0 (commands_at lines place) end
+    (answered.each place pass name.0 end at_pass name.1 at_end))
     ∙ fresh_from 0 plan

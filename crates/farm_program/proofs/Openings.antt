@@ -122,7 +122,8 @@ pub user_more : (plan : List DomainData) (lines : List ScriptLine) (steps : ℕ)
     (pass : UserPassValue) (users more : List User) (u : User) (names : List (Bor (List ℕ))) (place : ℕ)
     → AreUsersSoFar plan lines steps passes users → texts names ≡ all_names plan → place ≡ length passes
     → place < length names → session_of u.service.now.plan u.pass ≡ session_of plan pass
-    → u.name ≡ get_or names place u.name → commands_at u.lines.now u.place ≡ commands_at lines place → u.quantum.steps ≡ steps → more ≡ users ++ u ∷ []
+    → u.name ≡ get_or names place u.name → commands_at u.lines.now u.place ≡ commands_at lines place
+    → u.quantum.steps ≡ steps → more ≡ users ++ u ∷ []
     → AreUsersSoFar plan lines steps (passes ++ pass ∷ []) more
 user_more plan lines steps passes pass users more u names place before named at within session name asked quantum is =
     let n : ℕ = length passes in

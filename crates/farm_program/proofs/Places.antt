@@ -6,6 +6,7 @@ use Rattle.std.specs.Option.{unwrap_or, option_map}
 use Rattle.std.proofs.lemmas.List.FromFn.{get_or-range_with_len, length-range_with_len}
 use Rattle.std.proofs.lemmas.Option.{slice_get-map, slice_get-get_or}
 
+-- two values are the same if one is there as the other
 pub some_same : {A : Type 0} (x y : A) → Some x ≡ Some y → x ≡ y
 some_same x y is = ap (λ (o : Option _). unwrap_or o x) is
 
@@ -17,10 +18,12 @@ read_at f xs zs i x z are here there =
     some_same (f x) z
     (sym (ap (option_map f) here) ∙ sym (slice_get-map f xs i) ∙ ap (λ (ys : List _). slice_get ys i) are ∙ there)
 
+-- what a list gives at a place
 pub mapped : {A C : Type 0} (f : A → C) (xs : List A) (i : ℕ) (x : A) → slice_get xs i ≡ Some x
     → slice_get (map f xs) i ≡ Some (f x)
 mapped f xs i x here = slice_get-map f xs i ∙ ap (option_map f) here
 
+-- each place of a list has something
 pub there_is : {A : Type 0} (xs : List A) (i : ℕ) → i < length xs → (x : A) × (slice_get xs i ≡ Some x)
 there_is [] i less = absurd (omega arith)
 there_is (x ∷ xs) zero less = (x, refl)

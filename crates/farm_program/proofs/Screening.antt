@@ -18,7 +18,7 @@ use Rattle.line_answers.specs.Sessions.{HasMetFull, with_all}
 use Rattle.farm_program.specs.declared.farm.ScriptEnd.{ScriptEnd}
 use Rattle.farm_program.specs.declared.farm.UsersEnd.{UsersEnd}
 use Rattle.farm_program.specs.declared.users.UserEnd.{UserEnd}
-use Rattle.farm_program.specs.Users.{commands_at, session_of, IsAnswered, HaveAnswered}
+use Rattle.farm_program.specs.Users.{commands_at, session_of, IsLeftBy, HaveAnswered}
 use Rattle.farm_program.specs.Screens.{IsScreen, AreScreens}
 use Rattle.farm_program.proofs.FullJournals.{lines_if}
 use Rattle.farm_program.proofs.Places.{read_at, there_is}
@@ -46,7 +46,7 @@ some_then (Some x) P Q then given = then x given
 -- a user's screen, who has given his pass back
 one_screen : (plan : List DomainData) (closed : List ClosedDomain) (pass : UserPassValue) (name : List ℕ)
     (commands : List Command) (end : UserEnd)
-    → pass.told ≡ [] → IsAnswered plan pass name commands end
+    → pass.told ≡ [] → IsLeftBy plan pass name commands end
     → IsListed closed end.pass → MetFullTruly plan closed end.pass
     → IsScreen plan closed pass name commands (string_bytes end.screen)
 one_screen plan closed pass name commands end unasked lines listed truly =

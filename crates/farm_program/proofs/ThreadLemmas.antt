@@ -12,7 +12,7 @@ use Rattle.line_answers.specs.Sessions.{AreAnswered}
 use Rattle.farm_input.specs.Names.{all_names}
 use Rattle.farm_program.specs.declared.users.User.{User}
 use Rattle.farm_program.specs.declared.users.UserEnd.{UserEnd}
-use Rattle.farm_program.specs.Users.{commands_at, session_of, AreEndsOf, AreUsersOf, HasAnswered, HaveAnswered, IsAnswered}
+use Rattle.farm_program.specs.Users.{commands_at, session_of, AreEndsOf, AreUsersOf, HasAnswered, HaveAnswered, IsLeftBy}
 use Rattle.farm_program.proofs.Places.{counted, mapped, read_at, same_lists, some_same, there_is}
 
 -- at each place what a thread returned is what its handle promised
@@ -40,7 +40,8 @@ many_left {H} {A} {E} hs returned left many all =
     sym (length-map left (λ (x : A). Ok x)) ∙ ap length all ∙ many
 
 -- threads of users leave their ends
-pub users_left : {H E : Type 0} (user : H → User) (hs : List H) (returned : List (Result UserEnd E)) (ends : List UserEnd)
+pub users_left : {H E : Type 0} (user : H → User) (hs : List H) (returned : List (Result UserEnd E))
+    (ends : List UserEnd)
     → AreKept (λ h. HasAnswered (user h)) hs returned → length returned ≡ length hs → map Ok ends ≡ returned
     → AreEndsOf (map user hs) ends
 users_left {H} {E} user hs returned ends kept many all =
@@ -93,8 +94,8 @@ plan_answered plan lines steps users ends are left =
           subst (λ (s : SessionValue). AreAnswered name (commands_at lines place) s (session_of s.plan end.pass)
           (string_bytes end.screen))
           session
-          (subst (λ (cs : List Command). IsAnswered u.0.service.now.plan u.0.pass name cs end) asked
-          (subst (λ (n : List ℕ). IsAnswered u.0.service.now.plan u.0.pass n
+          (subst (λ (cs : List Command). IsLeftBy u.0.service.now.plan u.0.pass name cs end) asked
+          (subst (λ (n : List ℕ). IsLeftBy u.0.service.now.plan u.0.pass n
           (commands_at u.0.lines.now u.0.place) end)
           named (left.each place u.0 end u.1 at_end)));
     }

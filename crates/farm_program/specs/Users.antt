@@ -22,8 +22,8 @@ session_of plan pass = record { plan = plan; pass = pass }
 abbrev pub unasked : UserPassValue → UserPassValue
 unasked pass = fresh_pass pass.domain pass.user
 
--- the users of a plan, in its order, each with his pass and with his lines of the script; no line is of anybody else. All
--- settle by so many Steps
+-- the users of a plan, in its order, each with his pass and with his lines of the script; no line is of anybody else.
+-- All settle by this many Steps
 pub record AreUsersOf (plan : List DomainData) (lines : List ScriptLine) (steps : ℕ) (users : List User)
     : Type 0 where
   pub sessions : map (λ u. session_of u.service.now.plan u.pass) users ≡ map (session_of plan) (fresh_passes plan)
@@ -33,25 +33,25 @@ pub record AreUsersOf (plan : List DomainData) (lines : List ScriptLine) (steps 
   pub nobody_else : All (λ l. l.user < length users) lines
   pub quantum : All (λ u. u.quantum.steps ≡ steps) users
 
--- the lines of the user of this name and pass were answered: his list gained their events, and his screen shows their output
--- lines
-abbrev pub IsAnswered : List DomainData → UserPassValue → List ℕ → List Command → UserEnd → Type 0
-IsAnswered plan pass name commands end =
+-- this is what the user of this name and pass leaves, whose lines were answered: his list gained their events, and his
+-- screen shows their output lines
+abbrev pub IsLeftBy : List DomainData → UserPassValue → List ℕ → List Command → UserEnd → Type 0
+IsLeftBy plan pass name commands end =
     AreAnswered name commands (session_of plan pass) (session_of plan end.pass) (string_bytes end.screen)
 
--- so were those of this user
+-- this is what this user leaves, whose lines were answered
 abbrev pub HasAnswered : User → UserEnd → Type 0
-HasAnswered u end = IsAnswered u.service.now.plan u.pass u.name.now (commands_at u.lines.now u.place) end
+HasAnswered u end = IsLeftBy u.service.now.plan u.pass u.name.now (commands_at u.lines.now u.place) end
 
--- so were those of each of these users, in their order
+-- so it is with each of these users, in their order
 pub record AreEndsOf (users : List User) (ends : List UserEnd) : Type 0 where
   pub count : length ends ≡ length users
   pub each : (place : ℕ) (u : User) (end : UserEnd) → slice_get users place ≡ Some u → slice_get ends place ≡ Some end
       → HasAnswered u end
 
--- so were those of each user of a plan, in its order, and of nobody else
+-- so it is with each user of a plan, in its order, and nobody else leaves anything
 pub record HaveAnswered (plan : List DomainData) (lines : List ScriptLine) (ends : List UserEnd) : Type 0 where
   pub count : length ends ≡ length (fresh_passes plan)
   pub each : (place : ℕ) (pass : UserPassValue) (name : List ℕ) (end : UserEnd)
       → slice_get (fresh_passes plan) place ≡ Some pass → slice_get (all_names plan) place ≡ Some name
-      → slice_get ends place ≡ Some end → IsAnswered plan pass name (commands_at lines place) end
+      → slice_get ends place ≡ Some end → IsLeftBy plan pass name (commands_at lines place) end

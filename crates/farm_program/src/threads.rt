@@ -4,7 +4,7 @@ ghost use Rattle.token_queue.specs.Passes.{AreItsPasses, AreOf, HoldNone};
 ghost use Rattle.farm_service.specs.Passes.{fresh_passes};
 ghost use Rattle.farm_input.specs.Names.{all_names};
 ghost use Rattle.farm_input.specs.Settings.{InRange};
-ghost use Rattle.farm_program.specs.Users.{AreEndsOf, HasAnswered, HaveAnswered};
+ghost use Rattle.farm_program.specs.Users.{AreEndsOf, HasAnswered, HaveAnswered, IsLeftBy, commands_at};
 
 use crate::users::{User, UserEnd, users_of};
 use farm_input::Settings;
@@ -65,7 +65,7 @@ fn start_user<'s, E, R: Wait + Sync>(
         quantum,
     } = user;
     let run = move || -> Result<UserEnd, NoMemory>
-        ensures { IfOk result (HasAnswered (record { service = service.entry; pass = pass; name = name.entry; place = place; lines = lines.entry; quantum = quantum })) }
+        ensures { IfOk result (IsLeftBy service.entry.now.plan pass name.entry.now (commands_at lines.entry.now place)) }
     {
         let user = User {
             service,
@@ -216,28 +216,32 @@ pub struct ThreadEnds {
 }
 
 // Starts all threads, and waits for the end of the users. The workers go on, also after an error.
+// Six clauses: the settings with the users' quantum, the passes of the workers, and what all leave.
 fn run_users<'s, E, R: Threads + Wait + Sync>(
     scope: &Scope<'s, E>,
     rt: &'s R,
     alloc: Global,
     service: &'s Service,
-    quantum: Quantum,
+    settings: Settings,
     passes: Vec<WorkerPass>,
     users: Vec<User<'s>>,
 ) -> Result<(Vec<WorkerThread>, Vec<UserEnd>), NoMemory>
+    requires settings { InRange settings }
+    requires quantum { All (λ u. u.quantum.steps ≡ settings.quantum) users.items }
     requires of { AreOf service.now.queue passes.items }
     requires none { HoldNone passes.items }
-    requires quantum { All (λ u. u.quantum.steps ≡ quantum.steps) users.items }
     ensures workers { IfOk result (λ run. map (λ t. t.promise.pass.value) run.0.items ≡ passes.items) }
     ensures users { IfOk result (λ run. AreEndsOf users.entry.items run.1.items) }
 {
-    let workers = start_workers(scope, rt, alloc, service, quantum, passes)?;
+    let steps = Quantum::of(settings.quantum);
+    let workers = start_workers(scope, rt, alloc, service, steps, passes)?;
     let users = start_users(scope, rt, alloc, users)?;
     let ends = join_users(rt, alloc, users)?;
     Ok((workers, ends))
 }
 
 // Runs all threads in a scope. Whatever happens, the workers are stopped before the scope ends.
+// Six clauses: those of `run_threads`, but for the number of the workers.
 fn run_in<'s, E, R: Threads + Wait + Sync>(
     scope: &Scope<'s, E>,
     rt: &'s R,
@@ -258,7 +262,7 @@ fn run_in<'s, E, R: Threads + Wait + Sync>(
     let quantum = Quantum::of(settings.quantum);
     let users = users_of(alloc, service, users, lines, quantum)?;
     note_cores(rt, service);
-    let run = run_users(scope, rt, alloc, service, quantum, workers, users);
+    let run = run_users(scope, rt, alloc, service, settings, workers, users);
     service.stop();
     let (threads, users) = run?;
     let workers = join_workers(rt, alloc, threads)?;

@@ -99,7 +99,15 @@ impl User<'_> {
         let commands = commands.as_slice();
         let mut session = service.session(pass);
         let mut screen = String::new(alloc);
-        answer_lines(rt, alloc, &mut session, quantum, name, commands, &mut screen)?;
+        answer_lines(
+            rt,
+            alloc,
+            &mut session,
+            quantum,
+            name,
+            commands,
+            &mut screen,
+        )?;
         let pass = session.end();
         Ok(UserEnd { pass, screen })
     }
