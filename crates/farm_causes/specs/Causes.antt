@@ -1,11 +1,12 @@
 -- Why a node does no more than it does, by what it is doing and by who waits at its channels.
--- Transputer Reference Manual, links and bootstrapping; instruction set handbook, in, out, outbyte, outword and altwt.
+-- Transputer Reference Manual, links and bootstrapping; instruction set handbook, in, out, outbyte, outword, altwt and
+-- endp.
 use Rattle.std.specs.Prelude.{◌≡◌, ℕ, ◌+◌, ◌*◌, ◌==◌, ◌&&◌, ◌||◌, true, false, Bool, List, map, Option, Some, None, Result, Ok, Err, if◌then◌else◌}
 use Rattle.std.specs.List.{filter_map, range_with_len}
 use Rattle.std.specs.Option.{option_and_then}
 use Rattle.node_memory.specs.Bytes.{byte_at, word_at}
 use Rattle.node_memory.specs.Marks.{waiting}
-use Rattle.node_memory.specs.Words.{◌⊖◌}
+use Rattle.node_memory.specs.Words.{◌⊕◌, ◌⊖◌}
 use Rattle.node_memory.specs.declared.fault.Fault.{Fault}
 use Rattle.link_channels.specs.Links.{at, every_link, input_channel, output_channel}
 use Rattle.link_channels.specs.Waiting.{described, state_address}
@@ -25,6 +26,7 @@ use Rattle.farm_causes.specs.declared.cause.LinkWaits.{LinkWaits}
 use Rattle.farm_causes.specs.declared.cause.Rendezvous.{Rendezvous}
 use Rattle.farm_causes.specs.declared.cause.Rendezvous.TheVariants.{Receives, Sends, Chooses}
 use Rattle.farm_causes.specs.declared.cause.InsideWait.{InsideWait}
+use Rattle.farm_causes.specs.declared.cause.JoinWait.{JoinWait}
 
 -- ---- who waits at a channel
 
@@ -53,6 +55,16 @@ last_asked (doing.Takes link task) p = None
 last_asked (doing.Answers link left word) p = None
 last_asked (doing.Halted fault) p = None
 
+-- how many bytes a process sends in all, by the byte of the instruction in which it waits: fb is out, which has the
+-- number in A as `in` has it, fe outbyte and ff outword
+abbrev pub last_sent : NodeState → Process → Result ℕ Fault → Option ℕ
+last_sent state p (Ok byte) =
+    if byte == 0xFB then last_asked state p
+    else (if byte == 0xFE then Some 1
+    else (if byte == 0xFF then Some 4
+    else None))
+last_sent state p (Err fault) = None
+
 -- a process waits for bytes
 abbrev pub input_wait : Node → LinkNumber → Link → Option InputWait
 input_wait n number l =
@@ -64,7 +76,9 @@ input_wait n number l =
 abbrev pub output_wait : Node → LinkNumber → Link → Option OutputWait
 output_wait n number l =
     if l.end.output.awaits
-    then Some (record { process = waiter_at n.memory (output_channel number); behind = l.output_count })
+    then (let p = waiter_at n.memory (output_channel number) in
+    let whole = option_and_then (λ p. last_sent n.state p (byte_at n.memory (p.instruction ⊖ 1))) p in
+    Some (record { process = p; behind = l.output_count; whole = whole }))
     else None
 
 -- an alternative is to be notified of a byte
@@ -94,6 +108,30 @@ IsCause n (Answers link left) = (word : ℕ) × (n.state ≡ doing.Answers link 
 IsCause n Runs = IsLoaded n × (is_quiet n ≡ false)
 IsCause n (Rests waits) = IsLoaded n × (is_quiet n ≡ true) × (waits ≡ map (link_waits n) every_link)
 IsCause n (Halted fault) = n.state ≡ doing.Halted fault
+
+-- ---- at a join
+
+-- the join of a process that ended by endp, f3, and has left the processor: A is the workspace of the join still, and
+-- this is the word above it, which counts the processes that are to end
+abbrev pub join_of : Cpu → Result ℕ Fault → Result ℕ Fault → Option JoinWait
+join_of s (Ok byte) (Ok count) =
+    if s.running then None
+    else (if byte == 0xF3
+    then Some (record { ended = s.instruction ⊖ 1; workspace = s.a; count = count })
+    else None)
+join_of s (Ok byte) (Err fault) = None
+join_of s (Err fault) count = None
+
+-- the join for which the last process ended, if it was that which left the processor last: it waits for others
+abbrev pub join_wait_of : List ℕ → NodeState → Option JoinWait
+join_wait_of m (doing.Runs s) = join_of s (byte_at m (s.instruction ⊖ 1)) (word_at m (s.a ⊕ 4))
+join_wait_of m doing.WantsControl = None
+join_wait_of m (doing.Takes link task) = None
+join_wait_of m (doing.Answers link left word) = None
+join_wait_of m (doing.Halted fault) = None
+
+abbrev pub join_wait : Node → Option JoinWait
+join_wait n = join_wait_of n.memory n.state
 
 -- ---- at channels in memory
 

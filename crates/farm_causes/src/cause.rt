@@ -22,6 +22,9 @@ pub struct OutputWait {
     pub process: Option<Process>,
     /// How many bytes are to be sent after that one.
     pub behind: u32,
+    /// How many bytes the process sends in all, if that can still be read: `out` has the number in A, if the process was
+    /// the last to leave the processor.
+    pub whole: Option<u32>,
 }
 
 /// What a link is waited for.
@@ -48,6 +51,17 @@ pub enum Cause {
     Rests([LinkWaits; 4]),
     /// It met a fault.
     Halted(Fault),
+}
+
+/// A join that waits for more processes to end. The one that ended last was the last to leave the processor.
+#[derive(Clone, Copy)]
+pub struct JoinWait {
+    /// The address of the last byte of its `endp`.
+    pub ended: u32,
+    /// The workspace with which the join goes on.
+    pub workspace: u32,
+    /// How many processes are to end still.
+    pub count: u32,
 }
 
 /// What a process wants of a channel in memory.

@@ -1,15 +1,16 @@
 //! The cause of a node is found in its state.
 
 ghost use Rattle.std.specs.Prelude.{◌≡◌, IfOk};
-ghost use Rattle.farm_causes.specs.Causes.{waiter_at, last_asked, input_wait, output_wait, watcher, link_waits, IsCause};
-ghost use Rattle.farm_causes.specs.Causes.{is_waiting, met_by, inside_wait_at, inside_waits};
+ghost use Rattle.farm_causes.specs.Causes.{waiter_at, last_asked, last_sent, input_wait, output_wait, watcher, link_waits, IsCause};
+ghost use Rattle.farm_causes.specs.Causes.{join_of, join_wait, is_waiting, met_by, inside_wait_at, inside_waits};
 
-use crate::cause::{Cause, InputWait, InsideWait, LinkWaits, OutputWait, Rendezvous};
+use crate::cause::{Cause, InputWait, InsideWait, JoinWait, LinkWaits, OutputWait, Rendezvous};
 use bootstrap::{Node, NodeState};
 use link_channels::{Link, LinkNumber, Process, WAITING};
 use node_memory::{Fault, Memory, NoMemory};
 use process_queue::NOT_PROCESS;
 use std::alloc::Global;
+use t414_step::Cpu;
 
 /// The first word that can be a channel in memory. It follows the nine words of the links and of the event channel.
 const FIRST_INSIDE: u32 = 0x8000_0024;
@@ -47,6 +48,18 @@ fn last_asked(state: NodeState, process: Process) -> Option<u32>
     }
 }
 
+// How many bytes a process sends in all, by the byte of its instruction.
+fn last_sent(state: NodeState, process: Process, byte: Result<u8, Fault>) -> Option<u32>
+    ensures { result ≡ last_sent state process byte }
+{
+    match byte {
+        Ok(0xfb) => last_asked(state, process),
+        Ok(0xfe) => Some(1),
+        Ok(0xff) => Some(4),
+        _ => None,
+    }
+}
+
 // Who waits for bytes of a link.
 fn input_wait(node: &Node, number: LinkNumber, link: Link) -> Option<InputWait>
     ensures { result ≡ input_wait node.now number link }
@@ -73,9 +86,18 @@ fn output_wait(node: &Node, number: LinkNumber, link: Link) -> Option<OutputWait
     if !link.end.output.awaits {
         return None;
     }
+    let process = waiter_at(node.memory(), number.output_channel());
+    let whole = match process {
+        Some(process) => {
+            let byte = node.memory().byte(process.instruction.wrapping_sub(1));
+            last_sent(node.state(), process, byte)
+        }
+        None => None,
+    };
     Some(OutputWait {
-        process: waiter_at(node.memory(), number.output_channel()),
+        process,
         behind: link.output_count,
+        whole,
     })
 }
 
@@ -128,6 +150,37 @@ pub fn cause_in(node: &Node) -> Cause
         }
         NodeState::Halted(fault) => Cause::Halted(fault),
     }
+}
+
+// The join of a process that ended by `endp` and has left the processor, by the byte before the place where it would go on and the
+// word that counts.
+fn join_of(
+    cpu: Cpu,
+    byte: Result<u8, Fault>,
+    count: Result<u32, Fault>,
+) -> Option<JoinWait>
+    ensures { result ≡ join_of cpu byte count }
+{
+    match (byte, count) {
+        (Ok(0xf3), Ok(count)) if !cpu.running => Some(JoinWait {
+            ended: cpu.instruction.wrapping_sub(1),
+            workspace: cpu.a,
+            count,
+        }),
+        _ => None,
+    }
+}
+
+/// The join of a node for which the last process ended that left the processor, if it waits for others.
+pub fn join_wait(node: &Node) -> Option<JoinWait>
+    ensures { result ≡ join_wait node.now }
+{
+    let NodeState::Runs(cpu) = node.state() else {
+        return None;
+    };
+    let byte = node.memory().byte(cpu.instruction.wrapping_sub(1));
+    let count = node.memory().word(cpu.a.wrapping_add(4));
+    join_of(cpu, byte, count)
 }
 
 // Whether the word for the state of an alternative says that it waits.

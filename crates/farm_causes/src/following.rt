@@ -13,9 +13,10 @@ ghost use Rattle.farm_causes.specs.Following.{calls_said, MovesOn, IsMomentAfter
 use crate::cause::Cause;
 use crate::fault::{FollowFault, LineStop};
 use crate::finding::cause_in;
-use crate::glance::{code_end_of, glance_before, note_event};
+use crate::glance::{Seen, code_end_of, glance_before, note_event, zeros_behind};
 use crate::line::{RecordedLine, SaidCall};
 use crate::past::Past;
+use crate::trail::Trail;
 use answer_text::write_reply;
 use bootstrap::Node;
 use crossbar::Word;
@@ -33,6 +34,7 @@ pub struct Follower {
     alloc: Global,
     moment: Moment,
     past: Past,
+    trail: Trail,
 }
 
 // Dropped by hand, since a derived `Drop` makes callers prove the drop of each field.
@@ -42,6 +44,7 @@ impl Drop for Follower {
             alloc: _,
             moment: _,
             past: _,
+            trail: _,
         } = self;
     }
 }
@@ -80,6 +83,7 @@ impl Follower {
             alloc,
             moment: Moment::open(alloc, plan, number)?,
             past: Past::new(),
+            trail: Trail::new(),
         })
     }
 
@@ -103,6 +107,7 @@ impl Follower {
             alloc: self.alloc,
             moment: self.moment.copy(self.alloc)?,
             past: self.past,
+            trail: Trail::new(),
         })
     }
 
@@ -131,13 +136,18 @@ impl Follower {
         // What comes next makes a history longer.
         histories_grow();
         let before = self.moment.recorded();
+        let times = 1;
         let glance = glance_before(&mut self.moment, event)?;
+        let call = SaidCall { times, by, event };
+        self.trail.note(self.alloc, &self.moment, call)?;
         let reply = self.moment.apply(by, event)?;
         let after = self.moment.recorded();
         if after <= before || after - before != 1 {
             return Err(FollowFault::NotRecorded);
         }
-        note_event(&mut self.past, &self.moment, glance, event, reply, after);
+        let zeros = zeros_behind(self.alloc, &self.moment, &self.trail, glance, reply)?;
+        let seen = Seen { glance, zeros };
+        note_event(&mut self.past, &self.moment, seen, event, reply, after);
         Ok(reply)
     }
 
@@ -149,6 +159,12 @@ impl Follower {
             Some(node) => code_end_of(node),
             None => None,
         };
+        let call = SaidCall {
+            times,
+            by: By::Farm,
+            event: Event::Step(node),
+        };
+        self.trail.note(self.alloc, &self.moment, call)?;
         let burst = self.moment.burst(node, times)?;
         if burst.steps != times || burst.last != Some(Stepped::Ran) {
             return Err(FollowFault::Fewer);

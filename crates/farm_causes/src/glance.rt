@@ -3,23 +3,34 @@
 ghost use Rattle.std.specs.Prelude.{◌≡◌};
 
 use crate::passage::is_in_mask;
-use crate::past::{FaultPast, Past};
+use crate::past::{FaultPast, Past, ZerosPast};
+use crate::trail::Trail;
 use bootstrap::{Node, NodeState, Task};
-use domain_core::{Event, Moment, Moved, NoMemory, Reply, device_at};
-use link_channels::Links;
+use domain_core::{Device, Event, Moment, Moved, NoMemory, Reply, device_at};
+use link_channels::{LinkNumber, Links};
 use node_memory::Memory;
 use os_link::Packet;
 use process_queue::NOT_PROCESS;
+use std::alloc::Global;
 use t414_step::{Cpu, Stepped};
+
+/// A link of a node that runs, and how many bytes of an output are behind the one that waits there.
+#[derive(Clone, Copy)]
+pub struct Sender {
+    node: u8,
+    link: LinkNumber,
+    behind: u32,
+}
 
 /// What was seen before an event.
 #[derive(Clone, Copy)]
 pub enum Glance {
-    /// Before a Move: the packet that waited, and the outputs that its port drove.
+    /// Before a Move: the packet that waited, the outputs that its port drove, and the node's link that sends there.
     Move {
         port: u8,
         packet: Option<Packet>,
         drives: u32,
+        sender: Option<Sender>,
     },
     /// Before a Step.
     Step {
@@ -91,6 +102,20 @@ fn glance_at(number: u8, node: &Node) -> Result<Glance, NoMemory> {
     })
 }
 
+// The link of a node that runs which sends at a port.
+fn sender_at(moment: &Moment, port: u8) -> Option<Sender> {
+    let Some(Device::Link { node, link }) = device_at(moment.part(), port) else {
+        return None;
+    };
+    let home = moment.node(node)?;
+    home.registers()?;
+    Some(Sender {
+        node,
+        link,
+        behind: home.links().at(link).output_count,
+    })
+}
+
 /// What is seen before an event. Nothing changes.
 pub fn glance_before(moment: &mut Moment, event: Event) -> Result<Glance, NoMemory>
     ensures unchanged { moment.new ≡ moment.old }
@@ -102,6 +127,7 @@ pub fn glance_before(moment: &mut Moment, event: Event) -> Result<Glance, NoMemo
                 port,
                 packet: state.packet,
                 drives: state.drives,
+                sender: sender_at(moment, port),
             })
         }
         Event::Step(number) => match moment.node(number) {
@@ -112,23 +138,57 @@ pub fn glance_before(moment: &mut Moment, event: Event) -> Result<Glance, NoMemo
     }
 }
 
+/// What was seen before an event, and how a node that met its fault in it came to zeros.
+#[derive(Clone, Copy)]
+pub struct Seen {
+    pub glance: Glance,
+    pub zeros: Option<ZerosPast>,
+}
+
+/// How a node came to zeros that met its fault in an event before which this was seen, if it ran through zeros.
+pub fn zeros_behind(
+    alloc: Global,
+    moment: &Moment,
+    trail: &Trail,
+    glance: Glance,
+    reply: Reply,
+) -> Result<Option<ZerosPast>, NoMemory> {
+    let (
+        Glance::Step {
+            node: number,
+            registers: Some(registers),
+            ..
+        },
+        Reply::Stepped(Stepped::Fault(_)),
+    ) = (glance, reply)
+    else {
+        return Ok(None);
+    };
+    match moment.node(number) {
+        Some(node) => trail.zeros_before(alloc, number, node, registers),
+        None => Ok(None),
+    }
+}
+
 /// Notes what an event came to before which this was seen. It has this number.
 pub fn note_event(
     past: &mut Past,
     moment: &Moment,
-    glance: Glance,
+    seen: Seen,
     event: Event,
     reply: Reply,
     number: u64,
 ) {
-    match glance {
+    match seen.glance {
         Glance::Move {
             port,
             packet,
             drives,
+            sender,
         } => {
             if let Reply::Moved(moved) = reply {
                 note_packet(past, port, packet, moved, number);
+                note_sender(past, sender, packet, moved);
                 note_move(past, moment, port, drives, moved, number);
             }
         }
@@ -145,6 +205,7 @@ pub fn note_event(
                     event,
                     registers,
                     byte,
+                    zeros: seen.zeros,
                 };
                 past.note_fault(node, fault);
             }
@@ -169,6 +230,15 @@ fn note_command(past: &mut Past, event: Event, number: u64) {
 fn note_packet(past: &mut Past, port: u8, packet: Option<Packet>, moved: Moved, number: u64) {
     if let Some(packet) = packet {
         past.note_packet(port, packet, moved, number);
+    }
+}
+
+// Notes of which output a byte left.
+fn note_sender(past: &mut Past, sender: Option<Sender>, packet: Option<Packet>, moved: Moved) {
+    if let (Some(Packet::Byte(_)), Some(Sender { node, link, behind })) = (packet, sender)
+        && moved != Moved::Stayed
+    {
+        past.note_output(node, link, behind);
     }
 }
 

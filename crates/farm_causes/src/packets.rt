@@ -1,10 +1,12 @@
 //! What is said of packets: where one is, and what comes to a link.
 
+use crate::cause::InputWait;
 use crate::passage::{
     Arrival, SentByte, Supply, arrival_at, end_at, is_in_mask, sent_byte, supply_of,
 };
+use crate::past::OutPast;
 use crate::telling::Scene;
-use crate::words::{push_device, push_link, push_lost, push_move, push_number};
+use crate::words::{push_count, push_device, push_link, push_lost, push_move, push_number};
 use domain_core::{Device, Moved};
 use link_channels::LinkNumber;
 use os_link::Packet;
@@ -147,6 +149,52 @@ impl Scene<'_> {
                 push_device(text, "Of ", source, " nothing waits there.\n");
                 true
             }
+        }
+    }
+
+    // The output of which a byte came to a link last, and whose it is, if all its bytes came.
+    fn output_done(&mut self, node: u8, link: LinkNumber) -> Option<(Device, OutPast)> {
+        let supply = supply_of(&mut self.moment, Device::Link { node, link });
+        let Supply::Driven {
+            source: Some(source),
+            packet: None,
+            ..
+        } = supply
+        else {
+            return None;
+        };
+        let Device::Link { node, link } = source else {
+            return None;
+        };
+        let output = self.past.node(node).output(link)?;
+        if output.behind > 0 || end_at(&self.moment, source).output.awaits {
+            return None;
+        }
+        Some((source, output))
+    }
+
+    /// Says so if a part of what a process waits for at a link came, and the last output from there has another count and
+    /// is done.
+    pub(crate) fn write_counts(
+        &mut self,
+        node: u8,
+        link: LinkNumber,
+        wait: InputWait,
+        text: &mut TextWriter,
+    ) {
+        let Some(whole) = wait.whole else {
+            return;
+        };
+        if whole <= wait.left {
+            return;
+        }
+        if let Some((source, output)) = self.output_done(node, link)
+            && output.whole != whole
+        {
+            push_device(text, "  The counts differ: the last output of ", source, "");
+            push_count(text, " has ", output.whole, ", all of which came, and this");
+            push_count(text, " `in` has ", whole, ", of which ");
+            push_number(text, "", u64::from(wait.left), " are still to come.\n");
         }
     }
 

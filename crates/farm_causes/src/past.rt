@@ -1,6 +1,8 @@
 //! What a later look at a domain can't see.
 
+use bootstrap::number_of;
 use domain_core::{Device, Moved};
+use link_channels::LinkNumber;
 use os_link::Packet;
 use t414_step::Cpu;
 
@@ -13,6 +15,26 @@ pub struct PortPast {
     pub acknowledge: Option<u64>,
 }
 
+/// The output of which a byte left a link last.
+#[derive(Clone, Copy)]
+pub struct OutPast {
+    /// How many bytes it has in all.
+    pub whole: u32,
+    /// How many of them were behind the last one that left.
+    pub behind: u32,
+}
+
+/// How a process came to zeros in memory, each of which is `j 0`, through which it ran.
+#[derive(Clone, Copy)]
+pub struct ZerosPast {
+    /// The registers before the last byte that it did outside of them.
+    pub registers: Cpu,
+    /// That byte.
+    pub byte: u8,
+    /// The address of the first zero.
+    pub first: u32,
+}
+
 /// What a node met at its fault.
 #[derive(Clone, Copy)]
 pub struct FaultPast {
@@ -22,6 +44,8 @@ pub struct FaultPast {
     pub registers: Option<Cpu>,
     /// The instruction byte.
     pub byte: Option<u8>,
+    /// How it came to the zeros, if it ran through zeros just before.
+    pub zeros: Option<ZerosPast>,
 }
 
 /// What was noted of a node.
@@ -32,6 +56,8 @@ pub struct NodePast {
     /// How many Steps it has done since a packet came or went.
     pub steps: u64,
     pub fault: Option<FaultPast>,
+    /// What was sent at each link.
+    outs: [Option<OutPast>; 4],
 }
 
 /// What was noted on the way to a moment.
@@ -62,7 +88,16 @@ impl NodePast {
             code_end: None,
             steps: 0,
             fault: None,
+            outs: [None; 4],
         }
+    }
+
+    /// The output of which a byte left this link last, if one did since the last reset.
+    pub fn output(&self, link: LinkNumber) -> Option<OutPast> {
+        self.outs
+            .get(usize::from(number_of(link)))
+            .copied()
+            .flatten()
     }
 }
 
@@ -118,6 +153,19 @@ impl Past {
     pub fn note_fault(&mut self, node: u8, fault: FaultPast) {
         if let Some(past) = self.nodes.get_mut(usize::from(node)) {
             past.fault = Some(fault);
+        }
+    }
+
+    /// A byte left a link of a node that runs, with this many of the same output behind it.
+    pub fn note_output(&mut self, node: u8, link: LinkNumber, behind: u32) {
+        let whole = match self.node(node).output(link) {
+            Some(before) if before.behind > 0 && before.behind - 1 == behind => before.whole,
+            _ => behind.saturating_add(1),
+        };
+        if let Some(past) = self.nodes.get_mut(usize::from(node))
+            && let Some(output) = past.outs.get_mut(usize::from(number_of(link)))
+        {
+            *output = Some(OutPast { whole, behind });
         }
     }
 

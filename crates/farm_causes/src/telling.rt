@@ -1,9 +1,9 @@
 //! What is said of a domain's nodes, in sentences.
 
 use crate::cause::{Cause, InputWait, InsideWait, LinkWaits, OutputWait, Rendezvous};
-use crate::finding::inside_waits;
+use crate::finding::{inside_waits, join_wait};
 use crate::following::Follower;
-use crate::past::{FaultPast, Past};
+use crate::past::{FaultPast, Past, ZerosPast};
 use crate::words::{push_at, push_count, push_instruction, push_link, push_number, push_text};
 use bootstrap::{CODE_START, Node, Task, number_of};
 use domain_core::{Device, Moment};
@@ -198,6 +198,9 @@ impl Scene<'_> {
             push_registers(text, cpu);
             self.write_workspace(number, cpu.workspace, text);
         }
+        if let Some(zeros) = past.zeros {
+            push_zeros(text, zeros);
+        }
     }
 
     // No process can go on.
@@ -221,6 +224,7 @@ impl Scene<'_> {
     ) {
         if are_at_links(waits, inside) && !is_waited_for(waits) {
             text.push(" has ended: no process is left.\n");
+            self.write_join(number, text);
             self.write_untaken(number, text);
             return;
         }
@@ -231,6 +235,19 @@ impl Scene<'_> {
             }
         }
         self.write_inside(number, waits, inside, text);
+    }
+
+    // The join for which the last process of a node ended, if it still waits for others.
+    fn write_join(&self, number: u8, text: &mut TextWriter) {
+        if let Some(node) = self.moment.node(number)
+            && let Some(join) = join_wait(node)
+        {
+            text.push("  The last process ended by `endp` at ");
+            text.push_word(join.ended);
+            text.push(". The join at workspace ");
+            text.push_word(join.workspace);
+            push_number(text, " still waits for ", u64::from(join.count), " more.\n");
+        }
     }
 
     // The bytes that came to the links of a node which has ended.
@@ -295,6 +312,7 @@ impl Scene<'_> {
             write_input(link, wait, text);
             self.write_of(number, wait.process, text);
             self.write_supply(number, link, text);
+            self.write_counts(number, link, wait, text);
         }
         if waits.watch.is_some() {
             push_at(text, waits.watch);
@@ -308,9 +326,7 @@ impl Scene<'_> {
         push_at(text, wait.process);
         text.push(self.sending_words(number, wait.process));
         push_link(text, " until a byte of ", link, " is acknowledged");
-        if wait.behind > 0 {
-            push_count(text, ", with ", wait.behind, " behind it");
-        }
+        push_rest(text, wait);
         text.push(".\n");
         self.write_of(number, wait.process, text);
     }
@@ -436,6 +452,21 @@ fn is_at(waits: &LinkWaits, process: Process) -> bool {
     receives || sends || is_process(waits.watch, process)
 }
 
+// Writes how many bytes of an output come before the one under way, if that is known, and behind it.
+fn push_rest(text: &mut TextWriter, wait: OutputWait) {
+    let before = match wait.whole {
+        Some(whole) => whole.saturating_sub(wait.behind).saturating_sub(1),
+        None => 0,
+    };
+    if before > 0 {
+        push_count(text, ", with ", before, " before it");
+    }
+    if wait.behind > 0 {
+        let and = if before > 0 { " and " } else { ", with " };
+        push_count(text, and, wait.behind, " behind it");
+    }
+}
+
 // Writes who waits for bytes of a link.
 fn write_input(link: LinkNumber, wait: InputWait, text: &mut TextWriter) {
     push_at(text, wait.process);
@@ -465,16 +496,29 @@ fn write_rendezvous(wait: InsideWait, text: &mut TextWriter) {
     text.push(" in its memory.\n");
 }
 
+// Writes how a node came to zeros through which it ran.
+fn push_zeros(text: &mut TextWriter, zeros: ZerosPast) {
+    text.push("  Before that it ran through zeros, each of which is `j 0`, from ");
+    text.push_word(zeros.first);
+    text.push(" on. It came there from ");
+    push_instruction(text, zeros.registers, Some(zeros.byte));
+    text.push(".\n");
+}
+
 // Writes the registers.
 fn push_registers(text: &mut TextWriter, cpu: Cpu) {
     for (name, word) in [
         (", with A ", cpu.a),
         (", B ", cpu.b),
         (", C ", cpu.c),
-        (" and W ", cpu.workspace),
+        (", W ", cpu.workspace),
     ] {
         text.push(name);
         text.push_word(word);
     }
-    text.push(".\n");
+    text.push(if cpu.error {
+        " and Error 1.\n"
+    } else {
+        " and Error 0.\n"
+    });
 }
