@@ -1,6 +1,18 @@
 -- What a frame of a film says of a domain at a moment.
-use Rattle.std.specs.Prelude.{◌≡◌, ◌+◌, ℕ, List, [], ◌∷◌, map, take, Option, Some, None, slice_get}
-use Rattle.std.specs.Option.{option_map}
+-- Transputer instruction set handbook, processes: below a workspace lie the place where the process goes on, at 4, and the
+-- workspace of the one behind it in the queue, at 8.
+use Rattle.std.specs.Prelude.{◌≡◌, ◌+◌, ◌==◌, ℕ, List, [], ◌∷◌, map, take, Option, Some, None, Result, Ok, Err, slice_get, if◌then◌else◌}
+use Rattle.std.specs.Option.{option_map, option_and_then}
+use Rattle.node_memory.specs.Bytes.{word_at}
+use Rattle.node_memory.specs.Marks.{not_process}
+use Rattle.node_memory.specs.Words.{◌⊕◌, ◌⊖◌}
+use Rattle.node_memory.specs.declared.fault.Fault.{Fault}
+use Rattle.process_queue.specs.declared.queue.Queue.{Queue}
+use Rattle.link_channels.specs.Links.{at, every_link}
+use Rattle.link_channels.specs.declared.process.Process.{Process}
+use Rattle.t414_step.specs.declared.cpu.Cpu.{Cpu}
+use Rattle.bootstrap.specs.declared.state.NodeState.{NodeState}
+use Rattle.bootstrap.specs.declared.state.NodeState.TheVariants.{Runs, WantsControl, Takes, Answers, Halted}
 use Rattle.bootstrap.specs.declared.node.Node.{Node}
 use Rattle.bootstrap.specs.Seen.{seen}
 use Rattle.domain_core.specs.Hosts.{HostState}
@@ -9,9 +21,65 @@ use Rattle.lab_film.specs.declared.frame.NodeFrame.{NodeFrame}
 use Rattle.lab_film.specs.declared.frame.HostFrame.{HostFrame}
 use Rattle.lab_film.specs.declared.frame.Frame.{Frame}
 
--- what a film shows of a node: what a look shows of it, and what it is doing
+-- a word, if its address is one of memory
+abbrev pub word_read : Result ℕ Fault → Option ℕ
+word_read (Ok word) = Some word
+word_read (Err fault) = None
+
+-- the registers of a node, if it runs
+abbrev pub registers_in : NodeState → Option Cpu
+registers_in (Runs s) = Some s
+registers_in WantsControl = None
+registers_in (Takes link task) = None
+registers_in (Answers link left word) = None
+registers_in (Halted fault) = None
+
+-- the word that lies so far above the workspace
+abbrev pub workspace_word : Node → ℕ → Option ℕ
+workspace_word n offset =
+    option_and_then (λ s. word_read (word_at n.memory (s.workspace ⊕ offset))) (registers_in n.state)
+
+-- a process that waits for the processor, by its workspace
+abbrev pub queued : List ℕ → ℕ → Option Process
+queued m w = option_map (λ i. record { workspace = w; instruction = i }) (word_read (word_at m (w ⊖ 4)))
+
+-- the first process of a queue
+abbrev pub queued_first : List ℕ → Queue → Option Process
+queued_first m q = if q.front == not_process then None else queued m q.front
+
+-- the process behind one in a queue
+abbrev pub queued_behind : List ℕ → Queue → Process → Option Process
+queued_behind m q p =
+    if p.workspace == q.back then None
+    else option_and_then (queued m) (word_read (word_at m (p.workspace ⊖ 8)))
+
+-- the first process that waits for the processor of a node
+abbrev pub first_waiting : Node → Option Process
+first_waiting n = option_and_then (λ s. queued_first n.memory s.queue) (registers_in n.state)
+
+-- the one behind another, if there are both
+abbrev pub next_waiting : Node → Option Process → Option Process
+next_waiting n before =
+    option_and_then (λ s. option_and_then (queued_behind n.memory s.queue) before) (registers_in n.state)
+
+-- the first four that wait, front first
+abbrev pub waiting_in : Node → List (Option Process)
+waiting_in n =
+    let one = first_waiting n in
+    let two = next_waiting n one in
+    let three = next_waiting n two in
+    one ∷ two ∷ three ∷ next_waiting n three ∷ []
+
+-- what is told of a node: what a look shows of it, what it is doing, eight words from its workspace on, the first
+-- processes that wait for the processor, and its links
 abbrev pub node_frame : Node → NodeFrame
-node_frame n = record { seen = seen n; state = n.state }
+node_frame n = record {
+  seen = seen n;
+  state = n.state;
+  workspace = map (workspace_word n) (0 ∷ 4 ∷ 8 ∷ 12 ∷ 16 ∷ 20 ∷ 24 ∷ 28 ∷ []);
+  waiting = waiting_in n;
+  links = map (λ number. at number n.links) every_link;
+}
 
 -- the queues of a host
 abbrev pub ShowsHost : HostState → HostFrame → Type 0

@@ -7,6 +7,7 @@ use answer_text::write_seen;
 use bootstrap::{Cpu, NodeState, Seen};
 use crossbar::Word;
 use farm_causes::Follower;
+use link_channels::Link;
 use script_text::TextWriter;
 use serde::Serialize;
 use std::alloc::Global;
@@ -14,6 +15,9 @@ use std::collections::BTreeMap;
 
 /// The handbook's names of the registers that a film shows.
 const REGISTERS: [&str; 7] = ["Iptr", "W", "A", "B", "C", "O", "Error"];
+
+/// The numbers of the links.
+const LINKS: [&str; 4] = ["0", "1", "2", "3"];
 
 /// What changed of a domain.
 #[derive(Serialize)]
@@ -58,6 +62,15 @@ struct ChangedNode {
     registers: BTreeMap<&'static str, u32>,
     #[serde(skip_serializing_if = "Option::is_none")]
     code: Option<CodeBytes>,
+    /// Words from the workspace on.
+    #[serde(skip_serializing_if = "Option::is_none")]
+    workspace: Option<CodeBytes>,
+    /// The processes that wait for the processor, if they aren't the same as before.
+    #[serde(skip_serializing_if = "Option::is_none")]
+    waiting: Option<Vec<WaitingProcess>>,
+    /// The links that changed, by their numbers.
+    #[serde(skip_serializing_if = "BTreeMap::is_empty")]
+    links: BTreeMap<&'static str, String>,
 }
 
 // Dropped by hand, since a derived `Drop` makes callers prove the drop of each field.
@@ -68,8 +81,30 @@ impl Drop for ChangedNode {
             look: _,
             registers: _,
             code: _,
+            workspace: _,
+            waiting: _,
+            links: _,
         } = self;
     }
+}
+
+impl ChangedNode {
+    // Whether nothing changed.
+    fn is_nothing(&self) -> bool {
+        self.look.is_none()
+            && self.registers.is_empty()
+            && self.code.is_none()
+            && self.workspace.is_none()
+            && self.waiting.is_none()
+            && self.links.is_empty()
+    }
+}
+
+/// A process that waits for the processor: its workspace, and where it goes on.
+#[derive(Drop, Serialize)]
+struct WaitingProcess {
+    workspace: u32,
+    instruction: u32,
 }
 
 /// What changed of a host's queues.
@@ -189,6 +224,109 @@ fn code_change(
     }
 }
 
+// What is told of the words from the workspace on of a node that runs.
+fn workspace_change(
+    alloc: Global,
+    known: &mut KnownCode,
+    number: u8,
+    running: Option<Cpu>,
+    words: &[Option<u32>],
+) -> Result<Option<CodeBytes>, NoMemory> {
+    match running {
+        Some(registers) => known.tell_words(alloc, number, registers.workspace, words),
+        None => Ok(None),
+    }
+}
+
+// The processes that wait for the processor, if others did before.
+fn waiting_change(
+    alloc: Global,
+    old: Option<NodeFrame>,
+    new: NodeFrame,
+) -> Result<Option<Vec<WaitingProcess>>, NoMemory> {
+    let before = match old {
+        Some(old) => old.waiting,
+        None => [None; 4],
+    };
+    if before == new.waiting {
+        return Ok(None);
+    }
+    let mut waiting = Vec::new(alloc);
+    for process in new.waiting.iter().flatten() {
+        waiting.push(WaitingProcess {
+            workspace: process.workspace,
+            instruction: process.instruction,
+        })?;
+    }
+    Ok(Some(waiting))
+}
+
+// What is told of a link, in letters: s and the byte that waits to be sent, k if an acknowledge does, h and the byte in the buffer,
+// w if an acknowledge is awaited, d if one has come, i and how many bytes a process waits for, o and how many are to be sent behind
+// the one under way, v if an alternative waits.
+fn link_text(alloc: Global, link: Link) -> Result<String, NoMemory> {
+    let mut text = TextWriter::new(alloc);
+    if let Some(byte) = link.end.latch.byte {
+        text.push("s");
+        text.push_hex_byte(byte);
+    }
+    if let Some(byte) = link.end.input.buffer {
+        text.push("h");
+        text.push_hex_byte(byte);
+    }
+    for (letter, is_so) in [
+        ("k", link.end.latch.acknowledge),
+        ("w", link.end.output.awaits),
+        ("d", link.end.output.acknowledged),
+        ("v", link.watched),
+    ] {
+        if is_so {
+            text.push(letter);
+        }
+    }
+    for (letter, count) in [("i", link.input_count), ("o", link.output_count)] {
+        if count > 0 {
+            text.push(letter);
+            text.push_decimal(u64::from(count));
+        }
+    }
+    text.finish()
+}
+
+// What is told of a node's link, if it wasn't as it is.
+fn link_change(
+    alloc: Global,
+    old: Option<NodeFrame>,
+    new: NodeFrame,
+    place: usize,
+) -> Result<Option<String>, NoMemory> {
+    let before = match old {
+        Some(old) => link_text(alloc, old.links[place])?,
+        None => String::new(alloc),
+    };
+    let after = link_text(alloc, new.links[place])?;
+    if before.as_str() == after.as_str() {
+        Ok(None)
+    } else {
+        Ok(Some(after))
+    }
+}
+
+// The links of a node that changed.
+fn link_changes(
+    alloc: Global,
+    old: Option<NodeFrame>,
+    new: NodeFrame,
+) -> Result<BTreeMap<&'static str, String>, NoMemory> {
+    let mut changes = BTreeMap::new(alloc);
+    for place in 0..4usize {
+        if let Some(text) = link_change(alloc, old, new, place)? {
+            changes.insert(LINKS[place], text)?;
+        }
+    }
+    Ok(changes)
+}
+
 // What changed of a node, if anything did.
 fn node_change(
     alloc: Global,
@@ -204,16 +342,20 @@ fn node_change(
         None => BTreeMap::new(alloc),
     };
     let look = look_change(alloc, old, new)?;
-    let code = code_change(alloc, known, follower, number, running)?;
-    if look.is_none() && registers.is_empty() && code.is_none() {
-        return Ok(None);
-    }
-    Ok(Some(ChangedNode {
+    let change = ChangedNode {
         node: number,
         look,
         registers,
-        code,
-    }))
+        code: code_change(alloc, known, follower, number, running)?,
+        workspace: workspace_change(alloc, known, number, running, &new.workspace)?,
+        waiting: waiting_change(alloc, old, new)?,
+        links: link_changes(alloc, old, new)?,
+    };
+    Ok(if change.is_nothing() {
+        None
+    } else {
+        Some(change)
+    })
 }
 
 fn hexadecimal(alloc: Global, bytes: &[u8]) -> Result<String, NoMemory> {

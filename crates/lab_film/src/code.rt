@@ -68,6 +68,39 @@ impl KnownCode {
         Ok(KnownCode { nodes: known })
     }
 
+    /// Words of the memory of a node from an address on, if not all of them are known: those from the first that isn't known on.
+    /// They are known then. None stands for a word outside memory.
+    pub fn tell_words(
+        &mut self,
+        alloc: Global,
+        node: u8,
+        address: u32,
+        words: &[Option<u32>],
+    ) -> Result<Option<CodeBytes>, NoMemory> {
+        let mut place = address.wrapping_sub(MEMORY_START) as usize;
+        if place >= MOST_BYTES {
+            return Ok(None);
+        }
+        let Some(known) = self.nodes.get_mut(usize::from(node)) else {
+            return Ok(None);
+        };
+        let mut text = TextWriter::new(alloc);
+        let mut offset = None;
+        for word in words.iter().flatten() {
+            let bytes = word.to_le_bytes();
+            if learn(known.as_mut_slice(), place, &bytes) || offset.is_some() {
+                text.push_hex_bytes(&bytes);
+                offset = offset.or(Some(place as u64));
+            }
+            place = place.saturating_add(4);
+        }
+        let bytes = text.finish()?;
+        Ok(match offset {
+            Some(offset) => Some(CodeBytes { offset, bytes }),
+            None => None,
+        })
+    }
+
     /// The bytes around an address in the memory of a node, if not all of them are known. They are known then.
     pub fn tell(
         &mut self,

@@ -1,13 +1,18 @@
 //! What a film shows of a moment.
 ghost use Rattle.std.specs.Prelude.{◌≡◌, ◌∷◌, [], IfOk, map, slice_get, take};
 ghost use Rattle.std.specs.Option.{option_map};
+ghost use Rattle.node_memory.specs.Bytes.{word_at};
 ghost use Rattle.lab_film.specs.Frames.{Shows, ShowsHost, ShowsHostOf, ShowsHosts, node_frame, node_told};
+ghost use Rattle.lab_film.specs.Frames.{word_read, registers_in, workspace_word, queued, queued_first, queued_behind};
+ghost use Rattle.lab_film.specs.Frames.{first_waiting, next_waiting, waiting_in};
 
 use crate::NoMemory;
-use bootstrap::{Node, NodeState, Seen};
+use bootstrap::{Cpu, Memory, Node, NodeState, Seen};
 use crossbar::Word;
 use domain_core::Host;
 use farm_causes::Follower;
+use link_channels::{Link, LinkNumber, Process};
+use process_queue::{LINK_BELOW, NOT_PROCESS, Queue};
 use std::alloc::Global;
 use std::collections::VecDeque;
 
@@ -18,6 +23,12 @@ pub struct NodeFrame {
     pub seen: Seen,
     /// What it is doing, with its registers if it runs.
     pub state: NodeState,
+    /// If it runs, the words from its workspace on that are there.
+    pub workspace: [Option<u32>; 8],
+    /// If it runs, the first processes that wait for the processor, front first, and then none.
+    pub waiting: [Option<Process>; 4],
+    /// Its links, by number.
+    pub links: [Link; 4],
 }
 
 /// The queues of a host, front first.
@@ -92,12 +103,127 @@ fn host_at(alloc: Global, follower: &Follower, number: u8) -> Result<Option<Host
     }
 }
 
+// A word of memory, if its address is one.
+fn word_in(memory: &Memory, address: u32) -> Option<u32>
+    ensures { result ≡ word_read (word_at memory.now address) }
+{
+    match memory.word(address) {
+        Ok(word) => Some(word),
+        Err(_) => None,
+    }
+}
+
+// The registers of a node that runs.
+fn registers_in(state: NodeState) -> Option<Cpu>
+    ensures { result ≡ registers_in state }
+{
+    match state {
+        NodeState::Runs(cpu) => Some(cpu),
+        _ => None,
+    }
+}
+
+// The word that lies so far above the workspace.
+fn workspace_word(node: &Node, offset: u32) -> Option<u32>
+    ensures { result ≡ workspace_word node.now offset }
+{
+    match registers_in(node.state()) {
+        Some(cpu) => word_in(node.memory(), cpu.workspace.wrapping_add(offset)),
+        None => None,
+    }
+}
+
+// A process that waits for the processor.
+fn queued(memory: &Memory, workspace: u32) -> Option<Process>
+    ensures { result ≡ queued memory.now workspace }
+{
+    match word_in(memory, workspace.wrapping_sub(4)) {
+        Some(instruction) => Some(Process {
+            workspace,
+            instruction,
+        }),
+        None => None,
+    }
+}
+
+// The first process of a queue.
+fn queued_first(memory: &Memory, queue: Queue) -> Option<Process>
+    ensures { result ≡ queued_first memory.now queue }
+{
+    if queue.front == NOT_PROCESS {
+        None
+    } else {
+        queued(memory, queue.front)
+    }
+}
+
+// The process behind one in a queue.
+fn queued_behind(memory: &Memory, queue: Queue, before: Process) -> Option<Process>
+    ensures { result ≡ queued_behind memory.now queue before }
+{
+    if before.workspace == queue.back {
+        return None;
+    }
+    match word_in(memory, before.workspace.wrapping_sub(LINK_BELOW)) {
+        Some(workspace) => queued(memory, workspace),
+        None => None,
+    }
+}
+
+// The first process that waits for the processor.
+fn first_waiting(node: &Node) -> Option<Process>
+    ensures { result ≡ first_waiting node.now }
+{
+    match registers_in(node.state()) {
+        Some(cpu) => queued_first(node.memory(), cpu.queue),
+        None => None,
+    }
+}
+
+// The process behind one that waits for the processor, if there are both.
+fn next_waiting(node: &Node, before: Option<Process>) -> Option<Process>
+    ensures { result ≡ next_waiting node.now before }
+{
+    match (registers_in(node.state()), before) {
+        (Some(cpu), Some(before)) => queued_behind(node.memory(), cpu.queue, before),
+        _ => None,
+    }
+}
+
+// The first processes that wait for the processor.
+fn waiting_in(node: &Node) -> [Option<Process>; 4]
+    ensures { result ≡ waiting_in node.now }
+{
+    let one = first_waiting(node);
+    let two = next_waiting(node, one);
+    let three = next_waiting(node, two);
+    [one, two, three, next_waiting(node, three)]
+}
+
 fn frame_of_node(node: &Node) -> NodeFrame
     ensures { result ≡ node_frame node.now }
 {
+    let links = node.links();
     NodeFrame {
         seen: node.look(),
         state: node.state(),
+        workspace: [
+            workspace_word(node, 0),
+            workspace_word(node, 4),
+            workspace_word(node, 8),
+            workspace_word(node, 12),
+            workspace_word(node, 16),
+            workspace_word(node, 20),
+            workspace_word(node, 24),
+            workspace_word(node, 28),
+        ],
+        waiting: waiting_in(node),
+        links: [
+            links.at(LinkNumber::Zero),
+            links.at(LinkNumber::One),
+            links.at(LinkNumber::Two),
+            links.at(LinkNumber::Three),
+        ],
     }
 }
 
