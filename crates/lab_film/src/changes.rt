@@ -296,15 +296,14 @@ fn link_text(alloc: Global, link: Link) -> Result<String, NoMemory> {
 // What is told of a node's link, if it wasn't as it is.
 fn link_change(
     alloc: Global,
-    old: Option<NodeFrame>,
-    new: NodeFrame,
-    place: usize,
+    old: Option<Link>,
+    new: Link,
 ) -> Result<Option<String>, NoMemory> {
     let before = match old {
-        Some(old) => link_text(alloc, old.links[place])?,
+        Some(old) => link_text(alloc, old)?,
         None => String::new(alloc),
     };
-    let after = link_text(alloc, new.links[place])?;
+    let after = link_text(alloc, new)?;
     if before.as_str() == after.as_str() {
         Ok(None)
     } else {
@@ -320,7 +319,11 @@ fn link_changes(
 ) -> Result<BTreeMap<&'static str, String>, NoMemory> {
     let mut changes = BTreeMap::new(alloc);
     for place in 0..4usize {
-        if let Some(text) = link_change(alloc, old, new, place)? {
+        let before = match old {
+            Some(old) => Some(old.links[place]),
+            None => None,
+        };
+        if let Some(text) = link_change(alloc, before, new.links[place])? {
             changes.insert(LINKS[place], text)?;
         }
     }

@@ -68,8 +68,8 @@ impl KnownCode {
         Ok(KnownCode { nodes: known })
     }
 
-    /// Words of the memory of a node from an address on, if not all of them are known: those from the first that isn't known on.
-    /// They are known then. None stands for a word outside memory.
+    /// Words of the memory of a node from an address on, if not all of them are known: those from the first that isn't known
+    /// to the last one. They are known then. None stands for a word outside memory.
     pub fn tell_words(
         &mut self,
         alloc: Global,
@@ -77,28 +77,33 @@ impl KnownCode {
         address: u32,
         words: &[Option<u32>],
     ) -> Result<Option<CodeBytes>, NoMemory> {
-        let mut place = address.wrapping_sub(MEMORY_START) as usize;
+        let place = address.wrapping_sub(MEMORY_START) as usize;
         if place >= MOST_BYTES {
             return Ok(None);
         }
         let Some(known) = self.nodes.get_mut(usize::from(node)) else {
             return Ok(None);
         };
-        let mut text = TextWriter::new(alloc);
-        let mut offset = None;
-        for word in words.iter().flatten() {
-            let bytes = word.to_le_bytes();
-            if learn(known.as_mut_slice(), place, &bytes) || offset.is_some() {
-                text.push_hex_bytes(&bytes);
-                offset = offset.or(Some(place as u64));
+        let (mut first, mut end) = (words.len(), 0);
+        for (number, word) in words.iter().enumerate() {
+            if let Some(word) = word
+                && learn(known.as_mut_slice(), place + 4 * number, &word.to_le_bytes())
+            {
+                first = first.min(number);
+                end = number + 1;
             }
-            place = place.saturating_add(4);
         }
-        let bytes = text.finish()?;
-        Ok(match offset {
-            Some(offset) => Some(CodeBytes { offset, bytes }),
-            None => None,
-        })
+        if first >= end {
+            return Ok(None);
+        }
+        let mut text = TextWriter::new(alloc);
+        for word in words.iter().take(end).skip(first) {
+            text.push_hex_bytes(&word.unwrap_or(0).to_le_bytes());
+        }
+        Ok(Some(CodeBytes {
+            offset: (place + 4 * first) as u64,
+            bytes: text.finish()?,
+        }))
     }
 
     /// The bytes around an address in the memory of a node, if not all of them are known. They are known then.

@@ -24,7 +24,7 @@ const nameOf = (port) => "port " + port + (deviceAt(port) ? ", " + deviceAt(port
 
 // ---- hosts
 
-const printable = (bytes) => bytes.map((it) => (it >= 32 && it < 127 ? String.fromCharCode(it) : it === 10 ? "\u240a" : "\u00b7")).join("");
+const printable = (bytes) => bytes.map((it) => (it >= 32 && it < 127 ? String.fromCharCode(it) : it === 10 ? "\u21b5" : "\u00b7")).join("");
 
 // The last 64 of some bytes, as digits and as letters.
 function bytesShown(name, bytes, count, id) {
@@ -76,6 +76,30 @@ function codeShown(node, registers) {
   return made("table", "", ...rows);
 }
 
+// The instructions around an instruction pointer as lines.
+const codeLines = (node, registers) => listing(node, registers)
+  .map((it) => (it.here ? "> " : "  ") + hex(START + it.place, 8) + "  " + it.text);
+
+// Lines with a name above them, or none.
+function linesShown(name, lines, kind) {
+  const box = made("div", "queue", made("div", "faint", name + (lines.length ? "" : ": none")));
+  if (lines.length) box.append(made("pre", kind, lines.join("\n")));
+  return box;
+}
+
+// The queue, of which four processes are told, and the words of the workspace.
+function processesShown(node) {
+  const waiting = node.waiting.map((it) => "W " + hex(it.workspace, 8) + " at " + hex(it.instruction, 8));
+  const name = "processes that wait for the processor" + (waiting.length > 3 ? ", the first four" : "");
+  return [linesShown(name, waiting, "waiting"), linesShown("words from W on", workspaceWords(node, node.registers), "workspace")];
+}
+
+// The links at which something is under way.
+function linksShown(node) {
+  const links = node.links.map((it, link) => [link, linkText(it)]).filter((it) => it[1]);
+  return linesShown("links at which something is under way", links.map(([link, text]) => "link " + link + " " + text), "links");
+}
+
 function nodeShown(node, number, change) {
   const [state, dropping] = node.look.split(" overruns "), [kind, fault] = state.split(" ").slice(0, 2);
   const box = made("section", change ? "touched" : "", made("h2", "", "node " + number, made("span", "state " + kind, state)));
@@ -91,11 +115,14 @@ function nodeShown(node, number, change) {
   }
   if (kind === "halted" && FAULTS[fault]) box.append(made("div", "halted", FAULTS[fault]));
   if (node.registers.Iptr !== undefined) {
-    box.append(registersShown(node.registers, (change || {}).registers || {}), codeShown(node, node.registers));
+    box.append(registersShown(node.registers, (change || {}).registers || {}), codeShown(node, node.registers), ...processesShown(node));
   }
   if (node.before.Iptr !== undefined) {
     box.append(made("div", "faint", "before it halted"), registersShown(node.before, {}), codeShown(node, node.before));
+    box.append(linesShown("words from W on", workspaceWords(node, node.before), "workspace"));
+    if (node.outside) box.append(linesShown("where it was last outside of zeros", codeLines(node, node.outside), "outside"));
   }
+  box.append(linksShown(node));
   return box;
 }
 
@@ -149,12 +176,13 @@ const wordsText = (state) => state.words.map((word, output) => [plan.ports[outpu
 
 // ---- the time line: a column for each line of the record, a lane for the switch, each host and each node
 
-const WIDE = 28, HIGH = 30, LEFT = 130, TOP = 30;
 const lanes = [
   "switch",
-  ...plan.hosts.map((user, number) => "host " + number + " " + plan.users[user].slice(0, 8)),
+  ...plan.hosts.map((user, number) => "host " + number + " " + plan.users[user]),
   ...plan.nodes.map((_, number) => "node " + number),
 ];
+// the names stand whole before the columns
+const WIDE = 28, HIGH = 30, LEFT = Math.max(130, ...lanes.map((it) => 10 + Math.ceil(7.4 * it.length))), TOP = 30;
 const laneAt = (lane) => TOP + (lane + 1.5) * HIGH;
 const short = (number) => (number < 1000 ? String(number) : number < 1e6 ? Math.floor(number / 1e3) + "k"
   : number < 1e9 ? Math.floor(number / 1e6) + "M" : Math.floor(number / 1e9) + "G");

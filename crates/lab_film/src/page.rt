@@ -43,9 +43,9 @@ const BODY: &str = r##"</style>
 <main>
 <section id="time"><h2>Time</h2><div id="lanes"></div><div id="legend"></div></section>
 <div id="left">
+<div id="hosts"></div>
 <section id="switch"><h2>Switch: inputs across, outputs down</h2><svg id="crossbar"></svg>
 <div class="faint">words of the physical outputs</div><pre id="words"></pre></section>
-<div id="hosts"></div>
 </div>
 <div id="nodes"></div>
 </main>

@@ -61,13 +61,13 @@ const overruns = (look) => look.split(" ").slice(-4).reduce((sum, word) => sum +
 
 const opened = () => ({
   words: plan.ports.map(() => "0"),
-  nodes: plan.nodes.map(() => ({ look: "", registers: {}, before: {}, code: new Map() })),
+  nodes: plan.nodes.map(() => ({ look: "", registers: {}, before: {}, code: new Map(), waiting: [], links: ["", "", "", ""] })),
   hosts: plan.hosts.map(() => ({ sending: [], received: [] })),
 });
 
 const copied = (it) => ({
   words: it.words.slice(),
-  nodes: it.nodes.map((n) => ({ look: n.look, registers: { ...n.registers }, before: { ...n.before }, code: new Map(n.code) })),
+  nodes: it.nodes.map((n) => ({ ...n, registers: { ...n.registers }, before: { ...n.before }, code: new Map(n.code), links: n.links.slice() })),
   hosts: it.hosts.map((h) => ({ sending: h.sending.slice(), received: h.received.slice() })),
 });
 
@@ -76,17 +76,34 @@ function turnQueue(queue, change) {
   for (const byte of bytesOf(change.came)) queue.push(byte);
 }
 
+// Notes the registers before a node came to zeros in memory, each of which is j 0. They are forgotten when it leaves them.
+function turnZeros(node, place) {
+  const here = node.registers.Iptr - START;
+  if (node.code.get(place - START) !== 0) node.outside = undefined;
+  else if (node.code.get(here) !== 0) node.outside = { ...node.registers };
+}
+
+// Puts bytes of memory in their places.
+function turnBytes(node, told) {
+  bytesOf(told.bytes).forEach((byte, at) => node.code.set(told.offset + at, byte));
+}
+
 // A node that halts keeps the registers that it had before, to be shown as such.
 function turnNode(node, change) {
+  if (change.code) turnBytes(node, change.code);
+  if (change.workspace) turnBytes(node, change.workspace);
   if (change.look !== undefined) {
     node.look = change.look;
     if (!runs(node.look)) {
       node.before = node.look.startsWith("halted") && node.registers.Iptr !== undefined ? node.registers : {};
       node.registers = {};
+      if (!node.look.startsWith("halted")) node.outside = undefined;
     }
   }
+  if (change.registers && change.registers.Iptr !== undefined) turnZeros(node, change.registers.Iptr);
   Object.assign(node.registers, change.registers);
-  if (change.code) bytesOf(change.code.bytes).forEach((byte, at) => node.code.set(change.code.offset + at, byte));
+  if (change.waiting) node.waiting = change.waiting;
+  Object.assign(node.links, change.links);
 }
 
 function turn(state, change) {
@@ -187,6 +204,27 @@ function noteLine(number, frame, isOverrun) {
     if ((index + 1) % EACH === 0) copies.push(copied(state));
   });
 })();
+
+// ---- what a node's workspace, queue and links are told as
+
+// The words from the workspace on that are known, each by its address.
+function workspaceWords(node, registers) {
+  const words = [], first = registers.W - START;
+  for (let place = first; place < first + 32; place += 4) {
+    const bytes = [3, 2, 1, 0].map((at) => node.code.get(place + at));
+    if (!bytes.includes(undefined)) words.push(hex(START + place, 8) + "  " + bytes.map((it) => hex(it, 2)).join(""));
+  }
+  return words;
+}
+
+const bytesCounted = (count) => count + (count === "1" ? " byte" : " bytes");
+const LINK_LETTERS = { s: (it) => "sends byte " + it, h: (it) => "holds byte " + it, k: () => "sends an acknowledge",
+  w: () => "awaits an acknowledge", d: () => "has an acknowledge", v: () => "an alternative waits for a byte",
+  i: (it) => "a process waits for " + bytesCounted(it), o: (it) => bytesCounted(it) + " to be sent behind that one" };
+
+// What a link does, by the letters that the film has for it.
+const linkText = (letters) => [...letters.matchAll(/([sh])(..)|([kwdv])|([io])(\d+)/g)]
+  .map((it) => LINK_LETTERS[it[1] || it[3] || it[4]](it[2] || it[5])).join(", ");
 
 // ---- instructions
 

@@ -1,0 +1,82 @@
+//! The programs of nodes, as they are written in JSON beside the film.
+
+use crate::NoMemory;
+use crate::told::json_text;
+use script_text::TextWriter;
+use serde::Serialize;
+use std::alloc::Global;
+
+/// A line of a node's program, whose bytes lie from an address on.
+#[derive(Clone, Copy)]
+pub struct SourceLine<'a> {
+    /// The number of the node.
+    pub node: u8,
+    /// The address of its first byte.
+    pub address: u32,
+    /// How many bytes it has.
+    pub length: u32,
+    /// The line as it was written.
+    pub text: &'a str,
+    /// The nearest label, on the line or above it, and its address.
+    pub label: Option<(&'a str, u32)>,
+}
+
+/// The same, as it is written.
+#[derive(Drop, Serialize)]
+struct SourceTold {
+    node: u8,
+    address: u32,
+    length: u32,
+    text: String,
+    #[serde(skip_serializing_if = "Option::is_none")]
+    label: Option<String>,
+    /// How far the line begins behind its label.
+    behind: u32,
+}
+
+fn source_told(alloc: Global, line: SourceLine) -> Result<SourceTold, NoMemory> {
+    let (label, behind) = match line.label {
+        Some((name, address)) => (
+            Some(String::from_str(alloc, name)?),
+            line.address.wrapping_sub(address),
+        ),
+        None => (None, 0),
+    };
+    Ok(SourceTold {
+        node: line.node,
+        address: line.address,
+        length: line.length,
+        text: String::from_str(alloc, line.text)?,
+        label,
+        behind,
+    })
+}
+
+// Writes a text in JSON without `<`, which could end the element of the page in which it lies.
+fn push_without_tags(json: &str, text: &mut TextWriter) {
+    let mut rest = json;
+    while let Some((before, behind)) = rest.split_once("<") {
+        text.push(before);
+        text.push("\\u003c");
+        rest = behind;
+    }
+    text.push(rest);
+}
+
+/// Lines of programs in JSON, for `page_of`: those that have bytes.
+pub fn sources_of(alloc: Global, lines: &[SourceLine]) -> Result<String, NoMemory> {
+    let mut text = TextWriter::new(alloc);
+    text.push("[");
+    let mut is_first = true;
+    for line in lines {
+        if line.length > 0 {
+            text.push(if is_first { "\n" } else { ",\n" });
+            is_first = false;
+            let told = source_told(alloc, *line)?;
+            let json = json_text(serde_json::to_string(alloc, &told))?;
+            push_without_tags(json.as_str(), &mut text);
+        }
+    }
+    text.push("]");
+    text.finish()
+}
