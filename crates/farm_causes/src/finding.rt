@@ -154,11 +154,7 @@ pub fn cause_in(node: &Node) -> Cause
 
 // The join of a process that ended by `endp` and has left the processor, by the byte before the place where it would go on and the
 // word that counts.
-fn join_of(
-    cpu: Cpu,
-    byte: Result<u8, Fault>,
-    count: Result<u32, Fault>,
-) -> Option<JoinWait>
+fn join_of(cpu: Cpu, byte: Result<u8, Fault>, count: Result<u32, Fault>) -> Option<JoinWait>
     ensures { result ≡ join_of cpu byte count }
 {
     match (byte, count) {

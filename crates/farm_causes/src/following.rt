@@ -13,7 +13,7 @@ ghost use Rattle.farm_causes.specs.Following.{calls_said, MovesOn, IsMomentAfter
 use crate::cause::Cause;
 use crate::fault::{FollowFault, LineStop};
 use crate::finding::cause_in;
-use crate::glance::{Seen, code_end_of, glance_before, note_event, zeros_behind};
+use crate::glance::{Observed, code_end_of, glance_before, note_event, zeros_behind};
 use crate::line::{RecordedLine, SaidCall};
 use crate::past::Past;
 use crate::trail::Trail;
@@ -146,7 +146,7 @@ impl Follower {
             return Err(FollowFault::NotRecorded);
         }
         let zeros = zeros_behind(self.alloc, &self.moment, &self.trail, glance, reply)?;
-        let seen = Seen { glance, zeros };
+        let seen = Observed { glance, zeros };
         note_event(&mut self.past, &self.moment, seen, event, reply, after);
         Ok(reply)
     }

@@ -140,7 +140,7 @@ pub fn glance_before(moment: &mut Moment, event: Event) -> Result<Glance, NoMemo
 
 /// What was seen before an event, and how a node that met its fault in it came to zeros.
 #[derive(Clone, Copy)]
-pub struct Seen {
+pub struct Observed {
     pub glance: Glance,
     pub zeros: Option<ZerosPast>,
 }
@@ -174,7 +174,7 @@ pub fn zeros_behind(
 pub fn note_event(
     past: &mut Past,
     moment: &Moment,
-    seen: Seen,
+    seen: Observed,
     event: Event,
     reply: Reply,
     number: u64,

@@ -24,16 +24,16 @@ const FEWEST_ZEROS: u32 = 8;
 const MOST_BYTES: u32 = 65_536;
 
 // A moment and the calls since then.
-struct Part {
+struct TrailPart {
     from: Moment,
     calls: Vec<SaidCall>,
     work: u64,
 }
 
 // It is dropped by one call.
-impl Drop for Part {
+impl Drop for TrailPart {
     fn drop(self) {
-        let Part {
+        let TrailPart {
             from: _,
             calls: _,
             work: _,
@@ -43,8 +43,8 @@ impl Drop for Part {
 
 /// The last calls of a domain, in two parts that follow one another: of so much work at least, or all.
 pub struct Trail {
-    older: Option<Part>,
-    newer: Option<Part>,
+    older: Option<TrailPart>,
+    newer: Option<TrailPart>,
 }
 
 // It is dropped by one call.
@@ -143,7 +143,7 @@ impl Search {
 }
 
 // How much work a part is.
-fn work_of(part: &Option<Part>) -> u64 {
+fn work_of(part: &Option<TrailPart>) -> u64 {
     match part {
         Some(part) => part.work,
         None => 0,
@@ -151,7 +151,7 @@ fn work_of(part: &Option<Part>) -> u64 {
 }
 
 // How many Steps of a node some calls are.
-fn steps_of(node: u8, part: &Option<Part>) -> u64 {
+fn steps_of(node: u8, part: &Option<TrailPart>) -> u64 {
     let mut steps: u64 = 0;
     if let Some(part) = part {
         for call in part.calls.as_slice() {
@@ -182,7 +182,7 @@ impl Trail {
             None => true,
         };
         if is_full {
-            let part = Part {
+            let part = TrailPart {
                 from: moment.copy(alloc)?,
                 calls: Vec::new(alloc),
                 work: 0,

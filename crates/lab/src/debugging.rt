@@ -29,8 +29,8 @@ pub fn print_debugging(rt: &HostRuntime, asked: &Debugging) -> Result<String, La
     }
 }
 
-// The programs of nodes, by the numbers of the nodes and the files.
-fn read_programs<'a>(
+/// The programs of nodes, by the numbers of the nodes and the files.
+pub fn read_programs<'a>(
     alloc: Global,
     words: &[&'a str],
 ) -> Result<Vec<ProgramOf<'a>>, ArgumentFault> {

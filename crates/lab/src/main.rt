@@ -49,7 +49,7 @@ fn answer(rt: &HostRuntime, request: &LabRequest) -> Result<String, LabFailure> 
         LabRequest::Script(script, what) => print_script(rt, *script, *what),
         LabRequest::TraceScript(asked) => print_trace(rt, *asked),
         LabRequest::Why(asked) => print_why(rt, *asked),
-        LabRequest::Film(asked) => print_film(rt, *asked),
+        LabRequest::Film(asked) => print_film(rt, asked),
         LabRequest::Debug(asked) => print_debugging(rt, asked),
         _ => answer_of_node(rt, request),
     }

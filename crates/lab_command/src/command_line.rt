@@ -193,7 +193,7 @@ fn read_subcommand<'a>(
         Subcommand::Disassemble => Ok(LabRequest::Disassemble),
         Subcommand::Rows => read_rows(alloc, matches),
         Subcommand::Why => read_why(matches),
-        Subcommand::Film => read_film(matches),
+        Subcommand::Film => read_film(alloc, matches),
         Subcommand::Expand => Ok(LabRequest::Script(matches.get_str("script"), ScriptUse::Expand)),
         Subcommand::Run => Ok(LabRequest::Script(matches.get_str("script"), run_of(matches))),
         Subcommand::Debug => read_debugging(alloc, matches),
@@ -256,10 +256,12 @@ fn read_why<'a>(matches: &ArgMatches<'a>) -> Result<LabRequest<'a>, ArgumentFaul
     }))
 }
 
-fn read_film<'a>(matches: &ArgMatches<'a>) -> Result<LabRequest<'a>, ArgumentFault> {
+fn read_film<'a>(alloc: Global, matches: &ArgMatches<'a>) -> Result<LabRequest<'a>, ArgumentFault> {
     let record = record_of(matches)?;
+    let programs = Vec::from_slice(alloc, matches.get_strs("program").unwrap_or(&[]))?;
     Ok(LabRequest::Film(Showing {
         record,
+        programs,
         from: matches.get_one::<u64>("from").unwrap_or(0),
         count: matches.get_one::<u64>("count").unwrap_or(USUAL_COUNT),
         most: steps_of(matches),

@@ -114,10 +114,12 @@ pub struct Explaining<'a> {
 }
 
 /// What is shown of a record.
-#[derive(Clone, Copy)]
+#[derive(Drop)]
 pub struct Showing<'a> {
     /// The file of the record.
     pub record: &'a str,
+    /// The programs of nodes: the number of a node, the file of its program, and so on.
+    pub programs: Vec<&'a str>,
     /// After how many of its events the first frame is.
     pub from: u64,
     /// How many frames there are at most.

@@ -81,6 +81,7 @@ impl Subcommand {
                 Argument::Record,
                 Argument::From,
                 Argument::Count,
+                Argument::Program,
                 Argument::Steps,
             ],
             Subcommand::Expand => &[Argument::Script],

@@ -1,7 +1,8 @@
 -- What a frame of a film says of a domain at a moment.
--- Transputer instruction set handbook, processes: below a workspace lie the place where the process goes on, at 4, and the
--- workspace of the one behind it in the queue, at 8.
-use Rattle.std.specs.Prelude.{◌≡◌, ◌+◌, ◌==◌, ℕ, List, [], ◌∷◌, map, take, Option, Some, None, Result, Ok, Err, slice_get, if◌then◌else◌}
+-- Transputer instruction set handbook, processes: the word 4 below a workspace is where the process goes on, and that
+-- 8 below it is the workspace of the next process in the queue.
+use Rattle.std.specs.Prelude.{◌≡◌, ◌+◌, ◌==◌, ℕ, List, [], ◌∷◌, map, take, Option, Some, None, Result, Ok, Err}
+use Rattle.std.specs.Prelude.{slice_get, if◌then◌else◌}
 use Rattle.std.specs.Option.{option_map, option_and_then}
 use Rattle.node_memory.specs.Bytes.{word_at}
 use Rattle.node_memory.specs.Marks.{not_process}

@@ -294,11 +294,7 @@ fn link_text(alloc: Global, link: Link) -> Result<String, NoMemory> {
 }
 
 // What is told of a node's link, if it wasn't as it is.
-fn link_change(
-    alloc: Global,
-    old: Option<Link>,
-    new: Link,
-) -> Result<Option<String>, NoMemory> {
+fn link_change(alloc: Global, old: Option<Link>, new: Link) -> Result<Option<String>, NoMemory> {
     let before = match old {
         Some(old) => link_text(alloc, old)?,
         None => String::new(alloc),

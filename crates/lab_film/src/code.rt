@@ -87,7 +87,11 @@ impl KnownCode {
         let (mut first, mut end) = (words.len(), 0);
         for (number, word) in words.iter().enumerate() {
             if let Some(word) = word
-                && learn(known.as_mut_slice(), place + 4 * number, &word.to_le_bytes())
+                && learn(
+                    known.as_mut_slice(),
+                    place + 4 * number,
+                    &word.to_le_bytes(),
+                )
             {
                 first = first.min(number);
                 end = number + 1;
@@ -101,7 +105,7 @@ impl KnownCode {
             text.push_hex_bytes(&word.unwrap_or(0).to_le_bytes());
         }
         Ok(Some(CodeBytes {
-            offset: (place + 4 * first) as u64,
+            offset: place.saturating_add(first.saturating_mul(4)) as u64,
             bytes: text.finish()?,
         }))
     }

@@ -68,17 +68,27 @@ function registersShown(registers, changed) {
   return box;
 }
 
-function codeShown(node, registers) {
+// The nearest label and the line of the program, if that of the node is there.
+function sourceShown(number, address) {
+  if (!hasSources(number)) return [];
+  const line = sourceAt(number, address);
+  return [made("td", "", line ? labelled(line) : ""), made("td", "", line ? line.text.trim() : "")];
+}
+
+function codeShown(node, registers, number) {
   const rows = listing(node, registers).map((it) => {
     const bytes = Array.from({ length: it.next - it.place }, (_, at) => hex(node.code.get(it.place + at), 2)).join(" ");
-    return made("tr", it.here ? "here" : "", made("td", "", hex(START + it.place, 8)), made("td", "", bytes), made("td", "", it.text));
+    const own = [made("td", "", hex(START + it.place, 8)), made("td", "", bytes), made("td", "", it.text)];
+    return made("tr", it.here ? "here" : "", ...own, ...sourceShown(number, START + it.place));
   });
   return made("table", "", ...rows);
 }
 
 // The instructions around an instruction pointer as lines.
-const codeLines = (node, registers) => listing(node, registers)
-  .map((it) => (it.here ? "> " : "  ") + hex(START + it.place, 8) + "  " + it.text);
+const codeLines = (node, registers, number) => listing(node, registers).map((it) => {
+  const line = sourceAt(number, START + it.place);
+  return (it.here ? "> " : "  ") + hex(START + it.place, 8) + "  " + it.text + (line ? "  " + labelled(line) + "  " + line.text.trim() : "");
+});
 
 // Lines with a name above them, or none.
 function linesShown(name, lines, kind) {
@@ -115,12 +125,12 @@ function nodeShown(node, number, change) {
   }
   if (kind === "halted" && FAULTS[fault]) box.append(made("div", "halted", FAULTS[fault]));
   if (node.registers.Iptr !== undefined) {
-    box.append(registersShown(node.registers, (change || {}).registers || {}), codeShown(node, node.registers), ...processesShown(node));
+    box.append(registersShown(node.registers, (change || {}).registers || {}), codeShown(node, node.registers, number), ...processesShown(node));
   }
   if (node.before.Iptr !== undefined) {
-    box.append(made("div", "faint", "before it halted"), registersShown(node.before, {}), codeShown(node, node.before));
+    box.append(made("div", "faint", "before it halted"), registersShown(node.before, {}), codeShown(node, node.before, number));
     box.append(linesShown("words from W on", workspaceWords(node, node.before), "workspace"));
-    if (node.outside) box.append(linesShown("where it was last outside of zeros", codeLines(node, node.outside), "outside"));
+    if (node.outside) box.append(linesShown("where it was last outside of zeros", codeLines(node, node.outside, number), "outside"));
   }
   box.append(linksShown(node));
   return box;
@@ -387,8 +397,10 @@ function readFragment() {
 
 function spanText() {
   const to = recordedAt(last), goesOn = film.goes_on ? ". The record goes on: --from and --count show other events" : ", the end of the record";
+  const missing = sources.find((it) => it.node >= plan.nodes.length);
+  const wrong = missing ? `. There is no node ${missing.node} for its program` : "";
   const cut = film.is_cut ? ". Its last line is cut, and was left out" : "";
-  return `events ${told(recordedAt(0))} to ${told(to)}${goesOn}${cut}.`;
+  return `events ${told(recordedAt(0))} to ${told(to)}${goesOn}${cut}${wrong}.`;
 }
 
 addEventListener("hashchange", readFragment);

@@ -52,13 +52,16 @@ const BODY: &str = r##"</style>
 <script id="film" type="application/json">
 "##;
 
-/// The page with a film's JSON. The JSON must hold no `<`: numbers, names of users and answers hold none.
-pub fn page_of(alloc: Global, film: &str) -> Result<String, NoMemory> {
+/// The page with a film's JSON, and with that of programs (`sources_of`). They must hold no `<`, as is so of numbers, names of users and
+/// answers.
+pub fn page_of(alloc: Global, film: &str, sources: &str) -> Result<String, NoMemory> {
     let mut page = TextWriter::new(alloc);
     page.push(HEAD);
     page.push(STYLE);
     page.push(BODY);
     page.push(film);
+    page.push("</script>\n<script id=\"sources\" type=\"application/json\">\n");
+    page.push(sources);
     page.push("</script>\n<script>\n");
     page.push(SCRIPT);
     page.push(DRAWING);

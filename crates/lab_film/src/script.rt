@@ -5,6 +5,7 @@ pub const SCRIPT: &str = r##""use strict";
 const began = performance.now();
 const film = JSON.parse(document.getElementById("film").textContent);
 const { plan, lines } = film;
+const sources = JSON.parse(document.getElementById("sources").textContent);
 // a copy of the whole domain is kept at each so many-th frame
 const EACH = 1000;
 const START = 0x80000000;
@@ -225,6 +226,13 @@ const LINK_LETTERS = { s: (it) => "sends byte " + it, h: (it) => "holds byte " +
 // What a link does, by the letters that the film has for it.
 const linkText = (letters) => [...letters.matchAll(/([sh])(..)|([kwdv])|([io])(\d+)/g)]
   .map((it) => LINK_LETTERS[it[1] || it[3] || it[4]](it[2] || it[5])).join(", ");
+
+// ---- the programs of nodes
+
+// the line of a node's program that has the byte at an address
+const sourceAt = (number, address) => sources.find((it) => it.node === number && it.address <= address && address < it.address + it.length);
+const hasSources = (number) => sources.some((it) => it.node === number);
+const labelled = (it) => (it.label === undefined ? "" : it.label + (it.behind ? "+" + it.behind : ""));
 
 // ---- instructions
 

@@ -55,7 +55,10 @@ fn source_told(alloc: Global, line: SourceLine) -> Result<SourceTold, NoMemory> 
 // Writes a text in JSON without `<`, which could end the element of the page in which it lies.
 fn push_without_tags(json: &str, text: &mut TextWriter) {
     let mut rest = json;
-    while let Some((before, behind)) = rest.split_once("<") {
+    for _ in 0..json.len() {
+        let Some((before, behind)) = rest.split_once("<") else {
+            break;
+        };
         text.push(before);
         text.push("\\u003c");
         rest = behind;
