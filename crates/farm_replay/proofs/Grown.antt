@@ -162,11 +162,11 @@ place_at : (domains : List DomainValue) (domain : ℕ) (d : DomainValue) → sli
     → slice_get (all_places domains) domain ≡ Some (own_place d)
 place_at domains domain d at = slice_get-map own_place domains domain ∙ ap (option_map own_place) at
 
-state_at : (domains : List DomainValue) (domain : ℕ) (d : DomainValue) → slice_get domains domain ≡ Some d
+pub state_at : (domains : List DomainValue) (domain : ℕ) (d : DomainValue) → slice_get domains domain ≡ Some d
     → slice_get (all_states domains) domain ≡ Some (state_of d)
 state_at domains domain d at = slice_get-map state_of domains domain ∙ ap (option_map state_of) at
 
-same_part : (domain : ℕ) (old new : List DomainValue) (d e : DomainValue)
+pub same_part : (domain : ℕ) (old new : List DomainValue) (d e : DomainValue)
     → all_places new ≡ all_places old → slice_get old domain ≡ Some d → slice_get new domain ≡ Some e
     → e.machine.part ≡ d.machine.part
 same_part domain old new d e places there here =
@@ -231,7 +231,7 @@ gained_run law domain old new d e more is there here grown =
 
 -- ---- a ticket
 
-committed_run : EachCallIsPrivate
+pub committed_run : EachCallIsPrivate
     → (domain : ℕ) (old new : List DomainValue) (t : TicketValue) (found left : Option DomainValue)
     → Changes domain old new → slice_get old domain ≡ found
     → slice_get new domain ≡ left
@@ -245,7 +245,7 @@ committed_run law domain old new t (Some d) (Some e) is there here committed =
     (committed.done refl).journal
 
 -- so many Steps as calls, and what they are told
-run_calls : (domain node k : ℕ) (last : Stepped)
+pub run_calls : (domain node k : ℕ) (last : Stepped)
     → in_domain domain (calls_of (journal.steps ByTheFarm node (suc k) last)) ≡ step_calls domain node (suc k)
 run_calls domain node zero last = refl
 run_calls domain node (suc k) last =

@@ -8,8 +8,9 @@ use Rattle.whole_farm.specs.Whole.{Farm, whole_opening}
 use Rattle.whole_farm.specs.Domains.{IsMadeOf}
 use Rattle.whole_farm.specs.Values.{all_places, all_states}
 use Rattle.farm_replay.specs.declared.request.RepeatedRequest.{RepeatedRequest}
-use Rattle.farm_replay.specs.Plain.{asked_by, IsShownIn, AreLines, Asked, Calls, Looks, Opens, Else}
+use Rattle.farm_replay.specs.Plain.{asked_by, IsShownIn, AreLines, Asked, Calls, Looks, Opens, Restarts, GoesOn}
 use Rattle.farm_replay.specs.Runs.{IsRunTo, IsOpenedFarm, ShowsAsked}
+use Rattle.farm_replay.proofs.Changed.{restarts_in}
 
 -- lines that go on well from each whole farm that is made of the domains make all lines well
 abbrev pub AreLinesSoFar : List Place → List Asked → List (List ℕ) → List DomainValue → Type 0
@@ -29,7 +30,6 @@ one_line : (plan : List Place) (farm : Farm) (asked : Asked) (line : List ℕ) (
     → all_places old ≡ plan → IsMadeOf plan farm (all_states old) → ShowsAsked plan asked old new line
     → ((after : Farm) → all_places new ≡ plan → IsMadeOf plan after (all_states new) → AreLines plan after rest more)
     → AreLines plan farm (asked ∷ rest) (line ∷ more)
-one_line plan farm Else line old new rest more places made shows well = tt
 one_line plan farm Looks line old new rest more places made same well =
     well farm (subst (λ d. all_places d ≡ plan) (sym same) places)
     (subst (λ d. IsMadeOf plan farm (all_states d)) (sym same) made)
@@ -40,6 +40,19 @@ one_line plan farm (Calls calls) line old new rest more places made shows well =
     subst (λ p. IsRunTo p farm calls shows.told new) places
     (shows.run.each farm (subst (λ p. IsMadeOf p farm (all_states old)) (sym places) made)) in
     (subst (IsShownIn line) run.told_is shows.shown, well _ (shows.run.places ∙ places) run.made)
+one_line plan farm (GoesOn domain) line old new rest more places made gone well =
+    let run : IsRunTo plan farm gone.calls gone.told new =
+    subst (λ p. IsRunTo p farm gone.calls gone.told new) places
+    (gone.run.each farm (subst (λ p. IsMadeOf p farm (all_states old)) (sym places) made)) in
+    (gone.calls, gone.farms, well _ (gone.run.places ∙ places) run.made)
+one_line plan farm (Restarts domain) line old new rest more places made shows well =
+    let same : all_places new ≡ plan = shows.places ∙ places in
+    let then : IsMadeOf plan shows.made.0 (all_states new) =
+    subst (λ p. IsMadeOf p shows.made.0 (all_states new)) same shows.made.1 in (
+      shows.made.0,
+      restarts_in plan domain farm shows.made.0 old new same made then shows,
+      well shows.made.0 same then,
+    )
 
 -- if a further request shows its line, the lines of all requests up to it are well
 pub one_more_line : (plan : List Place) (requests : List RepeatedRequest) (index : ℕ) (request : RepeatedRequest)

@@ -26,11 +26,12 @@ use Rattle.whole_farm.specs.Values.{all_places, all_states}
 use Rattle.farm_core.specs.PlainFarm.{IsCallOfEachWhole}
 use Rattle.farm_replay.specs.Kept.{KeptList, HoldsTexts}
 use Rattle.farm_replay.specs.Listing.{IsListing}
-use Rattle.farm_replay.specs.Plain.{Asked, Calls, Looks, Opens, Else, asked_times, answer_words, event_calls}
+use Rattle.farm_replay.specs.Plain.{Asked, Calls, Looks, Opens, Restarts, GoesOn, IsOfTheFarm}
+use Rattle.farm_replay.specs.Plain.{asked_times, answer_words, event_calls}
 use Rattle.farm_replay.specs.declared.bursts.DoneSteps.{DoneSteps}
 use Rattle.farm_replay.specs.Answering.{HaveStepped, ShowsCall, step_calls, steps_answers}
 use Rattle.farm_replay.specs.Answering.{HasAnswers, AnswersCalls, AnswersAsked}
-use Rattle.farm_replay.specs.Runs.{IsRunTo, HaveRun, HasGoneOn, IsOfTheFarm, ShowsRun, ShowsAsked}
+use Rattle.farm_replay.specs.Runs.{IsRunTo, HaveRun, HasGoneOn, HasRestarted, ShowsRun, ShowsAsked}
 
 -- ---- runs
 
@@ -106,7 +107,7 @@ call_of_the_farm domain event =
     let one : IsOfTheFarm domain call = (refl, refl) in
     All-from_recursion (IsOfTheFarm domain) (call ∷ []) (one, tt)
 
-steps_of_the_farm : (domain node count : ℕ) → All (IsOfTheFarm domain) (step_calls domain node count)
+pub steps_of_the_farm : (domain node count : ℕ) → All (IsOfTheFarm domain) (step_calls domain node count)
 steps_of_the_farm domain node zero = All-from_recursion (IsOfTheFarm domain) [] tt
 steps_of_the_farm domain node (suc n) =
     All-append (IsOfTheFarm domain) ((domain, record { by = ByTheFarm; event = Step node }) ∷ [])
@@ -388,7 +389,19 @@ pub no_times : (plan : List Place) (asked : Asked) (domains : List DomainValue) 
 no_times plan (Calls calls) domains l = answers_nothing domains l
 no_times plan Looks domains l = refl
 no_times plan Opens domains l = refl
-no_times plan Else domains l = tt
+no_times plan (Restarts domain) domains l = refl
+no_times plan (GoesOn domain) domains l = refl
+
+-- a domain that was restarted and is restarted again is restarted
+restarts_again : (domain : ℕ) (domains other_domains third_domains : List DomainValue)
+    → HasRestarted domain domains other_domains → HasRestarted domain other_domains third_domains
+    → HasRestarted domain domains third_domains
+restarts_again domain domains other_domains third_domains one two = record {
+  places = two.places ∙ one.places;
+  own = two.own;
+  others = λ other ne. two.others other ne ∙ one.others other ne;
+  made = two.made;
+}
 
 -- what is asked n times, and once more, is asked n + 1 times
 pub times_more : RunsAddUp → (plan : List Place) (asked : Asked) (n : ℕ)
@@ -400,9 +413,18 @@ times_more law plan (Calls calls) n domains other_domains third_domains kept l o
     let all : repeat (n + 1) calls ≡ repeat n calls ++ calls = rw add-one (repeat_more n calls) in
     subst (λ (asked : List (ℕ × Call)). AnswersCalls asked domains third_domains kept other_kept) (sym all)
     (answers_more law domains other_domains third_domains kept l other_kept (repeat n calls) calls one two)
-times_more law plan Looks n domains other_domains third_domains kept l other_kept one two = two ∙ one
+times_more law plan Looks zero domains other_domains third_domains kept l other_kept one two = two ∙ one
+times_more law plan Looks (suc n) domains other_domains third_domains kept l other_kept one two =
+    rw add-one (two ∙ one)
 times_more law plan Opens n domains other_domains third_domains kept l other_kept one two = rw add-one two
-times_more law plan Else n domains other_domains third_domains kept l other_kept one two = tt
+times_more law plan (Restarts domain) zero domains other_domains third_domains kept l other_kept one two =
+    subst (λ (d : List DomainValue). HasRestarted domain d third_domains) one two
+times_more law plan (Restarts domain) (suc n) domains other_domains third_domains kept l other_kept one two =
+    rw add-one (restarts_again domain domains other_domains third_domains one two)
+times_more law plan (GoesOn domain) zero domains other_domains third_domains kept l other_kept one two =
+    subst (λ (d : List DomainValue). HasGoneOn domain d third_domains) one two
+times_more law plan (GoesOn domain) (suc n) domains other_domains third_domains kept l other_kept one two =
+    rw add-one (gone_further law domain domains other_domains third_domains one two)
 
 -- what is asked n times shows the line of the list that gained its answers
 pub all_times : (plan : List Place) (asked : Asked) (n : ℕ) (domains other_domains : List DomainValue)
@@ -412,10 +434,14 @@ pub all_times : (plan : List Place) (asked : Asked) (n : ℕ) (domains other_dom
     → ShowsAsked plan (asked_times n asked) domains other_domains line
 all_times plan (Calls calls) n domains other_domains l kept line answers none lists =
     shows_run (repeat n calls) domains other_domains l kept line answers none lists
-all_times plan Looks n domains other_domains l kept line answers none lists = answers
+all_times plan Looks zero domains other_domains l kept line answers none lists = answers
+all_times plan Looks (suc n) domains other_domains l kept line answers none lists = answers
 all_times plan Opens zero domains other_domains l kept line answers none lists = answers
 all_times plan Opens (suc n) domains other_domains l kept line answers none lists = answers
-all_times plan Else n domains other_domains l kept line answers none lists = tt
+all_times plan (Restarts domain) zero domains other_domains l kept line answers none lists = answers
+all_times plan (Restarts domain) (suc n) domains other_domains l kept line answers none lists = answers
+all_times plan (GoesOn domain) zero domains other_domains l kept line answers none lists = answers
+all_times plan (GoesOn domain) (suc n) domains other_domains l kept line answers none lists = answers
 
 -- what follows of a success
 pub on_ok : {T E : Type 0} (r : Result T E) {P Q : Type 0} → (P → Q) → OnOk r P → OnOk r Q

@@ -1,5 +1,5 @@
 -- How a list of answers goes on with the domains of a farm.
-use Rattle.std.specs.Prelude.{◌≡◌, ◌+◌, ◌<◌, ℕ, true, List, [], ◌∷◌, ◌++◌, map, replicate, Option, Some, None, IfSome, Ok, ⊤, slice_get}
+use Rattle.std.specs.Prelude.{◌≡◌, ◌+◌, ◌<◌, ℕ, true, List, [], ◌∷◌, ◌++◌, map, replicate, Option, Some, None, IfSome, Ok, slice_get}
 use Rattle.std.specs.List.{repeat}
 use Rattle.t414_step.specs.declared.stepping.Stepped.{Stepped}
 use Rattle.t414_step.specs.declared.stepping.Stepped.TheVariants.{Ran}
@@ -15,9 +15,9 @@ use Rattle.whole_farm.specs.Places.{Place}
 use Rattle.whole_farm.specs.Values.{all_states}
 use Rattle.farm_core.specs.PlainFarm.{recorded_there, node_there}
 use Rattle.farm_replay.specs.Kept.{KeptList, HoldsTexts}
-use Rattle.farm_replay.specs.Runs.{HaveRun, IsOpenedFarm}
+use Rattle.farm_replay.specs.Runs.{HaveRun, HasGoneOn, HasRestarted, IsOpenedFarm}
 use Rattle.farm_replay.specs.declared.bursts.DoneSteps.{DoneSteps}
-use Rattle.farm_replay.specs.Plain.{Asked, Calls, Looks, Opens, Else, event_calls, answer_words}
+use Rattle.farm_replay.specs.Plain.{Asked, Calls, Looks, Opens, Restarts, GoesOn, event_calls, answer_words}
 
 -- a call is answered by these words
 pub record ShowsCall (call : ℕ × Call) (old new : List DomainValue) (text : List ℕ) : Type 0 where
@@ -75,9 +75,11 @@ abbrev pub AnswersAsked : List Place → Asked → List DomainValue → List Dom
 AnswersAsked plan (Calls calls) old new before after = AnswersCalls calls old new before after
 AnswersAsked plan Looks old new before after = new ≡ old
 AnswersAsked plan Opens old new before after = IsOpenedFarm plan new
-AnswersAsked plan Else old new before after = ⊤
+AnswersAsked plan (Restarts domain) old new before after = HasRestarted domain old new
+AnswersAsked plan (GoesOn domain) old new before after = HasGoneOn domain old new
 
--- the domains are looked at, or something else is asked
-abbrev pub StaysIfLooked : Asked → List DomainValue → List DomainValue → Type 0
-StaysIfLooked Looks old new = new ≡ old
-StaysIfLooked asked old new = ⊤
+-- what is asked of a domain beside events does this, whatever is answered
+abbrev pub HasDone : Asked → List DomainValue → List DomainValue → Type 0
+HasDone (Restarts domain) old new = HasRestarted domain old new
+HasDone (GoesOn domain) old new = HasGoneOn domain old new
+HasDone asked old new = new ≡ old

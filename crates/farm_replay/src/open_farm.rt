@@ -6,8 +6,8 @@ ghost use Rattle.domain_core.specs.Domain.{UnlessNoMemory};
 ghost use Rattle.whole_farm.specs.Places.{places_of};
 ghost use Rattle.farm_core.specs.PlainFarm.{journal_there};
 ghost use Rattle.farm_replay.specs.Plain.{event_calls, asked_once, asked_of_domain};
-ghost use Rattle.farm_replay.specs.Answering.{ShowsCall, StayIfUnrecorded, AnswersCalls, AnswersTimes, AnswersAsked, StaysIfLooked};
-ghost use Rattle.farm_replay.specs.Runs.{HasGoneOn, HaveRun, IsOpenedFarm};
+ghost use Rattle.farm_replay.specs.Answering.{ShowsCall, StayIfUnrecorded, AnswersCalls, AnswersTimes, AnswersAsked, HasDone};
+ghost use Rattle.farm_replay.specs.Runs.{HasGoneOn, HasRestarted, HaveRun, IsOpenedFarm};
 
 use crate::answer_list::AnswerList;
 use crate::bursts::{DoneSteps, burst, run_ticket, try_burst};
@@ -23,7 +23,7 @@ use script_text::TextWriter;
 use std::alloc::Global;
 use step_meter::StepMeter;
 use t414_step::Stepped;
-use whole_farm::laws::runs_add_up;
+use whole_farm::laws::{each_call_is_private, runs_add_up};
 
 /// A farm on one thread, and the tickets that it gave, each until it is spent.
 pub struct OpenFarm {
@@ -73,6 +73,7 @@ impl OpenFarm {
     /// # Errors
     ///
     /// `Steps` if it needs more Steps than the meter allows; `Memory` if an allocation fails.
+    #[tactic(auto, using(crate::proofs::Changed::answers_done))]
     pub fn answer<M: StepMeter>(
         &mut self,
         plan: &AcceptedPlan,
@@ -113,7 +114,7 @@ impl OpenFarm {
         text: &mut TextWriter,
         meter: &mut M,
     ) -> Result<(), AskFault>
-        ensures looks { StaysIfLooked (asked_of_domain request) self.old.farm self.new.farm }
+        ensures done { HasDone (asked_of_domain domain request) self.old.farm self.new.farm }
     {
         match request {
             DomainRequest::Quiet => self.write_quiet(domain, text),
@@ -302,11 +303,17 @@ impl OpenFarm {
         Ok(())
     }
 
-    fn restart(&mut self, domain: u8, text: &mut TextWriter) -> Result<(), AskFault> {
+    #[tactic(auto, using(crate::proofs::Changed::restarts, crate::proofs::Changed::restarts_nowhere))]
+    fn restart(&mut self, domain: u8, text: &mut TextWriter) -> Result<(), AskFault>
+        ensures restarted { HasRestarted domain self.old.farm self.new.farm }
+    {
+        // The domains are those of a whole farm, before and after.
+        self.farm.whole_law();
         if !self.has_domain(domain) {
             return Err(AskFault::Refused(Refusal::NoSuch));
         }
         self.farm.restart(domain);
+        self.farm.whole_law();
         text.push("restarted");
         Ok(())
     }
@@ -354,12 +361,22 @@ impl OpenFarm {
         Ok(())
     }
 
-    fn commit(&mut self, domain: u8, ticket: usize, text: &mut TextWriter) -> Result<(), AskFault> {
+    #[tactic(auto, using(crate::proofs::Running::gone_nowhere, crate::proofs::Changed::gone_by_commit))]
+    fn commit(&mut self, domain: u8, ticket: usize, text: &mut TextWriter) -> Result<(), AskFault>
+        ensures on { HasGoneOn domain self.old.farm self.new.farm }
+    {
+        // Each call of the whole farm is one of a domain alone.
+        each_call_is_private();
+        // A domain is what its journal says, before and after.
+        self.farm.whole_law();
         let Some(ticket) = ticket_of(&mut self.tickets, domain, ticket)?.take() else {
             return Err(AskFault::Refused(Refusal::NoSuch));
         };
         match self.farm.commit(self.alloc, domain, ticket)? {
-            Committed::Done => text.push("done"),
+            Committed::Done => {
+                self.farm.whole_law();
+                text.push("done");
+            }
             Committed::Stale => text.push("stale"),
         }
         Ok(())
@@ -384,7 +401,9 @@ impl OpenFarm {
         rounds: u64,
         text: &mut TextWriter,
         meter: &mut M,
-    ) -> Result<(), AskFault> {
+    ) -> Result<(), AskFault>
+        ensures on { HasGoneOn domain self.old.farm self.new.farm }
+    {
         let is_quiet = self.settle(domain, quantum, rounds, meter)?;
         text.push(if is_quiet { "quiet" } else { "busy" });
         Ok(())
