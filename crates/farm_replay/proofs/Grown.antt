@@ -162,10 +162,12 @@ place_at : (domains : List DomainValue) (domain : ℕ) (d : DomainValue) → sli
     → slice_get (all_places domains) domain ≡ Some (own_place d)
 place_at domains domain d at = slice_get-map own_place domains domain ∙ ap (option_map own_place) at
 
+-- what the domain of a number stands for
 pub state_at : (domains : List DomainValue) (domain : ℕ) (d : DomainValue) → slice_get domains domain ≡ Some d
     → slice_get (all_states domains) domain ≡ Some (state_of d)
 state_at domains domain d at = slice_get-map state_of domains domain ∙ ap (option_map state_of) at
 
+-- a domain keeps its part if the places stay
 pub same_part : (domain : ℕ) (old new : List DomainValue) (d e : DomainValue)
     → all_places new ≡ all_places old → slice_get old domain ≡ Some d → slice_get new domain ≡ Some e
     → e.machine.part ≡ d.machine.part
@@ -231,6 +233,7 @@ gained_run law domain old new d e more is there here grown =
 
 -- ---- a ticket
 
+-- the Steps of a committed ticket are a run of the whole farm
 pub committed_run : EachCallIsPrivate
     → (domain : ℕ) (old new : List DomainValue) (t : TicketValue) (found left : Option DomainValue)
     → Changes domain old new → slice_get old domain ≡ found

@@ -107,6 +107,7 @@ call_of_the_farm domain event =
     let one : IsOfTheFarm domain call = (refl, refl) in
     All-from_recursion (IsOfTheFarm domain) (call ∷ []) (one, tt)
 
+-- for Steps of a node the farm asks
 pub steps_of_the_farm : (domain node count : ℕ) → All (IsOfTheFarm domain) (step_calls domain node count)
 steps_of_the_farm domain node zero = All-from_recursion (IsOfTheFarm domain) [] tt
 steps_of_the_farm domain node (suc n) =

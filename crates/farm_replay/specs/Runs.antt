@@ -37,8 +37,8 @@ pub record HasGoneOn (domain : ℕ) (old new : List DomainValue) : Type 0 where
 abbrev pub IsAsOpened : DomainValue → Type 0
 IsAsOpened d = state_of d ≡ opening d.machine.part
 
--- the domain, if there is one, is as it was opened, and all others are as they were; the domains are still those of some
--- whole farm
+-- the domain, if there is one, is as it was opened, and all others are as they were; some whole farm is still made of
+-- the domains
 pub record HasRestarted (domain : ℕ) (old new : List DomainValue) : Type 0 where
   pub places : all_places new ≡ all_places old
   pub own : IfSome (slice_get new domain) IsAsOpened
