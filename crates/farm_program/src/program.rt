@@ -20,8 +20,9 @@ use std::thread::Threads;
 ///
 /// If the words give settings, a plan and a script are read to the end of the input, the script is run on a farm of the plan,
 /// and a line is written for each of its lines. The status is 0 if all is written, 3 if the plan is refused, 4 if a line of the
-/// script is, 5 for want of memory, and 6 if a stream failed. For 3 to 5 nothing goes to the output, for 6 nothing or a
-/// beginning of the lines; for all but 0 a text goes to the errors, or a beginning of it if a write failed.
+/// script is, 5 if there is no memory or a thread can't be started, and 6 if a stream failed. For 3 to 5 nothing goes to the
+/// output, for 6 nothing or a beginning of the lines; for all but 0 a text goes to the errors, or a beginning of it if a write
+/// failed.
 ///
 /// Else the input isn't read: the status is 2 if the words are refused, and 0 behind the text of `--help`.
 // Seven clauses: what is printed and told as in `answer`, and how a run ends and what it leaves alone that isn't to answer.
