@@ -1,4 +1,4 @@
--- How much room statements take, if instructions are given so much.
+-- How many bytes statements take, if it is given how many each instruction takes.
 use Rattle.std.specs.Prelude.{ℕ, ◌≡◌, ◌+◌, ◌-◌, ◌<◌, ◌≤◌, ◌%◌, ◌==◌, ◌++◌, List, [], Some, true, false, if◌then◌else◌, length, max, slice_get, slice_index}
 use Rattle.t414_assembly.specs.declared.statement.Operand.TheVariants.{Number}
 use Rattle.t414_assembly.specs.declared.statement.Statement.{Statement}
@@ -10,7 +10,7 @@ use Rattle.t414_assembly.specs.Program.{address_of, IsPiece}
 abbrev pub gap : ℕ → ℕ → ℕ
 gap size address = if address % size == 0 then 0 else (size - address % size)
 
--- how many bytes a statement takes at an address, if an instruction takes so many
+-- how many bytes a statement takes at an address, if an instruction takes as many as its room
 abbrev pub size_of : ℕ → ℕ → Statement → ℕ
 size_of address room (Instruction function operand) = room
 size_of address room (Byte value) = 1
@@ -34,7 +34,7 @@ pub record AreRooms (statements : List Statement) (rooms : List ℕ) : Type 0 wh
   pub most : (k : ℕ) → slice_index rooms k ≤ 8
   pub tight : (k : ℕ) (s : Statement) → slice_get statements k ≡ Some s → IsTight (slice_index rooms k) s
 
--- starts has how many bytes stand before each of the first n places and the next, if the instructions take what rooms
+-- starts has how many bytes come before each of the first n places and the next, if the instructions take what rooms
 -- says
 pub record AreStarts (origin : ℕ) (statements : List Statement) (rooms : List ℕ) (n : ℕ) (starts : List ℕ)
     : Type 0 where
@@ -45,7 +45,7 @@ pub record AreStarts (origin : ℕ) (statements : List Statement) (rooms : List 
       ≡ slice_index starts k + size_of (address_of origin starts k) (slice_index rooms k) s
   pub most : (k : ℕ) → slice_index starts k ≤ 65464
 
--- the bytes of a statement stand behind the others
+-- the new bytes are the old ones, and the bytes of a statement after them
 abbrev pub PutsPiece : ℕ → List ℕ → ℕ → ℕ → Statement → List ℕ → List ℕ → Type 0
 PutsPiece origin starts place room statement old new =
     (piece : List ℕ) × (new ≡ old ++ piece)

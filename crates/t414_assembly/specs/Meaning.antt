@@ -5,19 +5,19 @@ use Rattle.t414_decode.specs.Codes.{function_of, accumulated}
 use Rattle.t414_decode.specs.declared.instruction.Function.{Function}
 use Rattle.t414_decode.specs.declared.instruction.Function.TheVariants.{Prefix, NegativePrefix}
 
--- behind pfix and nfix the instruction goes on
+-- whether the instruction goes on after a byte of this function: it does for pfix and nfix
 abbrev pub continues : Function → Bool
 continues Prefix = true
 continues NegativePrefix = true
 continues _ = false
 
--- an instruction, and the bytes behind it
+-- an instruction, and the bytes after it
 pub record Meant : Type 0 where
   pub function : Function
   pub operand : ℕ
   pub rest : List ℕ
 
--- the instruction that ends first, of bytes behind those that made an operand; none if the bytes end within prefixes
+-- the instruction that ends first, of bytes after those that made an operand; none if the bytes end within prefixes
 unfoldable pub read_from : ℕ → List ℕ → Option Meant
 read_from operand [] = None
 read_from operand (byte ∷ bytes) =

@@ -18,7 +18,7 @@ is_relative ConditionalJump = true
 is_relative Call = true
 is_relative _ = false
 
--- the address of a place, of which starts says how many bytes stand before it
+-- the address of a place, where starts says how many bytes come before each place
 abbrev pub address_of : ℕ → List ℕ → ℕ → ℕ
 address_of origin starts place = origin + slice_index starts place
 
@@ -43,7 +43,8 @@ operand_of address next function (Label place n) =
     if is_relative function then less (plus (address place) n) (address next) else plus (address place) n
 operand_of address next function operand = value_of address operand
 
--- an instruction in bytes that mean it: the shortest ones, behind so many pfix 0, which change nothing
+-- an instruction in bytes that mean it: pfix 0 as many times as pads says, which change nothing, and then the shortest
+-- bytes that mean it
 pub record IsPadded (function : Function) (operand : ℕ) (pads : ℕ) (bytes : List ℕ) : Type 0 where
   pub means : Means bytes function operand
   pub short : List ℕ
@@ -60,7 +61,7 @@ pub record IsInstruction (address : ℕ → ℕ) (next : ℕ) (function : Functi
   pub number : (n : ℕ) → operand ≡ Number n → bytes ≡ usual function n
   pub shortest : (n : ℕ) → operand ≡ Number n → continues function ≡ false → IsShortest bytes function n
 
--- the bytes of a statement that stands before a place; to be a multiple of 0 asks nothing, as to be one of 1
+-- the bytes of the statement before a place; to be a multiple of 0 asks nothing, as to be one of 1
 abbrev pub IsPiece : (ℕ → ℕ) → ℕ → Statement → List ℕ → Type 0
 IsPiece address next (Instruction function operand) bytes = IsInstruction address next function operand bytes
 IsPiece address next (Byte value) bytes = bytes ≡ value ∷ []

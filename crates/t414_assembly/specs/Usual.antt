@@ -29,7 +29,8 @@ nibble_of Operate = 0xF
 abbrev pub byte_with : Function → ℕ → ℕ
 byte_with function n = nibble_of function * 16 + n % 16
 
--- a number by pfix, nibble by nibble, of at most so many, and the last of them by nfix if the operand is to be negative
+-- a number by prefixes, nibble by nibble, at most this many: each is pfix, but the last is nfix if the operand is to be
+-- negative
 unfoldable pub prefix_bytes : ℕ → ℕ → Bool → List ℕ
 prefix_bytes zero value negative = []
 prefix_bytes (suc most) value negative =

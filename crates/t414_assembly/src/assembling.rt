@@ -17,7 +17,7 @@ use std::alloc::{AllocError, Global};
 pub struct Assembly {
     /// The statements of all lines.
     pub statements: Vec<Statement>,
-    /// How many statements stand before each line, and behind the last one.
+    /// How many statements come before each line, and at the end how many there are in all.
     pub lines: Vec<usize>,
     /// The bytes, and where the places are.
     pub image: Image,
@@ -32,7 +32,8 @@ impl Assembly {
         code.get(first as usize..last as usize).unwrap_or(&[])
     }
 
-    /// How many bytes stand before the line of this index, from 0; none before one behind the last.
+    /// How many bytes come before the line of this index, from 0. The index after the last line gives all bytes, and any
+    /// greater one gives 0.
     pub fn start_of_line(&self, index: usize) -> u32 {
         let place = self.lines.as_slice().get(index).copied().unwrap_or(0);
         self.image
@@ -44,7 +45,7 @@ impl Assembly {
     }
 }
 
-/// Assembles a text, whose first byte stands at `origin`.
+/// Assembles a text to code whose first byte has the address `origin`.
 ///
 /// # Errors
 ///
@@ -102,8 +103,8 @@ pub fn assemble_or_list(alloc: Global, origin: u32, text: &[u8]) -> Result<Assem
     }
 }
 
-// The statements of all lines, and how many of them stand before each line and behind the last; and, in `mismatches`, what is
-// wrong with each line, if anything is.
+// The statements of all lines; how many of them come before each line, and at the end how many there are in all; and, in
+// `mismatches`, what is wrong with each line, if anything is.
 fn read_program<'a>(
     alloc: Global,
     source: &[NumberedLine<'a>],

@@ -45,7 +45,7 @@ fn code_of(function: Function) -> u8
     }
 }
 
-/// Whether the instruction goes on behind the function: pfix and nfix.
+/// Whether the instruction goes on after a byte of this function. It does for pfix and nfix.
 pub fn is_prefix(function: Function) -> bool
     ensures { result ≡ continues function }
 {

@@ -4,8 +4,8 @@ use crate::fault::{Expected, Mismatch};
 use crate::hints::Hint;
 use line_words::{decimal_number, hexadecimal_word};
 
-/// What is left of a line. Once something else is expected than what stands there nothing is left, and `mismatch` tells
-/// what was expected first: until then what is read is right, and after that it is 0 or empty.
+/// What is left of a line. Once something else is expected than what is there, nothing is left, and `mismatch` says what
+/// was expected first. What is read until then is right, and what is read after that is 0 or empty.
 #[derive(Clone, Copy)]
 pub struct Cursor<'a> {
     rest: &'a [u8],
@@ -21,7 +21,7 @@ impl<'a> Cursor<'a> {
         }
     }
 
-    /// What was expected in place of what stands in the line.
+    /// What was expected first instead of what is in the line, if anything was.
     pub fn mismatch(&self) -> Option<Mismatch<'a>> {
         self.mismatch
     }
@@ -31,7 +31,7 @@ impl<'a> Cursor<'a> {
         self.rest.len()
     }
 
-    /// Something else is expected than what stands here.
+    /// Something else is expected than what is here.
     pub fn refuse(&mut self, expected: Expected) {
         self.refuse_before(expected, self.rest.len());
     }
@@ -91,20 +91,20 @@ impl<'a> Cursor<'a> {
         Some(*first)
     }
 
-    // The next bytes, at most so many, which are ASCII.
+    // Takes the next `count` bytes, or all if fewer are left. The answer is empty if they aren't UTF-8.
     fn take_text(&mut self, count: usize) -> &'a str {
         let (head, rest) = self.rest.split_at(count.min(self.rest.len()));
         self.rest = rest;
         std::str::from_utf8(head).unwrap_or("")
     }
 
-    /// The name that stands here, empty if there is none: a letter or `_`, and then letters, digits, `_` and `.`.
+    /// The name that begins here, empty if there is none: a letter or `_`, and then letters, digits, `_` and `.`.
     pub fn take_name(&mut self) -> &'a str {
         self.take_text(name_length(self.rest))
     }
 
-    /// A number of which the minus, if it has one, was taken: a decimal number, one to eight hexadecimal digits behind
-    /// `#`, or a character between `'`.
+    /// A number whose minus, if it has one, was taken before: a decimal number, one to eight hexadecimal digits after `#`,
+    /// or a character between `'`.
     pub fn take_number(&mut self, is_negative: bool) -> u32 {
         if self.take_if(b'#') {
             self.take_hexadecimal()

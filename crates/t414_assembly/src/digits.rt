@@ -11,7 +11,8 @@ use std::alloc::{AllocError, Global};
 
 /// The bytes that pairs of hexadecimal digits spell, with blanks, tabs and line ends between digits.
 ///
-/// A fault says where another character stands, or a digit too few, or a digit too many for `MOST_CODE` bytes.
+/// A fault says where another character is, where a digit is missing, or where there is one too many for `MOST_CODE`
+/// bytes.
 pub fn bytes_of_digits(alloc: Global, text: &[u8]) -> Result<Vec<u8>, TextFault> {
     let mut digits = String::new(alloc);
     let mut last = NumberedLine {
@@ -32,7 +33,7 @@ pub fn bytes_of_digits(alloc: Global, text: &[u8]) -> Result<Vec<u8>, TextFault>
     }
 }
 
-// Puts the digits of a line behind others.
+// Appends the digits of a line to others.
 fn push_digits(
     alloc: Global,
     digits: &mut String,

@@ -15,8 +15,8 @@ pub struct Instruction {
     pub operand: u32,
 }
 
-/// The instructions that bytes are. If no instruction stands in them as it is spelled, the next byte is a prefix by
-/// itself. Spelled one after another they are the bytes.
+/// The instructions that bytes are. Where the next bytes aren't the usual spelling of an instruction, the first of them
+/// is a prefix by itself. Spelled one after another the instructions are the bytes.
 pub fn disassemble(alloc: Global, bytes: &[u8]) -> Result<Vec<Instruction>, AllocError>
     ensures { IfOk result (λ found. bytes_of_all found.items ≡ bytes.now) }
 {

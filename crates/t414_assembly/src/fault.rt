@@ -12,7 +12,7 @@ use thiserror::Error;
 // The most bytes of a word that a fault shows.
 const MOST_SHOWN: usize = 40;
 
-/// What was expected in place of what stands in a text. The texts begin with the numbers of the faults.
+/// What was expected instead of what is in a text. What is shown of it begins with the number of the fault.
 #[derive(Clone, Copy)]
 pub enum Expected {
     Text,
@@ -85,7 +85,7 @@ impl fmt::Display for Expected {
 pub struct Mismatch<'a> {
     pub expected: Expected,
     pub left: usize,
-    /// What helps, if what stands there doesn't show it.
+    /// What helps, if what is there doesn't show it.
     pub hint: Option<Hint<'a>>,
 }
 
@@ -119,7 +119,7 @@ pub enum TextFault {
     Memory(#[from(alloc)] AllocError),
 }
 
-/// As it is told.
+/// As it is shown.
 impl fmt::Debug for TextFault {
     fn fmt<W: fmt::Write>(&self, f: &mut fmt::Formatter<W>) -> fmt::Result {
         fmt::Display::fmt(self, f)
@@ -171,7 +171,7 @@ pub fn fault_before(
     }
 }
 
-// The number of the character behind these.
+// The number of the character after these bytes, from 1.
 fn column_behind(text: &[u8]) -> u64 {
     let mut column: u64 = 1;
     for byte in text {
@@ -235,7 +235,7 @@ fn first_word(text: &[u8]) -> &str {
     std::str::from_utf8(text.get(..end).unwrap_or(text)).unwrap_or("")
 }
 
-// How many bytes of a text stand before what ends a word, its first one among them.
+// How many bytes of a text come before the one that ends its first word. Its first byte never ends it.
 fn length_of_word(text: &[u8]) -> usize {
     for (place, byte) in text.iter().enumerate() {
         if place > 0 && ends_word(place, *byte) {
@@ -245,7 +245,7 @@ fn length_of_word(text: &[u8]) -> usize {
     text.len()
 }
 
-// Whether a byte that stands behind so many of a word isn't shown with them.
+// Whether the byte after the first `place` bytes of a word isn't shown with them.
 fn ends_word(place: usize, byte: u8) -> bool {
     matches!(byte, b' ' | b'\t' | b',' | b'\'' | b'"')
         || (place >= MOST_SHOWN && byte & 0xc0 != 0x80)

@@ -21,7 +21,7 @@ pub struct FaultList {
     pub has_more: bool,
 }
 
-/// One line a fault, and a last one if more lines are wrong, without a line end behind it.
+/// One line for each fault, and one more if more lines are wrong. The last of them has no line end.
 impl fmt::Display for FaultList {
     fn fmt<W: fmt::Write>(&self, f: &mut fmt::Formatter<W>) -> fmt::Result {
         for (place, fault) in self.faults.iter().enumerate() {
@@ -62,7 +62,7 @@ impl From<AllocError> for ProgramFault {
     }
 }
 
-/// The faults of the lines of which each has what is wrong with it, if anything is.
+/// The faults of the lines, up to `MOST_FAULTS`. `mismatches` has what is wrong with each line, if anything is.
 pub fn first_faults(
     alloc: Global,
     source: &[NumberedLine<'_>],
@@ -90,7 +90,7 @@ pub fn first_faults(
     })
 }
 
-// What is wrong with the line of this index, from 0; nothing behind the last.
+// What is wrong with the line of this index, from 0; nothing after the last line.
 fn mismatch_at<'a>(mismatches: &[Option<Mismatch<'a>>], index: usize) -> Option<Mismatch<'a>>
     ensures { result ≡ slice_index_or mismatches.now index None }
 {

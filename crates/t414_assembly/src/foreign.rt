@@ -1,6 +1,6 @@
 //! Words of other assemblers and of languages, and what is written here in their place.
 
-/// What is written here in place of a word of another assembler.
+/// What is written here instead of a word of another assembler.
 #[derive(Clone, Copy)]
 pub enum Advice {
     Moving,
@@ -197,7 +197,7 @@ const FOREIGN: [(&str, Advice); 138] = [
     ("begin", Advice::Speaking),
 ];
 
-/// What is written in place of a word in either case, if it is a word of another assembler or of a language.
+/// What is written here instead of a word, in small letters or capitals, if it is one of another assembler or of a language.
 pub fn advice_on(word: &str) -> Option<Advice> {
     for (foreign, advice) in &FOREIGN {
         if foreign.eq_ignore_ascii_case(word) {

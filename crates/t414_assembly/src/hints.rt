@@ -19,19 +19,19 @@ pub enum Hint<'a> {
     LowerCase(&'static str),
     /// The name of an instruction or a directive that is mistyped.
     Nearest(&'static str),
-    /// What is written here in place of a word of another assembler.
+    /// What is written here instead of a word of another assembler.
     Foreign(Advice),
     /// An operation that the processor leaves out.
     Omitted(Omission),
     /// An operation that takes no operand.
     NoOperand(&'a str),
-    /// Where the colon of a label stands.
+    /// Where the colon of a label is.
     Colon,
     /// How many labels a line has.
     OneLabel,
     /// How a number gets a name.
     Naming,
-    /// What stands between names.
+    /// What is between names.
     Blanks,
     /// The value of a sum.
     Value(u32),
@@ -80,7 +80,7 @@ impl<'a> Hint<'a> {
         }
     }
 
-    // What is said behind its name or number.
+    // What is said after its name or number.
     fn ending(self) -> &'static str {
         match self {
             Hint::Nearest(_) => "?",

@@ -1,4 +1,4 @@
-//! Where the statements of a program stand, and its bytes.
+//! Where the statements of a program are, and its bytes.
 ghost use Rattle.std.specs.Prelude.{◌≡◌, ◌<◌, ◌≤◌, ◌+◌, ℕ, length, sum, slice_index, slice_get, Some, None, All, IfOk, IfSome, MatchOption};
 ghost use Rattle.t414_decode.specs.declared.instruction.Function.{Function};
 ghost use Rattle.t414_assembly.specs.declared.statement.Statement.{Statement};
@@ -14,7 +14,7 @@ use std::alloc::{AllocError, AllocFailed, Global};
 pub struct Image {
     /// The bytes of all statements.
     pub bytes: Vec<u8>,
-    /// How many bytes stand before each place.
+    /// How many bytes come before each place.
     pub starts: Vec<u32>,
 }
 
@@ -38,8 +38,8 @@ impl<T: Drop> From<AllocFailed<T>> for LayoutFault {
     }
 }
 
-/// The bytes of a program whose first byte stands at `origin`. Instructions begin with one byte each, and grow until
-/// nothing changes.
+/// The bytes of a program whose first byte has the address `origin`. Instructions begin with one byte each, and grow
+/// until nothing changes.
 ///
 /// `TooLong` if there are more than `MOST_CODE` bytes, `NoMemory` if they can't be kept.
 pub fn lay_out(alloc: Global, origin: u32, statements: &[Statement]) -> Result<Image, LayoutFault>

@@ -10,10 +10,10 @@ use t414_decode::Function;
 /// Where the code of a boot begins.
 pub const BOOTED: u32 = 0x8000_0048;
 
-/// Where poked code begins, behind the boot that jumps to it.
+/// Where poked code begins, after the boot that jumps to it.
 pub const LOADED: u32 = 0x8000_0050;
 
-/// The code of a boot that moves the workspace to the first word behind `length` bytes at `LOADED`, and jumps to
+/// The code of a boot that moves the workspace to the first word after `length` bytes at `LOADED`, and jumps to
 /// `LOADED`. It has 8 bytes, so a boot leaves the workspace at `LOADED`, and it changes no register but these two.
 pub fn loader(alloc: Global, length: u32) -> Result<Vec<u8>, LayoutFault> {
     let words = length.min(MOST_CODE).div_ceil(4);

@@ -93,7 +93,7 @@ const OPERATIONS: [(&str, u32); 74] = [
     ("testhalterr", 0x59),
 ];
 
-// What stands on a line besides instructions.
+// What begins a statement besides the names of instructions.
 const OTHERS: [&str; 6] = ["byte", "word", "align", "space", "def", "local"];
 
 // The names of operations that the processor leaves out, of the T414 and of later transputers, but for those that begin

@@ -49,12 +49,12 @@ pub struct Reader<'a> {
     line: u64,
     next_local: u32,
     statements: Vec<Statement>,
-    // How many statements stand before each line.
+    // How many statements come before each line.
     lines: Vec<usize>,
     has_memory: bool,
 }
 
-// It is dropped by one call.
+// Dropped by hand, since a derived `Drop` makes callers prove the drop of each field.
 impl Drop for Reader<'_> {
     fn drop(self) {
         let Reader {
@@ -90,8 +90,8 @@ impl<'a> Reader<'a> {
         self.lines.clear();
     }
 
-    /// The statements that have been read, and how many of them stand before each line and behind the last; an error if
-    /// there was no memory for one of these, or for a name.
+    /// The statements that have been read, how many of them come before each line, and at the end how many there are in
+    /// all. It is an error if there was no memory for one of these, or for a name.
     pub fn finish(self) -> Result<(Vec<Statement>, Vec<usize>), AllocError> {
         let Reader {
             definitions: _,
@@ -110,7 +110,7 @@ impl<'a> Reader<'a> {
     }
 
     /// Reads a line, which has to be UTF-8: a label, if one is defined there, and a statement or several, or other names,
-    /// if they stand there.
+    /// if the line has them.
     pub fn read_line(&mut self, line: NumberedLine<'a>) -> Option<Mismatch<'a>> {
         self.line = line.number;
         self.has_memory &= self.lines.push(self.statements.len()).is_ok();
@@ -136,7 +136,7 @@ impl<'a> Reader<'a> {
         cursor.mismatch()
     }
 
-    // Defines a name, which stood before the last `left` bytes of its line.
+    // Defines a name. The last `left` bytes of its line begin with it.
     fn define(&mut self, name: &'a str, value: Named, left: usize, cursor: &mut Cursor<'a>) {
         if !self.gathers {
             return;
@@ -245,8 +245,8 @@ impl<'a> Reader<'a> {
         sum.number()
     }
 
-    // A sum without labels. While names are gathered one with names is 1, which is right wherever a number stands; and so is
-    // one with a name whose own line is wrong.
+    // A sum without labels. While names are gathered a sum with names is read as 1, which is right wherever a number can be.
+    // So is a sum with a name whose own line is wrong.
     fn read_constant(&self, cursor: &mut Cursor<'a>, expected: Expected) -> Sum<'a> {
         let sum = self.read_sum(cursor, expected);
         if sum.is_open() || self.gathers && sum.has_names() {
@@ -433,7 +433,7 @@ fn takes_address(function: Function) -> bool {
     )
 }
 
-// A label, if the sum has one, stands in place of what is expected.
+// If the sum has a label, something else is expected instead of it.
 fn refuse_label(cursor: &mut Cursor<'_>, sum: Sum<'_>, expected: Expected) {
     if let Some(label) = sum.label() {
         cursor.refuse_with(expected, label.left, Some(Hint::Unplaced));

@@ -20,7 +20,7 @@ pub fn hexadecimal(alloc: Global, bytes: &[u8]) -> Result<String, AllocError> {
     text.finish()
 }
 
-/// Each line of a text behind the address and the bytes of its statements, eight bytes a line.
+/// Each line of a text after the address and the bytes of its statements, eight bytes a line.
 pub fn listing(
     alloc: Global,
     origin: u32,
@@ -51,7 +51,7 @@ fn list_line(listed: &mut TextWriter, address: u32, bytes: &[u8], source: &str) 
     }
 }
 
-// A line of a text, if it isn't empty, behind so many bytes and blanks for those that a line could have besides.
+// A line of a text, if it isn't empty, after `count` bytes and blanks for those that a line could have besides.
 fn list_source(listed: &mut TextWriter, count: usize, source: &str) {
     if source.is_empty() {
         return;
@@ -63,7 +63,7 @@ fn list_source(listed: &mut TextWriter, count: usize, source: &str) {
     listed.push(source);
 }
 
-// An address and the bytes that stand there.
+// An address and the bytes that are there.
 fn list_bytes(listed: &mut TextWriter, address: u32, bytes: &[u8]) {
     listed.push_word(address);
     listed.push(" ");
@@ -77,7 +77,7 @@ fn list_bytes(listed: &mut TextWriter, address: u32, bytes: &[u8]) {
 }
 
 /// The lines of a script that load code longer than a boot takes: a poke for each word of the code from `LOADED` on, and
-/// a boot that moves the workspace behind the code and jumps to it.
+/// a boot that moves the workspace to the first word after the code and jumps to the code.
 pub fn pokes(
     alloc: Global,
     host: &str,

@@ -39,7 +39,7 @@ impl Spelling {
         self.count
     }
 
-    /// Puts a byte behind the others, of which there are fewer than 8.
+    /// Appends a byte to the others, which are fewer than 8.
     pub fn push(&mut self, byte: u8)
         requires { length (spelled self.old) < 8 }
         ensures { spelled self.new ≡ spelled self.old ++ byte ∷ [] }

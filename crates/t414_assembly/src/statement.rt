@@ -4,7 +4,8 @@ use t414_decode::Function;
 
 /// What a word or the operand of an instruction is. Each has a number, which is added modulo 2^32.
 ///
-/// A place is the number of the statement before which it stands; the place behind the last statement is their number.
+/// A place is the number of the statement that follows it, from 0. The place after the last statement is how many there
+/// are.
 #[derive(Clone, Copy)]
 pub enum Operand {
     /// A word of 32 bits.
@@ -15,7 +16,7 @@ pub enum Operand {
     Difference(usize, usize, u32),
 }
 
-/// What stands in a program.
+/// One part of a program.
 #[derive(Clone, Copy)]
 pub enum Statement {
     /// An instruction. A prefix by itself is one byte with the operand's lowest nibble.
@@ -24,8 +25,8 @@ pub enum Statement {
     Byte(u8),
     /// Four bytes, the least significant first.
     Word(Operand),
-    /// Zero bytes up to the next address that is a multiple of so many bytes.
+    /// Zero bytes up to the next address that is a multiple of this number of bytes.
     Align(u32),
-    /// So many zero bytes.
+    /// This number of zero bytes.
     Space(u32),
 }

@@ -2,7 +2,7 @@
 
 use crate::statement::Operand;
 
-/// A label that stands before the last `left` bytes of its line.
+/// A label in a sum. The last `left` bytes of its line begin with it.
 #[derive(Clone, Copy)]
 pub struct LabelTerm<'a> {
     pub name: &'a str,
@@ -18,9 +18,9 @@ pub struct Sum<'a> {
     subtracted: Option<LabelTerm<'a>>,
     // A label that is one too many.
     surplus: Option<LabelTerm<'a>>,
-    // How much of the line is left where a name stands that isn't defined yet.
+    // How many bytes of the line are left where a name begins that isn't defined yet.
     unknown: Option<usize>,
-    // Whether a name stands there whose number isn't known, since the line that defines it is wrong.
+    // Whether it has a name whose number isn't known, since the line that defines it is wrong.
     is_open: bool,
     has_names: bool,
     terms: usize,
@@ -93,7 +93,7 @@ impl<'a> Sum<'a> {
         self.added.or(self.subtracted)
     }
 
-    /// Where a name stands that isn't defined yet, if there is one.
+    /// How many bytes of the line are left where a name begins that isn't defined yet, if there is one.
     pub fn unknown(&self) -> Option<usize> {
         self.unknown
     }

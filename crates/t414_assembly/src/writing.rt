@@ -81,8 +81,8 @@ fn operand_at(origin: u32, starts: &[u32], next: usize, function: Function, oper
     }
 }
 
-/// Puts the bytes of the statement before the place `next` behind others, of which an instruction takes `room`. If it
-/// needs more, this tells how many, and nothing is put there.
+/// Appends the bytes of the statement after a place to others. An instruction takes `room` bytes. If it needs more, the
+/// answer is how many, and nothing is appended.
 // Seven clauses: five of the layout that is tried, and what is put or wanted.
 pub fn put_statement(
     bytes: &mut Vec<u8>,
@@ -123,7 +123,7 @@ pub fn put_statement(
     Ok(None)
 }
 
-// Puts the bytes of an instruction behind others, and before them pfix 0 until they are as many as its room.
+// Appends the bytes of an instruction to others, with as many pfix 0 before them as fill its room.
 fn put_padded(bytes: &mut Vec<u8>, room: u8, spelling: &Spelling) -> Result<(), AllocError>
     requires { length (spelled spelling.now) ≤ room }
     ensures { let short = spelled spelling.now in OnOk result
@@ -133,7 +133,7 @@ fn put_padded(bytes: &mut Vec<u8>, room: u8, spelling: &Spelling) -> Result<(), 
     bytes.extend_from_slice(spelling.as_slice())
 }
 
-// Puts a byte behind others, so many times.
+// Appends a byte to others, `count` times.
 fn put_copies(bytes: &mut Vec<u8>, count: u32, byte: u8) -> Result<(), AllocError>
     ensures { OnOk result (bytes.new.items ≡ bytes.old.items ++ replicate count byte) }
 {
