@@ -10,6 +10,6 @@ use Rattle.farm_program.specs.Users.{unasked}
 abbrev pub ArePassesOf : List DomainData → List UserPassValue → Type 0
 ArePassesOf plan passes = map unasked passes ≡ fresh_passes plan
 
--- the passes of a plan's users each list just the user's commands in his domain's journal
+-- the passes of a plan's users each list the user's commands in the journal of the user's domain, and nothing else
 abbrev pub AreAllListed : List DomainData → List ClosedDomain → Type 0
 AreAllListed plan closed = (passes : List UserPassValue) × ArePassesOf plan passes × AreListed closed passes

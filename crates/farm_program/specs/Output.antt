@@ -14,11 +14,11 @@ use Rattle.farm_service.specs.Closed.{AreDomainsOf, EachMergeRuns, AllAreRightly
 use Rattle.farm_input.specs.Requests.{IsTextOf}
 use Rattle.farm_program.specs.Screens.{AreScreens}
 
--- a farm that holds one domain alone answers just so from its opening
+-- a farm that holds one domain alone gives exactly these answers from its opening on
 abbrev pub IsAnsweredAlone : PartData → List AnsweredCall → Type 0
 IsAnsweredAlone part history = (s : State) × IsHistory part history s
 
--- so is the history of each domain of the plan
+-- so it is with the history of each domain of the plan
 abbrev pub AreAnsweredAlone : List DomainData → List ClosedDomain → Type 0
 AreAnsweredAlone plan closed =
     (domain : ℕ) (d : DomainData) (c : ClosedDomain) → slice_get plan domain ≡ Some d
@@ -26,8 +26,8 @@ AreAnsweredAlone plan closed =
 
 -- a text asks for this output. There is a history for each domain of its plan, which a farm that holds this domain
 -- alone answers; in it users asked for commands, and the farm itself for Steps and Moves; any merge of them is a run of
--- the whole farm. Each user has a screen, of his own lines over his own commands in the history of his domain; and the
--- output is the screens, one after another
+-- the whole farm. Each user has a screen, of the user's own lines over the user's own commands in the history of the
+-- user's domain; and the output is the screens, one after another
 pub record IsOutput (text out : List ℕ) : Type 0 where
   pub plan : List DomainData
   pub asked : List ScriptLine
@@ -41,7 +41,7 @@ pub record IsOutput (text out : List ℕ) : Type 0 where
   pub shown : AreScreens plan asked closed screens
   pub whole : out ≡ concat screens
 
--- standard output gains just such an output
+-- standard output gains such an output, and nothing else
 abbrev pub Prints : List ℕ → Option (List ℕ) → Option (List ℕ) → Type 0
 Prints text before after = (out : List ℕ) × IsOutput text out × Appends before after out
 

@@ -11,8 +11,8 @@ use Rattle.line_answers.specs.Lines.{AreAnsweredLines}
 use Rattle.farm_input.specs.Names.{all_names}
 use Rattle.farm_program.specs.Users.{commands_at, session_of}
 
--- the screen of a user: the output lines of his lines, over his own commands in the history of his domain. A line is
--- refused for a full journal only if this history has as many events as the domain's limit
+-- the screen of a user: the output lines of the user's lines, over the user's own commands in the history of the user's
+-- domain. A line is refused for a full journal only if this history has as many events as the domain's limit
 abbrev pub IsScreen : List DomainData → List ClosedDomain → UserPassValue → List ℕ → List Command → List ℕ
     → Type 0
 IsScreen plan closed pass name commands screen =

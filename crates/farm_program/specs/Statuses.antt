@@ -9,7 +9,7 @@ abbrev pub EndsByStatus : FarmFailure → ℕ → Option (List ℕ) → Option (
 EndsByStatus failure status before after =
     (stderr_written : Bool) × EndsBy failure (record { status = status; stderr_written = stderr_written }) before after
 
--- words end a run, with this status, whether standard error took all that is told there or a beginning of it
+-- words end a run, with this status, whether standard error took all that is written there or a beginning of it
 abbrev pub WordsGiveStatus : List (List ℕ) → ℕ → Option (List ℕ) → Option (List ℕ) → Option (List ℕ)
     → Option (List ℕ)
     → Type 0

@@ -22,7 +22,7 @@ session_of plan pass = record { plan = plan; pass = pass }
 abbrev pub unasked : UserPassValue → UserPassValue
 unasked pass = fresh_pass pass.domain pass.user
 
--- the users of a plan, in its order, each with his pass and with his lines of the script; no line is of anybody else.
+-- the users of a plan, in its order, each with their pass and with their lines of the script; no line is of anybody else.
 -- All settle by this many Steps
 pub record AreUsersOf (plan : List DomainData) (lines : List ScriptLine) (steps : ℕ) (users : List User)
     : Type 0 where
@@ -33,8 +33,8 @@ pub record AreUsersOf (plan : List DomainData) (lines : List ScriptLine) (steps 
   pub nobody_else : All (λ l. l.user < length users) lines
   pub quantum : All (λ u. u.quantum.steps ≡ steps) users
 
--- this is what the user of this name and pass leaves, whose lines were answered: his list gained their events, and his
--- screen shows their output lines
+-- this is what the user of this name and pass leaves, whose lines were answered: the user's list gained the events of
+-- the lines, and the user's screen shows their output lines
 abbrev pub IsLeftBy : List DomainData → UserPassValue → List ℕ → List Command → UserEnd → Type 0
 IsLeftBy plan pass name commands end =
     AreAnswered name commands (session_of plan pass) (session_of plan end.pass) (string_bytes end.screen)

@@ -18,7 +18,7 @@ use std::alloc::Global;
 use std::sync::Wait;
 use std::thread::Threads;
 
-/// What the users leave behind, in their order.
+/// What the users leave, in their order.
 #[derive(Drop)]
 struct UsersEnd {
     /// Their passes.
@@ -79,7 +79,7 @@ fn close<R: Wait>(
 }
 
 /// Runs the lines of a script on a service of the plan, closes the service with the passes of all users, and gives
-/// what is left of it and the output lines of each user. So what users were told is what the journals hold.
+/// what is left of it and the output lines of each user. So what users were answered is what the journals hold.
 // Seven clauses: what is asked for and whose lines there are, and what is left of domains, runs, users, calls and screens.
 pub fn run_script<R: Threads + Wait + Sync>(
     rt: &R,

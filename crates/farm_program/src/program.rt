@@ -15,8 +15,8 @@ use std::io::{Read, Write};
 use std::sync::Wait;
 use std::thread::Threads;
 
-/// Runs the program over the words of its command line, of which the first is its name, its standard input and its two
-/// outputs. The answer is the status of the process.
+/// Runs the program over the words of its command line, its standard input and its two outputs. The first word is the
+/// program's name. The answer is the status of the process.
 ///
 /// If the words give settings, a plan and a script are read to the end of the input, the script is run on a farm of the plan,
 /// and a line is written for each of its lines. The status is 0 if all is written, 3 if the plan is refused, 4 if a line of the
@@ -24,8 +24,9 @@ use std::thread::Threads;
 /// output, for 6 nothing or a beginning of the lines; for all but 0 a text goes to the errors, or a beginning of it if a write
 /// failed.
 ///
-/// Else the input isn't read: the status is 2 if the words are refused, and 0 behind the text of `--help`.
-// Seven clauses: what is printed and told as in `answer`, and how a run ends and what it leaves alone that isn't to answer.
+/// Else the input isn't read: the status is 2 if the words are refused, and 0 after the text of `--help`.
+// Seven clauses: what goes to the output and to the errors as in `answer`, and how a run ends and what it leaves alone if it
+// isn't to answer.
 pub fn run<R: Threads + Wait + Sync, S: AsStr, I: Read, W: Write, E: Write>(
     rt: &R,
     alloc: Global,

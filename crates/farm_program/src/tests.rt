@@ -31,7 +31,7 @@ ann config badcommand
 ann collect 0 -
 ";
 
-// A reader that gives one byte of a text at a time, and fails after so many reads.
+// A reader that gives one byte of a text at a time, and fails after `reads` reads.
 #[derive(Drop)]
 struct Source<'a> {
     rest: &'a [u8],
@@ -55,7 +55,7 @@ impl Read for Source<'_> {
     }
 }
 
-// A writer that takes one byte at a time, and fails behind so many.
+// A writer that takes one byte at a time, and fails after `room` bytes.
 #[derive(Drop)]
 struct Sink {
     taken: Vec<u8>,
@@ -78,7 +78,7 @@ impl Write for Sink {
     }
 }
 
-// After how many reads, and behind how many bytes, the streams of a run fail.
+// After how many reads, and after how many written bytes, the streams of a run fail.
 #[derive(Clone, Copy)]
 struct Ends {
     reads: usize,
@@ -172,7 +172,7 @@ fn streams_that_fail_end_a_run(rt: HostRuntime) {
         let begun = output.get(..room).unwrap_or(b"");
         expect_run(&rt, alloc, TEXT, ends, 6, [begun, b"io\n"]);
     }
-    // A plan without a field is fault 2. The status stays if it can't be told.
+    // A plan without a field is fault 2. The status stays if the fault can't be written.
     for room in 0..=8 {
         let ends = Ends {
             errors: room,

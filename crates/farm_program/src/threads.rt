@@ -19,7 +19,7 @@ use std::sync::Wait;
 use std::thread;
 use std::thread::{Promise, PromisedHandle, Scope, Threads};
 
-// What the thread of a user promises: unless it is out of memory, his lines were answered.
+// What the thread of a user promises: unless it is out of memory, the user's lines were answered.
 #[derive(Drop)]
 struct UserPromise<'a> {
     user: Snapshot<User<'a>>,
@@ -31,7 +31,7 @@ impl<'a> Promise<Result<UserEnd, NoMemory>> for UserPromise<'a> {
 
 type UserThread<'a> = PromisedHandle<Result<UserEnd, NoMemory>, UserPromise<'a>>;
 
-// What the thread of a worker promises: unless it is out of memory, his pass is what it was.
+// What the thread of a worker promises: unless it is out of memory, the worker's pass is what it was.
 #[derive(Drop)]
 struct WorkerPromise {
     pass: Snapshot<WorkerPass>,
@@ -269,7 +269,7 @@ fn run_in<'s, E, R: Threads + Wait + Sync>(
     Ok(ThreadEnds { workers, users })
 }
 
-/// Runs the lines of a script on a service: all users, each in a thread of his own, and beside them as many workers as the
+/// Runs the lines of a script on a service: all users, each in a thread of their own, and beside them as many workers as the
 /// settings say, each in one too. When the last user has ended the workers are stopped.
 ///
 /// # Errors

@@ -1,4 +1,4 @@
-//! Users at a service, each in a session of his own, and what they are shown.
+//! Users at a service, each in a session of their own, and what they are shown.
 ghost use Rattle.std.specs.Prelude.{◌≡◌, ◌<◌, length, map, All, IfOk};
 ghost use Rattle.farm_service.specs.Passes.{fresh_passes};
 ghost use Rattle.farm_input.specs.Names.{all_names};
@@ -16,24 +16,24 @@ use std::sync::Wait;
 pub struct User<'a> {
     /// The service.
     pub service: &'a Service,
-    /// His pass.
+    /// The user's pass.
     pub pass: UserPass,
-    /// His name in the plan.
+    /// The user's name in the plan.
     pub name: &'a str,
-    /// His place among all users, in the order of the plan, from 0 on.
+    /// The user's place among all users, in the order of the plan, from 0 on.
     pub place: usize,
-    /// The lines of the script, of which his are those of his place.
+    /// The lines of the script. Those with the user's place are the user's.
     pub lines: &'a [ScriptLine],
-    /// By how many Steps at a time he settles.
+    /// By how many Steps at a time the user settles.
     pub quantum: Quantum,
 }
 
 /// What a user leaves whose lines were answered.
 #[derive(Drop)]
 pub struct UserEnd {
-    /// His pass.
+    /// The user's pass.
     pub pass: UserPass,
-    /// His output lines.
+    /// The user's output lines.
     pub screen: String,
 }
 
@@ -50,7 +50,7 @@ fn commands_at(alloc: Global, lines: &[ScriptLine], place: usize) -> Result<Vec<
     Ok(commands)
 }
 
-/// The users of a service, in the order of its plan, each with his pass and his lines of a script.
+/// The users of a service, in the order of its plan, each with their pass and their lines of a script.
 pub fn users_of<'a>(
     alloc: Global,
     service: &'a Service,
@@ -79,11 +79,11 @@ pub fn users_of<'a>(
 }
 
 impl User<'_> {
-    /// Answers his lines of the script in a session of his own, in their order.
+    /// Answers the user's lines of the script in one session, in their order.
     ///
     /// # Errors
     ///
-    /// `NoMemory` if there was no memory for all that he did. He stopped there.
+    /// `NoMemory` if there was no memory for all that the user did. The user stopped there.
     pub fn run<R: Wait>(self, rt: &R, alloc: Global) -> Result<UserEnd, NoMemory>
         ensures { IfOk result (HasAnswered self.entry) }
     {
