@@ -7,18 +7,18 @@ use std::fmt;
 /// What helps where a word is wrong.
 #[derive(Clone, Copy)]
 pub enum WordHint {
-    /// Words stand between single blanks, and a tab is none.
+    /// Single blanks separate words, and a tab is no blank.
     Tab,
-    /// Words stand between single blanks.
+    /// Single blanks separate words.
     Blank,
     /// Only one carriage return at the end of a line is left out.
     CarriageReturn,
     Semicolon,
-    /// The answer that a line expects stands behind ` = `.
+    /// The answer that a line expects comes after ` = `.
     Answer,
-    /// `0x` or `#` stands before digits.
+    /// `0x` or `#` comes before digits, where the digits alone are wanted.
     Prefix,
-    /// `0x` stands in place of `#`.
+    /// `0x` is written instead of `#`.
     NumberSign,
     Sign,
     /// A byte has two digits.
@@ -33,11 +33,11 @@ pub enum WordHint {
     DomainFirst,
     /// The word is a command of a script for `farm`.
     ScriptCommand,
-    /// Only the farm asks for so many Steps in a line.
+    /// Only a line in which the farm asks for Steps of one node may ask that often.
     FewerTimes,
-    /// A state of a link stands behind `link` and its number.
+    /// A state of a link comes after `link` and its number.
     LinkFirst,
-    /// A remark stands on a line of its own.
+    /// A remark is on a line of its own.
     Remark,
     /// The word is an operation of these, which this processor leaves out.
     LeftOut(OperationGroup),
@@ -125,7 +125,7 @@ impl fmt::Display for WordHint {
 }
 
 impl WordHint {
-    /// What helps where this word stands in place of what is wanted.
+    /// What helps where this word is found instead of what is wanted.
     pub fn of(word: &str, wanted: Wanted) -> Option<WordHint> {
         if word.is_empty() {
             return Some(WordHint::Blank);
@@ -140,7 +140,7 @@ impl WordHint {
     }
 }
 
-// What helps where a character stands in a word that stands in none.
+// What helps where a word has a character that no word has.
 fn hint_of_character(word: &str) -> Option<WordHint> {
     if word.contains("\t") {
         Some(WordHint::Tab)
@@ -189,7 +189,7 @@ fn hint_of_nearest(word: &str, names: &[&'static str]) -> Option<WordHint> {
     }
 }
 
-// What helps where a number should stand.
+// What helps where a number should be.
 fn hint_of_digits(word: &[u8], form: WordForm) -> Option<WordHint> {
     if let WordForm::Operand = form {
         return hint_if(word.starts_with(b"0x"), WordHint::NumberSign);
@@ -253,7 +253,7 @@ fn has_letter(word: &[u8]) -> bool {
     false
 }
 
-// What may stand in a line in place of a domain's number.
+// What a line may have instead of a domain's number.
 const ALONE: [&str; 2] = ["words", "reopen"];
 
 // What helps where a line should begin with a domain's number.

@@ -1,5 +1,5 @@
-//! What is told of wrong lines of texts: where they are wrong, what stands there, what is wanted and what helps; and the lines
-//! of a text with their numbers.
+//! What is said of wrong lines of texts: where they are wrong, what is there, what is wanted and what helps; and the lines of
+//! a text with their numbers.
 #![tactic(auto)]
 
 mod hint;

@@ -49,7 +49,7 @@ impl fmt::Display for ShownWord {
     }
 }
 
-/// What stands where something else is wanted.
+/// What is found where something else is wanted.
 #[derive(Clone, Copy)]
 pub enum MetText {
     Word(ShownWord),
@@ -83,7 +83,7 @@ pub struct WordMistake {
 }
 
 impl WordMistake {
-    /// Something else is wanted in place of a text that begins at this column.
+    /// Something else is wanted instead of a text that begins at this column.
     pub fn of_text(column: u64, text: &str, wanted: Wanted) -> WordMistake {
         let met = if text.is_empty() {
             MetText::End
@@ -99,7 +99,7 @@ impl WordMistake {
     }
 }
 
-/// As it is told.
+/// As it is shown.
 impl fmt::Debug for WordMistake {
     fn fmt<W: fmt::Write>(&self, f: &mut fmt::Formatter<W>) -> fmt::Result {
         fmt::Display::fmt(self, f)
@@ -136,7 +136,7 @@ fn is_first_byte(byte: u8) -> bool
     !(127 < byte && byte < 192)
 }
 
-/// The number of the character that begins behind so many bytes of a line, from 1.
+/// The number, from 1, of the character that begins after the first `start` bytes of a line.
 pub fn column_at(line: &[u8], start: usize) -> u64
     ensures { result ≡ column_of line.now start }
 {

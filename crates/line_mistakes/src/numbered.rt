@@ -14,7 +14,7 @@ pub struct NumberedLine<'a> {
     pub text: &'a [u8],
 }
 
-/// All lines of a text, in their order. Behind its last line feed stands a line only if it isn't empty.
+/// All lines of a text, in their order. What follows its last line feed is a line only if it isn't empty.
 pub fn numbered_lines<'a>(
     alloc: Global,
     text: &'a [u8],

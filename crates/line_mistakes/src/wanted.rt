@@ -107,7 +107,7 @@ pub enum WordForm {
     TwoDigitsOrNone,
     /// As `@farm`, or as `@` and a number.
     Asker,
-    /// As it stands just once in a plan.
+    /// As a text that is in a plan exactly once.
     Once,
     /// As an operand of the assembler.
     Operand,
@@ -171,7 +171,7 @@ fn write_names<W: fmt::Write>(f: &mut fmt::Formatter<W>, names: &[&str]) -> fmt:
     Ok(())
 }
 
-// What is written before the name at a place of so many.
+// What is written before the name at this place of `count` names.
 fn before_name(place: usize, count: usize) -> &'static str {
     if place == 0 {
         ""
