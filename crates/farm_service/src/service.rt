@@ -62,7 +62,7 @@ pub struct Service {
     room: Room,
     // The domains whose nodes and packets rest until the domain is restarted, since there was no memory.
     halted: Vec<AtomicBool>,
-    // The domains of which it was noted that they rest.
+    // The domains that were noted to rest.
     noted: Vec<AtomicBool>,
     // Which bursts are to be done next. Nobody relies on it: it spares bursts that would be stale, or too many.
     schedule: Schedule,

@@ -48,7 +48,7 @@ fn work_each<R: Threads + Wait + Sync, G: Gate + Sync>(
 }
 
 /// Notes in a service for how many threads the machine has cores, if the system says so. Workers for whom there is no core nap.
-/// [`work_all`] and [`run_users_and_workers`] do this. Who starts a thread for each worker himself does it before.
+/// [`work_all`] and [`run_users_and_workers`] do this. A caller that starts the workers' threads without them does it before.
 pub fn note_cores<R: Threads>(rt: &R, service: &Service) {
     if let Ok(cores) = thread::available_parallelism(rt) {
         service.schedule().note_cores(cores.get());
