@@ -14,7 +14,7 @@ use process_queue::NOT_PROCESS;
 use std::alloc::Global;
 use t414_step::{Cpu, Stepped};
 
-/// A link of a node that runs, and how many bytes of an output are behind the one that waits there.
+/// A link of a node that runs, and how many bytes of an output come after the one that waits there.
 #[derive(Clone, Copy)]
 pub struct Sender {
     node: u8,
@@ -233,7 +233,7 @@ fn note_packet(past: &mut Past, port: u8, packet: Option<Packet>, moved: Moved, 
     }
 }
 
-// Notes of which output a byte left.
+// Notes the output whose byte left.
 fn note_sender(past: &mut Past, sender: Option<Sender>, packet: Option<Packet>, moved: Moved) {
     if let (Some(Packet::Byte(_)), Some(Sender { node, link, behind })) = (packet, sender)
         && moved != Moved::Stayed

@@ -152,7 +152,7 @@ impl Scene<'_> {
         }
     }
 
-    // The output of which a byte came to a link last, and whose it is, if all its bytes came.
+    // The output whose byte was the last to come to a link, and the device that sent it, if all its bytes came.
     fn output_done(&mut self, node: u8, link: LinkNumber) -> Option<(Device, OutPast)> {
         let supply = supply_of(&mut self.moment, Device::Link { node, link });
         let Supply::Driven {

@@ -15,16 +15,16 @@ pub struct PortPast {
     pub acknowledge: Option<u64>,
 }
 
-/// The output of which a byte left a link last.
+/// The output whose byte was the last to leave a link.
 #[derive(Clone, Copy)]
 pub struct OutPast {
     /// How many bytes it has in all.
     pub whole: u32,
-    /// How many of them were behind the last one that left.
+    /// How many of them come after the last one that left.
     pub behind: u32,
 }
 
-/// How a process came to zeros in memory, each of which is `j 0`, through which it ran.
+/// How a process came to zeros in memory, through which it ran. Each zero is `j 0`.
 #[derive(Clone, Copy)]
 pub struct ZerosPast {
     /// The registers before the last byte that it did outside of them.
@@ -44,7 +44,7 @@ pub struct FaultPast {
     pub registers: Option<Cpu>,
     /// The instruction byte.
     pub byte: Option<u8>,
-    /// How it came to the zeros, if it ran through zeros just before.
+    /// How it came to the zeros, if it ran through zeros right before the fault.
     pub zeros: Option<ZerosPast>,
 }
 
@@ -92,7 +92,7 @@ impl NodePast {
         }
     }
 
-    /// The output of which a byte left this link last, if one did since the last reset.
+    /// The output whose byte was the last to leave this link, if one did since the last reset.
     pub fn output(&self, link: LinkNumber) -> Option<OutPast> {
         self.outs
             .get(usize::from(number_of(link)))
@@ -156,7 +156,7 @@ impl Past {
         }
     }
 
-    /// A byte left a link of a node that runs, with this many of the same output behind it.
+    /// A byte left a link of a node that runs, and this many of the same output come after it.
     pub fn note_output(&mut self, node: u8, link: LinkNumber, behind: u32) {
         let whole = match self.node(node).output(link) {
             Some(before) if before.behind > 0 && before.behind - 1 == behind => before.whole,

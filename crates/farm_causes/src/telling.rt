@@ -452,7 +452,7 @@ fn is_at(waits: &LinkWaits, process: Process) -> bool {
     receives || sends || is_process(waits.watch, process)
 }
 
-// Writes how many bytes of an output come before the one under way, if that is known, and behind it.
+// Writes how many bytes of an output come before the one under way, if that is known, and how many come after it.
 fn push_rest(text: &mut TextWriter, wait: OutputWait) {
     let before = match wait.whole {
         Some(whole) => whole.saturating_sub(wait.behind).saturating_sub(1),

@@ -1,4 +1,4 @@
-//! The last events of a domain, which can be done again: what a node did just before a fault is seen by that alone.
+//! The last events of a domain, which can be done again. Only that shows what a node did right before a fault.
 
 use crate::line::SaidCall;
 use crate::past::ZerosPast;
@@ -8,7 +8,7 @@ use node_memory::{MEMORY_START, Memory};
 use std::alloc::Global;
 use t414_step::Cpu;
 
-/// Behind this much work a new part begins. A Step is 1, and an event is 64.
+/// After this much work a new part begins. A Step is 1, and an event is 64.
 const MOST_WORK: u64 = 1 << 20;
 
 /// No more Steps than this are done again.
@@ -17,7 +17,7 @@ const MOST_AGAIN: u64 = 1 << 25;
 /// What an event counts, beside Steps.
 const WORK_OF_AN_EVENT: u64 = 64;
 
-/// From this many zeros on that lie one behind the other a node is said to have run through them.
+/// How many zeros lie one after another at least, if a node is said to have run through them.
 const FEWEST_ZEROS: u32 = 8;
 
 /// The most bytes that a memory has.
@@ -30,7 +30,7 @@ struct TrailPart {
     work: u64,
 }
 
-// It is dropped by one call.
+// Dropped by hand, since a derived `Drop` makes callers prove the drop of each field.
 impl Drop for TrailPart {
     fn drop(self) {
         let TrailPart {
@@ -41,13 +41,13 @@ impl Drop for TrailPart {
     }
 }
 
-/// The last calls of a domain, in two parts that follow one another: of so much work at least, or all.
+/// The last calls of a domain, in two parts that follow one another. They have at least `MOST_WORK` in all, or are all calls.
 pub struct Trail {
     older: Option<TrailPart>,
     newer: Option<TrailPart>,
 }
 
-// It is dropped by one call.
+// Dropped by hand, since a derived `Drop` makes callers prove the drop of each field.
 impl Drop for Trail {
     fn drop(self) {
         let Trail { older: _, newer: _ } = self;
@@ -59,7 +59,7 @@ impl Drop for Trail {
 struct Search {
     node: u8,
     workspace: u32,
-    // How many Steps of the node are done at once first.
+    // How many of the node's next Steps are done in bursts. After them each Step is done by itself.
     skipped: u64,
     found: Option<ZerosPast>,
 }

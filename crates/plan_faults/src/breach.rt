@@ -134,7 +134,7 @@ fn write_wrong_memory(text: &mut TextWriter, domain: &DomainPlan) {
     }
 }
 
-// What stands on a virtual port: a host of a user, or a link of a node.
+// What is at a virtual port: a host of a user, or a link of a node.
 #[derive(Clone, Copy)]
 enum PlannedDevice {
     Host { user: usize, host: usize },
@@ -154,7 +154,7 @@ fn write_device(text: &mut TextWriter, device: PlannedDevice) {
     }
 }
 
-// A virtual port that a domain uses, and what stands on it.
+// A virtual port that a domain uses, and what is at it.
 #[derive(Clone, Copy)]
 struct Use {
     port: i64,
@@ -273,7 +273,7 @@ fn write_unwired_node(text: &mut TextWriter, domain: &DomainPlan) {
     }
 }
 
-// A user's name, and where it stands.
+// A user's name, and where it is in the plan.
 #[derive(Clone, Copy)]
 struct PlannedName<'a> {
     domain: usize,
@@ -327,7 +327,7 @@ fn write_name_twice(text: &mut TextWriter, names: &[PlannedName]) {
     }
 }
 
-// A range of ports, and where it stands.
+// A range of ports, and where it is in the plan.
 #[derive(Clone, Copy)]
 struct PlannedRange {
     domain: usize,

@@ -110,7 +110,7 @@ pub fn line_unread<'a>(
     }
 }
 
-// The line in which the byte of this place stands.
+// The line in which the byte of this place is.
 fn line_at(text: &[u8], place: usize) -> UnreadLine<'_> {
     let mut number: u64 = 1;
     let mut start: usize = 0;
@@ -157,7 +157,7 @@ pub fn misshapen(alloc: Global, text: &[u8]) -> Result<Option<String>, AllocErro
     }
 }
 
-// Where a table stands: the plan, a domain, or a user or a node of one.
+// Where a table is: the plan, a domain, or a user or a node of one.
 #[derive(Clone, Copy)]
 enum PlanPlace {
     Plan,
@@ -256,8 +256,8 @@ fn write_value_misfit(
     }
 }
 
-// Writes the first field that a table lacks, has of a wrong kind or has too much, if no misfit is written yet. In place of a
-// field that it lacks the one is written that is nearly it.
+// Writes the first field that a table lacks, has of a wrong kind or has too much, if no misfit is written yet. If the table
+// lacks a field and has an unknown one with nearly its name, the unknown one is written instead.
 fn write_table_misfit(
     misfit: &mut TextWriter,
     table: &Table,
