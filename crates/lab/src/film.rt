@@ -17,7 +17,8 @@ struct FilmedProgram {
     program: Program,
 }
 
-/// The page that shows a span of a record, with the lines of the programs that are named. Wrong words are told before a file is read.
+/// The page that shows a span of a record, with the lines of the programs that are named. Wrong words are reported before a
+/// file is read.
 pub fn print_film(rt: &HostRuntime, asked: &Showing) -> Result<String, LabFailure> {
     match read_programs(rt.alloc(), asked.programs.as_slice()) {
         Ok(programs) => print_record(rt, asked, programs.as_slice()),

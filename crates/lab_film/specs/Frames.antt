@@ -35,7 +35,7 @@ registers_in (Takes link task) = None
 registers_in (Answers link left word) = None
 registers_in (Halted fault) = None
 
--- the word that lies so far above the workspace
+-- the word at this offset above the workspace
 abbrev pub workspace_word : Node → ℕ → Option ℕ
 workspace_word n offset =
     option_and_then (λ s. word_read (word_at n.memory (s.workspace ⊕ offset))) (registers_in n.state)
@@ -48,7 +48,7 @@ queued m w = option_map (λ i. record { workspace = w; instruction = i }) (word_
 abbrev pub queued_first : List ℕ → Queue → Option Process
 queued_first m q = if q.front == not_process then None else queued m q.front
 
--- the process behind one in a queue
+-- the process after another one in a queue
 abbrev pub queued_behind : List ℕ → Queue → Process → Option Process
 queued_behind m q p =
     if p.workspace == q.back then None
@@ -58,7 +58,7 @@ queued_behind m q p =
 abbrev pub first_waiting : Node → Option Process
 first_waiting n = option_and_then (λ s. queued_first n.memory s.queue) (registers_in n.state)
 
--- the one behind another, if there are both
+-- the one after another, if there are both
 abbrev pub next_waiting : Node → Option Process → Option Process
 next_waiting n before =
     option_and_then (λ s. option_and_then (queued_behind n.memory s.queue) before) (registers_in n.state)
@@ -71,7 +71,7 @@ waiting_in n =
     let three = next_waiting n two in
     one ∷ two ∷ three ∷ next_waiting n three ∷ []
 
--- what is told of a node: what a look shows of it, what it is doing, eight words from its workspace on, the first
+-- what a frame shows of a node: what a look shows of it, what it is doing, eight words from its workspace on, the first
 -- processes that wait for the processor, and its links
 abbrev pub node_frame : Node → NodeFrame
 node_frame n = record {

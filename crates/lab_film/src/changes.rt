@@ -224,7 +224,7 @@ fn code_change(
     }
 }
 
-// What is told of the words from the workspace on of a node that runs.
+// What is written of the words from the workspace on of a node that runs.
 fn workspace_change(
     alloc: Global,
     known: &mut KnownCode,
@@ -261,9 +261,9 @@ fn waiting_change(
     Ok(Some(waiting))
 }
 
-// What is told of a link, in letters: s and the byte that waits to be sent, k if an acknowledge does, h and the byte in the buffer,
-// w if an acknowledge is awaited, d if one has come, i and how many bytes a process waits for, o and how many are to be sent behind
-// the one under way, v if an alternative waits.
+// What is written of a link, in letters: s and the byte that waits to be sent, k if an acknowledge does, h and the byte in the
+// buffer, w if an acknowledge is awaited, d if one has come, i and how many bytes a process waits for, o and how many are to be
+// sent after the one under way, v if an alternative waits.
 fn link_text(alloc: Global, link: Link) -> Result<String, NoMemory> {
     let mut text = TextWriter::new(alloc);
     if let Some(byte) = link.end.latch.byte {
@@ -293,7 +293,7 @@ fn link_text(alloc: Global, link: Link) -> Result<String, NoMemory> {
     text.finish()
 }
 
-// What is told of a node's link, if it wasn't as it is.
+// What is written of a node's link, if that has changed.
 fn link_change(alloc: Global, old: Option<Link>, new: Link) -> Result<Option<String>, NoMemory> {
     let before = match old {
         Some(old) => link_text(alloc, old)?,

@@ -157,7 +157,7 @@ fn queued_first(memory: &Memory, queue: Queue) -> Option<Process>
     }
 }
 
-// The process behind one in a queue.
+// The process after another one in a queue.
 fn queued_behind(memory: &Memory, queue: Queue, before: Process) -> Option<Process>
     ensures { result ≡ queued_behind memory.now queue before }
 {
@@ -180,7 +180,7 @@ fn first_waiting(node: &Node) -> Option<Process>
     }
 }
 
-// The process behind one that waits for the processor, if there are both.
+// The process after another one that waits for the processor, if there are both.
 fn next_waiting(node: &Node, before: Option<Process>) -> Option<Process>
     ensures { result ≡ next_waiting node.now before }
 {

@@ -30,7 +30,7 @@ struct SourceTold {
     text: String,
     #[serde(skip_serializing_if = "Option::is_none")]
     label: Option<String>,
-    /// How far the line begins behind its label.
+    /// How many bytes after its label the line begins, and 0 if it has none.
     behind: u32,
 }
 
