@@ -22,7 +22,7 @@ session_of plan pass = record { plan = plan; pass = pass }
 abbrev pub unasked : UserPassValue → UserPassValue
 unasked pass = fresh_pass pass.domain pass.user
 
--- the users of a plan, in its order, each with their pass and with their lines of the script; no line is of anybody else.
+-- the users of a plan, in its order, each with their pass and their lines of the script; no line is of anybody else.
 -- All settle by this many Steps
 pub record AreUsersOf (plan : List DomainData) (lines : List ScriptLine) (steps : ℕ) (users : List User)
     : Type 0 where
