@@ -72,8 +72,8 @@ fn answer_text<R: Threads + Wait + Sync, W: Write, E: Write>(
 /// The status is 0 if all is written, 3 if the plan is refused, 4 if a line of the script is, 5 if there is no memory or a thread
 /// can't be started, and 6 if a stream failed. For 3 to 5 nothing goes to the output, for 6 nothing or a beginning of the lines;
 /// for all but 0 a text goes to the errors.
-// Six clauses: which settings there are, what goes to the output and to the errors with status 0 and with another, and what may
-// be printed then.
+// Six clauses: which settings there are, what goes to the output and to the errors with status 0 and with another, and what
+// may be printed then.
 pub fn answer<R: Threads + Wait + Sync, I: Read, W: Write, E: Write>(
     rt: &R,
     alloc: Global,

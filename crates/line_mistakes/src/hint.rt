@@ -140,7 +140,7 @@ impl WordHint {
     }
 }
 
-// What helps where a word has a character that no word has.
+// What helps where a word has a character that can't be in a word.
 fn hint_of_character(word: &str) -> Option<WordHint> {
     if word.contains("\t") {
         Some(WordHint::Tab)

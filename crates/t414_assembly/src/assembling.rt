@@ -32,8 +32,8 @@ impl Assembly {
         code.get(first as usize..last as usize).unwrap_or(&[])
     }
 
-    /// How many bytes come before the line of this index, from 0. The index after the last line gives all bytes, and any
-    /// greater one gives 0.
+    /// How many bytes come before the line of this index, from 0. The index after the last line gives all bytes, and
+    /// any greater one gives 0.
     pub fn start_of_line(&self, index: usize) -> u32 {
         let place = self.lines.as_slice().get(index).copied().unwrap_or(0);
         self.image

@@ -4,8 +4,8 @@ use crate::fault::{Expected, Mismatch};
 use crate::hints::Hint;
 use line_words::{decimal_number, hexadecimal_word};
 
-/// What is left of a line. Once something else is expected than what is there, nothing is left, and `mismatch` says what
-/// was expected first. What is read until then is right, and what is read after that is 0 or empty.
+/// What is left of a line. Once something else is expected than what is there, nothing is left, and `mismatch` says
+/// what was expected first. What is read until then is right, and what is read after that is 0 or empty.
 #[derive(Clone, Copy)]
 pub struct Cursor<'a> {
     rest: &'a [u8],
@@ -98,13 +98,13 @@ impl<'a> Cursor<'a> {
         std::str::from_utf8(head).unwrap_or("")
     }
 
-    /// The name that begins here, empty if there is none: a letter or `_`, and then letters, digits, `_` and `.`.
+    /// Takes the name that begins here, empty if there is none: a letter or `_`, and then letters, digits, `_` and `.`.
     pub fn take_name(&mut self) -> &'a str {
         self.take_text(name_length(self.rest))
     }
 
-    /// A number whose minus, if it has one, was taken before: a decimal number, one to eight hexadecimal digits after `#`,
-    /// or a character between `'`.
+    /// A number whose minus, if it has one, was taken before: a decimal number, one to eight hexadecimal digits
+    /// after `#`, or a character between `'`.
     pub fn take_number(&mut self, is_negative: bool) -> u32 {
         if self.take_if(b'#') {
             self.take_hexadecimal()

@@ -21,7 +21,7 @@ pub struct FaultList {
     pub has_more: bool,
 }
 
-/// One line for each fault, and one more if more lines are wrong. The last of them has no line end.
+/// One line for each fault, and one more if more lines are wrong. There is no line end after the last of them.
 impl fmt::Display for FaultList {
     fn fmt<W: fmt::Write>(&self, f: &mut fmt::Formatter<W>) -> fmt::Result {
         for (place, fault) in self.faults.iter().enumerate() {

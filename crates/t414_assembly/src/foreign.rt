@@ -197,7 +197,8 @@ const FOREIGN: [(&str, Advice); 138] = [
     ("begin", Advice::Speaking),
 ];
 
-/// What is written here instead of a word, in small letters or capitals, if it is one of another assembler or of a language.
+/// What is written here instead of a word of another assembler or of a language, if it is one. Small letters and
+/// capitals don't differ.
 pub fn advice_on(word: &str) -> Option<Advice> {
     for (foreign, advice) in &FOREIGN {
         if foreign.eq_ignore_ascii_case(word) {

@@ -230,7 +230,7 @@ fn operation_in_lower_case(name: &str) -> Option<&'static str> {
     None
 }
 
-// The first name of some that is so near to a word.
+// The first of some names that is near to a word, with at most `slips` slips.
 fn name_near(word: &str, names: &[&'static str], slips: u8) -> Option<&'static str> {
     for name in names {
         if is_near(word, *name, slips) {
@@ -250,7 +250,7 @@ fn operation_near(word: &str, slips: u8) -> Option<&'static str> {
     None
 }
 
-// The first name of an instruction that is so near to a word.
+// The first name of an instruction that is near to a word, in the same way.
 fn instruction_near(word: &str, slips: u8) -> Option<&'static str> {
     name_near(word, &FUNCTIONS, slips).or(operation_near(word, slips))
 }

@@ -4,8 +4,8 @@ use t414_decode::Function;
 
 /// What a word or the operand of an instruction is. Each has a number, which is added modulo 2^32.
 ///
-/// A place is the number of the statement that follows it, from 0. The place after the last statement is how many there
-/// are.
+/// A place is the number of the statement that follows it, from 0. The place after the last statement is the number of
+/// all statements.
 #[derive(Clone, Copy)]
 pub enum Operand {
     /// A word of 32 bits.

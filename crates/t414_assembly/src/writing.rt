@@ -81,8 +81,8 @@ fn operand_at(origin: u32, starts: &[u32], next: usize, function: Function, oper
     }
 }
 
-/// Appends the bytes of the statement after a place to others. An instruction takes `room` bytes. If it needs more, the
-/// answer is how many, and nothing is appended.
+/// Appends the bytes of the statement after `place` to others. An instruction takes `room` bytes. If it needs more, the
+/// answer is how many it needs, and nothing is appended.
 // Seven clauses: five of the layout that is tried, and what is put or wanted.
 pub fn put_statement(
     bytes: &mut Vec<u8>,
