@@ -12,11 +12,11 @@ pub mod Ticket
 pub mod Commands
 pub mod Answers
 pub mod Marks
+pub mod Moments
 pub mod Peek
 pub mod Laws
 -- what only helps contracts
 pub mod Entries
 pub mod Numbers
 pub mod Routes
-pub mod Moments
 pub mod PortStates

@@ -1,6 +1,9 @@
 -- What the lines of a domain's users do to their sessions, and how they are answered.
 use Rattle.std.specs.Prelude.{string_bytes, ◌≡◌, ◌≤◌, ◌⊎◌, ℕ, Bool, true, false, List, [], Option, Some, None, IfSome, length, map, slice_get, slice_set, codes, if◌then◌else◌}
 use Rattle.std.specs.Borrow.{Bor}
+use Rattle.domain_core.specs.Domain.{DomainValue}
+use Rattle.farm_service.specs.declared.status.DomainStatus.{DomainStatus}
+use Rattle.farm_service.specs.Domains.{IsFound, IsStatusOf}
 use Rattle.farm_service.specs.Passes.{SessionValue}
 use Rattle.script_lines.specs.declared.command.Command.{Command}
 use Rattle.line_answers.specs.Sessions.{IsAnswered}
@@ -15,10 +18,10 @@ use Rattle.live_farm.specs.declared.letter.Matter.TheVariants as matter
 use Rattle.live_farm.specs.declared.record.RecordState.{RecordState}
 use Rattle.live_farm.specs.declared.record.RecordState.TheVariants as state
 use Rattle.live_farm.specs.declared.texts.LiveAnswer.{LiveAnswer}
-use Rattle.live_farm.specs.declared.texts.RestState.{RestState}
 use Rattle.live_farm.specs.declared.texts.Why.{Why}
 use Rattle.live_farm.specs.declared.texts.Why.TheVariants as why
-use Rattle.live_farm.specs.LiveTexts.{error_text, rest_text, restart_text, why_text, no_node_text, operator_restart_text}
+use Rattle.live_farm.specs.Whys.{IsToldOf}
+use Rattle.live_farm.specs.LiveTexts.{error_text, rest_text, rest_state_of, restart_text, why_text, no_node_text, operator_restart_text}
 
 -- a line of this user is answered by this text: his session gains what the line asked, and no other session changes
 pub record AnswersLine (before after : DomainUsers) (user : ℕ) (command : Command) (text : List ℕ) : Type 0 where
@@ -48,10 +51,16 @@ abbrev pub BeginsIf : Bool → DomainUsers → DomainUsers → Type 0
 BeginsIf true before after = AllBegin before after
 BeginsIf false before after = AllStay before after
 
--- a user is told whether his domain is at rest
+-- so it was with the domain of these users when it was looked at
+abbrev pub IsStatusHere : DomainUsers → DomainStatus → Type 0
+IsStatusHere group status =
+    (d : DomainValue) × IsFound group.service.now.plan group.domain d × IsStatusOf d status
+
+-- a user is told whether his domain is at rest, as its status says
 abbrev pub AnswersRest : DomainUsers → ℕ → List ℕ → Type 0
 AnswersRest group user text =
-    (name : Bor (List ℕ)) × (state : RestState) × IsNamedSo group user name × (text ≡ rest_text name.now state)
+    (name : Bor (List ℕ)) × (status : DomainStatus) × IsNamedSo group user name × IsStatusHere group status
+    × (text ≡ rest_text name.now (rest_state_of status))
 
 -- a user who is alone in his domain begins it anew; or he is told that only the operator may
 abbrev pub AnswersRestart : DomainUsers → DomainUsers → ℕ → Bool → List ℕ → Type 0
@@ -73,7 +82,7 @@ LacksNode group (Some node) name text =
 abbrev pub AnswersWhy : DomainUsers → ℕ → ℕ → Option ℕ → List ℕ → Type 0
 AnswersWhy group user number node text =
     (name : Bor (List ℕ)) × IsNamedSo group user name
-    × (((told : List ℕ) × (text ≡ why_text name.now told))
+    × (((told : List ℕ) × IsToldOf group.service.now.plan group.domain told × (text ≡ why_text name.now told))
     ⊎ (LacksNode group node name.now text ⊎ (text ≡ error_text name.now number why.Journal)))
 
 -- the domain of a user begins anew, as the operator asked in the line of this number; or nothing changes, and he is

@@ -1,6 +1,11 @@
 -- what must be believed
 pub mod LiveTexts
 pub mod WholeLines
+pub mod Whys
 pub mod Groups
+pub mod Fates
+pub mod Crews
+pub mod Closings
 -- what only helps contracts
+pub mod Mailboxes
 pub mod LiveStatuses

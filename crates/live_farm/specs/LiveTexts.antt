@@ -4,6 +4,7 @@ use Rattle.std.specs.Fmt.{decimal}
 use Rattle.std.specs.List.{flat_map}
 use Rattle.std.specs.Str.Lines.{lines}
 use Rattle.script_lines.specs.declared.fault.LineFault.TheVariants as fault
+use Rattle.farm_service.specs.declared.status.DomainStatus.{DomainStatus}
 use Rattle.live_farm.specs.declared.texts.RestState.{RestState}
 use Rattle.live_farm.specs.declared.texts.RestState.TheVariants as rest
 use Rattle.live_farm.specs.declared.texts.Why.{Why}
@@ -35,6 +36,10 @@ abbrev pub rest_word : RestState → List ℕ
 rest_word rest.Quiet = codes "quiet"
 rest_word rest.Busy = codes "busy"
 rest_word rest.Full = codes "full"
+
+-- a domain is quiet, or else its room is used up, or else it is busy
+abbrev pub rest_state_of : DomainStatus → RestState
+rest_state_of status = if status.is_quiet then rest.Quiet else (if status.room.rests then rest.Full else rest.Busy)
 
 -- so it is with a user's domain
 abbrev pub rest_text : List ℕ → RestState → List ℕ

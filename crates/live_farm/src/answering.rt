@@ -1,7 +1,9 @@
 //! What is answered to the users of a domain.
 ghost use Rattle.std.specs.Prelude.{◌≡◌, ◌<◌, true, false, length, map, IfOk, string_bytes};
 ghost use Rattle.farm_service.specs.Restarts.{begun_anew};
-ghost use Rattle.live_farm.specs.Groups.{AnswersLine, AnswersRest, AnswersRestart, AnswersWhy, AnswersOperator, AnswersLetter};
+ghost use Rattle.farm_service.specs.declared.status.DomainStatus.{DomainStatus as SpecStatus};
+ghost use Rattle.live_farm.specs.LiveTexts.{rest_state_of};
+ghost use Rattle.live_farm.specs.Groups.{IsStatusHere, AnswersLine, AnswersRest, AnswersRestart, AnswersWhy, AnswersOperator, AnswersLetter};
 
 use crate::causes::told_of;
 use crate::group::DomainUsers;
@@ -84,12 +86,13 @@ impl DomainUsers<'_> {
             .is_ok()
     }
 
-    // Whether the domain is at rest.
-    fn rest_state<R: Wait>(&self, rt: &R) -> RestState {
+    // Whether the domain is at rest. The plan has this domain, so it isn't refused.
+    fn rest_state<R: Wait>(&self, rt: &R) -> RestState
+        ensures { (status : SpecStatus) × IsStatusHere self.now status × (result ≡ rest_state_of status) }
+    {
         match self.service.status(rt, self.domain) {
-            Ok(status) if status.is_quiet => RestState::Quiet,
-            Ok(status) if status.room.rests => RestState::Full,
-            Ok(_) | Err(_) => RestState::Busy,
+            Ok(status) => RestState::of(status),
+            Err(_) => RestState::Busy,
         }
     }
 

@@ -1,11 +1,14 @@
 //! Why the nodes of a domain do no more than they do: what it answered is done again on a domain apart.
-ghost use Rattle.std.specs.Prelude.{◌<◌, IfOk, length};
+ghost use Rattle.std.specs.Prelude.{◌≡◌, ◌<◌, IfOk, length, string_bytes};
+ghost use Rattle.domain_core.specs.Domain.{DomainValue as SpecDomain};
+ghost use Rattle.farm_service.specs.Domains.{IsFound, IsStatusOf};
 ghost use Rattle.farm_causes.specs.Following.{IsReached};
+ghost use Rattle.live_farm.specs.Whys.{IsToldOf, after_text, full_text, moment_text, stop_text, used_text};
 
 use domain_core::{Entry, Mark, NoMemory};
 use farm_causes::laws::moments_go_on;
 use farm_causes::{FollowFault, Follower, explain_moment};
-use farm_service::{DomainStatus, RoomStatus, Service};
+use farm_service::{DomainStatus, Service};
 use plan_checker::AcceptedPlan;
 use record_keeping::PIECE;
 use std::alloc::Global;
@@ -117,50 +120,77 @@ impl Shadow {
         status: DomainStatus,
         node: Option<u8>,
     ) -> Result<String, FollowFault>
-        requires { IsReached service.now.plan domain self.old.follower }
+        requires reached { IsReached service.now.plan domain self.old.follower }
+        requires status { (d : SpecDomain) × IsFound service.now.plan domain d × IsStatusOf d status }
+        ensures { IfOk result (λ told. IsToldOf service.now.plan domain (string_bytes told)) }
     {
         self.follow_journal(rt, service, domain, status.recorded)?;
-        let room = service.room().bytes();
-        Ok(tell(alloc, &self.follower, status, room, node)?)
+        let causes = explain_moment(alloc, &self.follower, node)?;
+        let (room, done) = (service.room().bytes(), self.follower.recorded());
+        Ok(tell(alloc, status, room, done, causes.as_str())?)
     }
 }
 
-// What is told of a moment up to which so many events were recorded, when so many were.
+// Up to which event a domain was done again, of all that are recorded.
+fn tell_reach(alloc: Global, done: u64, recorded: u64) -> Result<String, NoMemory>
+    ensures { IfOk result (λ told. string_bytes told ≡ after_text done recorded) }
+{
+    if done < recorded {
+        let mut told = format!(in alloc; "after {done} of {recorded}")?;
+        told.push_str(" events: more aren't done again at once\n")?;
+        return Ok(told);
+    }
+    format!(in alloc; "after {done} events\n")
+}
+
+// That a domain does nothing more until it begins anew, if its journal is full.
+fn tell_full(alloc: Global, status: DomainStatus) -> Result<String, NoMemory>
+    ensures { IfOk result (λ told. string_bytes told ≡ full_text status) }
+{
+    let limit = status.limit;
+    format!(in alloc;
+        "the journal is full: {limit} events are recorded. Nothing more is done until restart begins the domain anew\n"
+    )
+}
+
+// The same, if its room is used up.
+fn tell_used(alloc: Global, status: DomainStatus, room: u64) -> Result<String, NoMemory>
+    ensures { IfOk result (λ told. string_bytes told ≡ used_text status room) }
+{
+    let bytes = status.room.bytes;
+    let mut told = format!(in alloc; "the domain rests: {bytes} of {room}")?;
+    told.push_str(
+        " bytes of its room are used. No Step and no Move is done until restart begins it anew\n",
+    )?;
+    Ok(told)
+}
+
+// The same, if that is so.
+fn tell_stop(alloc: Global, status: DomainStatus, room: u64) -> Result<String, NoMemory>
+    ensures { IfOk result (λ told. string_bytes told ≡ stop_text status room) }
+{
+    if status.recorded == status.limit {
+        tell_full(alloc, status)
+    } else if status.room.rests {
+        tell_used(alloc, status, room)
+    } else {
+        Ok(String::new(alloc))
+    }
+}
+
+// What is told of a domain after this many events, with the causes.
 fn tell(
     alloc: Global,
-    follower: &Follower,
     status: DomainStatus,
     room: u64,
-    node: Option<u8>,
-) -> Result<String, NoMemory> {
-    let recorded = status.recorded;
-    let done = follower.recorded();
-    let causes = explain_moment(alloc, follower, node)?;
-    let rest = tell_rest(alloc, status, room)?;
-    if done < recorded {
-        format!(in alloc;
-            "after {done} of {recorded} events: more aren't done again at once\n{rest}{causes}"
-        )
-    } else {
-        format!(in alloc; "after {done} events\n{rest}{causes}")
-    }
-}
-
-// Why a domain does nothing more until it begins anew, if that is so.
-fn tell_rest(alloc: Global, status: DomainStatus, room: u64) -> Result<String, NoMemory> {
-    let RoomStatus { bytes, rests } = status.room;
-    if status.recorded == status.limit {
-        let limit = status.limit;
-        return format!(in alloc;
-            "the journal is full: {limit} events are recorded. Nothing more is done until restart begins the domain anew\n"
-        );
-    }
-    if !rests {
-        return Ok(String::new(alloc));
-    }
-    format!(in alloc;
-        "the domain rests: {bytes} of {room} bytes of its room are used. No Step and no Move is done until restart begins it anew\n"
-    )
+    done: u64,
+    causes: &str,
+) -> Result<String, NoMemory>
+    ensures { IfOk result (λ told. string_bytes told ≡ moment_text status room done causes.now) }
+{
+    let reach = tell_reach(alloc, done, status.recorded)?;
+    let stop = tell_stop(alloc, status, room)?;
+    format!(in alloc; "{reach}{stop}{causes}")
 }
 
 /// Says why the nodes of a domain, or one of them, do no more than they do. The domain is asked nothing: what it answered up to now
@@ -175,7 +205,9 @@ pub(crate) fn told_of<R: Wait>(
     service: &Service,
     domain: u8,
     node: Option<u8>,
-) -> Result<String, FollowFault> {
+) -> Result<String, FollowFault>
+    ensures { IfOk result (λ told. IsToldOf service.now.plan domain (string_bytes told)) }
+{
     let Ok(status) = service.status(rt, domain) else {
         return Err(FollowFault::NoSuch);
     };

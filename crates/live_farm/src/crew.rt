@@ -1,10 +1,12 @@
 //! All users of a farm, by the domains that they share.
 
-ghost use Rattle.std.specs.Prelude.{◌<◌, length, IfSome};
+ghost use Rattle.std.specs.Prelude.{◌≡◌, ◌<◌, ◌++◌, ◌∷◌, [], length, map, IfOk, IfSome, OnOk, option_map, Some, true};
+ghost use Rattle.live_farm.specs.Crews.{number_of, name_at, mailed};
 
+use crate::failure::LiveFailure;
 use crate::group::DomainUsers;
 use crate::letter::{Letter, Matter};
-use crate::mailbox::Sent;
+use crate::mailbox::{Mailbox, Sent};
 use crate::station::Station;
 use domain_core::NoMemory;
 use farm_service::{Committed, Gate, Refusal, Service, Token, UserPass};
@@ -43,7 +45,8 @@ impl Drop for Crew<'_> {
 
 /// The name of a user of a plan.
 pub(crate) fn name_of<'a>(plan: &'a AcceptedPlan, number: UserNumber) -> Option<&'a str>
-    ensures { IfSome result (λ _. number.domain < length plan.now) }
+    ensures domain { IfSome result (λ _. number.domain < length plan.now) }
+    ensures name { IfSome result (λ name. name_at plan.now number ≡ Some name.now) }
 {
     if number.domain < plan.domains() && number.user < plan.users(number.domain) {
         Some(plan.name(number.domain, number.user))
@@ -65,26 +68,32 @@ fn groups_of<'a>(
     Ok(groups)
 }
 
-// Lets a user join the group of his domain.
+// Lets a user join the group of his domain, if the plan has him.
 fn join<'a>(
     service: &'a Service,
     groups: &mut Vec<DomainUsers<'a>>,
     crew: &mut Crew<'a>,
     pass: UserPass,
-) -> Result<(), NoMemory> {
+) -> Result<(), LiveFailure>
+    ensures numbers { OnOk result (crew.new.numbers.items ≡ crew.old.numbers.items ++ number_of pass ∷ []) }
+    ensures names { OnOk result (map (λ n. Some n.now) crew.new.names.items
+        ≡ map (λ n. Some n.now) crew.old.names.items ++ name_at service.now.plan (number_of pass) ∷ []) }
+    ensures stations { crew.new.stations ≡ crew.old.stations }
+{
     let number = UserNumber {
         domain: pass.domain(),
         user: pass.user(),
     };
     let Some(name) = name_of(service.plan(), number) else {
-        return Ok(());
+        return Err(LiveFailure::Histories);
     };
     let Some(group) = groups.get_mut(usize::from(number.domain)) else {
-        return Ok(());
+        return Err(LiveFailure::Histories);
     };
     crew.names.push(name)?;
     crew.numbers.push(number)?;
-    group.add(name, service.session(pass))
+    group.add(name, service.session(pass))?;
+    Ok(())
 }
 
 // Gives each group a station.
@@ -93,7 +102,9 @@ fn add_stations<'a>(
     groups: Vec<DomainUsers<'a>>,
     crew: &mut Crew<'a>,
     record_room: u64,
-) -> Result<(), NoMemory> {
+) -> Result<(), NoMemory>
+    ensures { OnOk result ((crew.new.numbers ≡ crew.old.numbers) × (crew.new.names ≡ crew.old.names)) }
+{
     for group in groups {
         add_station(alloc, group, crew, record_room)?;
     }
@@ -106,7 +117,9 @@ fn add_station<'a>(
     group: DomainUsers<'a>,
     crew: &mut Crew<'a>,
     record_room: u64,
-) -> Result<(), NoMemory> {
+) -> Result<(), NoMemory>
+    ensures { (crew.new.numbers ≡ crew.old.numbers) × (crew.new.names ≡ crew.old.names) }
+{
     let station = Station::new(alloc, group, record_room)?;
     crew.stations.push(station)?;
     Ok(())
@@ -118,11 +131,33 @@ fn join_all<'a>(
     groups: &mut Vec<DomainUsers<'a>>,
     crew: &mut Crew<'a>,
     users: Vec<UserPass>,
-) -> Result<(), NoMemory> {
+) -> Result<(), LiveFailure>
+    ensures numbers { OnOk result (crew.new.numbers.items ≡ crew.old.numbers.items ++ map number_of users.items) }
+    ensures names { OnOk result (map (λ n. Some n.now) crew.new.names.items
+        ≡ map (λ n. Some n.now) crew.old.names.items ++ map (λ p. name_at service.now.plan (number_of p)) users.items) }
+    ensures stations { OnOk result (crew.new.stations ≡ crew.old.stations) }
+{
     for pass in users {
         join(service, groups, crew, pass)?;
     }
     Ok(())
+}
+
+// Whether these are the passes of the users of these numbers, in this order.
+fn are_of(numbers: &[UserNumber], passes: &[UserPass]) -> bool
+    ensures { result ≡ true → map number_of passes.now ≡ numbers.now }
+{
+    if numbers.len() != passes.len() {
+        return false;
+    }
+    for place in 0..numbers.len() {
+        let whose = numbers[place];
+        let pass = &passes[place];
+        if pass.domain() != whose.domain || pass.user() != whose.user {
+            return false;
+        }
+    }
+    true
 }
 
 /// Wakes the thread of a domain that begins to rest.
@@ -144,14 +179,21 @@ impl Gate for RestGate<'_, '_> {
 }
 
 impl<'a> Crew<'a> {
-    /// The users of a service, by the passes of its opening. The records of a domain may take so many bytes.
+    /// The users of a service, by the passes of its opening, in their order. The records of a domain may take `record_room` bytes.
+    ///
+    /// # Errors
+    ///
+    /// `Histories` if a pass is of no user of the plan; `Memory`.
     pub fn new(
         alloc: Global,
         service: &'a Service,
         users: Vec<UserPass>,
         quantum: Quantum,
         record_room: u64,
-    ) -> Result<Crew<'a>, NoMemory> {
+    ) -> Result<Crew<'a>, LiveFailure>
+        ensures numbers { IfOk result (λ crew. crew.numbers.items ≡ map number_of users.items) }
+        ensures names { IfOk result (λ crew. map (λ n. Some n.now) crew.names.items ≡ map (λ p. name_at service.now.plan (number_of p)) users.items) }
+    {
         let mut groups = groups_of(alloc, service, quantum)?;
         let mut crew = Crew {
             names: Vec::new(alloc),
@@ -163,20 +205,26 @@ impl<'a> Crew<'a> {
         Ok(crew)
     }
 
-    /// Puts a matter of the line of this number into the mailbox of a user's domain, by the place of his name.
-    pub fn send<R: Wait>(&self, rt: &R, user: usize, number: u64, matter: Matter) -> Sent {
-        let Some(whose) = self.numbers.get(user) else {
-            return Sent::Waits;
-        };
-        let Some(station) = self.stations.get(usize::from(whose.domain)) else {
-            return Sent::Waits;
-        };
+    // Into whose mailbox a matter of the line of this number goes, and as what letter, by the place of the user's name.
+    fn addressed(&self, user: usize, number: u64, matter: Matter) -> Option<(&Mailbox, Letter)>
+        ensures { option_map (λ sent. (sent.0.now, sent.1)) result ≡ mailed self.now user number matter }
+    {
+        let whose = self.numbers.get(user)?;
+        let station = self.stations.get(usize::from(whose.domain))?;
         let letter = Letter {
             user: whose.user,
             number,
             matter,
         };
-        station.mailbox.put(rt, letter)
+        Some((&station.mailbox, letter))
+    }
+
+    /// Puts a matter of the line of this number into the mailbox of a user's domain, by the place of his name.
+    pub fn send<R: Wait>(&self, rt: &R, user: usize, number: u64, matter: Matter) -> Sent {
+        match self.addressed(user, number, matter) {
+            Some((mailbox, letter)) => mailbox.put(rt, letter),
+            None => Sent::Waits,
+        }
     }
 
     /// Whether the thread of a domain met want of memory.
@@ -189,17 +237,27 @@ impl<'a> Crew<'a> {
         false
     }
 
-    /// Ends all sessions, and gives their passes back.
-    pub fn end(self, alloc: Global) -> Result<Vec<UserPass>, NoMemory> {
+    /// Ends all sessions, and gives their passes back, in the order of the users.
+    ///
+    /// # Errors
+    ///
+    /// `Histories` if they aren't the passes of these users, which no run comes to; `Memory`.
+    pub fn end(self, alloc: Global) -> Result<Vec<UserPass>, LiveFailure>
+        ensures { IfOk result (λ passes. map number_of passes.items ≡ self.entry.numbers.items) }
+    {
         let Crew {
             names: _,
-            numbers: _,
+            numbers,
             stations,
         } = self;
         let mut passes = Vec::new(alloc);
         for station in stations {
             station.into_group().end(&mut passes)?;
         }
-        Ok(passes)
+        if are_of(numbers.as_slice(), passes.as_slice()) {
+            Ok(passes)
+        } else {
+            Err(LiveFailure::Histories)
+        }
     }
 }

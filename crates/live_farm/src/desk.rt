@@ -2,17 +2,14 @@
 
 use crate::crew::Crew;
 use crate::failure::Trouble;
+use crate::fate::{LineFate, fate_of};
 use crate::letter::Matter;
 use crate::mailbox::Sent;
 use crate::notices::Notices;
 use crate::operator::Operator;
 use crate::outlet::SharedOutlet;
 use crate::texts::{Why, error_answer, unknown_user_answer};
-use live_lines::{
-    InputLine, LiveFault, LiveLine, OperatorRequest, is_operators, next_line, parse_live_line,
-};
-use script_lines::{LineWords, user_named};
-use script_text::{is_passed_over, split_line};
+use live_lines::{OperatorRequest, next_line};
 use std::alloc::Global;
 use std::io::BufRead;
 use std::sync::Wait;
@@ -107,7 +104,7 @@ impl Desk<'_, '_> {
         Ok(())
     }
 
-    // Hands out a line that asks something.
+    // Does what becomes of the line of this number; whether more are read.
     fn hand_out<R: Wait, O: SharedOutlet, N: Notices>(
         &self,
         rt: &R,
@@ -115,65 +112,24 @@ impl Desk<'_, '_> {
         operator: &mut Operator<'_>,
         errors: &N,
         number: u64,
-        line: &[u8],
+        fate: LineFate,
     ) -> Result<Goes, Trouble> {
-        match parse_live_line(self.alloc, self.crew.names.as_slice(), line) {
-            Ok(LiveLine::User { user, request }) => {
+        match fate {
+            LineFate::End => return Ok(Goes::Stopped),
+            LineFate::PassedOver => {}
+            LineFate::Asks { user, request } => {
                 self.send(rt, outlet, user, number, Matter::Asked(request))?;
             }
-            Ok(LiveLine::Operator(request)) => {
+            LineFate::Refused { user, why } => {
+                self.send(rt, outlet, user, number, Matter::Wrong(why))?;
+            }
+            LineFate::Operator(request) => {
                 return self.serve_operator(rt, outlet, operator, number, request);
             }
-            Err(fault) => self.refuse(rt, outlet, errors, number, fault)?,
+            LineFate::OperatorRefused(why) => self.tell(rt, outlet, "!", number, why)?,
+            LineFate::Nobodys => tell_unknown_user(rt, self.alloc, errors, number)?,
         }
         Ok(Goes::On)
-    }
-
-    // Tells what is wrong with a line.
-    fn refuse<R: Wait, O: SharedOutlet, N: Notices>(
-        &self,
-        rt: &R,
-        outlet: &O,
-        errors: &N,
-        number: u64,
-        fault: LiveFault,
-    ) -> Result<(), Trouble> {
-        match fault {
-            LiveFault::User { user, fault } => {
-                self.send(rt, outlet, user, number, Matter::Wrong(Why::Fault(fault)))
-            }
-            LiveFault::Operator(fault) => self.tell(rt, outlet, "!", number, Why::Fault(fault)),
-            LiveFault::UnknownUser => tell_unknown_user(rt, self.alloc, errors, number),
-            LiveFault::NoMemory { user } => {
-                self.send(rt, outlet, user, number, Matter::Wrong(Why::Memory))
-            }
-        }
-    }
-
-    // Tells why a line isn't done of which only the beginning is known, to whom that names. Lines that ask nothing are passed over.
-    fn refuse_beginning<R: Wait, O: SharedOutlet, N: Notices>(
-        &self,
-        rt: &R,
-        outlet: &O,
-        errors: &N,
-        number: u64,
-        line: &[u8],
-        why: Why,
-    ) -> Result<(), Trouble> {
-        if is_passed_over(line) {
-            return Ok(());
-        }
-        if is_operators(line) {
-            return self.tell(rt, outlet, "!", number, why);
-        }
-        let user = match LineWords::of(line).take() {
-            Some(name) => user_named(self.crew.names.as_slice(), name),
-            None => None,
-        };
-        match user {
-            Some(user) => self.send(rt, outlet, user, number, Matter::Wrong(why)),
-            None => tell_unknown_user(rt, self.alloc, errors, number),
-        }
     }
 
     /// Why no more lines are read, if that is so: a write failed, or the thread of a domain met want of memory.
@@ -187,7 +143,7 @@ impl Desk<'_, '_> {
         Ok(())
     }
 
-    // Reads a line and hands it out. Lines that ask nothing are passed over.
+    // Reads a line and does what becomes of it; whether more are read.
     fn take_line<R: Wait, O: SharedOutlet, I: BufRead, N: Notices>(
         &self,
         rt: &R,
@@ -202,24 +158,8 @@ impl Desk<'_, '_> {
             Err(error) => return Err(Trouble::of_input(&error)),
         };
         self.look(rt, outlet)?;
-        match read {
-            InputLine::End => Ok(Goes::Stopped),
-            InputLine::Whole(bytes) => {
-                let (line, _) = split_line(bytes.as_slice());
-                if is_passed_over(line) {
-                    return Ok(Goes::On);
-                }
-                self.hand_out(rt, outlet, operator, errors, number, line)
-            }
-            InputLine::Long(bytes) => {
-                self.refuse_beginning(rt, outlet, errors, number, bytes.as_slice(), Why::Long)?;
-                Ok(Goes::On)
-            }
-            InputLine::NoMemory(bytes) => {
-                self.refuse_beginning(rt, outlet, errors, number, bytes.as_slice(), Why::Memory)?;
-                Ok(Goes::On)
-            }
-        }
+        let fate = fate_of(self.alloc, self.crew.names.as_slice(), &read);
+        self.hand_out(rt, outlet, operator, errors, number, fate)
     }
 
     /// Reads lines until the input ends or the operator stops the farm. They count from 1.

@@ -14,6 +14,7 @@ pub struct DomainUsers<'a> {
     pub(crate) names: Vec<&'a str>,
     pub(crate) sessions: Vec<Session<'a>>,
     ghost as_many: { vec_len names ≡ vec_len sessions },
+    ghost there: { domain < length service.now.plan },
 }
 
 // It is dropped by one call.
@@ -30,9 +31,11 @@ impl Drop for DomainUsers<'_> {
 }
 
 impl<'a> DomainUsers<'a> {
-    /// The group of a domain, with nobody in it yet.
+    /// The group of a domain of the plan, with nobody in it yet.
     pub fn new(alloc: Global, service: &'a Service, domain: u8, quantum: Quantum) -> DomainUsers<'a>
-        ensures { result.sessions.items ≡ [] }
+        requires { domain < length service.now.plan }
+        ensures sessions { result.sessions.items ≡ [] }
+        ensures domain { result.domain ≡ domain }
     {
         DomainUsers {
             service,

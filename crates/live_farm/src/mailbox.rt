@@ -1,6 +1,9 @@
 //! A queue of lines for one thread, which waits and can be closed.
-ghost use Rattle.std.specs.Prelude.{◌≤◌};
-ghost use Rattle.std.specs.VecDeque.{deque_len};
+ghost use Rattle.std.specs.Prelude.{◌≡◌, ◌<◌, ◌≤◌, ◌++◌, ◌∷◌, [], true, false, length};
+ghost use Rattle.std.specs.VecDeque.{deque_len, deque_capacity};
+ghost use Rattle.live_farm.specs.declared.mailbox.Sent.TheVariants.{Waits, Full};
+ghost use Rattle.live_farm.specs.declared.mailbox.Mail.TheVariants.{News};
+ghost use Rattle.live_farm.specs.Mailboxes.{IsFirst};
 
 use crate::letter::Letter;
 use domain_core::NoMemory;
@@ -11,7 +14,7 @@ use std::sync::{Condvar, Mutex, Wait};
 /// The most lines that wait for a thread.
 pub const MOST_WAITING: usize = 1024;
 
-// What waits for a thread: never more than so many lines.
+// What waits for a thread: never more than `MOST_WAITING` lines, for all of which there is memory.
 #[derive(Drop)]
 struct Letters {
     waiting: VecDeque<Letter>,
@@ -19,6 +22,40 @@ struct Letters {
     has_news: bool,
     closed: bool,
     ghost bounded: { deque_len waiting ≤ 1024 },
+    ghost reserved: { 1024 ≤ deque_capacity waiting },
+}
+
+impl Letters {
+    // Puts a letter at the end, if fewer wait than may.
+    fn add(&mut self, letter: Letter) -> Sent
+        ensures waits { length self.old.waiting.items < 1024 → (result ≡ Waits) × (self.new.waiting.items ≡ self.old.waiting.items ++ letter ∷ []) }
+        ensures full { 1024 ≤ length self.old.waiting.items → (result ≡ Full) × (self.new ≡ self.old) }
+        ensures same { (self.new.has_news ≡ self.old.has_news) × (self.new.closed ≡ self.old.closed) }
+    {
+        if self.waiting.len() >= MOST_WAITING {
+            return Sent::Full;
+        }
+        if self.waiting.push_back(letter).is_err() {
+            return Sent::NoMemory;
+        }
+        Sent::Waits
+    }
+
+    // Takes the news, or else the letter that waits for the longest.
+    fn next(&mut self) -> Mail
+        ensures news { self.old.has_news ≡ true → (result ≡ News) × (self.new ≡ record self.old { has_news = false }) }
+        ensures letter { self.old.has_news ≡ false → IsFirst result self.old.waiting.items self.new.waiting.items × (self.new.has_news ≡ false) }
+        ensures same { self.new.closed ≡ self.old.closed }
+    {
+        if self.has_news {
+            self.has_news = false;
+            return Mail::News;
+        }
+        match self.waiting.pop_front() {
+            Some(letter) => Mail::Letter(letter),
+            None => Mail::End,
+        }
+    }
 }
 
 /// What became of a letter.
@@ -75,14 +112,9 @@ impl Mailbox {
     /// Puts a letter at the end, if fewer wait than may.
     pub fn put<R: Wait>(&self, rt: &R, letter: Letter) -> Sent {
         let mut letters = self.letters.lock(rt);
-        if letters.waiting.len() >= MOST_WAITING {
-            return Sent::Full;
-        }
-        if letters.waiting.push_back(letter).is_err() {
-            return Sent::NoMemory;
-        }
+        let sent = letters.add(letter);
         self.changed.notify_one();
-        Sent::Waits
+        sent
     }
 
     /// Wakes the thread, since there is something to be told.
@@ -106,13 +138,6 @@ impl Mailbox {
             .wait_while(rt, self.letters.lock(rt), |letters| {
                 letters.waiting.is_empty() && !letters.has_news && !letters.closed
             });
-        if letters.has_news {
-            letters.has_news = false;
-            return Mail::News;
-        }
-        match letters.waiting.pop_front() {
-            Some(letter) => Mail::Letter(letter),
-            None => Mail::End,
-        }
+        letters.next()
     }
 }

@@ -1,5 +1,5 @@
 //! One writer for many threads, which holds whole lines.
-ghost use Rattle.std.specs.Prelude.{◌≡◌, true, false, ◌||◌, OnOk, string_bytes};
+ghost use Rattle.std.specs.Prelude.{◌≡◌, true, false, ◌||◌, OnOk, OnErr, IsErr, string_bytes};
 ghost use Rattle.std.specs.Io.KnownBytes.{Appends};
 ghost use Rattle.live_farm.specs.WholeLines.{is_whole};
 
@@ -34,7 +34,9 @@ impl<W: Write, const TRACKED: u64> Outlet<W, TRACKED> {
     /// The writer's. After an error nothing more is written, and each call is an error.
     pub fn put(&mut self, answer: &LiveAnswer) -> io::Result<()>
         ensures lines { OnOk result (Appends (W.contents self.old.writer) (W.contents self.new.writer) (string_bytes answer.now.text)) }
-        ensures before { OnOk result (self.old.failed ≡ false) }
+        ensures before { self.old.failed ≡ true → IsErr result × (self.new ≡ self.old) }
+        ensures done { OnOk result (self.new.failed ≡ false) }
+        ensures failed { OnErr result (self.new.failed ≡ true) }
     {
         if self.failed {
             return Err(io::Error::from(io::ErrorKind::BrokenPipe));

@@ -1,10 +1,12 @@
 //! A farm that stays up, from its opening to its end.
-ghost use Rattle.std.specs.Prelude.{◌≡◌, ◌≤◌, IfOk, OnOk, length};
+ghost use Rattle.std.specs.Prelude.{◌≡◌, ◌≤◌, IfOk, OnOk, length, map};
 ghost use Rattle.token_queue.specs.Passes.{AreItsPasses};
 ghost use Rattle.whole_farm.specs.Places.{places_of};
-ghost use Rattle.farm_service.specs.Closed.{AreDomainsOf, EachMergeRuns};
+ghost use Rattle.farm_service.specs.Closed.{AreDomainsOf, EachMergeRuns, AreListed, AllMetFullTruly, AllAreRightlyAsked};
 ghost use Rattle.farm_service.specs.Services.{IsItsOperator};
 ghost use Rattle.live_lines.specs.LiveRanges.{IsInRange};
+ghost use Rattle.live_farm.specs.Crews.{number_of};
+ghost use Rattle.live_farm.specs.Closings.{AreUsersListed};
 
 use crate::crew::{Crew, RestGate};
 use crate::failure::{LiveFailure, Trouble};
@@ -107,6 +109,7 @@ fn serve_all<
     requires settings { IsInRange settings.now }
     requires passes { AreItsPasses service.now.plan service.now.queue passes.old.items }
     ensures passes { OnOk result (AreItsPasses service.now.plan service.now.queue passes.new.items) }
+    ensures users { IfOk result (λ back. map number_of back.items ≡ map number_of users.items) }
 {
     let quantum = Quantum::of(settings.quantum);
     let crew = Crew::new(alloc, service, users, quantum, settings.record_room)?;
@@ -122,7 +125,7 @@ fn serve_all<
         reader,
         errors,
     )?;
-    Ok(crew.end(alloc)?)
+    crew.end(alloc)
 }
 
 // Records what the domains answered since their last lines. All threads have ended. Of several records that aren't whole the
@@ -169,6 +172,7 @@ fn serve_seated<
     requires settings { IsInRange settings.now }
     requires passes { AreItsPasses service.now.plan service.now.queue passes.old.items }
     ensures passes { OnOk result (AreItsPasses service.now.plan service.now.queue passes.new.items) }
+    ensures users { IfOk result (λ back. map number_of back.items ≡ map number_of users.items) }
 {
     let operator = Operator::new(service, seat, gauge);
     let mut reader = LiveReader {
@@ -191,6 +195,7 @@ fn serve_seated<
 }
 
 // Closes the service with the passes of its workers and of its users.
+// Six clauses: the workers' passes, and what closing vouches for.
 fn close<R: Wait>(
     rt: &R,
     alloc: Global,
@@ -201,6 +206,9 @@ fn close<R: Wait>(
     requires { AreItsPasses service.plan service.queue passes.items }
     ensures domains { IfOk result (λ closed. AreDomainsOf service.plan closed.domains.items) }
     ensures runs { IfOk result (λ closed. EachMergeRuns (places_of service.plan) closed.domains.items) }
+    ensures users { IfOk result (λ closed. AreListed closed.domains.items users.items) }
+    ensures full { IfOk result (λ closed. AllMetFullTruly service.plan closed.domains.items users.items) }
+    ensures asked { IfOk result (λ closed. AllAreRightlyAsked closed.domains.items) }
 {
     match service.close(rt, alloc, passes, users) {
         Ok(closed) => Ok(closed),
@@ -208,8 +216,8 @@ fn close<R: Wait>(
     }
 }
 
-/// Opens a farm on histories, answers the lines of an input as they come, and closes the farm when the input ends or the
-/// operator stops it. What each domain answers is recorded, in the record of its place, before it is told. The gauge is where the
+/// Opens a farm on histories, answers the lines of an input as they come, and closes the farm with the passes of all users when the
+/// input ends or the operator stops it. What each domain answers is recorded, in the record of its place, before it is told. The gauge is where the
 /// system says how much memory the program has.
 pub fn run_live<
     R: Threads + Wait + Sync,
@@ -231,6 +239,8 @@ pub fn run_live<
     requires { IsInRange settings.now }
     ensures domains { IfOk result (λ closed. AreDomainsOf histories.plan closed.domains.items) }
     ensures runs { IfOk result (λ closed. EachMergeRuns (places_of histories.plan) closed.domains.items) }
+    ensures users { IfOk result (λ closed. AreUsersListed histories.plan closed.domains.items) }
+    ensures asked { IfOk result (λ closed. AllAreRightlyAsked closed.domains.items) }
 {
     let opened = match Service::open_again(rt, alloc, histories, settings.workers) {
         Ok(opened) => opened,

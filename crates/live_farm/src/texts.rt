@@ -3,10 +3,11 @@ ghost use Rattle.std.specs.List.{flat_map};
 ghost use Rattle.std.specs.Prelude.{◌≡◌, ◌++◌, IfOk, OnOk, true, false, codes, string_bytes, if◌then◌else◌};
 ghost use Rattle.std.specs.Str.Lines.{lines};
 ghost use Rattle.live_farm.specs.WholeLines.{are_lines};
-ghost use Rattle.live_farm.specs.LiveTexts.{reason_word, error_text, unknown_user_text, rest_text, rest_word, note_text, restart_text, operator_restart_text};
+ghost use Rattle.live_farm.specs.LiveTexts.{reason_word, error_text, unknown_user_text, rest_text, rest_word, rest_state_of, note_text, restart_text, operator_restart_text};
 ghost use Rattle.live_farm.specs.LiveTexts.{why_line, why_text, no_node_text};
 
 use domain_core::NoMemory;
+use farm_service::DomainStatus;
 use script_lines::LineFault;
 use std::alloc::Global;
 
@@ -154,6 +155,19 @@ pub enum RestState {
 }
 
 impl RestState {
+    /// What the status of a domain says of it.
+    pub fn of(status: DomainStatus) -> RestState
+        ensures { result ≡ rest_state_of status }
+    {
+        if status.is_quiet {
+            RestState::Quiet
+        } else if status.room.rests {
+            RestState::Full
+        } else {
+            RestState::Busy
+        }
+    }
+
     // As it is told.
     fn word(self) -> &'static str
         ensures { result.now ≡ rest_word self }

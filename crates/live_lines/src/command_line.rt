@@ -1,6 +1,10 @@
 //! The settings that the words of the command line give.
-ghost use Rattle.std.specs.Prelude.{◌≤◌, IfOk, IfSome};
+ghost use Rattle.std.specs.Prelude.{◌≡◌, ◌≤◌, [], false, IfOk, IfSome, codes, map, pos, unwrap_or};
+ghost use Rattle.clap.specs.declared.builder.value_parser.ValueParser.TheVariants.{Signed};
+ghost use Rattle.clap.specs.Words.{app_of, first_value, found_of, rows_of, rule_of};
 ghost use Rattle.live_lines.specs.LiveRanges.{IsInRange, IsRoom};
+ghost use Rattle.live_lines.specs.LiveSettings.{AreSettingsIn, AreSettingsSaid, AreSaidRecords, HasUnit, IsSaidSize, IsSize};
+ghost use Rattle.live_lines.specs.LiveSettings.{flag_option, live_command, counted_option, plan_argument, size_option, value_option};
 
 use clap::error::ErrorKind;
 use clap::{Arg, ArgAction, ArgMatches, Command, value_parser};
@@ -64,8 +68,20 @@ impl Drop for LiveSettings {
     }
 }
 
+// The text of an argument, or none.
+fn text_in<'a>(matches: &ArgMatches<'a>, name: &str) -> &'a str
+    ensures { result.now ≡ unwrap_or (first_value (found_of matches.now) name.now) [] }
+{
+    match matches.get_str(name) {
+        Some(text) => text,
+        None => "",
+    }
+}
+
 // Where the farm is recorded.
-fn records_in(alloc: Global, matches: &ArgMatches) -> Result<Option<RecordSettings>, AllocError> {
+fn records_in(alloc: Global, matches: &ArgMatches) -> Result<Option<RecordSettings>, AllocError>
+    ensures { IfOk result (AreSaidRecords (rows_of (found_of matches.now))) }
+{
     match matches.get_str("record") {
         Some(path) => Ok(Some(RecordSettings {
             path: String::from_str(alloc, path)?,
@@ -78,10 +94,11 @@ fn records_in(alloc: Global, matches: &ArgMatches) -> Result<Option<RecordSettin
 
 // What was matched.
 fn settings_in(alloc: Global, matches: &ArgMatches) -> Result<LiveSettings, clap::Error>
-    ensures { IfOk result IsInRange }
+    ensures in_range { IfOk result IsInRange }
+    ensures said { IfOk result (AreSettingsIn (rows_of (found_of matches.now))) }
 {
     Ok(LiveSettings {
-        path: String::from_str(alloc, matches.get_str("plan").unwrap_or(""))?,
+        path: String::from_str(alloc, text_in(matches, "plan"))?,
         workers: workers_of(matches.get_one::<u8>("workers")),
         quantum: quantum_of(matches.get_one::<u16>("quantum")),
         records: records_in(alloc, matches)?,
@@ -90,27 +107,39 @@ fn settings_in(alloc: Global, matches: &ArgMatches) -> Result<LiveSettings, clap
     })
 }
 
-// How many bytes a word says: a number, with K, M or G behind it for 1,024 bytes, or 1,024 or 1,048,576 times as many.
-fn parse_size(word: &str) -> Option<u64> {
+// What stands in a word before K, M or G, and for how many bytes the letter stands: 1,024, or 1,024 or 1,048,576 times as many. One
+// byte, if there is no such letter.
+fn unit_in(word: &str) -> (&str, u64)
+    ensures { HasUnit word.now result.0.now result.1 }
+{
+    if let Some(digits) = word.strip_suffix("K") {
+        return (digits, 1 << 10);
+    }
+    if let Some(digits) = word.strip_suffix("M") {
+        return (digits, 1 << 20);
+    }
+    if let Some(digits) = word.strip_suffix("G") {
+        return (digits, 1 << 30);
+    }
+    (word, 1)
+}
+
+// How many bytes a word says: a number, with its unit.
+fn parse_size(word: &str) -> Option<u64>
+    ensures { IfSome result (IsSize word.now) }
+{
     if word.starts_with('+') {
         return None;
     }
-    let (digits, unit) = if let Some(digits) = word.strip_suffix("K") {
-        (digits, 1 << 10)
-    } else if let Some(digits) = word.strip_suffix("M") {
-        (digits, 1 << 20)
-    } else if let Some(digits) = word.strip_suffix("G") {
-        (digits, 1 << 30)
-    } else {
-        (word, 1)
-    };
+    let (digits, unit) = unit_in(word);
     let count = digits.parse::<u64>().ok()?;
     count.checked_mul(unit)
 }
 
 // The room that a word says, if it is one that a domain may have.
 fn parse_room(word: &str) -> Option<u64>
-    ensures { IfSome result IsRoom }
+    ensures room { IfSome result IsRoom }
+    ensures size { IfSome result (IsSize word.now) }
 {
     match parse_size(word) {
         Some(bytes) if (LEAST_ROOM..=GREATEST_ROOM).contains(&bytes) => Some(bytes),
@@ -120,9 +149,10 @@ fn parse_room(word: &str) -> Option<u64>
 
 // The room that an option says. It has a default.
 fn room_in(alloc: Global, matches: &ArgMatches, name: &'static str) -> Result<u64, clap::Error>
-    ensures { IfOk result IsRoom }
+    ensures room { IfOk result IsRoom }
+    ensures said { IfOk result (IsSaidSize (rows_of (found_of matches.now)) name.now) }
 {
-    let word = matches.get_str(name).unwrap_or("");
+    let word = text_in(matches, name);
     match parse_room(word) {
         Some(bytes) => Ok(bytes),
         None => Err(wrong_room(alloc, name, word)?),
@@ -143,7 +173,10 @@ fn value_option(
     name: &'static str,
     value: &'static str,
     help: &'static str,
-) -> Arg<'static> {
+) -> Arg<'static>
+    ensures rule { rule_of result ≡ value_option name.now }
+    ensures local { result.global ≡ false }
+{
     Arg::new(alloc, name)
         .long(name)
         .value_name(value)
@@ -156,7 +189,10 @@ fn record_flag(
     alloc: Global,
     name: &'static str,
     help: &'static str,
-) -> Result<Arg<'static>, AllocError> {
+) -> Result<Arg<'static>, AllocError>
+    ensures rule { IfOk result (λ arg. rule_of arg ≡ flag_option name.now) }
+    ensures local { IfOk result (λ arg. arg.global ≡ false) }
+{
     Arg::new(alloc, name)
         .long(name)
         .help(help)
@@ -164,7 +200,10 @@ fn record_flag(
         .requires_arg("record")
 }
 
-fn plan_argument(alloc: Global) -> Arg<'static> {
+fn plan_argument(alloc: Global) -> Arg<'static>
+    ensures rule { rule_of result ≡ plan_argument }
+    ensures local { result.global ≡ false }
+{
     Arg::new(alloc, "plan")
         .value_name("PLAN")
         .help("The file of the plan")
@@ -172,7 +211,10 @@ fn plan_argument(alloc: Global) -> Arg<'static> {
         .action(ArgAction::Set)
 }
 
-fn workers_option(alloc: Global) -> Arg<'static> {
+fn workers_option(alloc: Global) -> Arg<'static>
+    ensures rule { rule_of result ≡ counted_option (codes "workers") (codes "2") (Signed (pos 1) (pos 8)) }
+    ensures local { result.global ≡ false }
+{
     value_option(
         alloc,
         "workers",
@@ -183,7 +225,10 @@ fn workers_option(alloc: Global) -> Arg<'static> {
     .value_parser(value_parser!(u8).range(1..=8))
 }
 
-fn quantum_option(alloc: Global) -> Arg<'static> {
+fn quantum_option(alloc: Global) -> Arg<'static>
+    ensures rule { rule_of result ≡ counted_option (codes "quantum") (codes "256") (Signed (pos 1) (pos 4096)) }
+    ensures local { result.global ≡ false }
+{
     value_option(
         alloc,
         "quantum",
@@ -194,7 +239,10 @@ fn quantum_option(alloc: Global) -> Arg<'static> {
     .value_parser(value_parser!(u16).range(1..=4096))
 }
 
-fn record_option(alloc: Global) -> Arg<'static> {
+fn record_option(alloc: Global) -> Arg<'static>
+    ensures rule { rule_of result ≡ value_option (codes "record") }
+    ensures local { result.global ≡ false }
+{
     value_option(
         alloc,
         "record",
@@ -203,7 +251,10 @@ fn record_option(alloc: Global) -> Arg<'static> {
     )
 }
 
-fn room_option(alloc: Global) -> Arg<'static> {
+fn room_option(alloc: Global) -> Arg<'static>
+    ensures rule { rule_of result ≡ size_option (codes "room") (codes "64M") }
+    ensures local { result.global ≡ false }
+{
     value_option(
         alloc,
         "room",
@@ -213,7 +264,10 @@ fn room_option(alloc: Global) -> Arg<'static> {
     .default_value("64M")
 }
 
-fn record_room_option(alloc: Global) -> Arg<'static> {
+fn record_room_option(alloc: Global) -> Arg<'static>
+    ensures rule { rule_of result ≡ size_option (codes "record-room") (codes "256M") }
+    ensures local { result.global ≡ false }
+{
     value_option(
         alloc,
         "record-room",
@@ -223,39 +277,35 @@ fn record_room_option(alloc: Global) -> Arg<'static> {
     .default_value("256M")
 }
 
-// The arguments, in the order in which the help tells of them.
-fn live_arguments(alloc: Global) -> Result<Vec<Arg<'static>>, AllocError> {
+// The program's command line. The help tells of the arguments in this order.
+fn live_command<'a>(alloc: Global) -> Result<Command<'a>, AllocError>
+    ensures { IfOk result (λ command. app_of command ≡ live_command) }
+{
     let resume = record_flag(alloc, "resume", "Goes on with the records that are there")?;
     let sync = record_flag(
         alloc,
         "sync",
         "Each answer waits until its record is on the disk",
     )?;
-    Ok(vec![in alloc;
-        plan_argument(alloc),
-        workers_option(alloc),
-        quantum_option(alloc),
-        record_option(alloc),
-        resume,
-        sync,
-        room_option(alloc),
-        record_room_option(alloc),
-    ]?)
-}
-
-fn live_command<'a>(alloc: Global) -> Result<Command<'a>, AllocError> {
-    let arguments = live_arguments(alloc)?;
-    Command::new(alloc, "live")
+    let command = Command::new(alloc, "live")
         .about("Answers lines on a farm of T414 processors as they come")
-        .after_help(AFTER_HELP)
-        .args(arguments)
+        .after_help(AFTER_HELP);
+    let command = command.arg(plan_argument(alloc))?;
+    let command = command.arg(workers_option(alloc))?;
+    let command = command.arg(quantum_option(alloc))?;
+    let command = command.arg(record_option(alloc))?;
+    let command = command.arg(resume)?;
+    let command = command.arg(sync)?;
+    let command = command.arg(room_option(alloc))?;
+    command.arg(record_room_option(alloc))
 }
 
 /// Reads the words of the command line, of which the first is the program's name: the plan's path; `--workers N`, 1 to 8,
 /// default 2; `--quantum N`, 1 to 4,096, default 256; `--record DIR`, and with it `--resume` and `--sync`; `--room SIZE` and
-/// `--record-room SIZE`, 1M to 64G, default 64M and 256M. The error is `clap`'s: `--help` is one, and want of memory another.
+/// `--record-room SIZE`, 1M to 64G, default 64M and 256M. The error is `clap`'s: `--help` is one, and that memory ran out another.
 pub fn live_settings<S: AsStr>(alloc: Global, words: &[S]) -> Result<LiveSettings, clap::Error>
-    ensures { IfOk result IsInRange }
+    ensures in_range { IfOk result IsInRange }
+    ensures said { IfOk result (AreSettingsSaid (map S.text words.now)) }
 {
     let matches = live_command(alloc)?.try_get_matches_from(words)?;
     settings_in(alloc, &matches)
@@ -265,6 +315,7 @@ pub fn live_settings<S: AsStr>(alloc: Global, words: &[S]) -> Result<LiveSetting
 fn workers_of(given: Option<u8>) -> u8
     ensures least { 1 ≤ result }
     ensures most { result ≤ 8 }
+    ensures given { IfSome given (λ n. 1 ≤ n → n ≤ 8 → result ≡ n) }
 {
     match given {
         Some(n) if (1..=8).contains(&n) => n,
@@ -275,6 +326,7 @@ fn workers_of(given: Option<u8>) -> u8
 fn quantum_of(given: Option<u16>) -> u16
     ensures least { 1 ≤ result }
     ensures most { result ≤ 4096 }
+    ensures given { IfSome given (λ n. 1 ≤ n → n ≤ 4096 → result ≡ n) }
 {
     match given {
         Some(n) if (1..=4096).contains(&n) => n,

@@ -1,8 +1,11 @@
-use Rattle.std.proofs.Common.{subst}
+use Rattle.std.proofs.Common.{subst, ap, map, ◌∙◌}
 use Rattle.std.specs.Prelude.{IfOk}
 use Rattle.whole_farm.specs.Places.{places_of}
 use Rattle.farm_service.specs.declared.closed.Closed.{Closed}
-use Rattle.farm_service.specs.Closed.{EachMergeRuns}
+use Rattle.farm_service.specs.Closed.{EachMergeRuns, AllMetFullTruly}
+use Rattle.farm_service.specs.Passes.{fresh_passes}
+use Rattle.live_farm.specs.Crews.{number_of}
+use Rattle.live_farm.proofs.Closings.{same_users, all_listed}
 use Rattle.live_farm.proofs.program.run_live.Goals as goal
 
 pub returns-clause-runs : goal.returns-clause-runs
@@ -10,3 +13,12 @@ returns-clause-runs g c =
     subst (λ plan. IfOk c.close.result (λ (closed : Closed). EachMergeRuns (places_of plan) closed.domains.items))
     c.in-Ok.ensures.plan
     c.close.ensures.runs
+
+pub returns-clause-users : goal.returns-clause-users
+returns-clause-users g c =
+    let plan = c.args.histories.plan in
+    let theirs =
+    c.in_ok-users.ensures.users ∙ ap (map number_of) c.in-Ok.ensures.users ∙ same_users _ _ (fresh_passes plan) in
+    all_listed plan _ c.close.result theirs c.close.ensures.users
+    (subst (λ p. IfOk c.close.result (λ (closed : Closed). AllMetFullTruly p closed.domains.items _))
+    c.in-Ok.ensures.plan c.close.ensures.full)

@@ -1,0 +1,29 @@
+-- The passes with which a farm is closed are those of its plan's users: the clause `users` of `run_live`.
+use Rattle.std.proofs.Common.{◌≡◌, ℕ, List, [], ◌∷◌, map, Ok, Err, refl, ap}
+use Rattle.std.specs.Prelude.{IfOk, Result}
+use Rattle.plan_rules.specs.Data.{DomainData}
+use Rattle.domain_core.specs.Domain.{DomainValue}
+use Rattle.farm_service.specs.declared.closed.Closed.{Closed}
+use Rattle.farm_service.specs.Closed.{AreListed, AllMetFullTruly}
+use Rattle.farm_service.specs.Histories.{with_history}
+use Rattle.farm_service.specs.Passes.{UserPassValue, fresh_passes, with_reserved}
+use Rattle.live_farm.specs.declared.crew.UserNumber.{UserNumber}
+use Rattle.live_farm.specs.Crews.{number_of}
+use Rattle.live_farm.specs.Closings.{AreUsersListed}
+
+-- whatever they list and reserve, passes are of the same users
+pub same_users : (domains : List DomainValue) (count : ℕ) (passes : List UserPassValue)
+    → map number_of (map (with_history domains) (map (with_reserved count) passes)) ≡ map number_of passes
+same_users domains count [] = refl
+same_users domains count (p ∷ passes) =
+    ap (λ (ns : List UserNumber). number_of p ∷ ns) (same_users domains count passes)
+
+-- if the passes are of the plan's users, and closing vouches for each, it vouches for all users of the plan
+pub all_listed : {E : Type 0} (plan : List DomainData) (passes : List UserPassValue) (outcome : Result Closed E)
+    → map number_of passes ≡ map number_of (fresh_passes plan)
+    → IfOk outcome (λ closed. AreListed closed.domains.items passes)
+    → IfOk outcome (λ closed. AllMetFullTruly plan closed.domains.items passes)
+    → IfOk outcome (λ closed. AreUsersListed plan closed.domains.items)
+all_listed plan passes (Ok closed) theirs listed full =
+    record { passes = passes; theirs = theirs; listed = listed; full = full }
+all_listed plan passes (Err e) theirs listed full = tt

@@ -1,0 +1,20 @@
+use Rattle.std.proofs.Common.{◌≡◌, ℕ, subst, string_bytes}
+use Rattle.live_farm.specs.Whys.{moment_text}
+use Rattle.live_farm.proofs.causes.Shadow.tell_of_journal.Goals as goal
+
+pub returns : goal.returns
+returns g c = record {
+  domain = c.requires.status.0;
+  status = c.args.status;
+  moment = c.follow_journal.new.self.follower;
+  room = c.bytes-room.result;
+  causes = c.as_str.result.now;
+  found = c.requires.status.1;
+  status_of = c.requires.status.2;
+  reached = c.in_ok-follow_journal.ensures;
+  text =
+      subst
+      (λ (done : ℕ). string_bytes c.in_ok-tell.field-0
+      ≡ moment_text c.args.status c.bytes-room.result done c.as_str.result.now)
+      c.recorded-done.ensures c.in_ok-tell.ensures;
+}

@@ -1,0 +1,51 @@
+-- Why the nodes of a domain do no more than they do.
+use Rattle.std.specs.Prelude.{◌≡◌, ◌≤◌, ◌==◌, ◌++◌, ℕ, List, [], Option, codes, nat_lt, if◌then◌else◌}
+use Rattle.std.specs.Fmt.{decimal}
+use Rattle.plan_rules.specs.Data.{DomainData}
+use Rattle.domain_core.specs.Domain.{DomainValue}
+use Rattle.domain_core.specs.Moments.{MomentValue}
+use Rattle.farm_service.specs.declared.status.DomainStatus.{DomainStatus}
+use Rattle.farm_service.specs.Domains.{IsFound, IsStatusOf}
+use Rattle.farm_causes.specs.Following.{IsReached}
+
+-- up to which event a domain was done again, of all that are recorded
+abbrev pub after_text : ℕ → ℕ → List ℕ
+after_text done recorded =
+    if nat_lt done recorded
+    then codes "after " ++ decimal done ++ codes " of " ++ decimal recorded
+    ++ codes " events: more aren't done again at once\n"
+    else codes "after " ++ decimal done ++ codes " events\n"
+
+-- that a domain does nothing more until it begins anew, if its journal is full
+abbrev pub full_text : DomainStatus → List ℕ
+full_text status =
+    codes "the journal is full: " ++ decimal status.limit
+    ++ codes " events are recorded. Nothing more is done until restart begins the domain anew\n"
+
+-- the same, if this room of it is used up
+abbrev pub used_text : DomainStatus → ℕ → List ℕ
+used_text status room =
+    codes "the domain rests: " ++ decimal status.room.bytes ++ codes " of " ++ decimal room
+    ++ codes " bytes of its room are used. No Step and no Move is done until restart begins it anew\n"
+
+-- the same, whatever the reason, or nothing
+abbrev pub stop_text : DomainStatus → ℕ → List ℕ
+stop_text status room =
+    if status.recorded == status.limit then full_text status
+    else (if status.room.rests then used_text status room else [])
+
+-- what is told of a domain: up to where it was done again, what its status says, and the causes
+abbrev pub moment_text : DomainStatus → ℕ → ℕ → List ℕ → List ℕ
+moment_text status room done causes = after_text done status.recorded ++ stop_text status room ++ causes
+
+-- what is told of the domain of this number of a plan: of a moment to which calls of it lead, and of its status
+pub record IsToldOf (plan : List DomainData) (number : ℕ) (told : List ℕ) : Type 0 where
+  pub domain : DomainValue
+  pub status : DomainStatus
+  pub moment : MomentValue
+  pub room : ℕ
+  pub causes : List ℕ
+  pub found : IsFound plan number domain
+  pub status_of : IsStatusOf domain status
+  pub reached : IsReached plan number moment
+  pub text : told ≡ moment_text status room moment.recorded causes

@@ -1,0 +1,116 @@
+//! What becomes of a line that was read.
+ghost use Rattle.std.specs.Prelude.{◌≡◌, map};
+ghost use Rattle.live_farm.specs.Fates.{begins_comment, IsWhose, IsFate, IsFateOfBeginning, IsFateOfFault, IsFateOfLine};
+
+use crate::letter::Matter;
+use crate::texts::Why;
+use live_lines::{
+    InputLine, LiveFault, LiveLine, LiveRequest, OperatorRequest, is_operators, parse_live_line,
+};
+use script_lines::{LineWords, user_named};
+use script_text::{is_passed_over, split_line};
+use std::alloc::Global;
+
+/// What becomes of a line that was read.
+#[derive(Drop)]
+pub enum LineFate {
+    /// The input has ended.
+    End,
+    /// It asks nothing.
+    PassedOver,
+    /// It asks something of the domain of a user, by the place of his name among all.
+    Asks { user: usize, request: LiveRequest },
+    /// It isn't done, and a user is told why, by the place of his name among all.
+    Refused { user: usize, why: Why },
+    /// The operator asks something.
+    Operator(OperatorRequest),
+    /// It isn't done, and the operator is told why.
+    OperatorRefused(Why),
+    /// It isn't done, and whose it is isn't known.
+    Nobodys,
+}
+
+// Whether a line is a comment, whatever follows this beginning.
+fn begins_comment(beginning: &[u8]) -> bool
+    ensures { result ≡ begins_comment beginning.now }
+{
+    match beginning {
+        [] => false,
+        [first, ..] => *first == b'#',
+    }
+}
+
+// The user whose name is the first word of a line, whatever follows this beginning.
+fn called_by(names: &[&str], beginning: &[u8]) -> Option<usize>
+    ensures { IsWhose (map (λ n. n.now) names.now) beginning.now result }
+{
+    let mut words = LineWords::of(beginning);
+    let name = words.take()?;
+    // Without a blank behind it the word may go on.
+    words.take()?;
+    user_named(names, name)
+}
+
+// What becomes of a line of which only the beginning is known.
+fn fate_of_beginning(names: &[&str], beginning: &[u8], why: Why) -> LineFate
+    ensures { IsFateOfBeginning (map (λ n. n.now) names.now) beginning.now why result }
+{
+    if begins_comment(beginning) {
+        return LineFate::PassedOver;
+    }
+    if is_operators(beginning) {
+        return LineFate::OperatorRefused(why);
+    }
+    match called_by(names, beginning) {
+        Some(user) => LineFate::Refused { user, why },
+        None => LineFate::Nobodys,
+    }
+}
+
+// What becomes of a line that asks nothing.
+fn fate_of_fault(fault: LiveFault) -> LineFate
+    ensures { IsFateOfFault fault result }
+{
+    match fault {
+        LiveFault::User { user, fault } => LineFate::Refused {
+            user,
+            why: Why::Fault(fault),
+        },
+        LiveFault::Operator(fault) => LineFate::OperatorRefused(Why::Fault(fault)),
+        LiveFault::UnknownUser => LineFate::Nobodys,
+        LiveFault::NoMemory { user } => LineFate::Refused {
+            user,
+            why: Why::Memory,
+        },
+    }
+}
+
+// What becomes of a line that was read whole.
+fn fate_of_line(alloc: Global, names: &[&str], line: &[u8]) -> LineFate
+    ensures { IsFateOfLine (map (λ n. n.now) names.now) line.now result }
+{
+    if is_passed_over(line) {
+        return LineFate::PassedOver;
+    }
+    match parse_live_line(alloc, names, line) {
+        Ok(LiveLine::User { user, request }) => LineFate::Asks { user, request },
+        Ok(LiveLine::Operator(request)) => LineFate::Operator(request),
+        Err(fault) => fate_of_fault(fault),
+    }
+}
+
+/// What becomes of a line that was read. Of a line that isn't whole the beginning says whose it is: it is passed over if it is a
+/// comment, and is a user's if a blank stands behind his name.
+pub fn fate_of(alloc: Global, names: &[&str], read: &InputLine) -> LineFate
+    ensures { IsFate (map (λ n. n.now) names.now) read.now result }
+{
+    match read {
+        InputLine::End => LineFate::End,
+        InputLine::Whole(bytes) => {
+            let (line, _) = split_line(bytes.as_slice());
+            fate_of_line(alloc, names, line)
+        }
+        InputLine::Long(bytes) => fate_of_beginning(names, bytes.as_slice(), Why::Long),
+        InputLine::NoMemory(bytes) => fate_of_beginning(names, bytes.as_slice(), Why::Memory),
+    }
+}
