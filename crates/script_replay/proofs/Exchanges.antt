@@ -1,7 +1,10 @@
 -- What a line asks, event by event, and in one or two parts.
 use Rattle.std.proofs.Common.{◌≡◌, ℕ, Bool, true, false, List, [], ◌∷◌, ◌++◌, Some, None, Ok, Err}
-use Rattle.std.proofs.Common.{Result, Option, OnErr, refl, sym, ap, ◌∙◌, subst, append_assoc, inl, inr}
+use Rattle.std.proofs.Common.{Result, Option, OnErr, refl, sym, ap, ◌∙◌, subst, append_assoc, inl, inr, ◌⊎◌}
+use Rattle.std.specs.List.{filter}
+use Rattle.std.proofs.Common.{map, if◌then◌else◌}
 use Rattle.std.proofs.lemmas.List.{append-nil, map-append}
+use Rattle.std.proofs.lemmas.List.Elements.{filter-append}
 use Rattle.domain_core.specs.declared.event.Event.{Event}
 use Rattle.domain_core.specs.declared.event.Reply.{Reply}
 use Rattle.domain_core.specs.declared.event.Refusal.{Refusal}
@@ -10,9 +13,13 @@ use Rattle.domain_core.specs.Domain.{DomainValue, UnlessNoMemory}
 use Rattle.domain_core.specs.PrivateFarm.{Answer, Call}
 use Rattle.whole_farm.specs.Laws.{RunsAddUp}
 use Rattle.domain_core.specs.declared.event.Told.{Told}
+use Rattle.answer_text.specs.Results.{replies_told}
 use Rattle.farm_replay.specs.Runs.{HaveRun, HasGoneOn}
 use Rattle.script_replay.proofs.Runs.{no_calls, more_calls, gone_nowhere}
-use Rattle.line_answers.specs.Asks.{next_event, AreAsked}
+use Rattle.script_lines.specs.declared.command.Command.{Command}
+use Rattle.script_lines.specs.declared.command.Command.TheVariants.{Config, Write, Boot, Poke, Peek, Collect, Reset, Look}
+use Rattle.line_answers.specs.Asks.{is_read, next_event, read_replies, AreAsked}
+use Rattle.line_answers.specs.Lines.{IsUnsettled}
 use Rattle.script_replay.specs.declared.asks.UserLine.{UserLine}
 use Rattle.script_replay.specs.Lines.{call_of_line, calls_of_line, answers_told, AsksOn}
 use Rattle.script_replay.specs.Lines.{IsStoppedBy, IsAtEnd, HasStopped, is_peek, GoesOnIf, HasEndedOn, AsksWhole}
@@ -77,6 +84,22 @@ asks_more law l before told after domains other_domains third_domains e r was sa
           (calls_of_line l was.more ++ call_of_line l e ∷ []) told)
           (sym answers) both);
     }
+
+-- an event that isn't a read adds no reply to a read
+pub still_unread : (before told after : List Told) (e : Event) (r : Reply) (stops : Bool)
+    → (stops ≡ true → read_replies before ≡ [] → read_replies told ≡ [])
+    → after ≡ told ++ told_of e r ∷ [] → (stops ≡ true → is_read e ≡ false)
+    → stops ≡ true → read_replies before ≡ [] → read_replies after ≡ []
+still_unread before told after e r stops was is other stop none =
+    ap read_replies is
+    ∙ ap replies_told (filter-append (λ (t : Told). is_read t.event) told (told_of e r ∷ []))
+    ∙ map-append (λ (t : Told). t.reply) (filter (λ (t : Told). is_read t.event) told)
+    (filter (λ (t : Told). is_read t.event) (told_of e r ∷ []))
+    ∙ (λ i. was stop none i ++ replies_told (one (is_read e) (other stop) i))
+  where
+    one : (reads : Bool) → reads ≡ false → (if reads then told_of e r ∷ [] else []) ≡ []
+    one true same = absurd cc
+    one false same = refl
 
 -- ---- how it stops
 
@@ -172,12 +195,14 @@ goes_if : (goes : Bool) (domain : ℕ) (old new : List DomainValue) → goes ≡
 goes_if goes domain old new is gone = subst (λ (g : Bool). GoesOnIf g domain old new) (sym is) gone
 
 -- a peek whose domain can't go on
-pub unsettled : {A : Type 0} (l : UserLine) (none told : List Told)
+unsettled : {A : Type 0} (l : UserLine) (none told : List Told)
     (old mid new : List DomainValue) (refusal : Refusal)
     → none ≡ [] → is_peek l.command ≡ true
     → AsksOn l none told old mid
-    → HasGoneOn l.domain mid new → AsksWhole {A = A} l told old new (Err refusal)
-unsettled l none told old mid new refusal is peeks asks gone =
+    → HasGoneOn l.domain mid new
+    → IsStoppedBy l told new refusal ⊎ IsUnsettled l.command told refusal
+    → AsksWhole {A = A} l told old new (Err refusal)
+unsettled l none told old mid new refusal is peeks asks gone over =
     let own : AsksOn l [] told old mid = subst (λ (before : List Told). AsksOn l before told old mid) is asks in
     record {
       first = own.more;
@@ -189,7 +214,7 @@ unsettled l none told old mid new refusal is peeks asks gone =
       begun = own.run;
       between = goes_if (is_peek l.command) l.domain mid new peeks gone;
       finished = no_calls new;
-      ended = inr peeks;
+      ended = over;
     }
 
 -- a peek of two parts
@@ -256,14 +281,37 @@ peeks_refused {A} {B} l none told old new (Err x) stops refusal is refused asks 
     error_in (Ok x) = NoMemory
     error_in (Err refusal) = refusal
 
--- a peek whose domain may not go on asks all that it asks
-pub peeks_unsettled : {A : Type 0} (l : UserLine) (none told : List Told) (old mid new : List DomainValue)
-    (refusal : Refusal) (peeks : Bool)
+-- a peek that hasn't read yet may end by a full journal
+full_peek : (command : Command) (told : List Told) → is_peek command ≡ true → read_replies told ≡ []
+    → IsUnsettled command told JournalFull
+full_peek (Peek host address) told peeks unread = unread
+full_peek (Config bytes) told peeks unread = absurd cc
+full_peek (Write host bytes) told peeks unread = absurd cc
+full_peek (Boot host code) told peeks unread = absurd cc
+full_peek (Poke host address word) told peeks unread = absurd cc
+full_peek (Collect host) told peeks unread = absurd cc
+full_peek (Reset node) told peeks unread = absurd cc
+full_peek (Look node) told peeks unread = absurd cc
+
+-- a peek whose domain can't settle for a full journal asks all that it asks
+pub peeks_full : {A : Type 0} (l : UserLine) (none told : List Told) (old mid new : List DomainValue)
+    (stops peeks : Bool)
+    → none ≡ [] → peeks ≡ is_peek l.command
+    → peeks ≡ true → stops ≡ true
+    → (stops ≡ true → read_replies none ≡ [] → read_replies told ≡ [])
+    → AsksOn l none told old mid → HasGoneOn l.domain mid new → AsksWhole {A = A} l told old new (Err JournalFull)
+peeks_full l none told old mid new stops peeks is peek it stop unread asks gone =
+    unsettled l none told old mid new JournalFull is (sym peek ∙ it) asks gone
+    (inr (full_peek l.command told (sym peek ∙ it) (unread stop (ap read_replies is))))
+
+-- a peek whose domain can't settle because memory ran out asks all that it asks
+pub peeks_out_of_memory : {A : Type 0} (l : UserLine) (none told : List Told) (old mid new : List DomainValue)
+    (peeks : Bool)
     → none ≡ [] → peeks ≡ is_peek l.command
     → peeks ≡ true
-    → AsksOn l none told old mid → HasGoneOn l.domain mid new → AsksWhole {A = A} l told old new (Err refusal)
-peeks_unsettled l none told old mid new refusal peeks is peek it asks gone =
-    unsettled l none told old mid new refusal is (sym peek ∙ it) asks gone
+    → AsksOn l none told old mid → HasGoneOn l.domain mid new → AsksWhole {A = A} l told old new (Err NoMemory)
+peeks_out_of_memory l none told old mid new peeks is peek it asks gone =
+    unsettled l none told old mid new NoMemory is (sym peek ∙ it) asks gone (inl tt)
 
 -- a peek that is asked in two parts asks all that it asks
 pub peeks_whole : {A : Type 0} (l : UserLine) (none half told : List Told) (old mid on new : List DomainValue)

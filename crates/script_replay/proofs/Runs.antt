@@ -7,7 +7,8 @@ use Rattle.whole_farm.specs.Whole.{Farm, whole_after}
 use Rattle.whole_farm.specs.Domains.{IsMadeOf}
 use Rattle.whole_farm.specs.Laws.{RunsAddUp}
 use Rattle.whole_farm.specs.Values.{all_places, all_states}
-use Rattle.farm_replay.specs.Runs.{IsRunTo, HaveRun, IsOfTheFarm, HasGoneOn}
+use Rattle.farm_replay.specs.Plain.{IsOfTheFarm}
+use Rattle.farm_replay.specs.Runs.{IsRunTo, HaveRun, HasGoneOn}
 
 -- no call leaves the domains as they are
 pub no_calls : (domains : List DomainValue) → HaveRun domains domains [] []

@@ -1,5 +1,5 @@
 -- Lines of users, and of the lab, on a farm on one thread.
-use Rattle.std.specs.Prelude.{◌≡◌, ◌++◌, ◌⊎◌, ℕ, Bool, true, false, List, [], ◌∷◌, map, codes, Result, Ok, Err, None, Some, ⊤}
+use Rattle.std.specs.Prelude.{◌≡◌, ◌≢◌, ◌++◌, ◌⊎◌, ℕ, Bool, true, false, List, [], ◌∷◌, map, codes, Result, Ok, Err, None, Some, ⊤}
 use Rattle.domain_core.specs.declared.event.By.TheVariants.{User}
 use Rattle.domain_core.specs.declared.event.Event.{Event}
 use Rattle.domain_core.specs.declared.event.Refusal.{Refusal}
@@ -15,6 +15,7 @@ use Rattle.script_lines.specs.declared.command.Command.{Command}
 use Rattle.script_lines.specs.declared.command.Command.TheVariants.{Peek}
 use Rattle.answer_text.specs.Results.{line_text, replies_told}
 use Rattle.line_answers.specs.Asks.{next_event, AreAsked}
+use Rattle.line_answers.specs.Lines.{IsUnsettled}
 use Rattle.script_replay.specs.declared.asks.AskedLine.{AskedLine}
 use Rattle.script_replay.specs.declared.asks.AskedLine.TheVariants.{OfLab, OfUser}
 use Rattle.script_replay.specs.declared.asks.UserLine.{UserLine}
@@ -73,10 +74,10 @@ abbrev pub GoesOnIf : Bool → ℕ → List DomainValue → List DomainValue →
 GoesOnIf true domain old new = HasGoneOn domain old new
 GoesOnIf false domain old new = new ≡ old
 
--- a line's end: nothing more is asked; or the farm refuses what is asked next, or that the domain of a peek goes on
+-- a line's end: nothing more is asked, or the farm refuses what is asked next, or it is a peek that can't settle
 abbrev pub HasEndedOn : {A : Type 0} → UserLine → List Told → List DomainValue → Result A Refusal → Type 0
 HasEndedOn l told domains (Ok done) = next_event l.command told ≡ None
-HasEndedOn l told domains (Err refusal) = IsStoppedBy l told domains refusal ⊎ (is_peek l.command ≡ true)
+HasEndedOn l told domains (Err refusal) = IsStoppedBy l told domains refusal ⊎ IsUnsettled l.command told refusal
 
 -- a line asks all that it asks: some events, and those after the settling of a peek
 pub record AsksWhole {A : Type 0} (l : UserLine) (told : List Told) (old new : List DomainValue)
@@ -94,11 +95,13 @@ pub record AsksWhole {A : Type 0} (l : UserLine) (told : List Told) (old new : L
 
 -- ---- what it is answered
 
--- a user's line asks all that it asks, and its output line shows the replies, as the program shows them
+-- a user's line asks all that it asks, and its output line shows the replies, as the program shows them. That memory
+-- ran out is never the end of an answered line
 pub record ShowsUserLine (l : UserLine) (old new : List DomainValue) (text : List ℕ) : Type 0 where
   pub told : List Told
   pub result : Result ⊤ Refusal
   pub asks : AsksWhole l told old new result
+  pub memory : result ≢ Err NoMemory
   pub is_text : text ≡ line_text l.name.now l.command (replies_told told) result
 
 -- the same, and then the user's domain goes on, as far as the farm lets it

@@ -1,5 +1,6 @@
 //! What a user's line asks of the user's domain, on a farm on one thread.
-ghost use Rattle.std.specs.Prelude.{◌≡◌, [], IfOk};
+ghost use Rattle.std.specs.Prelude.{◌≡◌, [], true, IfOk};
+ghost use Rattle.line_answers.specs.Asks.{read_replies};
 ghost use Rattle.script_replay.specs.Lines.{AsksOn, AsksWhole, HasStopped};
 
 use crate::asks::UserLine;
@@ -24,6 +25,7 @@ fn ask_on(
 ) -> Result<(), Refusal>
     ensures asked { AsksOn line.now told.old.items told.new.items farm.old.farm farm.new.farm }
     ensures ended { HasStopped stops_to_read line.now told.new.items farm.new.farm result }
+    ensures unread { stops_to_read ≡ true → read_replies told.old.items ≡ [] → read_replies told.new.items ≡ [] }
 {
     // A run of calls and then of others is the run of all.
     runs_add_up();
@@ -43,12 +45,13 @@ fn ask_on(
 }
 
 /// Asks what a line asks, and lists each event with its reply. A peek lets its domain settle before it reads. The first
-/// refusal ends the line, and what was done before it stays done.
+/// refusal ends the line, and what was done before it stays done. A peek ends too if its domain can't settle because the
+/// journal is full or has no room for a quantum of Steps of a node, or because memory runs out.
 ///
 /// # Errors
 ///
 /// `StepsEnd` if a peek's domain wants more Steps than the meter allows.
-#[tactic(auto, using(crate::proofs::Exchanges::one_part_ended, crate::proofs::Exchanges::peeks_refused, crate::proofs::Exchanges::peeks_unsettled, crate::proofs::Exchanges::peeks_whole))]
+#[tactic(auto, using(crate::proofs::Exchanges::one_part_ended, crate::proofs::Exchanges::peeks_refused, crate::proofs::Exchanges::peeks_full, crate::proofs::Exchanges::peeks_out_of_memory))]
 pub(crate) fn ask_line<M: StepMeter>(
     farm: &mut OpenFarm,
     line: &UserLine<'_>,
@@ -65,8 +68,10 @@ pub(crate) fn ask_line<M: StepMeter>(
         return Ok(Err(refusal));
     }
     match farm.settle(line.domain, QUANTUM, ROUNDS, meter) {
-        Ok(_) => Ok(ask_on(farm, line, false, told)),
-        Err(AskFault::Refused(refusal)) => Ok(Err(refusal)),
+        // If there is no such domain, the farm refuses what the line asks next.
+        Ok(_) | Err(AskFault::Refused(Refusal::NoSuch)) => Ok(ask_on(farm, line, false, told)),
+        Err(AskFault::Refused(Refusal::JournalFull)) => Ok(Err(Refusal::JournalFull)),
+        Err(AskFault::Refused(Refusal::NoMemory)) => Ok(Err(Refusal::NoMemory)),
         Err(AskFault::Steps(end)) => Err(end),
     }
 }
