@@ -6,8 +6,8 @@ use Rattle.farm_service.specs.Passes.{UserPassValue, fresh_passes}
 use Rattle.farm_service.specs.Closed.{AreListed, AllMetFullTruly}
 use Rattle.live_farm.specs.Crews.{number_of}
 
--- the passes of a plan's users, in its order, each list just the user's commands in his domain's journal, and have met
--- a full journal only if that one is full
+-- the passes of a plan's users, in its order: each lists the user's commands in the journal of the user's domain, and
+-- nothing else, and has met a full journal only if that one is full
 pub record AreUsersListed (plan : List DomainData) (closed : List ClosedDomain) : Type 0 where
   pub passes : List UserPassValue
   pub theirs : map number_of passes ≡ map number_of (fresh_passes plan)

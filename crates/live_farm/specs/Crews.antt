@@ -12,7 +12,7 @@ use Rattle.live_farm.specs.declared.mailbox.Mailbox.{Mailbox}
 abbrev pub number_of : UserPassValue → UserNumber
 number_of pass = record { domain = pass.domain; user = pass.user }
 
--- the name of a user of a plan, if the plan has him
+-- the name of a user of a plan, if the plan has this user
 abbrev pub name_at : List DomainData → UserNumber → Option (List ℕ)
 name_at plan number =
     option_and_then (λ d. option_map (λ u. u.name) (slice_get d.users number.user)) (slice_get plan number.domain)
@@ -22,7 +22,7 @@ abbrev pub letter_to : UserNumber → ℕ → Matter → Letter
 letter_to whose number m = record { user = whose.user; number = number; matter = m }
 
 -- into which mailbox a matter of the line of this number goes for the user of this place among all, and as what letter:
--- into that of his domain's station. None, if there is no such user or no such station
+-- into that of the station of the user's domain. None, if there is no such user or no such station
 abbrev pub mailed : Crew → ℕ → ℕ → Matter → Option (Mailbox × Letter)
 mailed crew place number m =
     option_and_then (λ whose. option_map (λ station. (station.mailbox, letter_to whose number m))

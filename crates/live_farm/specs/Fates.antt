@@ -34,14 +34,14 @@ abbrev pub IsFateOfLine : List (List ℕ) → List ℕ → LineFate → Type 0
 IsFateOfLine names line fate.PassedOver = asks_nothing line ≡ true
 IsFateOfLine names line other = (asks_nothing line ≡ false) × IsFateOfText names line other
 
--- ---- a line of which only the beginning is known
+-- ---- a line if only its beginning is known
 
 -- it is a comment, whatever follows
 abbrev pub begins_comment : List ℕ → Bool
 begins_comment [] = false
 begins_comment (byte ∷ beginning) = byte == 35
 
--- its first word is the name of this user, whatever follows: a blank stands behind it
+-- its first word is the name of this user, and a blank comes after it, whatever follows
 abbrev pub IsCalledBy : List (List ℕ) → List ℕ → ℕ → Type 0
 IsCalledBy names beginning user =
     (next : List ℕ) × (rest : List (List ℕ)) × BeginsWith names (words_between beginning) user (next ∷ rest)

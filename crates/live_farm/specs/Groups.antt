@@ -23,7 +23,8 @@ use Rattle.live_farm.specs.declared.texts.Why.TheVariants as why
 use Rattle.live_farm.specs.Whys.{IsToldOf}
 use Rattle.live_farm.specs.LiveTexts.{error_text, rest_text, rest_state_of, restart_text, why_text, no_node_text, operator_restart_text}
 
--- a line of this user is answered by this text: his session gains what the line asked, and no other session changes
+-- a line of this user is answered by this text: the user's session gains what the line asked, and no other session
+-- changes
 pub record AnswersLine (before after : DomainUsers) (user : ℕ) (command : Command) (text : List ℕ) : Type 0 where
   pub name : Bor (List ℕ)
   pub entry : SessionValue
@@ -46,23 +47,23 @@ AllStay before after = after.sessions.items ≡ before.sessions.items
 abbrev pub AllBegin : DomainUsers → DomainUsers → Type 0
 AllBegin before after = after.sessions.items ≡ map begun_anew before.sessions.items
 
--- if that is done, else nobody's
+-- all sessions begin again if that is done, else nobody's session changes
 abbrev pub BeginsIf : Bool → DomainUsers → DomainUsers → Type 0
 BeginsIf true before after = AllBegin before after
 BeginsIf false before after = AllStay before after
 
--- so it was with the domain of these users when it was looked at
+-- this was the status of these users' domain when it was looked at
 abbrev pub IsStatusHere : DomainUsers → DomainStatus → Type 0
 IsStatusHere group status =
     (d : DomainValue) × IsFound group.service.now.plan group.domain d × IsStatusOf d status
 
--- a user is told whether his domain is at rest, as its status says
+-- a user is answered whether the user's domain is at rest, as its status says
 abbrev pub AnswersRest : DomainUsers → ℕ → List ℕ → Type 0
 AnswersRest group user text =
     (name : Bor (List ℕ)) × (status : DomainStatus) × IsNamedSo group user name × IsStatusHere group status
     × (text ≡ rest_text name.now (rest_state_of status))
 
--- a user who is alone in his domain begins it anew; or he is told that only the operator may
+-- a user who is alone in a domain begins it again; or the user is answered that only the operator may
 abbrev pub AnswersRestart : DomainUsers → DomainUsers → ℕ → Bool → List ℕ → Type 0
 AnswersRestart before after user done text =
     (name : Bor (List ℕ)) × IsNamedSo before user name × (text ≡ restart_text name.now done)
@@ -76,30 +77,30 @@ LacksNode group (Some node) name text =
     IfSome (slice_get group.service.now.plan group.domain) (λ d. length d.nodes ≤ node)
     × (text ≡ no_node_text name node)
 
--- a user is told why the nodes of his domain, or one of them, do no more than they do: in lines of which each begins
--- with his name, and of which the last says that it is the end; or that there is no such node; or, by the number of his
--- line, that what the domain answered can't be done again
+-- a user is answered why the nodes of the user's domain, or one of them, do no more than they do: each line of that
+-- begins with the user's name, and the last says that it is the end. Or the answer is that there is no such node; or,
+-- by the number of the user's line, that what the domain answered can't be done again
 abbrev pub AnswersWhy : DomainUsers → ℕ → ℕ → Option ℕ → List ℕ → Type 0
 AnswersWhy group user number node text =
     (name : Bor (List ℕ)) × IsNamedSo group user name
     × (((told : List ℕ) × IsToldOf group.service.now.plan group.domain told × (text ≡ why_text name.now told))
     ⊎ (LacksNode group node name.now text ⊎ (text ≡ error_text name.now number why.Journal)))
 
--- the domain of a user begins anew, as the operator asked in the line of this number; or nothing changes, and he is
--- told so
+-- the domain of a user begins again, as the operator asked in the line of this number; or nothing changes, and the
+-- operator is answered the error `user`
 abbrev pub AnswersOperator : DomainUsers → DomainUsers → ℕ → ℕ → Bool → List ℕ → Type 0
 AnswersOperator before after user number done text =
     (name : Bor (List ℕ)) × IsNamedSo before user name × BeginsIf done before after
     × (text
     ≡ (if done then operator_restart_text name.now else error_text (codes "!") number (why.Fault fault.User)))
 
--- a wrong line is told to its user, and asks nothing
+-- a wrong line asks nothing, and its user is answered why it is wrong
 abbrev pub AnswersWrong : DomainUsers → DomainUsers → ℕ → ℕ → Why → List ℕ → Type 0
 AnswersWrong before after user number w text =
     (name : Bor (List ℕ)) × IsNamedSo before user name × (text ≡ error_text name.now number w)
     × AllStay before after
 
--- what a line is answered, and whether the domain begins anew thereby
+-- what a line is answered, and whether the domain begins again by it
 abbrev pub AnswersMatter : DomainUsers → DomainUsers → ℕ → ℕ → Matter → Bool → List ℕ → Type 0
 AnswersMatter before after user number (matter.Asked (request.Script command)) anew text =
     AnswersLine before after user command text × (anew ≡ false)
@@ -125,8 +126,8 @@ asker_name name (matter.Asked request) = name
 asker_name name (matter.Wrong w) = name
 asker_name name matter.OperatorRestart = codes "!"
 
--- a letter is answered if what was told before is recorded. A domain whose record can't be taken is asked nothing but
--- to begin anew for the operator, and one of which something isn't recorded nothing at all
+-- a letter is answered if what was answered before is recorded. A domain whose record can't be taken is asked only to
+-- begin again, for the operator. A domain with something that isn't recorded is asked nothing at all
 abbrev pub may_be_answered : RecordState → Matter → Bool
 may_be_answered state.Kept m = true
 may_be_answered state.Unrecorded m = false
@@ -134,7 +135,7 @@ may_be_answered state.Out (matter.Asked request) = false
 may_be_answered state.Out (matter.Wrong w) = false
 may_be_answered state.Out matter.OperatorRestart = true
 
--- what cannot be recorded is told to who asked, and his line may have been done or not
+-- who asked is answered that something can't be recorded. The line may have been done or not
 abbrev pub TellsUnrecorded : DomainUsers → Letter → List ℕ → Type 0
 TellsUnrecorded group letter text =
     (name : Bor (List ℕ)) × IsNamedSo group letter.user name

@@ -45,11 +45,11 @@ rest_state_of status = if status.is_quiet then rest.Quiet else (if status.room.r
 abbrev pub rest_text : List ℕ → RestState → List ℕ
 rest_text name state = name ++ codes " rest " ++ rest_word state ++ codes "\n"
 
--- the domain of a user rests, since so many bytes of its room of so many are used
+-- the domain of a user rests, since `used` of the `room` bytes of its room are used
 abbrev pub note_text : List ℕ → ℕ → ℕ → List ℕ
 note_text name used room = name ++ codes " note rests " ++ decimal used ++ codes " " ++ decimal room ++ codes "\n"
 
--- whether a user's domain begins anew: if others share it only the operator may ask for that
+-- whether a user's domain begins again: if others share it only the operator may ask for that
 abbrev pub restart_text : List ℕ → Bool → List ℕ
 restart_text name done = name ++ codes " restart " ++ (if done then codes "ok" else codes "operator") ++ codes "\n"
 
@@ -57,7 +57,7 @@ restart_text name done = name ++ codes " restart " ++ (if done then codes "ok" e
 abbrev pub why_line : List ℕ → List ℕ → List ℕ
 why_line name line = name ++ codes " why " ++ line ++ codes "\n"
 
--- each line of what is told, and behind them the last line
+-- a line for each line of what is said, and after them the last line
 abbrev pub why_text : List ℕ → List ℕ → List ℕ
 why_text name told = flat_map (why_line name) (lines told) ++ why_line name (codes "end")
 
@@ -65,6 +65,6 @@ why_text name told = flat_map (why_line name) (lines told) ++ why_line name (cod
 abbrev pub no_node_text : List ℕ → ℕ → List ℕ
 no_node_text name node = name ++ codes " why " ++ decimal node ++ codes " nosuch" ++ codes "\n"
 
--- the domain of this user begins anew, as the operator asked
+-- the domain of this user begins again, as the operator asked
 abbrev pub operator_restart_text : List ℕ → List ℕ
 operator_restart_text name = codes "!restart " ++ name ++ codes " ok" ++ codes "\n"

@@ -16,7 +16,7 @@ after_text done recorded =
     ++ codes " events: more aren't done again at once\n"
     else codes "after " ++ decimal done ++ codes " events\n"
 
--- that a domain does nothing more until it begins anew, if its journal is full
+-- that a domain does nothing more until it begins again, if its journal is full
 abbrev pub full_text : DomainStatus → List ℕ
 full_text status =
     codes "the journal is full: " ++ decimal status.limit
@@ -34,11 +34,11 @@ stop_text status room =
     if status.recorded == status.limit then full_text status
     else (if status.room.rests then used_text status room else [])
 
--- what is told of a domain: up to where it was done again, what its status says, and the causes
+-- what is said of a domain: up to where it was done again, what its status says, and the causes
 abbrev pub moment_text : DomainStatus → ℕ → ℕ → List ℕ → List ℕ
 moment_text status room done causes = after_text done status.recorded ++ stop_text status room ++ causes
 
--- what is told of the domain of this number of a plan: of a moment to which calls of it lead, and of its status
+-- what is said of the domain of this number of a plan: of a moment to which calls of it lead, and of its status
 pub record IsToldOf (plan : List DomainData) (number : ℕ) (told : List ℕ) : Type 0 where
   pub domain : DomainValue
   pub status : DomainStatus

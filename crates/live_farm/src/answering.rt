@@ -45,8 +45,8 @@ impl DomainUsers<'_> {
         Ok(text)
     }
 
-    // Answers a line of a script: it asks what it says in its user's session, and his output line is given. If a command or
-    // the text met want of memory, what was taken before it stands.
+    // Answers a line of a script: asks what it says in its user's session, and gives the user's output line. If a command or
+    // the text ran out of memory, what was taken before it stays.
     fn answer<R: Wait>(
         &mut self,
         rt: &R,
@@ -65,7 +65,7 @@ impl DomainUsers<'_> {
     ///
     /// # Errors
     ///
-    /// `NoMemory` if that met want of memory.
+    /// `NoMemory` if the settling ran out of memory.
     pub(crate) fn settle<R: Wait>(&self, rt: &R, alloc: Global, user: usize) -> Result<(), NoMemory>
         requires { user < length self.now.sessions.items }
     {
@@ -75,7 +75,7 @@ impl DomainUsers<'_> {
         }
     }
 
-    // Begins the domain of all these users anew; whether that was done.
+    // Begins the domain again for all these users. The answer is whether that was done.
     fn begin_anew<R: Wait>(&mut self, rt: &R) -> bool
         ensures done { result ≡ true → self.new.sessions.items ≡ map begun_anew self.old.sessions.items }
         ensures refused { result ≡ false → self.new.sessions.items ≡ self.old.sessions.items }
@@ -111,7 +111,7 @@ impl DomainUsers<'_> {
         rest_answer(alloc, self.name(user), self.rest_state(rt))
     }
 
-    // Begins the domain anew for a user who is alone in it.
+    // Begins the domain again for a user who is alone in it.
     fn answer_restart<R: Wait>(
         &mut self,
         rt: &R,
@@ -155,7 +155,7 @@ impl DomainUsers<'_> {
         }
     }
 
-    // Begins the domain anew for the operator, who names one of its users in the line of this number.
+    // Begins the domain again for the operator, who names one of its users in the line of this number.
     fn answer_operator<R: Wait>(
         &mut self,
         rt: &R,
@@ -179,7 +179,7 @@ impl DomainUsers<'_> {
 ///
 /// # Errors
 ///
-/// `NoMemory` if a command or the text met want of memory. What was taken before it stands.
+/// `NoMemory` if a command or the text ran out of memory. What was taken before it stays.
 pub fn answer_letter<R: Wait>(
     rt: &R,
     alloc: Global,

@@ -1,4 +1,4 @@
-//! Why the nodes of a domain do no more than they do: what it answered is done again on a domain apart.
+//! Why the nodes of a domain do no more than they do: what it answered is done again on a separate domain.
 ghost use Rattle.std.specs.Prelude.{◌≡◌, ◌<◌, IfOk, length, string_bytes};
 ghost use Rattle.domain_core.specs.Domain.{DomainValue as SpecDomain};
 ghost use Rattle.farm_service.specs.Domains.{IsFound, IsStatusOf};
@@ -14,7 +14,7 @@ use record_keeping::PIECE;
 use std::alloc::Global;
 use std::sync::Wait;
 
-/// How many Steps are done again for an answer. Each entry of a journal counts as so many more.
+/// The most Steps that are done again for an answer. Each entry of a journal counts as `ENTRY_COUNTS` Steps more.
 const MOST_AGAIN: u64 = 1 << 28;
 
 const ENTRY_COUNTS: u64 = 64;
@@ -30,7 +30,7 @@ struct Shadow {
     left: u64,
 }
 
-// It is dropped by one call.
+// Dropped by hand, since a derived `Drop` makes callers prove the drop of each field.
 impl Drop for Shadow {
     fn drop(self) {
         let Shadow {
@@ -57,7 +57,7 @@ impl Shadow {
         })
     }
 
-    // Follows the next piece of the journal, until so many events are recorded; whether more may follow.
+    // Follows the next piece of the journal, until `end` events are recorded. The answer is whether more may follow.
     fn follow_piece<R: Wait>(
         &mut self,
         rt: &R,
@@ -90,7 +90,7 @@ impl Shadow {
         Ok(true)
     }
 
-    // Follows the journal until so many events are recorded, or as far as is done again at once.
+    // Follows the journal until `end` events are recorded, or as far as is done again for one answer.
     fn follow_journal<R: Wait>(
         &mut self,
         rt: &R,
@@ -110,7 +110,8 @@ impl Shadow {
         Ok(())
     }
 
-    // Follows the journal up to so many events, or as far as is done again at once, and says what is told of that moment.
+    // Follows the journal up to as many events as the status says are recorded, or as far as is done again for one answer, and
+    // gives the text of that moment.
     fn tell_of_journal<R: Wait>(
         &mut self,
         rt: &R,
@@ -143,7 +144,7 @@ fn tell_reach(alloc: Global, done: u64, recorded: u64) -> Result<String, NoMemor
     format!(in alloc; "after {done} events\n")
 }
 
-// That a domain does nothing more until it begins anew, if its journal is full.
+// That a domain does nothing more until it begins again, if its journal is full.
 fn tell_full(alloc: Global, status: DomainStatus) -> Result<String, NoMemory>
     ensures { IfOk result (λ told. string_bytes told ≡ full_text status) }
 {
@@ -178,7 +179,7 @@ fn tell_stop(alloc: Global, status: DomainStatus, room: u64) -> Result<String, N
     }
 }
 
-// What is told of a domain after this many events, with the causes.
+// The text of a domain that was done again up to `done` events, with the causes.
 fn tell(
     alloc: Global,
     status: DomainStatus,
@@ -194,7 +195,7 @@ fn tell(
 }
 
 /// Says why the nodes of a domain, or one of them, do no more than they do. The domain is asked nothing: what it answered up to now
-/// is copied in pieces, each under its lock, and done again on a domain apart.
+/// is copied in pieces, each under its lock, and done again on a separate domain.
 ///
 /// # Errors
 ///

@@ -15,7 +15,7 @@ use plan_checker::AcceptedPlan;
 use std::alloc::Global;
 use std::sync::Wait;
 
-/// A user, by his domain's number in the plan and his number there.
+/// A user, by the number of their domain in the plan and their number there.
 #[derive(Clone, Copy)]
 pub struct UserNumber {
     pub domain: u8,
@@ -32,7 +32,7 @@ pub struct Crew<'a> {
     pub stations: Vec<Station<'a>>,
 }
 
-// It is dropped by one call.
+// Dropped by hand, since a derived `Drop` makes callers prove the drop of each field.
 impl Drop for Crew<'_> {
     fn drop(self) {
         let Crew {
@@ -68,7 +68,7 @@ fn groups_of<'a>(
     Ok(groups)
 }
 
-// Lets a user join the group of his domain, if the plan has him.
+// Adds a user to the crew and to the group of the user's domain. It is an error if the plan has no such user.
 fn join<'a>(
     service: &'a Service,
     groups: &mut Vec<DomainUsers<'a>>,
@@ -125,7 +125,7 @@ fn add_station<'a>(
     Ok(())
 }
 
-// Lets all users join the groups of their domains.
+// Adds all users to the crew and to the groups of their domains.
 fn join_all<'a>(
     service: &'a Service,
     groups: &mut Vec<DomainUsers<'a>>,
@@ -219,7 +219,8 @@ impl<'a> Crew<'a> {
         Some((&station.mailbox, letter))
     }
 
-    /// Puts a matter of the line of this number into the mailbox of a user's domain, by the place of his name.
+    /// Puts a matter of the line of this number into the mailbox of a user's domain. `user` is the place of the user's name among
+    /// all.
     pub fn send<R: Wait>(&self, rt: &R, user: usize, number: u64, matter: Matter) -> Sent {
         match self.addressed(user, number, matter) {
             Some((mailbox, letter)) => mailbox.put(rt, letter),
@@ -227,7 +228,7 @@ impl<'a> Crew<'a> {
         }
     }
 
-    /// Whether the thread of a domain met want of memory.
+    /// Whether the thread of a domain ran out of memory.
     pub fn is_out_of_memory(&self) -> bool {
         for station in &self.stations {
             if station.is_out_of_memory() {

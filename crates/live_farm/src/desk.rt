@@ -31,7 +31,7 @@ enum Goes {
 }
 
 impl Desk<'_, '_> {
-    // Tells at once that a line isn't done.
+    // Answers immediately that a line isn't done, and why.
     fn tell<R: Wait, O: SharedOutlet>(
         &self,
         rt: &R,
@@ -45,7 +45,8 @@ impl Desk<'_, '_> {
         Ok(())
     }
 
-    // Sends a matter to a user's domain. If too many lines wait there, who asked is told at once.
+    // Sends a matter to a user's domain. If too many lines wait there, or there is no memory for one more, that is answered
+    // immediately.
     fn send<R: Wait, O: SharedOutlet>(
         &self,
         rt: &R,
@@ -132,7 +133,7 @@ impl Desk<'_, '_> {
         Ok(Goes::On)
     }
 
-    /// Why no more lines are read, if that is so: a write failed, or the thread of a domain met want of memory.
+    /// Why no more lines are read, if that is so: a write failed, or the thread of a domain ran out of memory.
     pub fn look<R: Wait, O: SharedOutlet>(&self, rt: &R, outlet: &O) -> Result<(), Trouble> {
         if outlet.has_failed(rt) {
             return Err(Trouble::Io);

@@ -69,7 +69,7 @@ pub enum LiveFailure {
     Threads,
 }
 
-// It is dropped by one call.
+// Dropped by hand, since a derived `Drop` makes callers prove the drop of each field.
 impl Drop for LiveFailure {
     fn drop(self) {
         match self {

@@ -18,13 +18,13 @@ pub enum LineFate {
     End,
     /// It asks nothing.
     PassedOver,
-    /// It asks something of the domain of a user, by the place of his name among all.
+    /// It asks something of a user's domain. `user` is the place of the user's name among all.
     Asks { user: usize, request: LiveRequest },
-    /// It isn't done, and a user is told why, by the place of his name among all.
+    /// It isn't done, and a user is answered why. `user` is the place of the user's name among all.
     Refused { user: usize, why: Why },
     /// The operator asks something.
     Operator(OperatorRequest),
-    /// It isn't done, and the operator is told why.
+    /// It isn't done, and the operator is answered why.
     OperatorRefused(Why),
     /// It isn't done, and whose it is isn't known.
     Nobodys,
@@ -46,12 +46,12 @@ fn called_by(names: &[&str], beginning: &[u8]) -> Option<usize>
 {
     let mut words = LineWords::of(beginning);
     let name = words.take()?;
-    // Without a blank behind it the word may go on.
+    // Without a blank after it the word may go on.
     words.take()?;
     user_named(names, name)
 }
 
-// What becomes of a line of which only the beginning is known.
+// What becomes of a line if only its beginning is known.
 fn fate_of_beginning(names: &[&str], beginning: &[u8], why: Why) -> LineFate
     ensures { IsFateOfBeginning (map (λ n. n.now) names.now) beginning.now why result }
 {
@@ -99,8 +99,8 @@ fn fate_of_line(alloc: Global, names: &[&str], line: &[u8]) -> LineFate
     }
 }
 
-/// What becomes of a line that was read. Of a line that isn't whole the beginning says whose it is: it is passed over if it is a
-/// comment, and is a user's if a blank stands behind his name.
+/// What becomes of a line that was read. If the line isn't whole, its beginning says whose it is: it is passed over if it is a
+/// comment, it is the operator's if it begins with `!`, and it is a user's if it begins with the user's name and a blank.
 pub fn fate_of(alloc: Global, names: &[&str], read: &InputLine) -> LineFate
     ensures { IsFate (map (λ n. n.now) names.now) read.now result }
 {

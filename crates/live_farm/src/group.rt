@@ -6,7 +6,7 @@ use farm_service::{Service, Session, UserPass};
 use line_answers::Quantum;
 use std::alloc::Global;
 
-/// The users of a domain, by their numbers there, each in a session of his own.
+/// The users of a domain, by their numbers there, each in a session of their own.
 pub struct DomainUsers<'a> {
     pub(crate) service: &'a Service,
     pub(crate) domain: u8,
@@ -17,7 +17,7 @@ pub struct DomainUsers<'a> {
     ghost there: { domain < length service.now.plan },
 }
 
-// It is dropped by one call.
+// Dropped by hand, since a derived `Drop` makes callers prove the drop of each field.
 impl Drop for DomainUsers<'_> {
     fn drop(self) {
         let DomainUsers {
@@ -46,7 +46,7 @@ impl<'a> DomainUsers<'a> {
         }
     }
 
-    /// Adds the next user, with his session.
+    /// Adds the next user, with the user's session.
     pub fn add(&mut self, name: &'a str, session: Session<'a>) -> Result<(), NoMemory>
         ensures { OnOk result (self.new.sessions.items ≡ self.old.sessions.items ++ session.entry ∷ []) }
     {

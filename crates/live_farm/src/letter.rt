@@ -10,13 +10,13 @@ pub enum Matter {
     Asked(LiveRequest),
     /// A line that is wrong, and why.
     Wrong(Why),
-    /// The operator asks that the domain begins anew.
+    /// The operator asks that the domain begins again.
     OperatorRestart,
 }
 
 /// A line for a domain's thread.
 pub struct Letter {
-    /// Whose it is, by his number in the domain.
+    /// The number in the domain of the user whose line it is, or whom the operator names.
     pub user: u8,
     /// The number of the line.
     pub number: u64,
@@ -24,7 +24,7 @@ pub struct Letter {
     pub matter: Matter,
 }
 
-// It is dropped by one call.
+// Dropped by hand, since a derived `Drop` makes callers prove the drop of each field.
 impl Drop for Letter {
     fn drop(self) {
         let Letter {

@@ -14,11 +14,11 @@ use std::sync::{Condvar, Mutex, Wait};
 /// The most lines that wait for a thread.
 pub const MOST_WAITING: usize = 1024;
 
-// What waits for a thread: never more than `MOST_WAITING` lines, for all of which there is memory.
+// What waits for a thread: never more than `MOST_WAITING` lines. Memory for that many is reserved.
 #[derive(Drop)]
 struct Letters {
     waiting: VecDeque<Letter>,
-    // Whether there is something to be told.
+    // Whether there is news to report.
     has_news: bool,
     closed: bool,
     ghost bounded: { deque_len waiting ≤ 1024 },
@@ -74,7 +74,7 @@ pub enum Sent {
 pub enum Mail {
     /// A line.
     Letter(Letter),
-    /// There is something to be told.
+    /// There is news to report.
     News,
     /// The mailbox is closed and empty.
     End,
@@ -86,7 +86,7 @@ pub struct Mailbox {
     changed: Condvar,
 }
 
-// It is dropped by one call.
+// Dropped by hand, since a derived `Drop` makes callers prove the drop of each field.
 impl Drop for Mailbox {
     fn drop(self) {
         let Mailbox {
@@ -117,7 +117,7 @@ impl Mailbox {
         sent
     }
 
-    /// Wakes the thread, since there is something to be told.
+    /// Wakes the thread, since there is news to report.
     pub fn wake<R: Wait>(&self, rt: &R) {
         let mut letters = self.letters.lock(rt);
         letters.has_news = true;

@@ -4,7 +4,7 @@ use script_text::write_whole;
 use std::io::Write;
 use std::sync::{Mutex, Wait};
 
-/// Where the operator is told, from any thread, what is no answer.
+/// Where any thread writes what the operator should know and what is no answer to a line.
 pub trait Notices {
     /// Writes whole lines. If they can't be written the run goes on.
     fn tell<R: Wait>(&self, rt: &R, lines: &str);

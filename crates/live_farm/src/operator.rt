@@ -14,7 +14,7 @@ use std::os::unix::fs::FileExt;
 use std::sync::Wait;
 use switch_table::OperatorSeat;
 
-/// The operator at a service, with his seat at its table.
+/// The operator at a service, with a seat at its table.
 #[derive(Drop)]
 pub struct Operator<'a> {
     service: &'a Service,
@@ -23,7 +23,7 @@ pub struct Operator<'a> {
     ghost its: { IsItsOperator service.now seat },
 }
 
-// What the line of a user has more, if what his domain answers isn't recorded.
+// What is added to the line of a user if what the user's domain answers isn't recorded.
 fn record_word(state: RecordState) -> &'static str {
     match state {
         RecordState::Kept => "",
@@ -32,7 +32,8 @@ fn record_word(state: RecordState) -> &'static str {
     }
 }
 
-// The line of a user: what his domain has done, how it is with it, and how much it takes of its room and of that of its records.
+// The line of a user: how many of the user's lines were answered, what the user's domain has done and in which state it is, and
+// how much it takes of its room and of the room of its records.
 fn line_of(
     alloc: Global,
     name: &str,
@@ -103,7 +104,7 @@ impl<'a> Operator<'a> {
         LiveAnswer::line(text)
     }
 
-    /// What a user has done: how many of his lines were answered, and how it is with his domain and its record.
+    /// What a user has done: how many of the user's lines were answered, and the state of the user's domain and of its record.
     pub fn user<R: Wait>(
         &self,
         rt: &R,

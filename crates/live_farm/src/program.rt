@@ -128,8 +128,8 @@ fn serve_all<
     crew.end(alloc)
 }
 
-// Records what the domains answered since their last lines. All threads have ended. Of several records that aren't whole the
-// last is told. Of a domain whose record can't be taken there is nothing to record.
+// Records what the domains answered since their last lines. All threads have ended. If several records aren't whole, the
+// failure names the last. For a domain whose record can't be taken there is nothing to record.
 fn keep_rest<R: Wait, K: SharedRecord, N: Notices>(
     rt: &R,
     alloc: Global,
@@ -147,7 +147,7 @@ fn keep_rest<R: Wait, K: SharedRecord, N: Notices>(
     kept
 }
 
-// The same, with the operator at his seat.
+// As `serve_all`, with the operator who has this seat.
 fn serve_seated<
     R: Threads + Wait + Sync,
     K: SharedRecord + Sync,
@@ -216,9 +216,9 @@ fn close<R: Wait>(
     }
 }
 
-/// Opens a farm on histories, answers the lines of an input as they come, and closes the farm with the passes of all users when the
-/// input ends or the operator stops it. What each domain answers is recorded, in the record of its place, before it is told. The gauge is where the
-/// system says how much memory the program has.
+/// Opens a farm on histories, answers the lines of an input as they come, and closes the farm with the passes of all users when
+/// the input ends or the operator stops it. What each domain answers is recorded, in the record of its place, before the answer
+/// is written. The gauge is the file in which the system says how much memory the program has.
 pub fn run_live<
     R: Threads + Wait + Sync,
     K: SharedRecord + Sync,

@@ -6,13 +6,13 @@ use std::alloc::Global;
 use std::io::{self, Read};
 use std::sync::Wait;
 
-/// A mebibyte, in which lengths are told.
+/// The bytes of a mebibyte. Lengths are shown in mebibytes.
 const MEBIBYTE: u64 = 1 << 20;
 
 /// How many bytes are read between two lines.
 const STEP: u64 = 16 * MEBIBYTE;
 
-/// How much of a record was read, and whom that is told. Of a record of 16 MiB or less nothing is told.
+/// How much of a record was read, and where that is reported. Nothing is reported of a record of 16 MiB or less.
 pub(crate) struct RecordProgress<'a, R: Wait, N: Notices> {
     pub(crate) rt: &'a R,
     pub(crate) alloc: Global,
@@ -24,7 +24,7 @@ pub(crate) struct RecordProgress<'a, R: Wait, N: Notices> {
     pub(crate) read: u64,
 }
 
-// It is dropped by one call.
+// Dropped by hand, since a derived `Drop` makes callers prove the drop of each field.
 impl<R: Wait, N: Notices> Drop for RecordProgress<'_, R, N> {
     fn drop(self) {
         let RecordProgress {
@@ -39,7 +39,7 @@ impl<R: Wait, N: Notices> Drop for RecordProgress<'_, R, N> {
 }
 
 impl<R: Wait, N: Notices> RecordProgress<'_, R, N> {
-    // Counts bytes that were read, and tells of each 16 MiB.
+    // Counts bytes that were read, and reports each 16 MiB.
     fn count(&mut self, bytes: usize) {
         let before = self.read / STEP;
         self.read = self.read.saturating_add(bytes as u64);
@@ -59,13 +59,13 @@ impl<R: Wait, N: Notices> RecordProgress<'_, R, N> {
     }
 }
 
-/// A reader of which it is told how much was read.
+/// A reader that reports how much was read.
 pub(crate) struct ToldReader<'a, R: Wait, N: Notices, I: Read + Drop> {
     pub(crate) input: I,
     pub(crate) progress: RecordProgress<'a, R, N>,
 }
 
-// It is dropped by one call.
+// Dropped by hand, since a derived `Drop` makes callers prove the drop of each field.
 impl<R: Wait, N: Notices, I: Read + Drop> Drop for ToldReader<'_, R, N, I> {
     fn drop(self) {
         let ToldReader {

@@ -12,11 +12,11 @@ use std::sync::{Mutex, Wait};
 /// How it is with the record of a domain.
 #[derive(Clone, Copy, PartialEq, Eq)]
 pub enum RecordState {
-    /// What was told is recorded.
+    /// What was answered is recorded.
     Kept,
     /// Something isn't recorded, since it can't be written.
     Unrecorded,
-    /// The record can't be taken, and the domain hasn't begun anew since.
+    /// The record can't be taken, and the domain hasn't begun again since.
     Out,
 }
 
@@ -148,12 +148,12 @@ fn tell_written<R: Wait, K: SharedRecord, N: Notices>(
     Ok(())
 }
 
-/// Records what a domain answered by now, in the next record if its journal began anew; how it is with the record then. The
-/// operator is told when a record can't be written that was written before, and when it is written again.
+/// Records what a domain has answered by now, in the next record if its journal began again. The answer is the state of the
+/// record then. A notice says when a record can't be written that was written before, and when it is written again.
 ///
 /// # Errors
 ///
-/// Want of memory.
+/// `NoMemory` if that ran out of memory.
 pub(crate) fn keep_and_tell<R: Wait, K: SharedRecord, N: Notices>(
     rt: &R,
     alloc: Global,
@@ -182,12 +182,12 @@ pub(crate) fn keep_and_tell<R: Wait, K: SharedRecord, N: Notices>(
     }
 }
 
-/// Removes older records of a domain, the oldest first, as long as all together take more than their room. The newest stays. The
-/// operator is told of each.
+/// Removes older records of a domain, the oldest first, as long as all together take more than their room. The newest stays. A
+/// notice names each that was removed. If one can't be removed a notice says why, and no more are removed.
 ///
 /// # Errors
 ///
-/// Want of memory.
+/// `NoMemory` if a notice ran out of memory.
 pub(crate) fn trim_and_tell<R: Wait, K: SharedRecord, N: Notices>(
     rt: &R,
     alloc: Global,

@@ -11,7 +11,7 @@ use std::sync::Mutex;
 /// The records of all domains, in the order of the plan.
 pub type FileRecords<'a, F> = Vec<Mutex<DomainRecord<RecordFile<'a, F>>>>;
 
-/// Where a domain's records are, and whether what is written to them is to be on the disk at once.
+/// Where a domain's records are, and whether what is written to them is on the disk when a write returns.
 pub(crate) struct RecordPlace<'a, F: Files<File = File>> {
     pub(crate) files: &'a F,
     pub(crate) alloc: Global,
@@ -21,7 +21,7 @@ pub(crate) struct RecordPlace<'a, F: Files<File = File>> {
     pub(crate) syncs: bool,
 }
 
-// It is dropped by one call.
+// Dropped by hand, since a derived `Drop` makes callers prove the drop of each field.
 impl<F: Files<File = File>> Drop for RecordPlace<'_, F> {
     fn drop(self) {
         let RecordPlace {
@@ -57,7 +57,7 @@ pub(crate) struct OlderRecord {
     pub(crate) bytes: u64,
 }
 
-// It is dropped by one call.
+// Dropped by hand, since a derived `Drop` makes callers prove the drop of each field.
 impl<F: Files<File = File>> Drop for RecordFile<'_, F> {
     fn drop(self) {
         let RecordFile {
@@ -115,7 +115,7 @@ impl<'a, F: Files<File = File>> RecordPlace<'a, F> {
 }
 
 impl<'a, F: Files<File = File>> RecordFile<'a, F> {
-    /// A record that is there, of which so many bytes are whole, with those before it.
+    /// A record that is there, with those before it. `whole` says how many bytes of its file are whole.
     pub(crate) fn found(
         place: RecordPlace<'a, F>,
         number: u64,

@@ -17,7 +17,7 @@ pub struct RecordFolder<'a, F: Files<File = File>> {
     lock: File,
 }
 
-// It is dropped by one call.
+// Dropped by hand, since a derived `Drop` makes callers prove the drop of each field.
 impl<F: Files<File = File>> Drop for RecordFolder<'_, F> {
     fn drop(self) {
         let RecordFolder {
@@ -84,7 +84,7 @@ fn missing_folders<F: Files<File = File>>(files: &F, path: &str) -> io::Result<u
     Ok(path.len())
 }
 
-// Brings to the disk the entries of so many folders on a path, from its end, each in the folder above it.
+// Brings to the disk the entries of the last `count` folders of a path, each in the folder above it.
 fn sync_entries<F: Files<File = File>>(
     files: &F,
     alloc: Global,

@@ -207,7 +207,8 @@ impl FoundRecord {
     }
 }
 
-// Why no record of a farm can be taken, if there are records and that is so; want of memory in any case.
+// `Memory` if there was no memory to do a record again, even if others were taken. Else, if none was taken, why the first that
+// has a fault can't be.
 fn find_fault(alloc: Global, starts: &[DomainStart]) -> Result<(), LiveFailure> {
     for start in starts {
         if let Some(RecordFault::Memory(_)) = start.found.fault() {
@@ -320,7 +321,7 @@ impl<'a, F: Files<File = File> + Alloc<A = Global> + Clone + Drop> RecordFolder<
         })
     }
 
-    // That so many bytes of a record are cut off.
+    // Reports that `cut` bytes of a record are cut off.
     fn tell_cut<R: Wait, N: Notices>(
         &self,
         rt: &R,
@@ -335,7 +336,7 @@ impl<'a, F: Files<File = File> + Alloc<A = Global> + Clone + Drop> RecordFolder<
         Ok(())
     }
 
-    // That a record can't be taken, and what may be done.
+    // Reports that a record can't be taken, and what may be done.
     fn tell_out<R: Wait, N: Notices>(
         &self,
         rt: &R,
@@ -437,14 +438,14 @@ impl<'a, F: Files<File = File> + Alloc<A = Global> + Clone + Drop> RecordFolder<
     }
 
     /// Opens the records of all domains. If the farm resumes, the newest record of each domain is done again on it first, in a
-    /// thread for each where one can be made. No file changes before all of that is done; then what isn't whole of a record is cut
-    /// off, and that is told. A domain whose record can't be taken is as it was opened, and nothing is recorded of it until it
-    /// begins anew; its file stays as it is, and what may be done is told.
+    /// thread for each where one can be made. No file changes before all of that is done. Then what isn't whole of a record is cut
+    /// off, and a notice says so. A domain whose record can't be taken is as it was opened, and nothing is recorded of it until it
+    /// begins again. Its file stays as it is, and a notice says what may be done.
     ///
     /// # Errors
     ///
-    /// Records that are there of which none is one of its domain, one that is there though the farm doesn't resume, or a call of
-    /// the system that failed, each with its file; want of memory.
+    /// `Record` if a record can't be taken and no other was, or if a record is there and the farm doesn't resume; `File` if a
+    /// call of the system failed. Each names its file. `Memory` if that ran out of memory.
     pub fn open_records<R: Threads + Wait + Sync, N: Notices + Sync>(
         &self,
         rt: &R,
@@ -483,7 +484,8 @@ impl<'a, F: Files<File = File> + Alloc<A = Global> + Clone + Drop> RecordFolder<
     }
 }
 
-// Does the records of all domains again, in a thread for each. Where no thread can be started that is done behind the others.
+// Does the records of all domains again, in a thread for each. A record for which no thread can be started is done after the
+// others.
 fn redo_all<R: Threads + Wait + Sync, N: Notices + Sync>(
     rt: &R,
     alloc: Global,

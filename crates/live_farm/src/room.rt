@@ -5,7 +5,7 @@ use domain_core::{ENTRY_BYTES, LOOK_BYTES, QUEUE_BYTES, TOLD_BYTES};
 use live_lines::LiveRequest;
 use script_lines::Command;
 
-/// How many bytes a command of a user takes at the most in the journal and in his list.
+/// How many bytes a command of a user takes at the most in the journal and in the user's list.
 const COMMAND_BYTES: u64 = ENTRY_BYTES + LOOK_BYTES + TOLD_BYTES;
 
 /// How many bytes the line of an event takes at the most in a record.
@@ -30,12 +30,12 @@ pub(crate) fn commands_of(matter: &Matter) -> u64 {
     }
 }
 
-/// Whether so many bytes of a room are left for so many commands.
+/// Whether `commands` more commands fit into a room of `room` bytes, if `taken` bytes are taken. It is true if `commands` is 0.
 pub(crate) fn has_room(taken: u64, room: u64, commands: u64) -> bool {
     commands == 0 || taken.saturating_add(commands.saturating_mul(COMMAND_BYTES)) <= room
 }
 
-/// Whether the records of a domain have room for so many events.
+/// The same of the events of `commands` more commands and the room of a domain's records.
 pub(crate) fn has_record_room(taken: u64, room: u64, commands: u64) -> bool {
     commands == 0 || taken.saturating_add(commands.saturating_mul(RECORD_LINE_BYTES)) <= room
 }

@@ -37,11 +37,11 @@ pub struct Station<'a> {
     record_bytes: AtomicU64,
     newest_bytes: AtomicU64,
     record_room: u64,
-    // Whether its users were told that it rests.
+    // Whether its users were sent the note that it rests.
     rest_is_told: AtomicBool,
 }
 
-// It is dropped by one call.
+// Dropped by hand, since a derived `Drop` makes callers prove the drop of each field.
 impl Drop for Station<'_> {
     fn drop(self) {
         let Station {
@@ -60,7 +60,7 @@ impl Drop for Station<'_> {
 }
 
 impl<'a> Station<'a> {
-    /// The station of a domain's users, whose records may take so many bytes.
+    /// The station of a domain's users. The records of the domain may take `record_room` bytes.
     pub fn new(
         alloc: Global,
         group: DomainUsers<'a>,
@@ -97,7 +97,8 @@ impl<'a> Station<'a> {
         self.newest_bytes.store(sizes.newest, Ordering::SeqCst);
     }
 
-    // Whether the newest record has room for so many events. Older ones go if there is too little.
+    // Whether the newest record has room for the events of `commands` commands. Older ones don't count, since they are removed
+    // if there is too little room.
     fn has_record_room(&self, commands: u64) -> bool {
         let newest = self.newest_bytes.load(Ordering::SeqCst);
         has_record_room(newest, self.record_room, commands)
@@ -111,7 +112,7 @@ impl<'a> Station<'a> {
         }
     }
 
-    /// Whether its thread met want of memory, and has ended.
+    /// Whether its thread ran out of memory, and has ended.
     pub fn is_out_of_memory(&self) -> bool {
         self.out_of_memory.load(Ordering::SeqCst)
     }
@@ -197,7 +198,7 @@ struct AnsweredLetter {
     state: RecordState,
 }
 
-// Whether a letter is answered, if it is so with the record.
+// Whether a letter is answered, if the record is in this state.
 fn may_answer(state: RecordState, matter: &Matter) -> bool
     ensures { result ≡ may_be_answered state matter.now }
 {
@@ -240,8 +241,8 @@ fn has_room_for<R: Wait>(
     }
 }
 
-// Answers a letter, and records what the domain answered by then before the answer is given to anybody. If it isn't so with the
-// record that it may be answered, or if there is no room, the domain is asked nothing.
+// Answers a letter, and records what the domain answered by then before the answer is given to anybody. If the state of the
+// record doesn't allow an answer, or if there is no room, the domain is asked nothing.
 fn answer_and_keep<R: Wait, K: SharedRecord, N: Notices>(
     rt: &R,
     alloc: Global,
@@ -313,7 +314,7 @@ fn state_before<R: Wait, K: SharedRecord, N: Notices>(
     }
 }
 
-// Answers a letter, counts it, and writes the answer at once. Behind a line of a script that was done the domain settles.
+// Answers a letter, counts it, and writes the answer. Only then the domain settles, if a line of a script was done.
 fn serve_letter<R: Wait, K: SharedRecord, O: SharedOutlet, N: Notices>(
     rt: &R,
     alloc: Global,
@@ -331,7 +332,7 @@ fn serve_letter<R: Wait, K: SharedRecord, O: SharedOutlet, N: Notices>(
     let answered = answer_and_keep(rt, alloc, state, has_room, group, letter, record, errors)?;
     station.note(answered.state);
     station.count(letter);
-    // What can't be told of older records for want of memory is left.
+    // If there is no memory for a notice of an older record, the rest of this is left to the next letter.
     let _ = note_records(rt, alloc, station, group, record, errors);
     outlet.put_answer(rt, &answered.answer);
     if matches!(letter.matter, Matter::Wrong(Why::Memory)) {
@@ -446,14 +447,14 @@ fn serve_next<R: Wait, K: SharedRecord, O: SharedOutlet, N: Notices>(
         {
             answer_want(rt, alloc, station, group, &letter, outlet, spare);
         }
-        // What can't be told for want of memory is left.
+        // Notices for which there is no memory are left out.
         let _ = tell_rest(rt, alloc, station, group, outlet, errors);
     }
     true
 }
 
 /// Answers letters, in their order, until the mailbox is closed and empty. Once a write has failed nothing more is asked. A line
-/// for which there is no memory is answered so, and the domain rests then until it begins anew.
+/// for which there is no memory is answered `memory`, and the domain rests from then on until it begins again.
 pub fn serve<R: Wait, K: SharedRecord, O: SharedOutlet, N: Notices>(
     rt: &R,
     alloc: Global,

@@ -31,7 +31,7 @@ pub enum Why {
 }
 
 impl Why {
-    /// As it is told.
+    /// As it is shown.
     pub fn word(self) -> &'static str
         ensures { result.now ≡ reason_word self }
     {
@@ -50,7 +50,7 @@ impl Why {
     }
 }
 
-/// What is written at once: whole lines; and whether the domain began anew thereby.
+/// The lines of an answer, which are whole and are written together, and whether the domain began again for it.
 #[derive(Drop)]
 pub struct LiveAnswer {
     pub(crate) text: String,
@@ -71,7 +71,7 @@ impl LiveAnswer {
         }
     }
 
-    /// A text as a line, which ends behind it.
+    /// A text as a line, with a line feed after it.
     pub fn line(mut text: String) -> Result<LiveAnswer, NoMemory>
         ensures text { IfOk result (λ a. string_bytes a.text ≡ string_bytes text ++ codes "\n") }
         ensures anew { IfOk result (λ a. a.begins_anew ≡ false) }
@@ -113,7 +113,7 @@ pub fn error_answer(
     error_answer_in(String::new(alloc), name, number, why)
 }
 
-/// The same in place of a text, whose memory serves it.
+/// The same, written over the text that is given, in its memory.
 pub fn error_answer_in(
     mut text: String,
     name: &str,
@@ -168,7 +168,7 @@ impl RestState {
         }
     }
 
-    // As it is told.
+    // As it is shown.
     fn word(self) -> &'static str
         ensures { result.now ≡ rest_word self }
     {
@@ -190,7 +190,7 @@ pub fn rest_answer(alloc: Global, name: &str, state: RestState) -> Result<LiveAn
     Ok(answer)
 }
 
-/// That the domain of a user rests, since so many bytes of its room of so many are used.
+/// That the domain of a user rests, since `used` of the `room` bytes of its room are used.
 pub fn note_answer(alloc: Global, name: &str, used: u64, room: u64) -> Result<LiveAnswer, NoMemory>
     ensures text { IfOk result (λ a. string_bytes a.text ≡ note_text name.now used room) }
     ensures anew { IfOk result (λ a. a.begins_anew ≡ false) }
@@ -199,7 +199,7 @@ pub fn note_answer(alloc: Global, name: &str, used: u64, room: u64) -> Result<Li
     Ok(answer)
 }
 
-/// Whether a user's domain begins anew.
+/// Whether a user's domain begins again, or only the operator may ask for that.
 pub fn restart_answer(alloc: Global, name: &str, is_done: bool) -> Result<LiveAnswer, NoMemory>
     ensures text { IfOk result (λ a. string_bytes a.text ≡ restart_text name.now is_done) }
     ensures anew { IfOk result (λ a. a.begins_anew ≡ is_done) }
@@ -220,7 +220,7 @@ fn push_why_lines(text: &mut String, name: &str, told: &str) -> Result<(), NoMem
     Ok(())
 }
 
-/// Why the nodes of a user's domain do no more than they do, as it is told of them.
+/// Why the nodes of a user's domain do no more than they do: a line for each line of `told`, and a last line after them.
 pub fn why_answer(alloc: Global, name: &str, told: &str) -> Result<LiveAnswer, NoMemory>
     ensures text { IfOk result (λ a. string_bytes a.text ≡ why_text name.now told.now) }
     ensures anew { IfOk result (λ a. a.begins_anew ≡ false) }
@@ -240,7 +240,7 @@ pub fn no_node_answer(alloc: Global, name: &str, node: u8) -> Result<LiveAnswer,
     Ok(answer)
 }
 
-/// That the domain of a user begins anew, for the operator.
+/// That the domain of a user begins again, for the operator.
 pub fn operator_restart_answer(alloc: Global, name: &str) -> Result<LiveAnswer, NoMemory>
     ensures text { IfOk result (λ a. string_bytes a.text ≡ operator_restart_text name.now) }
     ensures anew { IfOk result (λ a. a.begins_anew ≡ true) }

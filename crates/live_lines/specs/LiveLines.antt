@@ -1,5 +1,5 @@
 -- A line of a farm that stays up: a line of a script, `USER rest`, `USER restart`, `USER why` or `USER why NODE`; or
--- one of the operator, who begins with `!`: `!words`, `!users`, `!restart USER` or `!stop`.
+-- one of the operator, which begins with `!`: `!words`, `!users`, `!memory`, `!restart USER` or `!stop`.
 use Rattle.std.specs.Prelude.{◌≡◌, ◌==◌, ◌⊎◌, ℕ, Bool, true, false, List, [], ◌∷◌, Some, None, ⊤}
 use Rattle.script_lines.specs.declared.fault.LineFault.{LineFault}
 use Rattle.script_lines.specs.declared.fault.LineFault.TheVariants as fault
@@ -28,7 +28,7 @@ is_operators (byte ∷ line) = byte == 33
 
 -- ---- a user's line
 
--- the words behind a user's name ask something of his domain as a whole, with these words after it
+-- the words after a user's name are a verb that asks something of the user's domain as a whole, and these after it
 abbrev pub IsOfDomain : List (List ℕ) → DomainVerb → List (List ℕ) → Type 0
 IsOfDomain rest verb arguments = rest ≡ domain_verb_name verb ∷ arguments
 
@@ -48,7 +48,7 @@ HasDomainArguments domain.Why [] = ⊤
 HasDomainArguments domain.Why (number ∷ []) = IsPlaceNumber number
 HasDomainArguments verb arguments = ⊥
 
--- the words behind a user's name ask this
+-- the words after a user's name ask this
 abbrev pub AsksLive : List (List ℕ) → LiveRequest → Type 0
 AsksLive rest (request.Script command) = IsRequest rest command
 AsksLive rest (request.Domain asked) =

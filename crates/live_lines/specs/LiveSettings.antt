@@ -58,13 +58,13 @@ IsSaidNumber rows name least most n =
     → least ≤ digits_value 10 (without_leading_plus text) → digits_value 10 (without_leading_plus text) ≤ most
     → n ≡ digits_value 10 (without_leading_plus text)
 
--- how many bytes a letter behind a number stands for, or no letter
+-- how many bytes a letter after a number stands for, or no letter
 abbrev pub IsUnit : Text → ℕ → Type 0
 IsUnit letter bytes =
     ((letter ≡ []) × (bytes ≡ 1)) ⊎ (((letter ≡ codes "K") × (bytes ≡ 2 ^ 10))
     ⊎ (((letter ≡ codes "M") × (bytes ≡ 2 ^ 20)) ⊎ ((letter ≡ codes "G") × (bytes ≡ 2 ^ 30))))
 
--- this is what stands before such a letter
+-- a word is this text and then such a letter, or no letter
 abbrev pub HasUnit : Text → Text → ℕ → Type 0
 HasUnit word digits unit = (letter : Text) × (word ≡ digits ++ letter) × IsUnit letter unit
 

@@ -5,7 +5,7 @@ use Rattle.live_lines.specs.declared.verbs.DomainVerb.TheVariants as domain
 use Rattle.live_lines.specs.declared.verbs.OperatorVerb.{OperatorVerb}
 use Rattle.live_lines.specs.declared.verbs.OperatorVerb.TheVariants as operator
 
--- the word by which a user asks something of his domain as a whole
+-- the word by which a user asks something of their domain as a whole
 abbrev pub domain_verb_name : DomainVerb → List ℕ
 domain_verb_name domain.Rest = codes "rest"
 domain_verb_name domain.Restart = codes "restart"

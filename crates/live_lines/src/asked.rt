@@ -2,12 +2,12 @@
 
 use script_lines::Command;
 
-/// What a user asks of his domain as a whole.
+/// What a user asks of their domain as a whole.
 #[derive(Clone, Copy)]
 pub enum WholeRequest {
     /// Whether it is at rest.
     Rest,
-    /// That it begins anew.
+    /// That it begins again.
     Restart,
     /// Why its nodes do no more than they do, or the one of this number.
     Why { node: Option<u8> },
@@ -18,7 +18,7 @@ pub enum WholeRequest {
 pub enum LiveRequest {
     /// What the same line of a script asks.
     Script(Command),
-    /// Something of his domain as a whole.
+    /// Something of the user's domain as a whole.
     Domain(WholeRequest),
 }
 
@@ -31,7 +31,7 @@ pub enum OperatorRequest {
     Users,
     /// How much memory the farm takes.
     Memory,
-    /// That the domain of a user begins anew, by the place of his name among all.
+    /// That the domain of a user begins again. `user` is the place of the user's name among all.
     Restart { user: usize },
     /// The end.
     Stop,
@@ -40,7 +40,7 @@ pub enum OperatorRequest {
 /// What a line asks, and who.
 #[derive(Drop)]
 pub enum LiveLine {
-    /// A user, by the place of his name among all.
+    /// A user. `user` is the place of the user's name among all.
     User { user: usize, request: LiveRequest },
     /// The operator.
     Operator(OperatorRequest),

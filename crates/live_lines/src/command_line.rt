@@ -20,7 +20,7 @@ const LEAST_ROOM: u64 = 1 << 20;
 
 const GREATEST_ROOM: u64 = 1 << 36;
 
-/// What stands below the help.
+/// What comes after the help.
 const AFTER_HELP: &str = "\
 Example:
   live plan.toml
@@ -54,7 +54,7 @@ pub struct LiveSettings {
     pub record_room: u64,
 }
 
-// It is dropped by one call.
+// Dropped by hand, since a derived `Drop` makes callers prove the drop of each field.
 impl Drop for LiveSettings {
     fn drop(self) {
         let LiveSettings {
@@ -107,8 +107,8 @@ fn settings_in(alloc: Global, matches: &ArgMatches) -> Result<LiveSettings, clap
     })
 }
 
-// What stands in a word before K, M or G, and for how many bytes the letter stands: 1,024, or 1,024 or 1,048,576 times as many. One
-// byte, if there is no such letter.
+// What a word has before K, M or G, and how many bytes the letter stands for: 1,024, or 1,024 or 1,048,576 times as many. If
+// there is no such letter it is the whole word, and one byte.
 fn unit_in(word: &str) -> (&str, u64)
     ensures { HasUnit word.now result.0.now result.1 }
 {
@@ -300,7 +300,7 @@ fn live_command<'a>(alloc: Global) -> Result<Command<'a>, AllocError>
     command.arg(record_room_option(alloc))
 }
 
-/// Reads the words of the command line, of which the first is the program's name: the plan's path; `--workers N`, 1 to 8,
+/// Reads the words of the command line. The first is the program's name. The others are the plan's path; `--workers N`, 1 to 8,
 /// default 2; `--quantum N`, 1 to 4,096, default 256; `--record DIR`, and with it `--resume` and `--sync`; `--room SIZE` and
 /// `--record-room SIZE`, 1M to 64G, default 64M and 256M. The error is `clap`'s: `--help` is one, and that memory ran out another.
 pub fn live_settings<S: AsStr>(alloc: Global, words: &[S]) -> Result<LiveSettings, clap::Error>

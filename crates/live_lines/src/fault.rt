@@ -7,10 +7,10 @@ use script_lines::LineFault;
 pub enum LiveFault {
     /// The first word is no user's name.
     UnknownUser,
-    /// The line of a user, by the place of his name among all, is wrong.
+    /// The line of a user is wrong. `user` is the place of the user's name among all.
     User { user: usize, fault: LineFault },
-    /// The line of the operator is wrong: his verb, or the number of words after it, or the user's name there.
+    /// The line of the operator is wrong: its verb, or the number of words after it, or the user's name there.
     Operator(LineFault),
-    /// There is no memory for what the line of a user, by the place of his name among all, asks.
+    /// There is no memory for what the line of a user asks. `user` is the place of the user's name among all.
     NoMemory { user: usize },
 }

@@ -63,7 +63,7 @@ fn parse_domain_arguments(
     }
 }
 
-// What the words behind a user's name ask.
+// What the words after a user's name ask.
 fn parse_rest(alloc: Global, words: LineWords<'_>) -> Result<LiveRequest, Unread>
     ensures asked { IfOk result (AsksLive words.entry) }
     ensures fault { IfErr result (λ u. (f : SpecLineFault) → u ≡ Faulty f → IsLiveRestFault words.entry f) }

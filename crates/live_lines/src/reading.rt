@@ -9,17 +9,17 @@ pub const MOST_BYTES: usize = 1_048_576;
 /// What a reader gives.
 #[derive(Drop)]
 pub enum InputLine {
-    /// A line with its line feed; what stands behind the last line feed has none.
+    /// A line with its line feed. What follows the last line feed of the input is a line without one.
     Whole(Vec<u8>),
     /// The beginning of a line of more than `MOST_BYTES` bytes. The rest of it was passed over.
     Long(Vec<u8>),
-    /// The beginning of a line for all of which there is no memory. The rest of it was passed over.
+    /// The beginning of a line, if there is no memory for all of it. The rest of it was passed over.
     NoMemory(Vec<u8>),
     /// The end of the input.
     End,
 }
 
-/// Reads the next line. What stands behind the last line feed is a line too, if it isn't empty.
+/// Reads the next line. What follows the last line feed is a line too, if it isn't empty.
 pub fn next_line<R: BufRead>(alloc: Global, input: &mut R) -> io::Result<InputLine> {
     let mut bytes = Vec::new(alloc);
     let mut head = Read::take(&mut *input, MOST_BYTES as u64 + 1);

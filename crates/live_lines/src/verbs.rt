@@ -4,12 +4,12 @@ ghost use Rattle.live_lines.specs.declared.verbs.DomainVerb.{DomainVerb as SpecD
 ghost use Rattle.live_lines.specs.declared.verbs.OperatorVerb.{OperatorVerb as SpecOperatorVerb};
 ghost use Rattle.live_lines.specs.LiveVerbs.{domain_verb_name, operator_verb_name};
 
-/// What a user asks of his domain as a whole.
+/// What a user asks of their domain as a whole.
 #[derive(Clone, Copy)]
 pub enum DomainVerb {
     /// Whether it is at rest.
     Rest,
-    /// That it begins anew.
+    /// That it begins again.
     Restart,
     /// Why its nodes do no more than they do.
     Why,
@@ -41,7 +41,7 @@ pub enum OperatorVerb {
     Users,
     /// How much memory the farm takes.
     Memory,
-    /// That the domain of a user begins anew.
+    /// That the domain of a user begins again.
     Restart,
     /// The end.
     Stop,
