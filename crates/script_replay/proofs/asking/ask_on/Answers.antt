@@ -24,9 +24,8 @@ loop-preserved c =
     ] in (
       asks_more c.runs_add_up.ensures.law c.args.line.now c.args.told.now.items l.told.items
           c.push_reserved.new.self.items
-          c.args.farm.now.farm l.farm.farm c.ask.new.self.farm c.in-Some.event c.in_ok-reply.reply
-          l.invariant.0 next list
-          c.in_ok-reply.ensures.call,
+          c.args.farm.now.farm l.farm.farm c.ask.new.self.farm c.in-Some.event c.in_ok-reply.reply l.invariant.0
+          next list c.in_ok-reply.ensures.call,
       still_unread c.args.told.now.items l.told.items c.push_reserved.new.self.items c.in-Some.event
           c.in_ok-reply.reply c.args.stops_to_read l.invariant.1 list unread,
     )
