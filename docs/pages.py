@@ -1,4 +1,4 @@
-"""What `docs/check` asks of the text of pages: that words are plain, and that links lead to something."""
+"""What `docs/check` asks of the text of pages and comments: that words are plain, and that links lead to something."""
 import re
 
 # The pages in plain words: all but the one that is made from what programs print.
@@ -23,6 +23,11 @@ PLAIN_WORDS = {
 }
 
 
+# The comments in plain words: what is public of the sources, and all of the definitions. Each kind of file, and how a line of its
+# comments begins.
+PLAIN_COMMENTS = (("crates/*/src/**/*.rt", r"\s*//[/!]"), ("crates/*/specs/**/*.antt", r"\s*--"))
+
+
 def lines_of(page):
     """The lines of a page that are in no block, with their numbers."""
     is_block = False
@@ -33,18 +38,27 @@ def lines_of(page):
             yield number, line
 
 
-def wrong_words(top):
-    """Each word of a page in plain words that isn't plain, as page, line and what is wrong. What is in backticks, or in a
-    link's target, isn't looked at."""
+def plain_lines(top):
+    """Each line that has plain words alone, as file, number and text."""
     for pattern in PLAIN_PAGES:
         for page in sorted(it for it in top.glob(pattern) if it.name != PRINTED):
             for number, line in lines_of(page):
-                text = re.sub(r"`[^`]*`|\]\([^)]*\)", "", line)
-                if page.name == GLOSSARY:
-                    text = re.sub(r"^\| [^|]*", "", text)
-                for words, better in PLAIN_WORDS.items():
-                    for found in re.findall(rf"\b(?:{words})\b", text, re.I):
-                        yield page, number, f"{found!r} is no plain word here: write {better}"
+                yield page, number, re.sub(r"^\| [^|]*", "", line) if page.name == GLOSSARY else line
+    for pattern, begins in PLAIN_COMMENTS:
+        for file in sorted(top.glob(pattern)):
+            for number, line in enumerate(file.read_text(encoding="utf-8").split("\n"), 1):
+                if re.match(begins, line):
+                    yield file, number, line
+
+
+def wrong_words(top):
+    """Each word of a page or comment in plain words that isn't plain, as file, line and what is wrong. What is in backticks, or
+    in a link's target, isn't looked at."""
+    for file, number, line in plain_lines(top):
+        text = re.sub(r"`[^`]*`|\]\([^)]*\)", "", line)
+        for words, better in PLAIN_WORDS.items():
+            for found in re.findall(rf"\b(?:{words})\b", text, re.I):
+                yield file, number, f"{found!r} is no plain word here: write {better}"
 
 
 def headings_of(page):
