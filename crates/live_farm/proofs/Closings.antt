@@ -1,5 +1,5 @@
 -- The passes with which a farm is closed are those of its plan's users: the clause `users` of `run_live`.
-use Rattle.std.proofs.Common.{◌≡◌, ℕ, List, [], ◌∷◌, map, Ok, Err, refl, ap}
+use Rattle.std.proofs.Common.{◌≡◌, ℕ, List, [], ◌∷◌, map, Ok, Err, refl, ap, subst}
 use Rattle.std.specs.Prelude.{IfOk, Result}
 use Rattle.plan_rules.specs.Data.{DomainData}
 use Rattle.domain_core.specs.Domain.{DomainValue}
@@ -27,3 +27,14 @@ pub all_listed : {E : Type 0} (plan : List DomainData) (passes : List UserPassVa
 all_listed plan passes (Ok closed) theirs listed full =
     record { passes = passes; theirs = theirs; listed = listed; full = full }
 all_listed plan passes (Err e) theirs listed full = tt
+
+-- the same, if what is vouched for speaks of an equal plan
+pub all_listed_of : {E : Type 0} (plan other : List DomainData) (passes : List UserPassValue) (outcome : Result Closed E)
+    → other ≡ plan
+    → map number_of passes ≡ map number_of (fresh_passes plan)
+    → IfOk outcome (λ closed. AreListed closed.domains.items passes)
+    → IfOk outcome (λ closed. AllMetFullTruly other closed.domains.items passes)
+    → IfOk outcome (λ closed. AreUsersListed plan closed.domains.items)
+all_listed_of plan other passes outcome same theirs listed full =
+    all_listed plan passes outcome theirs listed
+    (subst (λ p. IfOk outcome (λ (closed : Closed). AllMetFullTruly p closed.domains.items passes)) same full)

@@ -2,10 +2,10 @@ use Rattle.std.proofs.Common.{subst, ap, map, ◌∙◌}
 use Rattle.std.specs.Prelude.{IfOk}
 use Rattle.whole_farm.specs.Places.{places_of}
 use Rattle.farm_service.specs.declared.closed.Closed.{Closed}
-use Rattle.farm_service.specs.Closed.{EachMergeRuns, AllMetFullTruly}
+use Rattle.farm_service.specs.Closed.{EachMergeRuns}
 use Rattle.farm_service.specs.Passes.{fresh_passes}
 use Rattle.live_farm.specs.Crews.{number_of}
-use Rattle.live_farm.proofs.Closings.{same_users, all_listed}
+use Rattle.live_farm.proofs.Closings.{same_users, all_listed_of}
 use Rattle.live_farm.proofs.program.run_live.Goals as goal
 
 pub returns-clause-runs : goal.returns-clause-runs
@@ -19,6 +19,4 @@ returns-clause-users g c =
     let plan = c.args.histories.plan in
     let theirs =
     c.in_ok-users.ensures.users ∙ ap (map number_of) c.in-Ok.ensures.users ∙ same_users _ _ (fresh_passes plan) in
-    all_listed plan _ c.close.result theirs c.close.ensures.users
-    (subst (λ p. IfOk c.close.result (λ (closed : Closed). AllMetFullTruly p closed.domains.items _))
-    c.in-Ok.ensures.plan c.close.ensures.full)
+    all_listed_of plan _ _ c.close.result c.in-Ok.ensures.plan theirs c.close.ensures.users c.close.ensures.full
