@@ -1,10 +1,13 @@
 -- Known bytes that are consumed one piece after another, and the lines of a record that are done again meanwhile:
 -- the contracts of `redo_lines` and `take_head`.
-use Rattle.std.specs.Prelude.{◌≡◌, ◌<◌, ◌+◌, ℕ, List, [], ◌∷◌, ◌++◌, length, take, drop, Option, None, Some}
+use Rattle.std.specs.Prelude.{◌≡◌, ◌≢◌, ◌<◌, ◌≤◌, ◌+◌, ◌-◌, ℕ, List, [], ◌∷◌, ◌++◌, length, take, drop, Option, None, Some, All, slice_get}
 use Rattle.std.proofs.Common.{refl, ap, ◌∙◌, sym, subst, arith, append_assoc}
-use Rattle.std.proofs.lemmas.List.{append-nil, take-append-drop, length-take}
+use Rattle.std.proofs.lemmas.List.{append-nil, take-append-drop, length-take, take_all}
+use Rattle.std.proofs.lemmas.List.Elements.{All-nil, All-push, All-more}
+use Rattle.std.proofs.lemmas.Option.{slice_get-get_or}
 use Rattle.std.proofs.Math.Seq.{take-add}
 use Rattle.std.proofs.lemmas.Grind.{flat_map-append}
+use Rattle.std.specs.Io.{StopsAt}
 use Rattle.std.specs.Io.KnownBytes.{Consumes, IsAtEnd}
 use Rattle.domain_core.specs.Domain.{DomainValue}
 use Rattle.domain_core.specs.Journal.{AnsweredCall, expanded}
@@ -43,12 +46,18 @@ gains_more xs ys d e domain first next = record {
 -- what was taken so far are lines that were done again
 pub record RedoneSoFar (before now : Option (List ℕ)) (old new : DomainValue) : Type 0 where
   pub lines : List RecordLine
+  pub some : All (λ l. 1 ≤ l.times) lines
   pub taken : Consumes before now (record_text lines)
   pub gains : GainsHistory (record_history lines) old new
 
 -- at the beginning nothing was taken, and nothing was done again
 pub none_yet : (known : Option (List ℕ)) (d : DomainValue) → RedoneSoFar known known d d
-none_yet known d = record { lines = []; taken = consumes_none known; gains = gains_nothing d }
+none_yet known d = record {
+  lines = [];
+  some = All-nil (λ l. 1 ≤ l.times);
+  taken = consumes_none known;
+  gains = gains_nothing d;
+}
 
 -- the text of one line more
 one_more_text : (lines : List RecordLine) (l : RecordLine)
@@ -68,6 +77,7 @@ pub one_more : (text other_text third_text : Option (List ℕ)) (bytes : List �
     → RedoneSoFar text third_text d domain
 one_more other_text third_text fourth_text bytes d e domain so_far taken redone = record {
   lines = so_far.lines ++ redone.line ∷ [];
+  some = All-push (λ l. 1 ≤ l.times) so_far.lines redone.line so_far.some redone.some;
   taken =
       subst (λ (t : List ℕ). Consumes other_text fourth_text t)
       (ap (λ t. record_text so_far.lines ++ t) (sym redone.text) ∙ sym (one_more_text so_far.lines redone.line))
@@ -93,15 +103,28 @@ consumed_one None other_text xs first end = tt
 consumed_one (Some us) None xs first end = absurd first
 consumed_one (Some us) (Some vs) xs first end = first ∙ (ap (λ l. xs ++ l) end ∙ append-nil xs)
 
--- if the bytes end behind a piece, the lines before it were done again, and the piece is torn
+-- if no byte but the last can be a line feed, and the last isn't one, none is
+pub no_line_feed : (bytes : List ℕ) → StopsAt bytes 10 → (slice_get bytes (length bytes - 1) ≢ Some 10)
+    → All (λ byte. byte ≢ 10) bytes
+no_line_feed [] stops last = All-nil (λ byte. byte ≢ 10)
+no_line_feed (byte ∷ bytes) stops last =
+    let place = length (byte ∷ bytes) - 1 in
+    let within : place < length (byte ∷ bytes) = omega arith in
+    let enough : length (byte ∷ bytes) ≤ place + 1 = omega arith in
+    subst (All (λ b. b ≢ 10)) (take_all (place + 1) (byte ∷ bytes) enough)
+    (All-more (λ b. b ≢ 10) (byte ∷ bytes) place byte within stops
+    (λ feed. last (slice_get-get_or (byte ∷ bytes) place byte within ∙ ap Some feed)))
+
+-- if the bytes end behind a piece without a line feed, the lines before it were done again, and the piece is torn
 pub at_the_end : (text other_text third_text : Option (List ℕ)) (bytes : List ℕ) (d e : DomainValue)
     → RedoneSoFar text other_text d e → Consumes other_text third_text bytes → IsAtEnd third_text
+    → All (λ byte. byte ≢ 10) bytes
     → TakesLines text (length bytes) d e
-at_the_end other_text third_text fourth_text bytes d e so_far taken end = record {
+at_the_end other_text third_text fourth_text bytes d e so_far taken end torn = record {
   bytes = record_text so_far.lines ++ bytes;
   behind = bytes;
   all = consumed_all other_text third_text fourth_text (record_text so_far.lines) bytes so_far.taken taken end;
-  redone = record { lines = so_far.lines; text = refl; gains = so_far.gains };
+  redone = record { lines = so_far.lines; some = so_far.some; text = refl; torn = torn; gains = so_far.gains };
   torn_is = refl;
 }
 

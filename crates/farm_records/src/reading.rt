@@ -1,5 +1,6 @@
 //! A record is read, and done again line by line.
-ghost use Rattle.std.specs.Prelude.{◌≡◌, ◌↔◌, [], IfOk, IsTrue, OnOk};
+ghost use Rattle.std.specs.Prelude.{◌≡◌, ◌↔◌, ◌-◌, [], IfOk, IsTrue, OnOk, Some, length, slice_get};
+ghost use Rattle.std.specs.Io.{StopsAt};
 ghost use Rattle.std.specs.Io.KnownBytes.{Consumes, IsAtEnd};
 ghost use Rattle.farm_records.specs.Taking.{TakesHead, TakesLines, TakesRecord};
 
@@ -23,6 +24,7 @@ pub enum Redone {
 fn next_line<I: BufRead>(input: &mut I, line: &mut Vec<u8>) -> Result<(), RecordFault>
     ensures taken { OnOk result (Consumes (I.remaining input.old) (I.remaining input.new) line.new.items) }
     ensures end { OnOk result (line.new.items ≡ [] → IsAtEnd (I.remaining input.old)) }
+    ensures stops { OnOk result (StopsAt line.new.items 10) }
 {
     line.clear();
     match input.read_until(b'\n', line) {
@@ -32,7 +34,9 @@ fn next_line<I: BufRead>(input: &mut I, line: &mut Vec<u8>) -> Result<(), Record
 }
 
 // Whether a line ends with its line feed.
-fn is_whole(line: &[u8]) -> bool {
+fn is_whole(line: &[u8]) -> bool
+    ensures { IsTrue result ↔ (slice_get line.now (length line.now - 1) ≡ Some 10) }
+{
     line.last() == Some(&b'\n')
 }
 

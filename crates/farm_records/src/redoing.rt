@@ -1,5 +1,5 @@
 //! A domain does again what a line of a record says.
-ghost use Rattle.std.specs.Prelude.{◌≡◌, ◌∷◌, [], replicate, IfOk, OnOk};
+ghost use Rattle.std.specs.Prelude.{◌≡◌, ◌≤◌, ◌∷◌, [], replicate, IfOk, OnOk};
 ghost use Rattle.t414_step.specs.declared.stepping.Stepped.TheVariants.{Ran};
 ghost use Rattle.domain_core.specs.declared.event.By.TheVariants.{Farm};
 ghost use Rattle.domain_core.specs.Journal.{answered_step};
@@ -108,7 +108,8 @@ fn redo_steps<O: Outputs + Drop>(
     node: u8,
     times: u64,
 ) -> Result<(), RedoFault>
-    ensures { OnOk result (GainsHistory (replicate times (answered_step Farm node Ran)) domain.old domain.new) }
+    ensures gains { OnOk result (GainsHistory (replicate times (answered_step Farm node Ran)) domain.old domain.new) }
+    ensures some { OnOk result (1 ≤ times) }
 {
     if times == 0 {
         return Err(RedoFault::Differs);
@@ -139,10 +140,11 @@ fn redo_call<O: Outputs + Drop>(
     slot: &mut Option<Ticket>,
     call: RecordedCall,
 ) -> Result<Reply, RedoFault>
-    ensures { IfOk result (λ reply. GainsHistory (line_history (record {
+    ensures gains { IfOk result (λ reply. GainsHistory (line_history (record {
       times = call.times;
       answered = record { call = record { by = call.by; event = call.event }; reply = reply };
     })) domain.old domain.new) }
+    ensures some { OnOk result (1 ≤ call.times) }
 {
     let RecordedCall { times, by, event } = call;
     if !is_rightly_asked(by, event) {

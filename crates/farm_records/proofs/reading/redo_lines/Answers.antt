@@ -1,8 +1,8 @@
-use Rattle.std.specs.Prelude.{◌≡◌, ℕ, List, length}
+use Rattle.std.specs.Prelude.{◌≡◌, ◌≢◌, ◌-◌, ℕ, List, Some, length, slice_get}
 use Rattle.std.proofs.Common.{rules, sym, subst}
 use Rattle.farm_records.specs.Records.{RedoesLine}
 use Rattle.farm_records.specs.Taking.{TakesLines}
-use Rattle.farm_records.proofs.Consuming.{none_yet, one_more, at_the_end}
+use Rattle.farm_records.proofs.Consuming.{none_yet, one_more, no_line_feed, at_the_end}
 use Rattle.farm_records.proofs.reading.redo_lines.Goals as goal
 
 pub loop-number-init : goal.loop-number-init
@@ -20,8 +20,11 @@ loop-number-preserved g c =
 pub returns-then-not-is_whole : goal.returns-then-not-is_whole
 returns-then-not-is_whole g c =
     let left = g.I.Read.remaining in
-    let count : c.len-torn.result ≡ length c.next_line.new.line.items = search rules in
+    let line = c.next_line.new.line.items in
+    let count : c.len-torn.result ≡ length line = search rules in
+    let last : slice_get line (length line - 1) ≢ Some 10 = search rules in
     subst (λ (n : ℕ). TakesLines (left c.args.input.now) n c.args.domain.now c.loop-number.domain) (sym count)
     (at_the_end (left c.args.input.now) (left c.loop-number.input) (left c.next_line.new.input)
-    c.next_line.new.line.items c.args.domain.now c.loop-number.domain c.loop-number.invariant
-    c.in_ok-next_line.ensures.taken c.in_ok-take_end.ensures)
+    line c.args.domain.now c.loop-number.domain c.loop-number.invariant
+    c.in_ok-next_line.ensures.taken c.in_ok-take_end.ensures
+    (no_line_feed line c.in_ok-next_line.ensures.stops last))

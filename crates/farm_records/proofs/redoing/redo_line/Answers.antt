@@ -11,4 +11,4 @@ returns-then-eq g c =
       answered = record { call = record { by = call.by; event = call.event }; reply = c.in_ok-reply.reply };
     } in
     let text : record_line_text line ≡ c.args.line.now = search rules in
-    record { line = line; text = text; gains = c.in_ok-reply.ensures }
+    record { line = line; some = c.in_ok-reply.ensures.some; text = text; gains = c.in_ok-reply.ensures.gains }
