@@ -29,7 +29,8 @@ all_listed plan passes (Ok closed) theirs listed full =
 all_listed plan passes (Err e) theirs listed full = tt
 
 -- the same, if what is vouched for speaks of an equal plan
-pub all_listed_of : {E : Type 0} (plan other : List DomainData) (passes : List UserPassValue) (outcome : Result Closed E)
+pub all_listed_of : {E : Type 0} (plan other : List DomainData) (passes : List UserPassValue)
+    → (outcome : Result Closed E)
     → other ≡ plan
     → map number_of passes ≡ map number_of (fresh_passes plan)
     → IfOk outcome (λ closed. AreListed closed.domains.items passes)
