@@ -159,8 +159,16 @@ class Server:
         self.reports.say(text)
         if found := running.DONE_AGAIN.fullmatch(text):
             self.tell_progress(*found.groups())
+        if found := running.NOBODYS.fullmatch(text):
+            self.give_up(int(found[1]))
         if OPERATOR in self.speakers:
             self.speakers[OPERATOR].tell(f"note: {escaped(text)}\n".encode())
+
+    def give_up(self, number):
+        """Names a line that `live` couldn't read to who sent it."""
+        for speaker in self.speakers.values():
+            if number in speaker.asked:
+                speaker.give_up([number])
 
     def tell_progress(self, record, far):
         """Tells the users of a domain how far its record is done again. At the first start `live` has accepted the plan by

@@ -133,7 +133,11 @@ class Speaker:
 
     def forget(self):
         """Names the lines that weren't answered to the clients."""
-        lost = [self.take(number) for number in [*self.asked]]
+        self.give_up([*self.asked])
+
+    def give_up(self, numbers):
+        """Names the lines of these numbers, which won't be answered any more, to the clients."""
+        lost = [self.take(number) for number in numbers]
         self.tell_answers([(UNANSWERED + shown(it.text) + b"\n", it) for it in lost])
         for it in lost:
             if it.hear:
