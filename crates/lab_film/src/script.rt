@@ -77,11 +77,12 @@ function turnQueue(queue, change) {
   for (const byte of bytesOf(change.came)) queue.push(byte);
 }
 
-// Notes the registers before a node came to zeros in memory, each of which is j 0. They are forgotten when it leaves them.
+// Notes the registers before a node came to zeros in memory. Each zero is j 0. They are forgotten when it leaves the zeros for
+// another byte, and kept when it runs past the end of memory, where no byte is known.
 function turnZeros(node, place) {
-  const here = node.registers.Iptr - START;
-  if (node.code.get(place - START) !== 0) node.outside = undefined;
-  else if (node.code.get(here) !== 0) node.outside = { ...node.registers };
+  const byte = node.code.get(place - START), here = node.code.get(node.registers.Iptr - START);
+  if (byte) node.outside = undefined;
+  else if (byte === 0 && here) node.outside = { ...node.registers };
 }
 
 // Puts bytes of memory in their places.
