@@ -13,7 +13,7 @@ _nadzsumek_options() {
     lab\ disassemble) echo '-h --help' ;;
     lab\ rows) echo '--steps -h --help' ;;
     lab\ why) echo '--at --steps -h --help' ;;
-    lab\ film) echo '--from --count --steps -h --help' ;;
+    lab\ film) echo '--from --count --program --steps -h --help' ;;
     lab\ expand) echo '-h --help' ;;
     lab\ run) echo '--record --steps -h --help' ;;
     lab\ debug) echo '--program --steps -h --help' ;;
@@ -45,7 +45,7 @@ _nadzsumek_values() {
     lab\ assemble) echo '--pokes' ;;
     lab\ rows) echo '--steps' ;;
     lab\ why) echo '--at --steps' ;;
-    lab\ film) echo '--from --count --steps' ;;
+    lab\ film) echo '--from --count --program --steps' ;;
     lab\ run) echo '--record --steps' ;;
     lab\ debug) echo '--program --steps' ;;
     serve) echo '--workers --quantum --room --record-room --mode --group --patience' ;;
