@@ -46,8 +46,8 @@ HasAnswered u end = IsLeftBy u.service.now.plan u.pass u.name.now (commands_at u
 -- so it is with each of these users, in their order
 pub record AreEndsOf (users : List User) (ends : List UserEnd) : Type 0 where
   pub count : length ends ≡ length users
-  pub each : (place : ℕ) (u : User) (end : UserEnd) → slice_get users place ≡ Some u → slice_get ends place ≡ Some end
-      → HasAnswered u end
+  pub each : (place : ℕ) (u : User) (end : UserEnd)
+      → slice_get users place ≡ Some u → slice_get ends place ≡ Some end → HasAnswered u end
 
 -- so it is with each user of a plan, in its order, and nobody else leaves anything
 pub record HaveAnswered (plan : List DomainData) (lines : List ScriptLine) (ends : List UserEnd) : Type 0 where

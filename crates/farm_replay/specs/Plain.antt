@@ -99,7 +99,8 @@ AreLines plan farm (Opens ∷ asked) (line ∷ lines) = AreLines plan (whole_ope
 AreLines plan farm (Calls calls ∷ asked) (line ∷ lines) =
     IsShownIn line (caller_answers_from plan farm calls) × AreLines plan (whole_after plan farm calls) asked lines
 AreLines plan farm (GoesOn domain ∷ asked) (line ∷ lines) =
-    (calls : List (ℕ × Call)) × All (IsOfTheFarm domain) calls × AreLines plan (whole_after plan farm calls) asked lines
+    (calls : List (ℕ × Call)) × All (IsOfTheFarm domain) calls
+    × AreLines plan (whole_after plan farm calls) asked lines
 AreLines plan farm (Restarts domain ∷ asked) (line ∷ lines) =
     (next : Farm) × RestartsIn plan domain farm next × AreLines plan next asked lines
 AreLines plan farm asked lines = ⊥
