@@ -2,7 +2,7 @@
 
 use crate::fault::FollowFault;
 use domain_core::{By, Event};
-use farm_replay::{RepeatedRequest, Request, read_request};
+use event_text::{RepeatedRequest, Request, read_request};
 use std::alloc::Global;
 
 /// What is between a call and its answer.

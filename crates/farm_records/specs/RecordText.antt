@@ -9,7 +9,7 @@ use Rattle.domain_core.specs.declared.event.By.{By}
 use Rattle.domain_core.specs.declared.journal.Entry.{Entry}
 use Rattle.domain_core.specs.declared.journal.Entry.TheVariants.{One, Run}
 use Rattle.domain_core.specs.Journal.{AnsweredCall, answered_step}
-use Rattle.farm_replay.specs.Events.{user_text, event_text}
+use Rattle.event_text.specs.Events.{user_text, event_text}
 use Rattle.answer_text.specs.Replies.{reply_text}
 
 -- a call that was made `times` times, one after another, and answered alike each time

@@ -2,7 +2,7 @@
 
 use crate::fault::RedoFault;
 use domain_core::{By, Event};
-use farm_replay::{RepeatedRequest, Request, read_request};
+use event_text::{RepeatedRequest, Request, read_request};
 use line_words::WordFault;
 use std::alloc::Global;
 

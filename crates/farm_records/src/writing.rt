@@ -5,7 +5,7 @@ ghost use Rattle.farm_records.specs.RecordText.{RecordLine, if_several, record_l
 
 use answer_text::write_reply;
 use domain_core::{By, Entry, Event, NoMemory, Reply};
-use farm_replay::{write_event, write_user};
+use event_text::{write_event, write_user};
 use t414_step::Stepped;
 
 // Appends a number and the text after it, if the number is more than one.

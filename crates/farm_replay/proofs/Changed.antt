@@ -15,8 +15,8 @@ use Rattle.whole_farm.specs.Domains.{IsMadeOf, EachCallIsPrivate}
 use Rattle.whole_farm.specs.Merges.{own_place}
 use Rattle.whole_farm.specs.Values.{all_places, all_states}
 use Rattle.farm_core.specs.PlainFarm.{OthersStay, IsRestartedAt, IsCommittedAt, HaveAWhole}
-use Rattle.farm_replay.specs.declared.request.DomainRequest.{DomainRequest}
-use Rattle.farm_replay.specs.declared.request.DomainRequest.TheVariants.{Quiet, Word, Recorded, Restart, Journal, Checkout, Burst, Commit, Settle}
+use Rattle.event_text.specs.declared.request.DomainRequest.{DomainRequest}
+use Rattle.event_text.specs.declared.request.DomainRequest.TheVariants.{Quiet, Word, Recorded, Restart, Journal, Checkout, Burst, Commit, Settle}
 use Rattle.farm_replay.specs.Kept.{KeptList}
 use Rattle.farm_replay.specs.Plain.{asked_of_domain, IsOfTheFarm, RestartsIn}
 use Rattle.farm_replay.specs.Answering.{AnswersAsked, HasDone}

@@ -7,7 +7,7 @@ use Rattle.whole_farm.specs.Places.{Place}
 use Rattle.whole_farm.specs.Whole.{Farm, whole_opening}
 use Rattle.whole_farm.specs.Domains.{IsMadeOf}
 use Rattle.whole_farm.specs.Values.{all_places, all_states}
-use Rattle.farm_replay.specs.declared.request.RepeatedRequest.{RepeatedRequest}
+use Rattle.event_text.specs.declared.request.RepeatedRequest.{RepeatedRequest}
 use Rattle.farm_replay.specs.Plain.{asked_by, IsShownIn, AreLines, Asked, Calls, Looks, Opens, Restarts, GoesOn}
 use Rattle.farm_replay.specs.Runs.{IsRunTo, IsOpenedFarm, ShowsAsked}
 use Rattle.farm_replay.proofs.Changed.{restarts_in}

@@ -1,5 +1,5 @@
 -- Runs of calls, one after another, and the answers that a list gains by them.
-use Rattle.std.proofs.Common.{rules, arith, ◌≡◌, ◌+◌, ◌<◌, ℕ, zero, suc, List, [], ◌∷◌, ◌++◌, All, map, replicate, true}
+use Rattle.std.proofs.Common.{rules, arith, ◌≡◌, ◌+◌, ◌<◌, ℕ, zero, suc, List, [], ◌∷◌, ◌++◌, All, map, replicate, true, false}
 use Rattle.std.proofs.Common.{eqb, Option, Some, None, add-one, Ok, Err, Result, OnOk, refl, sym, ap, ◌∙◌, subst}
 use Rattle.std.proofs.Common.{append_assoc, take, get_or, length}
 use Rattle.std.proofs.lemmas.Bool.{eqb-true}
@@ -16,6 +16,7 @@ use Rattle.t414_step.specs.declared.stepping.Stepped.TheVariants.{Ran}
 use Rattle.answer_text.specs.Replies.{stepped_text}
 use Rattle.domain_core.specs.declared.event.Refusal.TheVariants.{NoSuch, JournalFull, NoMemory}
 use Rattle.domain_core.specs.declared.event.Reply.TheVariants as reply
+use Rattle.domain_core.specs.Commands.{is_command}
 use Rattle.domain_core.specs.PrivateFarm.{Call, Answer}
 use Rattle.domain_core.specs.Domain.{UnlessNoMemory, DomainValue}
 use Rattle.whole_farm.specs.Whole.{Farm, whole_after, whole_next}
@@ -27,7 +28,10 @@ use Rattle.farm_core.specs.PlainFarm.{IsCallOfEachWhole}
 use Rattle.farm_replay.specs.Kept.{KeptList, HoldsTexts}
 use Rattle.farm_replay.specs.Listing.{IsListing}
 use Rattle.farm_replay.specs.Plain.{Asked, Calls, Looks, Opens, Restarts, GoesOn, IsOfTheFarm}
-use Rattle.farm_replay.specs.Plain.{asked_times, answer_words, event_calls}
+use Rattle.farm_replay.specs.Plain.{asked_once, asked_times, answer_words, event_calls}
+use Rattle.event_text.specs.declared.request.Request.{Request}
+use Rattle.event_text.specs.declared.request.Request.TheVariants.{Words, Reopen, Events, Domain}
+use Rattle.event_text.specs.Requests.{AsksOnly}
 use Rattle.farm_replay.specs.declared.bursts.DoneSteps.{DoneSteps}
 use Rattle.farm_replay.specs.Answering.{HaveStepped, ShowsCall, step_calls, steps_answers}
 use Rattle.farm_replay.specs.Answering.{HasAnswers, AnswersCalls, AnswersAsked}
@@ -100,11 +104,11 @@ gone_further law domain domains other_domains third_domains one two = record {
   farms = All-append (IsOfTheFarm domain) one.calls two.calls one.farms two.farms;
 }
 
-call_of_the_farm : (domain : ℕ) (event : Event)
+call_of_the_farm : (domain : ℕ) (event : Event) → is_command event ≡ false
     → All (IsOfTheFarm domain) ((domain, record { by = ByTheFarm; event = event }) ∷ [])
-call_of_the_farm domain event =
+call_of_the_farm domain event own =
     let call : ℕ × Call = (domain, record { by = ByTheFarm; event = event }) in
-    let one : IsOfTheFarm domain call = (refl, refl) in
+    let one : IsOfTheFarm domain call = (refl, refl, own) in
     All-from_recursion (IsOfTheFarm domain) (call ∷ []) (one, tt)
 
 -- for Steps of a node the farm asks
@@ -112,7 +116,7 @@ pub steps_of_the_farm : (domain node count : ℕ) → All (IsOfTheFarm domain) (
 steps_of_the_farm domain node zero = All-from_recursion (IsOfTheFarm domain) [] tt
 steps_of_the_farm domain node (suc n) =
     All-append (IsOfTheFarm domain) ((domain, record { by = ByTheFarm; event = Step node }) ∷ [])
-    (step_calls domain node n) (call_of_the_farm domain (Step node))
+    (step_calls domain node n) (call_of_the_farm domain (Step node) refl)
     (steps_of_the_farm domain node n)
 
 -- a domain has gone on by the Steps of a node
@@ -128,15 +132,16 @@ gone_by_steps domain node most (Some done) old new stepped = record {
   farms = steps_of_the_farm domain node (done.before + 1);
 }
 
--- a domain has gone on by a call for which the farm asked, whatever it was answered
+-- a domain has gone on by a Step or a Move for which the farm asked, whatever it was answered
 pub gone_by_call : (domain : ℕ) (event : Event) (told : Answer) (old new : List DomainValue)
+    → is_command event ≡ false
     → HaveRun old new ((domain, record { by = ByTheFarm; event = event }) ∷ []) (told ∷ [])
     → HasGoneOn domain old new
-gone_by_call domain event told old new run = record {
+gone_by_call domain event told old new own run = record {
   calls = (domain, record { by = ByTheFarm; event = event }) ∷ [];
   told = told ∷ [];
   run = run;
-  farms = call_of_the_farm domain event;
+  farms = call_of_the_farm domain event own;
 }
 
 -- a domain that has gone on has done so if nothing changes then
@@ -152,6 +157,14 @@ pub gone_on_from : RunsAddUp → (domain : ℕ) (domains other_domains same thir
 gone_on_from law domain domains other_domains same third_domains one is two =
     gone_further law domain domains other_domains third_domains one
     (subst (λ (d : List DomainValue). HasGoneOn domain d third_domains) is two)
+
+-- a request for one event asks one call
+pub one_asked : (request : Request) (domain : ℕ) (by : By) (event : Event) → AsksOnly domain by event request
+    → asked_once request ≡ Calls (event_calls domain by (event ∷ []))
+one_asked Words domain by event only = absurd only
+one_asked Reopen domain by event only = absurd only
+one_asked (Events d b events) domain by event only = λ i. Calls (event_calls (only.0 i) (only.1 i) (only.2 i))
+one_asked (Domain d request) domain by event only = absurd only
 
 -- ---- answers in a list
 

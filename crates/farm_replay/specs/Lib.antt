@@ -1,6 +1,4 @@
 -- what must be believed
-pub mod Events
-pub mod Entries
 pub mod Listing
 pub mod Plain
 pub mod Runs

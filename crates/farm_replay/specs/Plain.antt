@@ -1,9 +1,10 @@
 -- What requests ask of a farm, and the lines in which its answers to events are shown.
-use Rattle.std.specs.Prelude.{◌≡◌, ◌≢◌, ℕ, zero, suc, List, [], ◌∷◌, map, Option, Some, Ok, Err, slice_get, All, ⊤}
+use Rattle.std.specs.Prelude.{◌≡◌, ◌≢◌, ℕ, zero, suc, List, [], ◌∷◌, map, Option, Some, Ok, Err, slice_get, All, ⊤, false}
 use Rattle.std.specs.List.{repeat}
 use Rattle.domain_core.specs.declared.event.By.{By}
 use Rattle.domain_core.specs.declared.event.By.TheVariants.{Farm as ByTheFarm}
 use Rattle.domain_core.specs.declared.event.Event.{Event}
+use Rattle.domain_core.specs.Commands.{is_command}
 use Rattle.domain_core.specs.PrivateFarm.{Answer, Call, opening}
 use Rattle.plan_rules.specs.Data.{DomainData}
 use Rattle.whole_farm.specs.Places.{Place, places_of}
@@ -12,11 +13,11 @@ use Rattle.whole_farm.specs.Projection.{projected}
 use Rattle.whole_farm.specs.Domains.{EachDrivesItself, IsFree, output_of, disconnected_output}
 use Rattle.whole_farm.specs.Laws.{caller_answers_from}
 use Rattle.answer_text.specs.Replies.{reply_text, refusal_text}
-use Rattle.farm_replay.specs.declared.request.DomainRequest.{DomainRequest}
-use Rattle.farm_replay.specs.declared.request.DomainRequest.TheVariants.{Quiet, Word, Recorded, Restart, Journal, Checkout, Burst, Commit, Settle}
-use Rattle.farm_replay.specs.declared.request.Request.{Request}
-use Rattle.farm_replay.specs.declared.request.Request.TheVariants.{Words, Reopen, Events, Domain}
-use Rattle.farm_replay.specs.declared.request.RepeatedRequest.{RepeatedRequest}
+use Rattle.event_text.specs.declared.request.DomainRequest.{DomainRequest}
+use Rattle.event_text.specs.declared.request.DomainRequest.TheVariants.{Quiet, Word, Recorded, Restart, Journal, Checkout, Burst, Commit, Settle}
+use Rattle.event_text.specs.declared.request.Request.{Request}
+use Rattle.event_text.specs.declared.request.Request.TheVariants.{Words, Reopen, Events, Domain}
+use Rattle.event_text.specs.declared.request.RepeatedRequest.{RepeatedRequest}
 use Rattle.farm_replay.specs.Listing.{IsListing}
 
 -- events of a domain by one asker, as calls of the whole farm
@@ -24,7 +25,7 @@ abbrev pub event_calls : ℕ → By → List Event → List (ℕ × Call)
 event_calls domain by events = map (λ event. (domain, record { by = by; event = event })) events
 
 -- what is asked: calls, one after another; what is seen of the farm or done with tickets, which changes nothing of it;
--- a fresh farm; that a domain is as it was opened; or that a domain goes on, by calls for which the farm asks
+-- a fresh farm; that a domain is as it was opened; or that a domain goes on, by Steps and Moves for which the farm asks
 pub data Asked : Type 0 where
   Calls : List (ℕ × Call) → Asked
   Looks : Asked
@@ -76,9 +77,9 @@ pub record IsShownIn (line : List ℕ) (told : List Answer) : Type 0 where
   pub words : map answer_words told ≡ map Some texts
   pub listing : IsListing texts line
 
--- a call of a domain for which the farm asks
+-- a Step or a Move of a domain, for which the farm asks
 abbrev pub IsOfTheFarm : ℕ → ℕ × Call → Type 0
-IsOfTheFarm domain call = (call.0 ≡ domain) × (call.1.by ≡ ByTheFarm)
+IsOfTheFarm domain call = (call.0 ≡ domain) × (call.1.by ≡ ByTheFarm) × (is_command call.1.event ≡ false)
 
 -- in the whole farm the domain, if it is in the plan, is as it was opened, and all others are as they were; no
 -- connection leaves a domain, and ports of no domain are disconnected

@@ -26,7 +26,7 @@ pub record IsOpenedFarm (plan : List Place) (domains : List DomainValue) : Type 
   pub places : all_places domains ≡ plan
   pub made : IsMadeOf plan (whole_opening plan) (all_states domains)
 
--- the domains have gone on by calls of one of them, for which the farm asked, whatever they were answered
+-- the domains have gone on by Steps and Moves of one of them, for which the farm asked, whatever they were answered
 pub record HasGoneOn (domain : ℕ) (old new : List DomainValue) : Type 0 where
   pub calls : List (ℕ × Call)
   pub told : List Answer

@@ -11,12 +11,11 @@ ghost use Rattle.farm_replay.specs.Runs.{HasGoneOn, HasRestarted, HaveRun, IsOpe
 
 use crate::answer_list::AnswerList;
 use crate::bursts::{DoneSteps, burst, run_ticket, try_burst};
-use crate::events::write_entry;
 use crate::fault::{AskFault, FarmStop};
-use crate::request::{DomainRequest, Request};
 use answer_text::{write_refusal, write_reply, write_stepped};
 use crossbar::{PORTS, Word};
 use domain_core::{By, Committed, Entry, Event, NoMemory, Refusal, Reply, Ticket};
+use event_text::{DomainRequest, Request, write_entry};
 use farm_core::PlainFarm;
 use plan_checker::AcceptedPlan;
 use script_text::TextWriter;

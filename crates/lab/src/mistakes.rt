@@ -1,6 +1,6 @@
 //! Lines that are read and not done, each with the mistake that is found in it.
 
-use farm_replay::read_request;
+use event_text::read_request;
 use line_mistakes::{Wanted, WordForm, WordMistake, WordRole, WrongLine};
 use line_words::{NumberedLineFault, Question, WordFault};
 use node_trace::read_trace_line;

@@ -3,8 +3,8 @@
 use answer_text::write_seen;
 use bootstrap::{Node, number_of};
 use domain_core::{Device, Host, Moment, NoMemory, device_at};
+use event_text::{write_event, write_user};
 use farm_causes::RecordedLine;
-use farm_replay::{write_event, write_user};
 use lab_timeline::Timeline;
 use link_channels::LinkNumber;
 use node_trace::{write_all_registers, write_link_fields, write_packet};

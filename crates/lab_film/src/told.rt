@@ -6,8 +6,8 @@ use crate::shot::FoundPacket;
 use answer_text::write_reply;
 use bootstrap::Packet;
 use domain_core::{By, Event, Reply};
+use event_text::write_event;
 use farm_causes::RecordedLine;
-use farm_replay::write_event;
 use serde::Serialize;
 use std::alloc::{AllocError, Global};
 

@@ -8,7 +8,7 @@ use Rattle.domain_core.specs.Domain.{DomainValue}
 use Rattle.domain_core.specs.PrivateFarm.{Answer, Call}
 use Rattle.whole_farm.specs.Places.{Place}
 use Rattle.domain_core.specs.declared.event.Told.{Told}
-use Rattle.farm_replay.specs.declared.request.RepeatedRequest.{RepeatedRequest}
+use Rattle.event_text.specs.declared.request.RepeatedRequest.{RepeatedRequest}
 use Rattle.farm_replay.specs.Plain.{asked_by}
 use Rattle.farm_replay.specs.Runs.{HaveRun, HasGoneOn, IsOpenedFarm, ShowsAsked}
 use Rattle.script_lines.specs.declared.command.Command.{Command}

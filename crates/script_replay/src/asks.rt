@@ -1,6 +1,6 @@
 //! What a line asks.
 
-use farm_replay::RepeatedRequest;
+use event_text::RepeatedRequest;
 use script_lines::Command;
 
 /// A line of a user, as the program has them.

@@ -2,7 +2,7 @@ use Rattle.std.proofs.Common.{◌≡◌, length, ◌+◌, ◌++◌, ◌∷◌, [
 use Rattle.std.proofs.lemmas.List.{map-append, length-append, take_all}
 use Rattle.std.proofs.Math.Nat.{le_antisymm}
 use Rattle.whole_farm.specs.Places.{places_of}
-use Rattle.farm_replay.specs.declared.request.RepeatedRequest.{RepeatedRequest}
+use Rattle.event_text.specs.declared.request.RepeatedRequest.{RepeatedRequest}
 use Rattle.farm_replay.specs.Plain.{asked_by}
 use Rattle.farm_replay.proofs.Lines.{AreLinesSoFar, one_more_line, all_lines}
 use Rattle.farm_replay.proofs.replaying.answer_requests.Goals as goal

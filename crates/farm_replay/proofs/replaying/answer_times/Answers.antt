@@ -4,7 +4,7 @@ use Rattle.whole_farm.specs.Places.{places_of}
 use Rattle.farm_replay.specs.Plain.{Asked, Calls, event_calls, asked_once, asked_times}
 use Rattle.farm_replay.specs.Answering.{AnswersAsked}
 use Rattle.farm_replay.specs.Runs.{ShowsAsked}
-use Rattle.farm_replay.proofs.Running.{no_times, times_more, all_times}
+use Rattle.farm_replay.proofs.Running.{no_times, times_more, all_times, one_asked}
 use Rattle.farm_replay.proofs.replaying.answer_times.Goals as goal
 
 pub loop-init : goal.loop-init
@@ -46,7 +46,8 @@ returns-in-Some g c =
     record {
       asked =
           subst (λ (asked : Asked). ShowsAsked plan (asked_times times asked) old new line)
-          (sym c.in-Some.ensures.event)
+          (sym (one_asked c.args.request.now.request c.in-Some.domain c.in-Some.by c.in-Some.event
+          c.in-Some.ensures.event))
           (all_times plan (Calls calls) times old new c.new-answers.result c.answer_repeated.new.answers line
           c.in_ok-answer_repeated.ensures.calls c.new-answers.ensures c.in_ok-finish.ensures.listing);
     }

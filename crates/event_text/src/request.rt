@@ -1,6 +1,6 @@
 //! What a line asks.
-ghost use Rattle.std.specs.Prelude.{◌≡◌, [], ◌∷◌, IfSome};
-ghost use Rattle.farm_replay.specs.Plain.{Calls, event_calls, asked_once};
+ghost use Rattle.std.specs.Prelude.{IfSome};
+ghost use Rattle.event_text.specs.Requests.{AsksOnly};
 
 use domain_core::{By, Event};
 
@@ -26,8 +26,8 @@ pub enum Request {
 
 impl Request {
     /// The event that is asked, with its domain and who asks, if there is only one.
-    pub(crate) fn one_event(&self) -> Option<(u8, By, Event)>
-        ensures event { IfSome result (λ one. asked_once self.now ≡ Calls (event_calls one.0 one.1 (one.2 ∷ []))) }
+    pub fn one_event(&self) -> Option<(u8, By, Event)>
+        ensures event { IfSome result (λ one. AsksOnly one.0 one.1 one.2 self.now) }
     {
         let Request::Events(domain, by, events) = self else {
             return None;

@@ -1,8 +1,8 @@
 //! What is asked of a domain, and by whom, and what its journal has of it. If a call answers `NoMemory` nothing is said of the
 //! text.
 ghost use Rattle.std.specs.Prelude.{◌≡◌, ◌++◌, OnOk, string_bytes};
-ghost use Rattle.farm_replay.specs.Entries.{entry_text};
-ghost use Rattle.farm_replay.specs.Events.{user_text, event_text};
+ghost use Rattle.event_text.specs.Entries.{entry_text};
+ghost use Rattle.event_text.specs.Events.{user_text, event_text};
 
 use answer_text::{write_byte, write_reply, write_stepped};
 use domain_core::{By, Entry, Event, NoMemory};

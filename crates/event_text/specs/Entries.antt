@@ -3,7 +3,7 @@ use Rattle.std.specs.Prelude.{List, ℕ, ◌++◌, codes}
 use Rattle.std.specs.Fmt.{decimal}
 use Rattle.domain_core.specs.declared.journal.Entry.{Entry}
 use Rattle.domain_core.specs.declared.journal.Entry.TheVariants.{One, Run}
-use Rattle.farm_replay.specs.Events.{user_text, event_text}
+use Rattle.event_text.specs.Events.{user_text, event_text}
 use Rattle.answer_text.specs.Replies.{reply_text, stepped_text}
 
 -- one event; or Steps of a node that are one entry: how many, and what the last of them came to
