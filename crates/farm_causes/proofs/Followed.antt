@@ -18,7 +18,7 @@ use Rattle.domain_core.specs.Moments.{MomentValue, state_at, LeadsOn}
 use Rattle.domain_core.specs.PrivateFarm.{State, Answer, Call, next, opening}
 use Rattle.domain_core.specs.Ticket.{steps_told}
 use Rattle.farm_causes.specs.declared.line.RecordedLine.{RecordedLine}
-use Rattle.farm_causes.specs.declared.line.SaidCall.{SaidCall}
+use Rattle.farm_records.specs.declared.line.RecordedCall.{RecordedCall}
 use Rattle.farm_causes.specs.Following.{calls_said, all_said, FollowsCalls}
 use Rattle.farm_causes.specs.Following.{MovesOn, IsStateAfter, IsMomentAfter, MomentsGoOn}
 
@@ -139,7 +139,7 @@ pub one_line : (plan : List DomainData) (lines : List RecordedLine) (i : ℕ) (o
     → MovesOn moment (calls_said (get_or lines i other_line).call) other_moment
     → IsMomentAfter plan 0 (all_said (map (λ line. line.call) (take (i + 1) lines))) other_moment
 one_line plan lines i other_line moment other_moment less is on =
-    let call : RecordedLine → SaidCall = λ line. line.call in
+    let call : RecordedLine → RecordedCall = λ line. line.call in
     let line : RecordedLine = get_or lines i other_line in
     let more : all_said (map call (take (i + 1) lines)) ≡ all_said (map call (take i lines)) ++ calls_said (call line) =
     ap (λ (some : List RecordedLine). all_said (map call some)) (take_more lines i other_line less)

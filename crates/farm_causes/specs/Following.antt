@@ -7,14 +7,14 @@ use Rattle.domain_core.specs.declared.journal.Entry.{Entry}
 use Rattle.domain_core.specs.Journal.{AnsweredCall, expanded, calls_of, IsHistory}
 use Rattle.domain_core.specs.Moments.{MomentValue, state_at, LeadsOn}
 use Rattle.domain_core.specs.PrivateFarm.{State, Call}
-use Rattle.farm_causes.specs.declared.line.SaidCall.{SaidCall}
+use Rattle.farm_records.specs.declared.line.RecordedCall.{RecordedCall}
 
 -- the calls that a line says: one call, as often as it was made
-abbrev pub calls_said : SaidCall → List Call
+abbrev pub calls_said : RecordedCall → List Call
 calls_said said = replicate said.times (record { by = said.by; event = said.event })
 
 -- the calls that lines say
-abbrev pub all_said : List SaidCall → List Call
+abbrev pub all_said : List RecordedCall → List Call
 all_said lines = flat_map calls_said lines
 
 -- the calls that entries stand for

@@ -14,7 +14,7 @@ use crate::cause::Cause;
 use crate::fault::{FollowFault, LineStop};
 use crate::finding::cause_in;
 use crate::glance::{Observed, code_end_of, glance_before, note_event, zeros_behind};
-use crate::line::{RecordedLine, SaidCall};
+use crate::line::RecordedLine;
 use crate::past::Past;
 use crate::trail::Trail;
 use answer_text::write_reply;
@@ -22,6 +22,7 @@ use bootstrap::Node;
 use crossbar::Word;
 use domain_core::laws::histories_grow;
 use domain_core::{By, Event, Host, Moment, NoMemory, PortState, Reply};
+use farm_records::RecordedCall;
 use plan_checker::AcceptedPlan;
 use plan_rules::Part;
 use std::alloc::Global;
@@ -138,7 +139,7 @@ impl Follower {
         let before = self.moment.recorded();
         let times = 1;
         let glance = glance_before(&mut self.moment, event)?;
-        let call = SaidCall { times, by, event };
+        let call = RecordedCall { times, by, event };
         self.trail.note(self.alloc, &self.moment, call)?;
         let reply = self.moment.apply(by, event)?;
         let after = self.moment.recorded();
@@ -159,7 +160,7 @@ impl Follower {
             Some(node) => code_end_of(node),
             None => None,
         };
-        let call = SaidCall {
+        let call = RecordedCall {
             times,
             by: By::Farm,
             event: Event::Step(node),
@@ -175,10 +176,10 @@ impl Follower {
 
     /// Does a call as often as it was made. `NoEvent` if it was made several times, unless it is a Step for which the farm
     /// asks. After an error nothing is guaranteed about the moment.
-    pub fn follow_call(&mut self, call: SaidCall) -> Result<Reply, FollowFault>
+    pub fn follow_call(&mut self, call: RecordedCall) -> Result<Reply, FollowFault>
         ensures { IfOk result (λ reply. MovesOn self.old (calls_said call) self.new) }
     {
-        let SaidCall { times, by, event } = call;
+        let RecordedCall { times, by, event } = call;
         match (times, by, event) {
             (1, _, _) => self.follow_event(by, event),
             (_, By::Farm, Event::Step(node)) => self.follow_steps(node, times),

@@ -25,7 +25,7 @@ pub use fault::{FollowFault, LineStop, RecordStop, WhyFault};
 pub use finding::{cause_in, inside_waits, join_wait};
 pub use following::{Follower, answer_matches};
 pub use glance::next_registers;
-pub use line::{RecordedLine, SaidCall};
+pub use line::RecordedLine;
 pub use lines::follow_record;
 pub use passage::{Arrival, SentByte, Supply, arrival_at, sent_byte, supply_of};
 pub use past::{FaultPast, NodePast, OutPast, Past, PortPast, ZerosPast};

@@ -5,8 +5,9 @@ ghost use Rattle.farm_causes.specs.Following.{calls_said, all_said, MovesOn, IsM
 
 use crate::fault::{FollowFault, LineStop, RecordStop};
 use crate::following::Follower;
-use crate::line::{RecordedLine, SaidCall};
+use crate::line::RecordedLine;
 use domain_core::{By, Event, Reply};
+use farm_records::RecordedCall;
 use plan_checker::AcceptedPlan;
 use std::alloc::Global;
 use step_meter::StepMeter;
@@ -38,7 +39,7 @@ impl Follower {
     // Does a call as often as it was made. `NoEvent` if it was made several times, unless it is a Step for which the farm asks.
     pub(crate) fn follow_said<M: StepMeter>(
         &mut self,
-        call: SaidCall,
+        call: RecordedCall,
         meter: &mut M,
     ) -> Result<Reply, LineStop>
         ensures { IfOk result (λ reply. MovesOn self.old (calls_said call) self.new) }

@@ -1,9 +1,9 @@
 //! The last events of a domain, which can be done again. Only that shows what a node did right before a fault.
 
-use crate::line::SaidCall;
 use crate::past::ZerosPast;
 use bootstrap::Node;
 use domain_core::{Event, Moment, NoMemory};
+use farm_records::RecordedCall;
 use node_memory::{MEMORY_START, Memory};
 use std::alloc::Global;
 use t414_step::Cpu;
@@ -26,7 +26,7 @@ const MOST_BYTES: u32 = 65_536;
 // A moment and the calls since then.
 struct TrailPart {
     from: Moment,
-    calls: Vec<SaidCall>,
+    calls: Vec<RecordedCall>,
     work: u64,
 }
 
@@ -126,7 +126,7 @@ impl Search {
     }
 
     // Does calls again.
-    fn follow(&mut self, moment: &mut Moment, calls: &[SaidCall]) -> Result<(), NoMemory> {
+    fn follow(&mut self, moment: &mut Moment, calls: &[RecordedCall]) -> Result<(), NoMemory> {
         for call in calls {
             match call.event {
                 Event::Step(node) if node == self.node => self.step(moment, call.times)?,
@@ -176,7 +176,12 @@ impl Trail {
     }
 
     /// A call comes next, at this moment.
-    pub fn note(&mut self, alloc: Global, moment: &Moment, call: SaidCall) -> Result<(), NoMemory> {
+    pub fn note(
+        &mut self,
+        alloc: Global,
+        moment: &Moment,
+        call: RecordedCall,
+    ) -> Result<(), NoMemory> {
         let is_full = match &self.newer {
             Some(part) => part.work >= MOST_WORK,
             None => true,

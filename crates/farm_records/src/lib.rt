@@ -11,6 +11,7 @@ mod writing;
 
 pub use fault::{HeadFault, RecordFault, RedoFault};
 pub use head::head_of;
+pub use line::{CallLine, RecordedCall, read_call};
 pub use reading::{Redone, redo_record};
 pub use redoing::{Redoing, redo_line};
 pub use writing::write_records_of;

@@ -1,15 +1,14 @@
 //! Reading a line of a record.
 
-use crate::fault::RedoFault;
 use domain_core::{By, Event};
-use event_text::{RepeatedRequest, Request, read_request};
+use event_text::{RepeatedRequest, read_request};
 use line_words::WordFault;
 use std::alloc::Global;
 
 /// What is between a call and its answer.
 const BEFORE_THE_ANSWER: &str = " = ";
 
-/// A call of a record, and how often it was made.
+/// A call of a record's domain, and how often it was made.
 #[derive(Clone, Copy)]
 pub struct RecordedCall {
     pub times: u64,
@@ -17,29 +16,29 @@ pub struct RecordedCall {
     pub event: Event,
 }
 
-/// The call that a line says. What it was answered isn't read here.
-pub fn read_call(alloc: Global, line: &[u8]) -> Result<RecordedCall, RedoFault> {
-    let Ok(text) = std::str::from_utf8(line) else {
-        return Err(RedoFault::NoLine);
+/// What a line says: a call of a domain, and the answer, if there is one.
+#[derive(Clone, Copy)]
+pub struct CallLine<'a> {
+    /// The number of the domain. In a record it is 0.
+    pub domain: u8,
+    pub call: RecordedCall,
+    pub answer: Option<&'a str>,
+}
+
+/// What a line says that asks one event of a domain. `None` if it asks anything else.
+pub fn read_call<'a>(alloc: Global, line: &'a str) -> Result<Option<CallLine<'a>>, WordFault> {
+    let (asked, answer) = match line.split_once(BEFORE_THE_ANSWER) {
+        Some((asked, answer)) => (asked, Some(answer)),
+        None => (line, None),
     };
-    let Some((call, _)) = text.split_once(BEFORE_THE_ANSWER) else {
-        return Err(RedoFault::NoLine);
+    let RepeatedRequest { times, request } = read_request(alloc, asked)?;
+    let Some((domain, by, event)) = request.one_event() else {
+        return Ok(None);
     };
-    match read_request(alloc, call) {
-        Ok(
-            RepeatedRequest {
-                times,
-                request: Request::Events(_, by, events),
-            },
-        ) => match events.as_slice() {
-            [event] => Ok(RecordedCall {
-                times,
-                by,
-                event: *event,
-            }),
-            _ => Err(RedoFault::NoLine),
-        },
-        Ok(_) | Err(WordFault::Wrong(_)) => Err(RedoFault::NoLine),
-        Err(WordFault::Memory(error)) => Err(RedoFault::Memory(error)),
-    }
+    let call = RecordedCall { times, by, event };
+    Ok(Some(CallLine {
+        domain,
+        call,
+        answer,
+    }))
 }

@@ -7,10 +7,11 @@ ghost use Rattle.farm_records.specs.RecordText.{line_history};
 ghost use Rattle.farm_records.specs.Records.{GainsHistory, RedoesLine};
 
 use crate::fault::RedoFault;
-use crate::line::{RecordedCall, read_call};
+use crate::line::{CallLine, RecordedCall, read_call};
 use crate::writing::write_line;
 use crossbar::Outputs;
 use domain_core::{By, Committed, Domain, Event, Refusal, Reply, Ticket};
+use line_words::WordFault;
 use std::alloc::Global;
 use t414_step::Stepped;
 
@@ -52,6 +53,26 @@ impl From<Refusal> for RedoFault {
             Refusal::NoMemory => RedoFault::Memory(domain_core::NoMemory),
             Refusal::NoSuch | Refusal::JournalFull => RedoFault::Differs,
         }
+    }
+}
+
+// The call that a line says with an answer. What the answer is isn't looked at here.
+fn call_of(alloc: Global, line: &[u8]) -> Result<RecordedCall, RedoFault> {
+    let Ok(text) = std::str::from_utf8(line) else {
+        return Err(RedoFault::NoLine);
+    };
+    match read_call(alloc, text) {
+        Ok(
+            Some(
+                CallLine {
+                    call,
+                    answer: Some(_),
+                    ..
+                },
+            ),
+        ) => Ok(call),
+        Ok(_) | Err(WordFault::Wrong(_)) => Err(RedoFault::NoLine),
+        Err(WordFault::Memory(error)) => Err(RedoFault::Memory(error)),
     }
 }
 
@@ -176,7 +197,7 @@ pub fn redo_line<O: Outputs + Drop>(
     ensures { OnOk result (RedoesLine line.now domain.old domain.new) }
 {
     let alloc = redoing.alloc;
-    let call = read_call(alloc, line)?;
+    let call = call_of(alloc, line)?;
     let reply = redo_call(alloc, domain, &mut redoing.ticket, call)?;
     let text = &mut redoing.text;
     text.clear();

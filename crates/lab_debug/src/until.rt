@@ -3,7 +3,8 @@
 use crate::code::next_address;
 use bootstrap::{Node, Packet};
 use domain_core::{Event, Moved};
-use farm_causes::{FollowFault, Past, SaidCall};
+use farm_causes::{FollowFault, Past};
+use farm_records::RecordedCall;
 use lab_timeline::Timeline;
 use std::alloc::AllocError;
 
@@ -184,7 +185,7 @@ fn pass_steps(
 fn pass(
     timeline: &mut Timeline,
     goal: Goal,
-    call: SaidCall,
+    call: RecordedCall,
     most: u64,
     taken: Taken,
 ) -> Result<Option<u64>, FollowFault> {

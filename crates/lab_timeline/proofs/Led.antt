@@ -10,14 +10,14 @@ use Rattle.plan_rules.specs.Data.{DomainData}
 use Rattle.domain_core.specs.Moments.{MomentValue}
 use Rattle.domain_core.specs.PrivateFarm.{Call}
 use Rattle.farm_causes.specs.declared.line.RecordedLine.{RecordedLine}
-use Rattle.farm_causes.specs.declared.line.SaidCall.{SaidCall}
+use Rattle.farm_records.specs.declared.line.RecordedCall.{RecordedCall}
 use Rattle.lab_timeline.specs.declared.progress.Progress.{Progress}
 use Rattle.farm_causes.specs.Following.{calls_said, all_said, MovesOn, IsMomentAfter, MomentsGoOn}
 use Rattle.lab_timeline.specs.Timeline.{said_by, IsMomentAt}
 use Rattle.lab_timeline.specs.Advance.{IsProgress, IsTimeline, GoesOnIn, ComesTo, IsOfKept, Begins}
 
 -- no call was said
-none_said : (call : SaidCall) → call.times ≡ 0 → calls_said call ≡ []
+none_said : (call : RecordedCall) → call.times ≡ 0 → calls_said call ≡ []
 none_said call none =
     let one : Call = record { by = call.by; event = call.event } in
     ap (λ (n : ℕ). replicate n one) none
@@ -29,7 +29,7 @@ opened_empty [] m one after = absurd (omega (arith, one))
 opened_empty (d ∷ more) m one after = after.1.recorded_is
 
 -- a follower as it was opened, with no line begun, is a progress in any lines
-pub opened_progress : (plan : List DomainData) (lines : List SaidCall) (p : Progress)
+pub opened_progress : (plan : List DomainData) (lines : List RecordedCall) (p : Progress)
     → p.rest.times ≡ 0 → p.next ≡ 0 → IsMomentAfter plan 0 [] p.follower → p.follower.recorded ≡ 0
     → IsProgress plan lines p
 opened_progress plan lines p none first after recorded = record {
@@ -42,7 +42,7 @@ opened_progress plan lines p none first after recorded = record {
 }
 
 -- some calls of a line, and those left of it, are what was left of it before
-parted : (rest : SaidCall) (times : ℕ) → times ≤ rest.times
+parted : (rest : RecordedCall) (times : ℕ) → times ≤ rest.times
     → calls_said (record rest { times = times }) ++ calls_said (record rest { times = rest.times - times })
     ≡ calls_said rest
 parted rest times less =
@@ -52,7 +52,7 @@ parted rest times less =
 
 -- a progress that does some of the calls that are left of its line is a progress in the same lines
 pub some_followed : MomentsGoOn
-    → (plan : List DomainData) (lines : List SaidCall) (old new : Progress) (times : ℕ) → IsProgress plan lines old
+    → (plan : List DomainData) (lines : List RecordedCall) (old new : Progress) (times : ℕ) → IsProgress plan lines old
     → times ≤ old.rest.times → new.rest ≡ record old.rest { times = old.rest.times - times } → new.next ≡ old.next
     → MovesOn old.follower (calls_said (record old.rest { times = times })) new.follower
     → IsProgress plan lines new
@@ -61,7 +61,7 @@ some_followed go_on plan lines old new times was less rest next on =
     let others : List Call = calls_said (record old.rest { times = old.rest.times - times }) in
     let behind : List Call = all_said (drop old.next lines) in
     let left : calls_said new.rest ++ all_said (drop new.next lines) ≡ others ++ behind =
-    ap (λ (r : SaidCall). calls_said r ++ all_said (drop new.next lines)) rest
+    ap (λ (r : RecordedCall). calls_said r ++ all_said (drop new.next lines)) rest
     ∙ ap (λ (n : ℕ). others ++ all_said (drop n lines)) next in
     let joined : first ++ (others ++ behind) ≡ calls_said old.rest ++ behind =
     sym (append_assoc first others behind) ∙ ap (λ (calls : List Call). calls ++ behind) (parted old.rest times less) in
@@ -80,7 +80,7 @@ pub line_begun : (plan : List DomainData) (lines : List RecordedLine) (old new :
     → new.rest ≡ (get_or lines old.next line).call → new.next ≡ old.next + 1 → new.follower ≡ old.follower
     → IsProgress plan (said_by lines) new
 line_begun plan lines old new other_line was none less rest next follower =
-    let call : RecordedLine → SaidCall = λ line. line.call in
+    let call : RecordedLine → RecordedCall = λ line. line.call in
     let same : length (said_by lines) ≡ length lines = length-map lines call in
     let within : old.next < length (said_by lines) = omega arith in
     let here : get_or (said_by lines) old.next (call other_line) ≡ new.rest =
@@ -88,7 +88,7 @@ line_begun plan lines old new other_line was none less rest next follower =
     let there : all_said (drop old.next (said_by lines))
     ≡ calls_said new.rest ++ all_said (drop new.next (said_by lines)) =
     ap all_said (drop_more (said_by lines) old.next (call other_line) within)
-    ∙ (ap (λ (c : SaidCall). calls_said c ++ all_said (drop (old.next + 1) (said_by lines))) here
+    ∙ (ap (λ (c : RecordedCall). calls_said c ++ all_said (drop (old.next + 1) (said_by lines))) here
     ∙ ap (λ (n : ℕ). calls_said new.rest ++ all_said (drop n (said_by lines))) (sym next)) in
     let before : calls_said old.rest ++ all_said (drop old.next (said_by lines))
     ≡ all_said (drop old.next (said_by lines)) =
@@ -103,7 +103,7 @@ line_begun plan lines old new other_line was none less rest next follower =
     }
 
 -- if nothing is left of the last line, all calls of the lines were done
-pub all_done : (plan : List DomainData) (lines : List SaidCall) (p : Progress)
+pub all_done : (plan : List DomainData) (lines : List RecordedCall) (p : Progress)
     → (is : IsProgress plan lines p) → p.rest.times ≡ 0 → length lines ≤ p.next
     → is.done ≡ all_said lines
 all_done plan lines p is none end =
@@ -113,13 +113,13 @@ all_done plan lines p is none end =
     sym (append-nil is.done) ∙ (ap (λ (calls : List Call). is.done ++ calls) (sym left) ∙ is.whole)
 
 -- so as many events are recorded as the lines have calls
-pub all_recorded : (plan : List DomainData) (lines : List SaidCall) (p : Progress)
+pub all_recorded : (plan : List DomainData) (lines : List RecordedCall) (p : Progress)
     → IsProgress plan lines p → p.rest.times ≡ 0 → length lines ≤ p.next
     → p.follower.recorded ≡ length (all_said lines)
 all_recorded plan lines p is none end = is.recorded_is ∙ ap length (all_done plan lines p is none end)
 
 -- what was done are the first so many calls
-first_done : (plan : List DomainData) (lines : List SaidCall) (p : Progress) → (is : IsProgress plan lines p)
+first_done : (plan : List DomainData) (lines : List RecordedCall) (p : Progress) → (is : IsProgress plan lines p)
     → take p.follower.recorded (all_said lines) ≡ is.done
 first_done plan lines p is =
     let left : List Call = calls_said p.rest ++ all_said (drop p.next lines) in
@@ -127,7 +127,7 @@ first_done plan lines p is =
     ∙ take_at is.done left p.follower.recorded (sym is.recorded_is)
 
 -- a progress that has done so many events is the moment after them
-pub at_event : (plan : List DomainData) (lines : List SaidCall) (p : Progress) (event : ℕ)
+pub at_event : (plan : List DomainData) (lines : List RecordedCall) (p : Progress) (event : ℕ)
     → IsProgress plan lines p → p.follower.recorded ≡ event
     → IsMomentAt plan lines event p.follower
 at_event plan lines p event is there =
@@ -135,7 +135,7 @@ at_event plan lines p event is there =
     (sym (ap (λ (n : ℕ). take n (all_said lines)) (sym there) ∙ first_done plan lines p is)) is.moment
 
 -- if nothing is left of the last line, a progress is the moment after any number of events from there on
-pub at_end : (plan : List DomainData) (lines : List SaidCall) (p : Progress) (event : ℕ)
+pub at_end : (plan : List DomainData) (lines : List RecordedCall) (p : Progress) (event : ℕ)
     → IsProgress plan lines p → p.rest.times ≡ 0 → length lines ≤ p.next → p.follower.recorded ≤ event
     → IsMomentAt plan lines event p.follower
 at_end plan lines p event is none end within =
@@ -145,7 +145,7 @@ at_end plan lines p event is none end within =
     (all ∙ sym (take_all event (all_said lines) short)) is.moment
 
 -- a progress up to an event that stops there, or at the end, is the moment after so many events
-pub led : (plan : List DomainData) (lines : List SaidCall) (p : Progress) (event : ℕ)
+pub led : (plan : List DomainData) (lines : List RecordedCall) (p : Progress) (event : ℕ)
     → IsProgress plan lines p → p.follower.recorded ≤ event → (p.follower.recorded < event → p.rest.times ≡ 0)
     → (p.follower.recorded < event → length lines ≤ p.next)
     → IsMomentAt plan lines event p.follower
@@ -156,7 +156,7 @@ led plan lines p event is within none end =
     ]
 
 -- a timeline with any other progress here is a timeline, if it isn't said that it was led there
-pub unled : (plan : List DomainData) (lines : List SaidCall) (opening : Progress) (kept : List Progress)
+pub unled : (plan : List DomainData) (lines : List RecordedCall) (opening : Progress) (kept : List Progress)
     (is_led : Bool) (here other : Progress)
     → IsTimeline plan lines opening kept is_led here
     → IsTimeline plan lines opening kept false other
@@ -169,7 +169,7 @@ unled plan lines opening kept is_led here other was = record {
 }
 
 -- where it begins is of the record
-begun_is : (plan : List DomainData) (lines : List SaidCall) (opening : Progress) (kept : List Progress)
+begun_is : (plan : List DomainData) (lines : List RecordedCall) (opening : Progress) (kept : List Progress)
     (is_led : Bool) (here near begun : Progress)
     → IsTimeline plan lines opening kept is_led here → IsOfKept opening kept near → Begins is_led here near begun
     → IsProgress plan lines begun
@@ -177,7 +177,7 @@ begun_is plan lines opening kept is_led here near begun was near_is begins =
     begins plan lines was.here_is (near_is plan lines was.opening_is was.kept_are)
 
 -- if a progress that begins here or at a kept one goes on in the lines, the timeline was led to it
-pub led_on : (plan : List DomainData) (lines : List SaidCall) (opening : Progress) (kept : List Progress)
+pub led_on : (plan : List DomainData) (lines : List RecordedCall) (opening : Progress) (kept : List Progress)
     (is_led : Bool) (here near begun new : Progress)
     → IsTimeline plan lines opening kept is_led here → IsOfKept opening kept near → Begins is_led here near begun
     → GoesOnIn lines begun new
@@ -191,7 +191,7 @@ led_on plan lines opening kept is_led here near begun new was near_is begins goe
 }
 
 -- and if it comes to an event, it is the moment after so many events
-pub come_to : (plan : List DomainData) (lines : List SaidCall) (opening : Progress) (kept : List Progress)
+pub come_to : (plan : List DomainData) (lines : List RecordedCall) (opening : Progress) (kept : List Progress)
     (is_led : Bool) (here near begun new : Progress) (event : ℕ)
     → IsTimeline plan lines opening kept is_led here → IsOfKept opening kept near → Begins is_led here near begun
     → ComesTo lines event begun new

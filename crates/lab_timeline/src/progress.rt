@@ -1,13 +1,14 @@
 //! How far a record was done.
 
 ghost use Rattle.std.specs.Prelude.{◌≡◌, ◌+◌, ◌-◌, ◌<◌, ◌≤◌, List, OnOk, IfOk, length};
-ghost use Rattle.farm_causes.specs.declared.line.SaidCall.{SaidCall};
+ghost use Rattle.farm_records.specs.declared.line.RecordedCall.{RecordedCall};
 ghost use Rattle.lab_timeline.specs.Timeline.{said_by};
 ghost use Rattle.lab_timeline.specs.Advance.{IsProgress, GoesOn, GoesOnIn, ComesTo};
 
 use domain_core::{By, Event, NoMemory, Reply};
 use farm_causes::laws::moments_go_on;
-use farm_causes::{FollowFault, Follower, RecordedLine, SaidCall};
+use farm_causes::{FollowFault, Follower, RecordedLine};
+use farm_records::RecordedCall;
 use plan_checker::AcceptedPlan;
 use std::alloc::Global;
 
@@ -15,7 +16,7 @@ use std::alloc::Global;
 pub struct Progress {
     pub follower: Follower,
     /// What is left of the line that was begun last.
-    pub rest: SaidCall,
+    pub rest: RecordedCall,
     /// How many lines were begun.
     pub next: usize,
 }
@@ -36,14 +37,14 @@ impl Progress {
     #[tactic(auto, using(crate::proofs::Led::opened_empty))]
     pub fn open(alloc: Global, plan: &AcceptedPlan) -> Result<Progress, NoMemory>
         requires { length plan.now ≡ 1 }
-        ensures progress { IfOk result (λ p. (lines : List SaidCall) → IsProgress plan.now lines p) }
+        ensures progress { IfOk result (λ p. (lines : List RecordedCall) → IsProgress plan.now lines p) }
         ensures recorded { IfOk result (λ p. p.follower.recorded ≡ 0) }
         ensures next { IfOk result (λ p. p.next ≡ 0) }
         ensures rest { IfOk result (λ p. p.rest.times ≡ 0) }
     {
         Ok(Progress {
             follower: Follower::open(alloc, plan, 0)?,
-            rest: SaidCall {
+            rest: RecordedCall {
                 times: 0,
                 by: By::Farm,
                 event: Event::Step(0),
@@ -75,7 +76,7 @@ impl Progress {
     {
         // What comes next leads on to the moment after more calls.
         moments_go_on();
-        let call = SaidCall { times, ..self.rest };
+        let call = RecordedCall { times, ..self.rest };
         let reply = self.follower.follow_call(call)?;
         self.rest.times -= times;
         Ok(reply)

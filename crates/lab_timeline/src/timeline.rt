@@ -10,9 +10,9 @@ ghost use Rattle.lab_timeline.specs.Advance.{IsProgress, GoesOn, KeepsOf, IsOfKe
 use crate::progress::Progress;
 use domain_core::{Event, NoMemory, PortState};
 use farm_causes::{
-    FollowFault, Follower, LineStop, Record, RecordStop, RecordedLine, SaidCall, answer_matches,
-    read_record,
+    FollowFault, Follower, LineStop, Record, RecordStop, RecordedLine, answer_matches, read_record,
 };
+use farm_records::RecordedCall;
 use plan_checker::AcceptedPlan;
 use std::alloc::Global;
 use std::marker::Model;
@@ -75,12 +75,12 @@ struct Keeping {
 }
 
 // How much there is to do for a call: Steps of one line are done fast.
-fn work_of(call: SaidCall) -> u64 {
+fn work_of(call: RecordedCall) -> u64 {
     (call.times / STEPS_AS_ONE).saturating_add(1)
 }
 
 // Tells the meter of the Steps of a call.
-fn note_steps<M: StepMeter>(call: SaidCall, meter: &mut M) {
+fn note_steps<M: StepMeter>(call: RecordedCall, meter: &mut M) {
     if let Event::Step(_) = call.event {
         meter.note(call.times);
     }
@@ -99,7 +99,7 @@ fn gap_of(lines: &[RecordedLine]) -> u64
 
 impl Keeping {
     // How many of the events that are left of a line are done next: of Steps as many as the meter allows before a moment is kept.
-    fn times_of<M: StepMeter>(&self, rest: SaidCall, meter: &mut M) -> Result<u64, StepsEnd>
+    fn times_of<M: StepMeter>(&self, rest: RecordedCall, meter: &mut M) -> Result<u64, StepsEnd>
         ensures some { IfOk result (λ times. 1 ≤ rest.times → 1 ≤ times) }
         ensures within { IfOk result (λ times. times ≤ rest.times) }
     {
@@ -140,7 +140,7 @@ impl Keeping {
         let mut told = None;
         while here.rest.times > 0 {
             let times = self.times_of(here.rest, meter)?;
-            let call = SaidCall { times, ..here.rest };
+            let call = RecordedCall { times, ..here.rest };
             told = Some(here.follow_some(times)?);
             self.note(here, work_of(call))?;
             note_steps(call, meter);
