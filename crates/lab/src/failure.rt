@@ -1,9 +1,9 @@
 //! Why nothing is answered of farms, plans, scripts and records.
 
-use farm_causes::{RecordStop, WhyFault};
 use lab_command::{LabFailure, NO_MEMORY, REFUSED_PLAN, WRONG_TEXT};
 use lab_debug::DebugFault;
 use plan_faults::PlanRefusal;
+use record_following::{RecordStop, WhyFault};
 use script_replay::{ReplayFault, RunFault};
 use std::alloc::Global;
 

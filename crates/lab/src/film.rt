@@ -2,11 +2,11 @@
 
 use crate::debugging::read_programs;
 use crate::failure::stopped_record;
-use farm_causes::RecordStop;
 use lab_command::{LabFailure, Showing, TerminalMeter, WRONG_TEXT, read_file};
 use lab_debug::ProgramOf;
 use lab_film::{SourceLine, Span, film_of, page_of, sources_of};
 use node_trace::Program;
+use record_following::RecordStop;
 use std::alloc::{AllocError, Global};
 use t414_assembly::TextFault;
 

@@ -1,8 +1,9 @@
 //! Why the nodes of a record wait.
 
 use crate::failure::stopped_record;
-use farm_causes::{RecordStop, explain_record};
 use lab_command::{Explaining, LabFailure, TerminalMeter, read_file};
+use node_causes::explain_record;
+use record_following::RecordStop;
 
 /// Says why each node waits, halted or runs on, at this moment of a record.
 pub fn print_why(rt: &HostRuntime, asked: Explaining) -> Result<String, LabFailure> {

@@ -1,8 +1,8 @@
 //! The instructions of a node, disassembled.
 
 use bootstrap::{Memory, Node};
-use farm_causes::next_registers;
 use node_trace::{ProgramLine, label_in, write_source};
+use record_following::next_registers;
 use script_text::TextWriter;
 use std::alloc::{AllocError, Global};
 use t414_assembly::{Instruction, disassemble, is_prefix, spell, write_instruction};

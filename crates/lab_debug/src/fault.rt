@@ -1,6 +1,6 @@
 //! Why the debugger ends before its input does.
 
-use farm_causes::{RecordStop, WhyFault};
+use record_following::{RecordStop, WhyFault};
 use script_text::WriteFailed;
 use std::alloc::{AllocError, AllocFailed};
 use std::io;

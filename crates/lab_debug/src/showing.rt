@@ -4,12 +4,12 @@ use answer_text::write_seen;
 use bootstrap::{Node, number_of};
 use domain_core::{Device, Host, Moment, NoMemory, device_at};
 use event_text::{write_event, write_user};
-use farm_causes::RecordedLine;
 use lab_timeline::Timeline;
 use link_channels::LinkNumber;
 use node_trace::{write_all_registers, write_link_fields, write_packet};
 use plan_views::write_device;
 use process_queue::{LINK_BELOW, NOT_PROCESS};
+use record_following::RecordedLine;
 use script_text::TextWriter;
 use std::collections::VecDeque;
 

@@ -3,9 +3,9 @@
 use crate::code::next_address;
 use bootstrap::{Node, Packet};
 use domain_core::{Event, Moved};
-use farm_causes::{FollowFault, Past};
 use farm_records::RecordedCall;
 use lab_timeline::Timeline;
+use record_following::{FollowFault, Past};
 use std::alloc::AllocError;
 
 /// What is looked for in a record.

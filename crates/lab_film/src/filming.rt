@@ -9,8 +9,10 @@ use crate::plan::plan_told;
 use crate::shot::{Shot, shot_of};
 use crate::steps::{check_steps, next_steps, part_of_line};
 use crate::told::{LineFrames, json_text, line_told};
-use farm_causes::{FollowFault, Follower, LineStop, Record, RecordStop, RecordedLine, read_record};
 use plan_checker::AcceptedPlan;
+use record_following::{
+    FollowFault, Follower, LineStop, Record, RecordStop, RecordedLine, read_record,
+};
 use script_text::TextWriter;
 use std::alloc::Global;
 use step_meter::StepMeter;

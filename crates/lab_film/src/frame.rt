@@ -10,9 +10,9 @@ use crate::NoMemory;
 use bootstrap::{Cpu, Memory, Node, NodeState, Seen};
 use crossbar::Word;
 use domain_core::Host;
-use farm_causes::Follower;
 use link_channels::{Link, LinkNumber, Process};
 use process_queue::{LINK_BELOW, NOT_PROCESS, Queue};
+use record_following::Follower;
 use std::alloc::Global;
 use std::collections::VecDeque;
 

@@ -1,12 +1,12 @@
 //! What a line of a record says is done, and the domain is shown after it.
 ghost use Rattle.std.specs.Prelude.{◌≡◌, IfOk};
-ghost use Rattle.farm_causes.specs.Following.{MovesOn, calls_said};
+ghost use Rattle.record_following.specs.Following.{MovesOn, calls_said};
 ghost use Rattle.lab_film.specs.Frames.{Shows};
 
 use crate::frame::{Frame, frame_of};
 use bootstrap::Packet;
 use domain_core::{Event, Reply};
-use farm_causes::{Follower, LineStop, RecordedLine};
+use record_following::{Follower, LineStop, RecordedLine};
 use std::alloc::Global;
 use step_meter::StepMeter;
 

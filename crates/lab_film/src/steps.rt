@@ -2,7 +2,7 @@
 ghost use Rattle.std.specs.Prelude.{◌<◌, ◌≤◌, ◌+◌};
 
 use domain_core::{By, Event, NoMemory};
-use farm_causes::{FollowFault, RecordedLine};
+use record_following::{FollowFault, RecordedLine};
 use std::alloc::Global;
 
 /// How many Steps at each end of a line have a frame of their own. Those between them have one together.

@@ -7,7 +7,7 @@ use answer_text::write_reply;
 use bootstrap::Packet;
 use domain_core::{By, Event, Reply};
 use event_text::write_event;
-use farm_causes::RecordedLine;
+use record_following::RecordedLine;
 use serde::Serialize;
 use std::alloc::{AllocError, Global};
 

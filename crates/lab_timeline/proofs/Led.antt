@@ -9,10 +9,10 @@ use Rattle.std.proofs.lemmas.List.{length-append, length-map, replicate-append-r
 use Rattle.plan_rules.specs.Data.{DomainData}
 use Rattle.domain_core.specs.Moments.{MomentValue}
 use Rattle.domain_core.specs.PrivateFarm.{Call}
-use Rattle.farm_causes.specs.declared.line.RecordedLine.{RecordedLine}
+use Rattle.record_following.specs.declared.line.RecordedLine.{RecordedLine}
 use Rattle.farm_records.specs.declared.line.RecordedCall.{RecordedCall}
 use Rattle.lab_timeline.specs.declared.progress.Progress.{Progress}
-use Rattle.farm_causes.specs.Following.{calls_said, all_said, MovesOn, IsMomentAfter, MomentsGoOn}
+use Rattle.record_following.specs.Following.{calls_said, all_said, MovesOn, IsMomentAfter, MomentsGoOn}
 use Rattle.lab_timeline.specs.Timeline.{said_by, IsMomentAt}
 use Rattle.lab_timeline.specs.Advance.{IsProgress, IsTimeline, GoesOnIn, ComesTo, IsOfKept, Begins}
 

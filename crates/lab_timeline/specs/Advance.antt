@@ -3,7 +3,7 @@ use Rattle.std.specs.Prelude.{◌≡◌, ℕ, true, Bool, List, ◌++◌, drop, 
 use Rattle.plan_rules.specs.Data.{DomainData}
 use Rattle.domain_core.specs.PrivateFarm.{Call}
 use Rattle.farm_records.specs.declared.line.RecordedCall.{RecordedCall}
-use Rattle.farm_causes.specs.Following.{calls_said, all_said, IsMomentAfter}
+use Rattle.record_following.specs.Following.{calls_said, all_said, IsMomentAfter}
 use Rattle.lab_timeline.specs.declared.progress.Progress.{Progress}
 use Rattle.lab_timeline.specs.Timeline.{IsMomentAt}
 

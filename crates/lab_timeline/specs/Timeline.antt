@@ -2,9 +2,9 @@
 use Rattle.std.specs.Prelude.{◌≡◌, ℕ, List, map, take}
 use Rattle.plan_rules.specs.Data.{DomainData}
 use Rattle.domain_core.specs.Moments.{MomentValue}
-use Rattle.farm_causes.specs.declared.line.RecordedLine.{RecordedLine}
+use Rattle.record_following.specs.declared.line.RecordedLine.{RecordedLine}
 use Rattle.farm_records.specs.declared.line.RecordedCall.{RecordedCall}
-use Rattle.farm_causes.specs.Following.{all_said, IsMomentAfter}
+use Rattle.record_following.specs.Following.{all_said, IsMomentAfter}
 
 -- what lines say was called
 abbrev pub said_by : List RecordedLine → List RecordedCall

@@ -6,10 +6,10 @@ ghost use Rattle.lab_timeline.specs.Timeline.{said_by};
 ghost use Rattle.lab_timeline.specs.Advance.{IsProgress, GoesOn, GoesOnIn, ComesTo};
 
 use domain_core::{By, Event, NoMemory, Reply};
-use farm_causes::laws::moments_go_on;
-use farm_causes::{FollowFault, Follower, RecordedLine};
 use farm_records::RecordedCall;
 use plan_checker::AcceptedPlan;
+use record_following::laws::moments_go_on;
+use record_following::{FollowFault, Follower, RecordedLine};
 use std::alloc::Global;
 
 /// The domain after the events of a record that were done, and what comes next of it.

@@ -3,17 +3,17 @@
 ghost use Rattle.std.specs.Prelude.{◌≡◌, ◌≤◌, IfOk, IfSome, OnOk, All, length};
 ghost use Rattle.domain_core.specs.MachineValue.{machine_of};
 ghost use Rattle.domain_core.specs.PortStates.{IsPortState};
-ghost use Rattle.farm_causes.specs.Following.{all_said};
+ghost use Rattle.record_following.specs.Following.{all_said};
 ghost use Rattle.lab_timeline.specs.Timeline.{said_by, IsMomentAt};
 ghost use Rattle.lab_timeline.specs.Advance.{IsProgress, GoesOn, KeepsOf, IsOfKept, Begins};
 
 use crate::progress::Progress;
 use domain_core::{Event, NoMemory, PortState};
-use farm_causes::{
-    FollowFault, Follower, LineStop, Record, RecordStop, RecordedLine, answer_matches, read_record,
-};
 use farm_records::RecordedCall;
 use plan_checker::AcceptedPlan;
+use record_following::{
+    FollowFault, Follower, LineStop, Record, RecordStop, RecordedLine, answer_matches, read_record,
+};
 use std::alloc::Global;
 use std::marker::Model;
 use step_meter::{StepMeter, StepsEnd};

@@ -6,7 +6,7 @@ use Rattle.domain_core.specs.Domain.{DomainValue}
 use Rattle.domain_core.specs.Moments.{MomentValue}
 use Rattle.farm_service.specs.declared.status.DomainStatus.{DomainStatus}
 use Rattle.farm_service.specs.Domains.{IsFound, IsStatusOf}
-use Rattle.farm_causes.specs.Following.{IsReached}
+use Rattle.record_following.specs.Following.{IsReached}
 
 -- up to which event a domain was done again, of all that are recorded
 abbrev pub after_text : ℕ → ℕ → List ℕ

@@ -13,9 +13,9 @@ use crate::texts::{
     restart_answer, why_answer,
 };
 use domain_core::{NoMemory, Refusal};
-use farm_causes::FollowFault;
 use line_answers::{answer_line, settle};
 use live_lines::{LiveRequest, WholeRequest};
+use record_following::FollowFault;
 use script_lines::{Command, LineFault};
 use std::alloc::Global;
 use std::sync::Wait;

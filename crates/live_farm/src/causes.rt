@@ -2,14 +2,15 @@
 ghost use Rattle.std.specs.Prelude.{◌≡◌, ◌<◌, IfOk, length, string_bytes};
 ghost use Rattle.domain_core.specs.Domain.{DomainValue as SpecDomain};
 ghost use Rattle.farm_service.specs.Domains.{IsFound, IsStatusOf};
-ghost use Rattle.farm_causes.specs.Following.{IsReached};
+ghost use Rattle.record_following.specs.Following.{IsReached};
 ghost use Rattle.live_farm.specs.Whys.{IsToldOf, after_text, full_text, moment_text, stop_text, used_text};
 
 use domain_core::{Entry, Mark, NoMemory};
-use farm_causes::laws::moments_go_on;
-use farm_causes::{FollowFault, Follower, explain_moment};
 use farm_service::{DomainStatus, Service};
+use node_causes::explain_moment;
 use plan_checker::AcceptedPlan;
+use record_following::laws::moments_go_on;
+use record_following::{FollowFault, Follower};
 use record_keeping::PIECE;
 use std::alloc::Global;
 use std::sync::Wait;

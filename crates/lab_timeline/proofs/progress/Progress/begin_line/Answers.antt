@@ -1,7 +1,7 @@
 use Rattle.std.proofs.Common.{refl, None}
 use Rattle.domain_core.specs.declared.event.By.TheVariants.{User}
 use Rattle.domain_core.specs.declared.event.Event.TheVariants.{Config}
-use Rattle.farm_causes.specs.declared.line.RecordedLine.{RecordedLine}
+use Rattle.record_following.specs.declared.line.RecordedLine.{RecordedLine}
 use Rattle.lab_timeline.proofs.Led.{line_begun}
 use Rattle.lab_timeline.proofs.progress.Progress.begin_line.Goals as goal
 

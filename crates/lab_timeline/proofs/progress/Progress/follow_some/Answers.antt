@@ -1,5 +1,5 @@
 use Rattle.std.proofs.Common.{rules, refl}
-use Rattle.farm_causes.specs.Following.{calls_said, MovesOn}
+use Rattle.record_following.specs.Following.{calls_said, MovesOn}
 use Rattle.lab_timeline.proofs.Led.{some_followed}
 use Rattle.lab_timeline.proofs.progress.Progress.follow_some.Goals as goal
 

@@ -1,6 +1,6 @@
 use Rattle.std.proofs.Common.{◌≡◌, ◌<◌, ◌≤◌, arith, length}
 use Rattle.std.proofs.lemmas.List.{length-map}
-use Rattle.farm_causes.specs.declared.line.RecordedLine.{RecordedLine}
+use Rattle.record_following.specs.declared.line.RecordedLine.{RecordedLine}
 use Rattle.lab_timeline.specs.Timeline.{said_by}
 use Rattle.lab_timeline.proofs.Led.{led}
 use Rattle.lab_timeline.proofs.progress.Progress.lead.Goals as goal

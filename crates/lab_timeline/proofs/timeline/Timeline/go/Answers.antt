@@ -1,5 +1,5 @@
 use Rattle.std.proofs.Common.{List, subst}
-use Rattle.farm_causes.specs.declared.line.RecordedLine.{RecordedLine}
+use Rattle.record_following.specs.declared.line.RecordedLine.{RecordedLine}
 use Rattle.lab_timeline.specs.declared.progress.Progress.{Progress}
 use Rattle.lab_timeline.specs.Timeline.{said_by}
 use Rattle.lab_timeline.specs.Advance.{IsOfKept, GoesOnIn, ComesTo}

@@ -1,4 +1,4 @@
-use Rattle.farm_causes.specs.Following.{IsReached}
+use Rattle.record_following.specs.Following.{IsReached}
 use Rattle.live_farm.proofs.causes.Shadow.follow_journal.Given as goal
 
 -- the follower is at some moment of the domain

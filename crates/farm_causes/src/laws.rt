@@ -1,8 +1,0 @@
-//! Laws of the moments to which a domain is led.
-
-ghost use Rattle.farm_causes.specs.Following.{MomentsGoOn};
-
-/// A moment after calls that goes on by others is one after those and these.
-pub fn moments_go_on()
-    ensures law { MomentsGoOn }
-{}

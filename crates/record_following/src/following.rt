@@ -1,0 +1,236 @@
+//! A domain is led to a moment by the lines of its record.
+
+ghost use Rattle.std.specs.Prelude.{◌≡◌, ◌<◌, ◌∷◌, [], IfOk, length, slice_get};
+ghost use Rattle.std.specs.Option.{option_copied};
+ghost use Rattle.plan_rules.specs.Part.{part_of};
+ghost use Rattle.domain_core.specs.MachineValue.{machine_of};
+ghost use Rattle.domain_core.specs.Moments.{state_at};
+ghost use Rattle.domain_core.specs.PortStates.{IsPortState};
+ghost use Rattle.domain_core.specs.PrivateFarm.{opening};
+ghost use Rattle.record_following.specs.Following.{calls_said, MovesOn, IsMomentAfter};
+
+use crate::fault::{FollowFault, LineStop};
+use crate::glance::{Observed, code_end_of, glance_before, note_event, zeros_behind};
+use crate::line::RecordedLine;
+use crate::past::Past;
+use crate::trail::Trail;
+use answer_text::write_reply;
+use bootstrap::Node;
+use crossbar::Word;
+use domain_core::laws::histories_grow;
+use domain_core::{By, Event, Host, Moment, NoMemory, PortState, Reply};
+use farm_records::RecordedCall;
+use plan_checker::AcceptedPlan;
+use plan_rules::Part;
+use std::alloc::Global;
+use std::marker::Model;
+use step_meter::StepMeter;
+use t414_step::Stepped;
+
+/// A domain at the moment to which its record leads, and what was noted on the way.
+pub struct Follower {
+    alloc: Global,
+    moment: Moment,
+    past: Past,
+    trail: Trail,
+}
+
+// Dropped by hand, since a derived `Drop` makes callers prove the drop of each field.
+impl Drop for Follower {
+    fn drop(self) {
+        let Follower {
+            alloc: _,
+            moment: _,
+            past: _,
+            trail: _,
+        } = self;
+    }
+}
+
+impl Model for Follower {
+    ghost use Rattle.domain_core.specs.Moments.{MomentValue};
+
+    ghost Value = { MomentValue };
+
+    ghost view = { λ f. f.moment };
+}
+
+/// Whether an answer is what a line says.
+pub fn answer_matches(alloc: Global, line: &RecordedLine, reply: Reply) -> Result<bool, NoMemory> {
+    let times = line.call.times;
+    let Some(told) = line.answer else {
+        return Ok(true);
+    };
+    let mut answer = String::new(alloc);
+    write_reply(&mut answer, reply)?;
+    if answer.as_str() == told {
+        return Ok(true);
+    }
+    let several = format!(in alloc; "{times} {answer}")?;
+    Ok(times > 1 && several.as_str() == told)
+}
+
+impl Follower {
+    /// The domain of this number of a plan as it is opened. `NoMemory` where memories or queues can't be allocated.
+    #[tactic(auto, using(crate::proofs::Followed::opened))]
+    pub fn open(alloc: Global, plan: &AcceptedPlan, number: u8) -> Result<Follower, NoMemory>
+        requires { number < length plan.now }
+        ensures after { IfOk result (λ f. IsMomentAfter plan.now number [] f) }
+    {
+        Ok(Follower {
+            alloc,
+            moment: Moment::open(alloc, plan, number)?,
+            past: Past::new(),
+            trail: Trail::new(),
+        })
+    }
+
+    /// How many events were recorded till then.
+    pub fn recorded(&self) -> u64
+        ensures { result ≡ self.now.recorded }
+    {
+        self.moment.recorded()
+    }
+
+    /// What was noted on the way.
+    pub fn past(&self) -> &Past {
+        &self.past
+    }
+
+    /// An equal follower with memories and queues of its own. `NoMemory` where they can't be allocated.
+    pub fn copy(&self) -> Result<Follower, NoMemory>
+        ensures { IfOk result (λ f. f ≡ self.now) }
+    {
+        Ok(Follower {
+            alloc: self.alloc,
+            moment: self.moment.copy(self.alloc)?,
+            past: self.past,
+            trail: Trail::new(),
+        })
+    }
+
+    /// A copy of the moment. `NoMemory` where it can't be allocated.
+    pub fn moment(&self) -> Result<Moment, NoMemory>
+        ensures { IfOk result (λ m. m ≡ self.now) }
+    {
+        self.moment.copy(self.alloc)
+    }
+
+    // Does one event, which is recorded.
+    pub(crate) fn follow_event(&mut self, by: By, event: Event) -> Result<Reply, FollowFault>
+        ensures { IfOk result (λ reply. MovesOn self.old (record { by = by; event = event } ∷ []) self.new) }
+    {
+        // What comes next makes a history longer.
+        histories_grow();
+        let before = self.moment.recorded();
+        let times = 1;
+        let glance = glance_before(&mut self.moment, event)?;
+        let call = RecordedCall { times, by, event };
+        self.trail.note(self.alloc, &self.moment, call)?;
+        let reply = self.moment.apply(by, event)?;
+        let after = self.moment.recorded();
+        if after <= before || after - before != 1 {
+            return Err(FollowFault::NotRecorded);
+        }
+        let zeros = zeros_behind(self.alloc, &self.moment, &self.trail, glance, reply)?;
+        let seen = Observed { glance, zeros };
+        note_event(&mut self.past, &self.moment, seen, event, reply, after);
+        Ok(reply)
+    }
+
+    // Does Steps of a node in one burst. `Fewer` if not all of them run.
+    pub(crate) fn follow_steps(&mut self, node: u8, times: u64) -> Result<Reply, FollowFault>
+        ensures { IfOk result (λ reply. MovesOn self.old (calls_said (record { times = times; by = By.Farm; event = Event.Step node })) self.new) }
+    {
+        let code_end = match self.moment.node(node) {
+            Some(node) => code_end_of(node),
+            None => None,
+        };
+        let call = RecordedCall {
+            times,
+            by: By::Farm,
+            event: Event::Step(node),
+        };
+        self.trail.note(self.alloc, &self.moment, call)?;
+        let burst = self.moment.burst(node, times)?;
+        if burst.steps != times || burst.last != Some(Stepped::Ran) {
+            return Err(FollowFault::Fewer);
+        }
+        self.past.note_steps(node, times, code_end);
+        Ok(Reply::Stepped(Stepped::Ran))
+    }
+
+    /// Does a call as often as it was made. `NoEvent` if it was made several times, unless it is a Step for which the farm
+    /// asks. After an error nothing is guaranteed about the moment.
+    pub fn follow_call(&mut self, call: RecordedCall) -> Result<Reply, FollowFault>
+        ensures { IfOk result (λ reply. MovesOn self.old (calls_said call) self.new) }
+    {
+        let RecordedCall { times, by, event } = call;
+        match (times, by, event) {
+            (1, _, _) => self.follow_event(by, event),
+            (_, By::Farm, Event::Step(node)) => self.follow_steps(node, times),
+            _ => Err(FollowFault::NoEvent),
+        }
+    }
+
+    /// Does what a line says, compares what the domain answers with what it says, and gives the answer, of several Steps that of
+    /// each.
+    ///
+    /// # Errors
+    ///
+    /// `Follow` with why the line can't be done, and `Differs` there if the domain answers otherwise than it says; `Steps` if the
+    /// line has more Steps than the meter allows. After either nothing is guaranteed about the moment.
+    pub fn answer<M: StepMeter>(
+        &mut self,
+        line: &RecordedLine,
+        meter: &mut M,
+    ) -> Result<Reply, LineStop>
+        ensures { IfOk result (λ reply. MovesOn self.old (calls_said line.now.call) self.new) }
+    {
+        let reply = self.follow_said(line.call, meter)?;
+        if answer_matches(self.alloc, line, reply)? {
+            Ok(reply)
+        } else {
+            Err(LineStop::Follow(FollowFault::Differs))
+        }
+    }
+
+    /// The part of the domain.
+    pub fn part(&self) -> &Part
+        ensures { result.now ≡ self.now.machine.part }
+    {
+        self.moment.part()
+    }
+
+    /// A node, if it is there.
+    pub fn node(&self, number: u8) -> Option<&Node>
+        ensures { option_copied result ≡ slice_get self.now.machine.devices.nodes number }
+    {
+        self.moment.node(number)
+    }
+
+    /// A host, if it is there.
+    pub fn host(&self, number: u8) -> Option<&Host>
+        ensures { option_copied result ≡ slice_get self.now.machine.devices.hosts number }
+    {
+        self.moment.host(number)
+    }
+
+    /// The switch word of a virtual output below the domain's count. Nothing changes.
+    pub fn word(&mut self, output: u8) -> Word
+        requires { output < self.old.machine.part.count }
+        ensures word { slice_get self.old.machine.switch.words output ≡ Some result }
+        ensures unchanged { self.new ≡ self.old }
+    {
+        self.moment.word(output)
+    }
+
+    /// What waits at a virtual port, and what a Move of it would come to. Nothing changes.
+    pub fn port_state(&mut self, port: u8) -> PortState
+        requires { port < self.old.machine.part.count }
+        ensures state { IsPortState self.old.machine.part (machine_of self.old.machine) port result }
+        ensures unchanged { self.new ≡ self.old }
+    {
+        self.moment.port_state(port)
+    }
+}

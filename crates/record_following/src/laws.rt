@@ -1,0 +1,8 @@
+//! Laws of the moments to which a domain is led.
+
+ghost use Rattle.record_following.specs.Following.{MomentsGoOn};
+
+/// A moment after calls that goes on by others is one after those and these.
+pub fn moments_go_on()
+    ensures law { MomentsGoOn }
+{}
