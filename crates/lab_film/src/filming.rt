@@ -7,11 +7,11 @@ use crate::code::KnownCode;
 use crate::frame::{Frame, frame_of};
 use crate::plan::plan_told;
 use crate::shot::{Shot, shot_of};
-use crate::steps::{check_steps, next_steps, part_of_line};
+use crate::steps::next_steps;
 use crate::told::{LineFrames, json_text, line_told};
 use plan_checker::AcceptedPlan;
 use record_following::{
-    FollowFault, Follower, LineStop, Record, RecordStop, RecordedLine, read_record,
+    Follower, LineStop, Progress, Record, RecordStop, RecordedLine, check_answer, read_record,
 };
 use script_text::TextWriter;
 use std::alloc::Global;
@@ -26,18 +26,11 @@ pub struct Span {
     pub count: u64,
 }
 
-// Where a film begins: after this number of lines, and this number of events of the next one.
-#[derive(Clone, Copy)]
-struct Beginning {
-    lines: usize,
-    events: u64,
-}
-
-// A domain that does the lines of its record, what is known of its memories, the last frame that was written, and how many
-// frames may still follow.
+// How far a record was done, what is known of its domain's memories, the last frame that was written, and how many frames may
+// still follow.
 struct Filming {
     alloc: Global,
-    follower: Follower,
+    progress: Progress,
     known: KnownCode,
     last: Frame,
     left: u64,
@@ -48,7 +41,7 @@ impl Drop for Filming {
     fn drop(self) {
         let Filming {
             alloc: _,
-            follower: _,
+            progress: _,
             known: _,
             last: _,
             left: _,
@@ -58,11 +51,11 @@ impl Drop for Filming {
 
 impl Filming {
     // Makes this frame the last one, and returns what changed since the one before.
-    fn turn_to(&mut self, frame: Frame) -> Result<FrameChanges, FollowFault> {
+    fn turn_to(&mut self, frame: Frame) -> Result<FrameChanges, NoMemory> {
         let changes = changes_of(
             self.alloc,
             &mut self.known,
-            &self.follower,
+            &self.progress.follower,
             Some(&self.last),
             &frame,
         )?;
@@ -71,82 +64,77 @@ impl Filming {
         Ok(changes)
     }
 
-    // Does `steps` Steps of a line, or the event that it asks.
+    // Does at most `most` of the events that are left of a line, and adds what changed.
     fn show_part<M: StepMeter>(
         &mut self,
-        line: &RecordedLine,
-        steps: u64,
+        most: u64,
         frames: &mut LineFrames,
         meter: &mut M,
     ) -> Result<(), LineStop> {
-        let part = part_of_line(line, steps);
-        let Shot {
-            reply,
-            found,
-            frame,
-        } = shot_of(self.alloc, &mut self.follower, &part, meter)?;
-        frames.found = found;
-        frames.reply = Some(reply);
+        let Shot { outcome, frame } = shot_of(self.alloc, &mut self.progress, most, meter)?;
+        frames.outcome = Some(outcome);
         self.add_frame(frame, frames)?;
         Ok(())
     }
 
     // Adds what changed.
-    fn add_frame(&mut self, frame: Frame, frames: &mut LineFrames) -> Result<(), FollowFault> {
+    fn add_frame(&mut self, frame: Frame, frames: &mut LineFrames) -> Result<(), NoMemory> {
         let changes = self.turn_to(frame)?;
         frames.then.push(changes)?;
         Ok(())
     }
 
-    // The frames of a line, as many as may follow, and whether they show all of it. `done` of its Steps are done already.
-    fn frames_of<M: StepMeter>(
-        &mut self,
-        line: &RecordedLine,
-        done: u64,
-        meter: &mut M,
-    ) -> Result<(LineFrames, bool), LineStop> {
-        check_steps(self.alloc, line)?;
-        let times = line.call.times.saturating_sub(done);
-        let mut frames = LineFrames {
-            found: None,
-            reply: None,
-            then: Vec::new(self.alloc),
-        };
-        let is_whole = self.show_parts(line, times, &mut frames, meter)?;
-        Ok((frames, is_whole))
-    }
-
-    // Does `times` events of a line, or as many as may follow, and returns whether all are done.
+    // Does what is left of a line, or as much as may follow, part by part.
     fn show_parts<M: StepMeter>(
         &mut self,
-        line: &RecordedLine,
-        times: u64,
         frames: &mut LineFrames,
         meter: &mut M,
-    ) -> Result<bool, LineStop> {
-        let mut shown: u64 = 0;
+    ) -> Result<(), LineStop> {
+        let times = self.progress.rest.times;
         for _ in 0..self.left {
+            let shown = times.saturating_sub(self.progress.rest.times);
             if shown >= times {
                 break;
             }
-            let steps = next_steps(shown, times);
-            self.show_part(line, steps, frames, meter)?;
-            shown += steps;
+            self.show_part(next_steps(shown, times), frames, meter)?;
         }
-        Ok(shown >= times)
+        Ok(())
     }
 
-    // Writes the frames of a line, and returns whether they show all of it.
+    // The frames of what is left of a line, as many as may follow.
+    fn frames_of<M: StepMeter>(
+        &mut self,
+        line: &RecordedLine,
+        meter: &mut M,
+    ) -> Result<LineFrames, LineStop> {
+        let mut frames = LineFrames {
+            outcome: None,
+            then: Vec::new(self.alloc),
+        };
+        self.show_parts(&mut frames, meter)?;
+        let Some(reply) = frames.reply() else {
+            return Err(self.progress.nothing_left());
+        };
+        check_answer(self.alloc, line, reply)?;
+        Ok(frames)
+    }
+
+    // Writes the frames of what is left of a line.
     fn show_line<M: StepMeter>(
         &mut self,
         line: &RecordedLine,
-        done: u64,
         text: &mut TextWriter,
         meter: &mut M,
-    ) -> Result<bool, LineStop> {
-        let (frames, is_whole) = self.frames_of(line, done, meter)?;
+    ) -> Result<(), LineStop> {
+        let done = line.call.times.saturating_sub(self.progress.rest.times);
+        let frames = self.frames_of(line, meter)?;
         write_line(self.alloc, line, done, frames, text)?;
-        Ok(is_whole)
+        Ok(())
+    }
+
+    // Whether something is left of the record.
+    fn goes_on(&self, lines: &[RecordedLine]) -> bool {
+        self.progress.rest.times > 0 || self.progress.next < lines.len()
     }
 }
 
@@ -163,80 +151,33 @@ fn write_line(
     Ok(())
 }
 
-// Where a film begins that is to begin after `from` events.
-fn beginning_of(lines: &[RecordedLine], from: u64) -> Beginning {
-    let mut left = from;
-    for (place, line) in lines.iter().enumerate() {
-        if left < line.call.times {
-            return Beginning {
-                lines: place,
-                events: left,
-            };
-        }
-        left = left.saturating_sub(line.call.times);
-    }
-    Beginning {
-        lines: lines.len(),
-        events: 0,
-    }
-}
-
-// The domain where the film begins.
-fn follow_to<M: StepMeter>(
-    alloc: Global,
-    plan: &AcceptedPlan,
-    lines: &[RecordedLine],
-    start: Beginning,
-    meter: &mut M,
-) -> Result<Follower, RecordStop>
-    requires { length plan.now ≡ 1 }
-{
-    let mut follower = Follower::open(alloc, plan, 0)?;
-    follow_lines(alloc, &mut follower, lines, start, meter)?;
-    Ok(follower)
-}
-
-// Does the lines before the film, and the events before it of the next line.
-fn follow_lines<M: StepMeter>(
-    alloc: Global,
-    follower: &mut Follower,
-    lines: &[RecordedLine],
-    start: Beginning,
-    meter: &mut M,
-) -> Result<(), RecordStop> {
-    for line in lines.iter().take(start.lines) {
-        at_line(line, follower.answer(line, meter))?;
-    }
-    match lines.get(start.lines) {
-        Some(line) if start.events > 0 => {
-            at_line(
-                line,
-                follow_part(alloc, follower, line, start.events, meter),
-            )
-        }
-        _ => Ok(()),
-    }
-}
-
-// Does `steps` of the Steps of a line.
-fn follow_part<M: StepMeter>(
-    alloc: Global,
-    follower: &mut Follower,
-    line: &RecordedLine,
-    steps: u64,
-    meter: &mut M,
-) -> Result<(), LineStop> {
-    check_steps(alloc, line)?;
-    let _reply = follower.answer(&part_of_line(line, steps), meter)?;
-    Ok(())
-}
-
 // What ended it, with the line at which that came.
-fn at_line<T>(line: &RecordedLine, done: Result<T, LineStop>) -> Result<T, RecordStop> {
+fn at_line(line: &RecordedLine, done: Result<(), LineStop>) -> Result<(), RecordStop> {
     match done {
-        Ok(value) => Ok(value),
+        Ok(()) => Ok(()),
         Err(stop) => Err(stop.at(line.number)),
     }
+}
+
+// Does the first `from` events of a record.
+fn follow_to<M: StepMeter>(
+    alloc: Global,
+    progress: &mut Progress,
+    lines: &[RecordedLine],
+    from: u64,
+    meter: &mut M,
+) -> Result<(), RecordStop> {
+    for _ in 0..lines.len() {
+        let left = from.saturating_sub(progress.follower.recorded());
+        if left == 0 {
+            break;
+        }
+        let Some(line) = progress.line_to_do(lines) else {
+            break;
+        };
+        at_line(&line, progress.follow_line(alloc, &line, left, meter))?;
+    }
+    Ok(())
 }
 
 // Writes the first frame: what changed from a domain that nothing is known of.
@@ -267,45 +208,42 @@ fn first_told(
 // Writes the first frame.
 fn begin(
     alloc: Global,
-    follower: Follower,
+    progress: Progress,
     most: u64,
     text: &mut TextWriter,
-) -> Result<Filming, RecordStop> {
-    let mut follower = follower;
-    let (known, last) = first_told(alloc, &mut follower, text)?;
+) -> Result<Filming, NoMemory> {
+    let mut progress = progress;
+    let (known, last) = first_told(alloc, &mut progress.follower, text)?;
     Ok(Filming {
         alloc,
-        follower,
+        progress,
         known,
         last,
         left: most,
     })
 }
 
-// Writes lines with their frames, and tells whether more follows.
+// Writes lines with their frames, as many as may follow.
 fn show_lines<M: StepMeter>(
     filming: &mut Filming,
     lines: &[RecordedLine],
-    start: Beginning,
     text: &mut TextWriter,
     meter: &mut M,
-) -> Result<bool, RecordStop> {
-    let mut done = start.events;
-    for place in start.lines..lines.len() {
-        let line = &lines[place];
+) -> Result<(), RecordStop> {
+    for shown in 0..lines.len() {
         if filming.left == 0 {
-            return Ok(true);
+            break;
         }
-        text.push(if place == start.lines { "\n" } else { ",\n" });
-        if !at_line(line, filming.show_line(line, done, text, meter))? {
-            return Ok(true);
-        }
-        done = 0;
+        let Some(line) = filming.progress.line_to_do(lines) else {
+            break;
+        };
+        text.push(if shown == 0 { "\n" } else { ",\n" });
+        at_line(&line, filming.show_line(&line, text, meter))?;
     }
-    Ok(false)
+    Ok(())
 }
 
-// Writes the frames of a span.
+// Writes the frames of a span, and whether more follows.
 fn show_span<M: StepMeter>(
     alloc: Global,
     plan: &AcceptedPlan,
@@ -316,24 +254,13 @@ fn show_span<M: StepMeter>(
 ) -> Result<(), RecordStop>
     requires { length plan.now ≡ 1 }
 {
-    let start = beginning_of(lines, span.from);
-    let follower = follow_to(alloc, plan, lines, start, meter)?;
+    let mut progress = Progress::open(alloc, plan)?;
+    follow_to(alloc, &mut progress, lines, span.from, meter)?;
     text.push(",\"first\":");
-    let mut filming = begin(alloc, follower, span.count, text)?;
-    show_rest(&mut filming, lines, start, text, meter)
-}
-
-// Writes the lines of a span with their frames, and whether more follows.
-fn show_rest<M: StepMeter>(
-    filming: &mut Filming,
-    lines: &[RecordedLine],
-    start: Beginning,
-    text: &mut TextWriter,
-    meter: &mut M,
-) -> Result<(), RecordStop> {
+    let mut filming = begin(alloc, progress, span.count, text)?;
     text.push(",\"lines\":[");
-    let goes_on = show_lines(filming, lines, start, text, meter)?;
-    text.push(if goes_on {
+    show_lines(&mut filming, lines, text, meter)?;
+    text.push(if filming.goes_on(lines) {
         "\n],\"goes_on\":true}"
     } else {
         "\n],\"goes_on\":false}"

@@ -18,6 +18,6 @@ mod told;
 pub use filming::{Span, film_of};
 pub use frame::{Frame, HostFrame, NodeFrame, frame_of};
 pub use page::page_of;
-pub use shot::{FoundPacket, Shot, shot_of};
+pub use shot::{Shot, shot_of};
 pub use sources::{SourceLine, sources_of};
 pub use std::alloc::AllocError as NoMemory;

@@ -2,12 +2,11 @@
 
 use crate::NoMemory;
 use crate::changes::FrameChanges;
-use crate::shot::FoundPacket;
 use answer_text::write_reply;
 use bootstrap::Packet;
 use domain_core::{By, Event, Reply};
 use event_text::write_event;
-use record_following::RecordedLine;
+use record_following::{Outcome, RecordedLine};
 use serde::Serialize;
 use std::alloc::{AllocError, Global};
 
@@ -58,12 +57,18 @@ impl Drop for LineTold {
     }
 }
 
-/// The frames of a line: what a Move found, the last answer, and what changed from frame to frame.
+/// The frames of a line: what its last events came to, and what changed from frame to frame.
 #[derive(Drop)]
 pub struct LineFrames {
-    pub found: Option<FoundPacket>,
-    pub reply: Option<Reply>,
+    pub outcome: Option<Outcome>,
     pub then: Vec<FrameChanges>,
+}
+
+impl LineFrames {
+    /// The last answer.
+    pub fn reply(&self) -> Option<Reply> {
+        Some(self.outcome?.reply)
+    }
 }
 
 // A number if it is more than the usual one.
@@ -71,10 +76,10 @@ fn if_more(number: u64, usual: u64) -> Option<u64> {
     if number > usual { Some(number) } else { None }
 }
 
-fn packet_told(found: Option<FoundPacket>) -> Option<PacketTold> {
-    let found = found?;
+fn packet_told(outcome: Option<Outcome>) -> Option<PacketTold> {
+    let found = outcome?.port?;
     Some(PacketTold {
-        byte: match found.packet {
+        byte: match found.packet? {
             Packet::Byte(byte) => Some(byte),
             Packet::Ack => None,
         },
@@ -103,7 +108,8 @@ pub fn line_told(
     done: u64,
     frames: LineFrames,
 ) -> Result<LineTold, NoMemory> {
-    let LineFrames { found, reply, then } = frames;
+    let reply = frames.reply();
+    let LineFrames { outcome, then } = frames;
     Ok(LineTold {
         line: line.number,
         times: if_more(line.call.times, 1),
@@ -114,7 +120,7 @@ pub fn line_told(
         },
         asks: event_text(alloc, line.call.event)?,
         answer: reply_text(alloc, reply)?,
-        packet: packet_told(found),
+        packet: packet_told(outcome),
         then,
     })
 }

@@ -1,7 +1,6 @@
 //! A record of a domain at any of its moments, forwards and back.
 #![tactic(auto)]
 
-mod progress;
 mod timeline;
 
 pub use timeline::Timeline;

@@ -1,22 +1,22 @@
 //! A record at any of its moments.
 
-ghost use Rattle.std.specs.Prelude.{◌≡◌, ◌≤◌, IfOk, IfSome, OnOk, All, length};
+ghost use Rattle.std.specs.Prelude.{◌≡◌, ◌<◌, ◌≤◌, IfOk, IfSome, OnOk, All, length};
 ghost use Rattle.domain_core.specs.MachineValue.{machine_of};
 ghost use Rattle.domain_core.specs.PortStates.{IsPortState};
 ghost use Rattle.record_following.specs.Following.{all_said};
-ghost use Rattle.lab_timeline.specs.Timeline.{said_by, IsMomentAt};
-ghost use Rattle.lab_timeline.specs.Advance.{IsProgress, GoesOn, KeepsOf, IsOfKept, Begins};
+ghost use Rattle.record_following.specs.Progress.{said_by, IsMomentAt, IsProgress, GoesOn};
+ghost use Rattle.lab_timeline.specs.Advance.{KeepsOf, IsOfKept, Begins};
 
-use crate::progress::Progress;
-use domain_core::{Event, NoMemory, PortState};
-use farm_records::RecordedCall;
+use domain_core::{NoMemory, PortState, Reply};
 use plan_checker::AcceptedPlan;
+use record_following::laws::progress_ends;
 use record_following::{
-    FollowFault, Follower, LineStop, Record, RecordStop, RecordedLine, answer_matches, read_record,
+    FollowFault, Follower, LineStop, Progress, Record, RecordStop, RecordedLine, check_answer,
+    read_record,
 };
 use std::alloc::Global;
 use std::marker::Model;
-use step_meter::{StepMeter, StepsEnd};
+use step_meter::StepMeter;
 
 /// How many moments are kept of a record, at most.
 const MOST_KEPT: u64 = 128;
@@ -54,7 +54,8 @@ impl Drop for Timeline<'_> {
 }
 
 impl<'a> Model for Timeline<'a> {
-    ghost use Rattle.lab_timeline.specs.Timeline.{TimelineValue, said_by};
+    ghost use Rattle.record_following.specs.Progress.{said_by};
+    ghost use Rattle.lab_timeline.specs.Timeline.{TimelineValue};
     ghost use Rattle.lab_timeline.specs.Advance.{IsTimeline};
 
     ghost Value = { TimelineValue };
@@ -74,16 +75,9 @@ struct Keeping {
     since: u64,
 }
 
-// How much there is to do for a call: Steps of one line are done fast.
-fn work_of(call: RecordedCall) -> u64 {
-    (call.times / STEPS_AS_ONE).saturating_add(1)
-}
-
-// Tells the meter of the Steps of a call.
-fn note_steps<M: StepMeter>(call: RecordedCall, meter: &mut M) {
-    if let Event::Step(_) = call.event {
-        meter.note(call.times);
-    }
+// How much there is to do for events of one line: Steps are done fast.
+fn work_of(times: u64) -> u64 {
+    (times / STEPS_AS_ONE).saturating_add(1)
 }
 
 // How much is done from one kept moment to the next.
@@ -92,24 +86,18 @@ fn gap_of(lines: &[RecordedLine]) -> u64
 {
     let mut work: u64 = 0;
     for line in lines {
-        work = work.saturating_add(work_of(line.call));
+        work = work.saturating_add(work_of(line.call.times));
     }
     (work / MOST_KEPT).saturating_add(1)
 }
 
 impl Keeping {
-    // How many of the events that are left of a line are done next: of Steps as many as the meter allows before a moment is kept.
-    fn times_of<M: StepMeter>(&self, rest: RecordedCall, meter: &mut M) -> Result<u64, StepsEnd>
-        ensures some { IfOk result (λ times. 1 ≤ rest.times → 1 ≤ times) }
-        ensures within { IfOk result (λ times. times ≤ rest.times) }
+    // How many Steps of a line are done next at most: as many as before a moment is kept.
+    fn most(&self) -> u64
+        ensures { 1 ≤ result }
     {
-        match rest.event {
-            Event::Step(_) => {
-                let work = self.gap.saturating_sub(self.since).max(1);
-                meter.allow(rest.times.min(work.saturating_mul(STEPS_AS_ONE)))
-            }
-            _ => Ok(rest.times),
-        }
+        let work = self.gap.saturating_sub(self.since).max(1);
+        work.saturating_mul(STEPS_AS_ONE)
     }
 
     // Keeps a moment if enough was done since the last.
@@ -122,6 +110,19 @@ impl Keeping {
             self.kept.push(here.copy()?)?;
         }
         Ok(())
+    }
+
+    // Does events that are left of a line, keeps a moment after them if enough was done, and gives the answer.
+    fn go_on<M: StepMeter>(&mut self, here: &mut Progress, meter: &mut M) -> Result<Reply, LineStop>
+        ensures progress { IfOk result (λ reply. GoesOn here.old here.new) }
+        ensures kept { IfOk result (λ reply. KeepsOf here.new self.old.kept.items self.new.kept.items) }
+        ensures less { IfOk result (λ reply. here.new.rest.times < here.old.rest.times) }
+        ensures next { IfOk result (λ reply. here.new.next ≡ here.old.next) }
+    {
+        let before = here.follower.recorded();
+        let outcome = here.go_on(self.most(), meter)?;
+        self.note(here, work_of(here.follower.recorded() - before))?;
+        Ok(outcome.reply)
     }
 
     // Does a line that was begun, compares what the domain answers with what it says, and keeps moments on the way.
@@ -137,26 +138,14 @@ impl Keeping {
         ensures rest { OnOk result (here.new.rest.times ≡ 0) }
         ensures next { OnOk result (here.new.next ≡ here.old.next) }
     {
-        let mut told = None;
+        let mut reply = self.go_on(here, meter)?;
         while here.rest.times > 0 {
-            let times = self.times_of(here.rest, meter)?;
-            let call = RecordedCall { times, ..here.rest };
-            told = Some(here.follow_some(times)?);
-            self.note(here, work_of(call))?;
-            note_steps(call, meter);
+            reply = self.go_on(here, meter)?;
         }
-        let Some(reply) = told else {
-            return Err(LineStop::Follow(FollowFault::NoEvent));
-        };
-        if answer_matches(alloc, line, reply)? {
-            Ok(())
-        } else {
-            Err(LineStop::Follow(FollowFault::Differs))
-        }
+        Ok(check_answer(alloc, line, reply)?)
     }
 
     // Does all lines of a record.
-    #[tactic(auto, using(crate::proofs::Led::all_recorded))]
     fn do_lines<M: StepMeter>(
         &mut self,
         alloc: Global,
@@ -167,9 +156,11 @@ impl Keeping {
         requires one { length plan.now ≡ 1 }
         requires none { All (IsProgress plan.now (said_by lines.now)) self.old.kept.items }
         ensures progress { IfOk result (λ here. IsProgress plan.now (said_by lines.now) here) }
-        ensures events { IfOk result (λ here. here.follower.recorded ≡ length (all_said (said_by lines.now))) }
+        ensures end { IfOk result (λ here. IsMomentAt plan.now (said_by lines.now) (length (all_said (said_by lines.now))) here.follower) }
         ensures kept { IfOk result (λ here. All (IsProgress plan.now (said_by lines.now)) self.new.kept.items) }
     {
+        // If nothing is left of a record, all its calls were done.
+        progress_ends();
         let mut here = Progress::open(alloc, plan)?;
         while here.next < lines.len() {
             let line = lines[here.next];

@@ -1,10 +1,9 @@
--- A moment that goes on by calls: the contracts of `Follower::open`, `follow_event`, `follow_steps` and
--- `follow_record`, and the law `moments_go_on`.
-use Rattle.std.specs.Prelude.{◌≡◌, ◌+◌, ◌<◌, take, ◌++◌, ◌∷◌, [], ℕ, zero, suc, List, Option}
-use Rattle.std.specs.Prelude.{Some, None, Ok, IfSome, length, map, replicate, slice_get}
-use Rattle.std.proofs.Common.{refl, ap, sym, subst, ◌∙◌, arith, get_or}
-use Rattle.std.proofs.lemmas.List.{replicate_more, length-replicate, length-append, map-append, take_more, append-nil}
-use Rattle.std.proofs.lemmas.Grind.{flat_map-append}
+-- A moment that goes on by calls: the contracts of `Follower::open`, `follow_event` and `follow_steps`,
+-- and the law `moments_go_on`.
+use Rattle.std.specs.Prelude.{◌≡◌, ◌+◌, ◌++◌, ◌∷◌, [], ℕ, zero, suc, List, Option}
+use Rattle.std.specs.Prelude.{Some, None, Ok, IfSome, replicate, slice_get}
+use Rattle.std.proofs.Common.{refl, ap, sym, subst, ◌∙◌, arith}
+use Rattle.std.proofs.lemmas.List.{replicate_more, length-replicate, length-append, map-append}
 use Rattle.t414_step.specs.declared.stepping.Stepped.{Stepped}
 use Rattle.t414_step.specs.declared.stepping.Stepped.TheVariants.{Ran}
 use Rattle.plan_rules.specs.Data.{DomainData}
@@ -17,9 +16,7 @@ use Rattle.domain_core.specs.Laws.{HistoriesGrow}
 use Rattle.domain_core.specs.Moments.{MomentValue, state_at, LeadsOn}
 use Rattle.domain_core.specs.PrivateFarm.{State, Answer, Call, next, opening}
 use Rattle.domain_core.specs.Ticket.{steps_told}
-use Rattle.record_following.specs.declared.line.RecordedLine.{RecordedLine}
-use Rattle.farm_records.specs.declared.line.RecordedCall.{RecordedCall}
-use Rattle.record_following.specs.Following.{calls_said, all_said, FollowsCalls}
+use Rattle.record_following.specs.Following.{calls_said, FollowsCalls}
 use Rattle.record_following.specs.Following.{MovesOn, IsStateAfter, IsMomentAfter, MomentsGoOn}
 
 -- a moment that answers a call, and records it, goes on by that call
@@ -131,20 +128,3 @@ moved_at (Some d) xs ys moment other_moment is on = (
 -- a moment after some calls, which goes on by others, is the moment after all of them
 pub moment_on : MomentsGoOn
 moment_on plan number xs ys f g is on = moved_at (slice_get plan number) xs ys f g is on
-
--- a moment after the first lines of a record, which goes on by the next line, is the moment after one line more
-pub one_line : (plan : List DomainData) (lines : List RecordedLine) (i : ℕ) (other_line : RecordedLine)
-    (moment other_moment : MomentValue)
-    → i < length lines → IsMomentAfter plan 0 (all_said (map (λ line. line.call) (take i lines))) moment
-    → MovesOn moment (calls_said (get_or lines i other_line).call) other_moment
-    → IsMomentAfter plan 0 (all_said (map (λ line. line.call) (take (i + 1) lines))) other_moment
-one_line plan lines i other_line moment other_moment less is on =
-    let call : RecordedLine → RecordedCall = λ line. line.call in
-    let line : RecordedLine = get_or lines i other_line in
-    let more : all_said (map call (take (i + 1) lines)) ≡ all_said (map call (take i lines)) ++ calls_said (call line) =
-    ap (λ (some : List RecordedLine). all_said (map call some)) (take_more lines i other_line less)
-    ∙ (ap all_said (map-append call (take i lines) (line ∷ []))
-    ∙ (flat_map-append calls_said (map call (take i lines)) (call line ∷ [])
-    ∙ ap (λ (calls : List Call). all_said (map call (take i lines)) ++ calls) (append-nil (calls_said (call line))))) in
-    subst (λ (calls : List Call). IsMomentAfter plan 0 calls other_moment) (sym more)
-    (moment_on plan 0 (all_said (map call (take i lines))) (calls_said (call line)) moment other_moment is on)

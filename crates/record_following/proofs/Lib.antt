@@ -1,3 +1,3 @@
-pub mod Counted
 pub mod EntryCalls
 pub mod Followed
+pub mod Led

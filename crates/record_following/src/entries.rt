@@ -42,7 +42,7 @@ impl Follower {
     fn follow_answered(&mut self, by: By, event: Event, reply: Reply) -> Result<(), FollowFault>
         ensures { OnOk result (MovesOn self.old (record { by = by; event = event } ∷ []) self.new) }
     {
-        if self.follow_event(by, event)? == reply {
+        if self.follow_event(by, event)?.reply == reply {
             Ok(())
         } else {
             Err(FollowFault::Differs)

@@ -9,12 +9,10 @@ ghost use Rattle.domain_core.specs.PortStates.{IsPortState};
 ghost use Rattle.domain_core.specs.PrivateFarm.{opening};
 ghost use Rattle.record_following.specs.Following.{calls_said, MovesOn, IsMomentAfter};
 
-use crate::fault::{FollowFault, LineStop};
+use crate::fault::FollowFault;
 use crate::glance::{Observed, code_end_of, glance_before, note_event, zeros_behind};
-use crate::line::RecordedLine;
 use crate::past::Past;
 use crate::trail::Trail;
-use answer_text::write_reply;
 use bootstrap::Node;
 use crossbar::Word;
 use domain_core::laws::histories_grow;
@@ -24,7 +22,6 @@ use plan_checker::AcceptedPlan;
 use plan_rules::Part;
 use std::alloc::Global;
 use std::marker::Model;
-use step_meter::StepMeter;
 use t414_step::Stepped;
 
 /// A domain at the moment to which its record leads, and what was noted on the way.
@@ -55,19 +52,13 @@ impl Model for Follower {
     ghost view = { λ f. f.moment };
 }
 
-/// Whether an answer is what a line says.
-pub fn answer_matches(alloc: Global, line: &RecordedLine, reply: Reply) -> Result<bool, NoMemory> {
-    let times = line.call.times;
-    let Some(told) = line.answer else {
-        return Ok(true);
-    };
-    let mut answer = String::new(alloc);
-    write_reply(&mut answer, reply)?;
-    if answer.as_str() == told {
-        return Ok(true);
-    }
-    let several = format!(in alloc; "{times} {answer}")?;
-    Ok(times > 1 && several.as_str() == told)
+/// What a call came to.
+#[derive(Clone, Copy)]
+pub struct Outcome {
+    /// The answer, of several Steps that to each.
+    pub reply: Reply,
+    /// What waited at the port of a Move before it.
+    pub port: Option<PortState>,
 }
 
 impl Follower {
@@ -117,8 +108,8 @@ impl Follower {
     }
 
     // Does one event, which is recorded.
-    pub(crate) fn follow_event(&mut self, by: By, event: Event) -> Result<Reply, FollowFault>
-        ensures { IfOk result (λ reply. MovesOn self.old (record { by = by; event = event } ∷ []) self.new) }
+    pub(crate) fn follow_event(&mut self, by: By, event: Event) -> Result<Outcome, FollowFault>
+        ensures { IfOk result (λ outcome. MovesOn self.old (record { by = by; event = event } ∷ []) self.new) }
     {
         // What comes next makes a history longer.
         histories_grow();
@@ -135,7 +126,10 @@ impl Follower {
         let zeros = zeros_behind(self.alloc, &self.moment, &self.trail, glance, reply)?;
         let seen = Observed { glance, zeros };
         note_event(&mut self.past, &self.moment, seen, event, reply, after);
-        Ok(reply)
+        Ok(Outcome {
+            reply,
+            port: glance.port(),
+        })
     }
 
     // Does Steps of a node in one burst. `Fewer` if not all of them run.
@@ -160,38 +154,23 @@ impl Follower {
         Ok(Reply::Stepped(Stepped::Ran))
     }
 
-    /// Does a call as often as it was made. `NoEvent` if it was made several times, unless it is a Step for which the farm
-    /// asks. After an error nothing is guaranteed about the moment.
-    pub fn follow_call(&mut self, call: RecordedCall) -> Result<Reply, FollowFault>
-        ensures { IfOk result (λ reply. MovesOn self.old (calls_said call) self.new) }
+    // Does a call as often as it says. `NoEvent` if the call is a part of a line of several events, unless it is of Steps for which
+    // the farm asks. After an error nothing is guaranteed about the moment.
+    pub(crate) fn follow_call(
+        &mut self,
+        call: RecordedCall,
+        is_one: bool,
+    ) -> Result<Outcome, FollowFault>
+        ensures { IfOk result (λ outcome. MovesOn self.old (calls_said call) self.new) }
     {
         let RecordedCall { times, by, event } = call;
         match (times, by, event) {
-            (1, _, _) => self.follow_event(by, event),
-            (_, By::Farm, Event::Step(node)) => self.follow_steps(node, times),
+            (1, _, _) if is_one => self.follow_event(by, event),
+            (_, By::Farm, Event::Step(node)) => {
+                let reply = self.follow_steps(node, times)?;
+                Ok(Outcome { reply, port: None })
+            }
             _ => Err(FollowFault::NoEvent),
-        }
-    }
-
-    /// Does what a line says, compares what the domain answers with what it says, and gives the answer, of several Steps that of
-    /// each.
-    ///
-    /// # Errors
-    ///
-    /// `Follow` with why the line can't be done, and `Differs` there if the domain answers otherwise than it says; `Steps` if the
-    /// line has more Steps than the meter allows. After either nothing is guaranteed about the moment.
-    pub fn answer<M: StepMeter>(
-        &mut self,
-        line: &RecordedLine,
-        meter: &mut M,
-    ) -> Result<Reply, LineStop>
-        ensures { IfOk result (λ reply. MovesOn self.old (calls_said line.now.call) self.new) }
-    {
-        let reply = self.follow_said(line.call, meter)?;
-        if answer_matches(self.alloc, line, reply)? {
-            Ok(reply)
-        } else {
-            Err(LineStop::Follow(FollowFault::Differs))
         }
     }
 

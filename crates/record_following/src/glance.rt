@@ -6,7 +6,7 @@ ghost use Rattle.std.specs.Int.{bit_at};
 use crate::past::{FaultPast, Past, ZerosPast};
 use crate::trail::Trail;
 use bootstrap::{Node, NodeState, Task};
-use domain_core::{Device, Event, Moment, Moved, NoMemory, Reply, device_at};
+use domain_core::{Device, Event, Moment, Moved, NoMemory, PortState, Reply, device_at};
 use link_channels::{LinkNumber, Links};
 use node_memory::Memory;
 use os_link::Packet;
@@ -25,11 +25,10 @@ pub struct Sender {
 /// What was seen before an event.
 #[derive(Clone, Copy)]
 pub enum Glance {
-    /// Before a Move: the packet that waited, the outputs that its port drove, and the node's link that sends there.
+    /// Before a Move: what waited at its port, and the node's link that sends there.
     Move {
         port: u8,
-        packet: Option<Packet>,
-        drives: u32,
+        state: PortState,
         sender: Option<Sender>,
     },
     /// Before a Step.
@@ -41,6 +40,16 @@ pub enum Glance {
     },
     /// Before any other event.
     Else,
+}
+
+impl Glance {
+    /// What waited at the port of a Move.
+    pub fn port(self) -> Option<PortState> {
+        match self {
+            Glance::Move { state, .. } => Some(state),
+            _ => None,
+        }
+    }
 }
 
 /// Whether bit `output` of a mask of virtual outputs is set.
@@ -130,11 +139,9 @@ pub fn glance_before(moment: &mut Moment, event: Event) -> Result<Glance, NoMemo
 {
     match event {
         Event::Move(port) if port < moment.part().count() => {
-            let state = moment.port_state(port);
             Ok(Glance::Move {
                 port,
-                packet: state.packet,
-                drives: state.drives,
+                state: moment.port_state(port),
                 sender: sender_at(moment, port),
             })
         }
@@ -190,14 +197,13 @@ pub fn note_event(
     match seen.glance {
         Glance::Move {
             port,
-            packet,
-            drives,
+            state,
             sender,
         } => {
             if let Reply::Moved(moved) = reply {
-                note_packet(past, port, packet, moved, number);
-                note_sender(past, sender, packet, moved);
-                note_move(past, moment, port, drives, moved, number);
+                note_packet(past, port, state.packet, moved, number);
+                note_sender(past, sender, state.packet, moved);
+                note_move(past, moment, port, state.drives, moved, number);
             }
         }
         Glance::Step {

@@ -1,6 +1,8 @@
 //! A line of a record.
 
 use crate::fault::FollowFault;
+use answer_text::write_reply;
+use domain_core::Reply;
 use farm_records::{CallLine, RecordedCall, read_call};
 use std::alloc::Global;
 
@@ -32,5 +34,29 @@ pub fn read_line<'a>(
             answer,
         }),
         _ => Err(FollowFault::NoEvent),
+    }
+}
+
+/// Compares what a domain answered to the last events of a line with what the line says: the answer to each, or of several
+/// events their number and that answer.
+///
+/// # Errors
+///
+/// `Differs` if the line says otherwise; `Memory`.
+pub fn check_answer(alloc: Global, line: &RecordedLine, reply: Reply) -> Result<(), FollowFault> {
+    let Some(said) = line.answer else {
+        return Ok(());
+    };
+    let mut answer = String::new(alloc);
+    write_reply(&mut answer, reply)?;
+    if answer.as_str() == said {
+        return Ok(());
+    }
+    let times = line.call.times;
+    let several = format!(in alloc; "{times} {answer}")?;
+    if times > 1 && several.as_str() == said {
+        Ok(())
+    } else {
+        Err(FollowFault::Differs)
     }
 }

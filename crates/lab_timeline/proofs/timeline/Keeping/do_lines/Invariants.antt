@@ -1,7 +1,7 @@
 use Rattle.std.proofs.Common.{◌≡◌, ◌-◌, length}
 use Rattle.std.specs.Prelude.{All}
-use Rattle.lab_timeline.specs.Timeline.{said_by}
-use Rattle.lab_timeline.specs.Advance.{IsProgress}
+use Rattle.record_following.specs.Progress.{said_by}
+use Rattle.record_following.specs.Progress.{IsProgress}
 use Rattle.lab_timeline.proofs.timeline.Keeping.do_lines.Given as goal
 
 -- between lines: what was done and what was kept so far is of the record

@@ -1,5 +1,6 @@
 use Rattle.std.proofs.Common.{◌≡◌}
-use Rattle.lab_timeline.specs.Advance.{GoesOn, KeepsOf}
+use Rattle.record_following.specs.Progress.{GoesOn}
+use Rattle.lab_timeline.specs.Advance.{KeepsOf}
 use Rattle.lab_timeline.proofs.timeline.Keeping.finish_line.Given as goal
 
 -- what was done and what was kept so far is of the record

@@ -1,8 +1,9 @@
 use Rattle.std.proofs.Common.{List, subst}
 use Rattle.record_following.specs.declared.line.RecordedLine.{RecordedLine}
-use Rattle.lab_timeline.specs.declared.progress.Progress.{Progress}
-use Rattle.lab_timeline.specs.Timeline.{said_by}
-use Rattle.lab_timeline.specs.Advance.{IsOfKept, GoesOnIn, ComesTo}
+use Rattle.record_following.specs.declared.progress.Progress.{Progress}
+use Rattle.record_following.specs.Progress.{said_by}
+use Rattle.record_following.specs.Progress.{GoesOnIn, ComesTo}
+use Rattle.lab_timeline.specs.Advance.{IsOfKept}
 use Rattle.lab_timeline.proofs.Led.{led_on, come_to}
 use Rattle.lab_timeline.proofs.timeline.Timeline.go.Goals as goal
 

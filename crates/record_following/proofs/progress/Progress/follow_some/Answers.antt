@@ -1,7 +1,7 @@
 use Rattle.std.proofs.Common.{rules, refl}
 use Rattle.record_following.specs.Following.{calls_said, MovesOn}
-use Rattle.lab_timeline.proofs.Led.{some_followed}
-use Rattle.lab_timeline.proofs.progress.Progress.follow_some.Goals as goal
+use Rattle.record_following.proofs.Led.{some_followed}
+use Rattle.record_following.proofs.progress.Progress.follow_some.Goals as goal
 
 pub returns-clause-progress : goal.returns-clause-progress
 returns-clause-progress c = λ lines plan was.

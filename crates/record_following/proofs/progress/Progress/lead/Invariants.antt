@@ -1,7 +1,7 @@
 use Rattle.std.proofs.Common.{◌≡◌, ◌-◌, ◌<◌, ◌≤◌, length}
-use Rattle.lab_timeline.specs.Timeline.{said_by}
-use Rattle.lab_timeline.specs.Advance.{GoesOnIn}
-use Rattle.lab_timeline.proofs.progress.Progress.lead.Given as goal
+use Rattle.record_following.specs.Progress.{said_by}
+use Rattle.record_following.specs.Progress.{GoesOnIn}
+use Rattle.record_following.proofs.progress.Progress.lead.Given as goal
 
 -- what was done so far is of the record, up to the event; before that, nothing is left of the line
 abbrev pub invariant-loop-self : goal.invariant-loop-self

@@ -1,6 +1,6 @@
 use Rattle.std.proofs.Common.{refl}
-use Rattle.lab_timeline.proofs.Led.{opened_empty, opened_progress}
-use Rattle.lab_timeline.proofs.progress.Progress.open.Goals as goal
+use Rattle.record_following.proofs.Led.{opened_empty, opened_progress}
+use Rattle.record_following.proofs.progress.Progress.open.Goals as goal
 
 pub returns-clause-progress : goal.returns-clause-progress
 returns-clause-progress c =

@@ -2,8 +2,8 @@ use Rattle.std.proofs.Common.{refl, None}
 use Rattle.domain_core.specs.declared.event.By.TheVariants.{User}
 use Rattle.domain_core.specs.declared.event.Event.TheVariants.{Config}
 use Rattle.record_following.specs.declared.line.RecordedLine.{RecordedLine}
-use Rattle.lab_timeline.proofs.Led.{line_begun}
-use Rattle.lab_timeline.proofs.progress.Progress.begin_line.Goals as goal
+use Rattle.record_following.proofs.Led.{line_begun}
+use Rattle.record_following.proofs.progress.Progress.begin_line.Goals as goal
 
 pub returns-clause-progress : goal.returns-clause-progress
 returns-clause-progress c = λ plan was.

@@ -1,11 +1,11 @@
 use Rattle.std.proofs.Common.{◌≡◌, ◌<◌, ◌≤◌, arith, length}
 use Rattle.std.proofs.lemmas.List.{length-map}
 use Rattle.record_following.specs.declared.line.RecordedLine.{RecordedLine}
-use Rattle.lab_timeline.specs.Timeline.{said_by}
-use Rattle.lab_timeline.proofs.Led.{led}
-use Rattle.lab_timeline.proofs.progress.Progress.lead.Goals as goal
-use Rattle.lab_timeline.proofs.progress.Progress.lead.Goals.{then-loop-self-test+else-recorded-event}
-use Rattle.lab_timeline.proofs.progress.Progress.lead.Goals.{else-loop-self-test}
+use Rattle.record_following.specs.Progress.{said_by}
+use Rattle.record_following.proofs.Led.{led}
+use Rattle.record_following.proofs.progress.Progress.lead.Goals as goal
+use Rattle.record_following.proofs.progress.Progress.lead.Goals.{then-loop-self-test+else-recorded-event}
+use Rattle.record_following.proofs.progress.Progress.lead.Goals.{else-loop-self-test}
 
 pub returns-clause-there : goal.returns-clause-there
 returns-clause-there c = λ plan was.
