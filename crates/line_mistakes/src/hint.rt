@@ -1,7 +1,7 @@
 //! What helps where a word is wrong.
 
-use crate::nearest::nearest_name;
 use crate::wanted::{Wanted, WordForm, WordRole};
+use script_text::nearest_name;
 use std::fmt;
 
 /// What helps where a word is wrong.

@@ -1,3 +1,2 @@
 -- what only helps contracts
-pub mod Numbers
 pub mod Rows

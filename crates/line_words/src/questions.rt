@@ -4,8 +4,7 @@ ghost use Rattle.line_words.specs.Rows.{expected_lines};
 
 use crate::fault::NumberedLineFault;
 use crate::utf8::line_as_str;
-use line_mistakes::{NumberedLine, numbered_lines};
-use script_text::is_passed_over;
+use script_text::{NumberedLine, is_passed_over, numbered_lines};
 use std::alloc::Global;
 
 /// A line that asks something.

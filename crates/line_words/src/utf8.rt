@@ -2,7 +2,8 @@
 ghost use Rattle.std.specs.Prelude.{◌≡◌, IfOk};
 
 use crate::fault::NumberedLineFault;
-use line_mistakes::{MetText, NumberedLine, Wanted, WordMistake, WrongLine, column_at};
+use line_mistakes::{MetText, Wanted, WordMistake, WrongLine, column_at};
+use script_text::NumberedLine;
 
 /// The line as a text; `Wrong` with the first byte that isn't UTF-8, if one isn't.
 pub fn line_as_str(line: NumberedLine<'_>) -> Result<&str, NumberedLineFault>

@@ -2,12 +2,10 @@
 ghost use Rattle.std.specs.Prelude.{◌≤◌};
 
 use crate::fault::WordFault;
-use crate::names::value_named;
-use crate::numbers::{decimal_number, hexadecimal_word};
 use line_mistakes::{
     MetText, ShownWord, Wanted, WordForm, WordHint, WordMistake, WordRole, column_at,
 };
-use script_text::{HexFault, bytes_of};
+use script_text::{HexFault, bytes_of, decimal_number, hexadecimal_word, value_named};
 use std::alloc::{AllocError, Global};
 
 /// A place of a line: a word and what comes after it, or the line's end.

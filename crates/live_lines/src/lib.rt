@@ -12,5 +12,6 @@ pub use asked::{LiveLine, LiveRequest, OperatorRequest, WholeRequest};
 pub use command_line::{LiveSettings, RecordSettings, live_settings};
 pub use fault::LiveFault;
 pub use parsing::{is_operators, parse_live_line};
-pub use reading::{InputLine, MOST_BYTES, next_line};
+pub use reading::next_line;
+pub use script_text::InputLine;
 pub use verbs::{DomainVerb, OperatorVerb};

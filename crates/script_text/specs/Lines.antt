@@ -1,5 +1,5 @@
 -- The lines of a text, and its division at one of them.
-use Rattle.std.specs.Prelude.{◌≡◌, ◌≢◌, ◌<◌, ◌==◌, ◌++◌, ◌⊎◌, ℕ, zero, suc, List, [], ◌∷◌, Bool, true, length, nat_lt, if◌then◌else◌}
+use Rattle.std.specs.Prelude.{◌≡◌, ◌≢◌, ◌<◌, ◌==◌, ◌++◌, ◌⊎◌, ℕ, zero, suc, List, [], ◌∷◌, Bool, true, length, nat_lt, codes, if◌then◌else◌}
 use Rattle.std.specs.List.{position_or_len, before_first, after_first}
 use Rattle.std.specs.Str.Lines.{strip_carriage_return}
 
@@ -39,6 +39,10 @@ IsDivided text mark before after =
     ((number : ℕ) × IsFirstLineOf text mark number × (text ≡ before ++ from_line number text)
     × (after ≡ from_line (suc number) text))
     ⊎ (((number : ℕ) → ¬ IsLine text number mark) × (before ≡ text) × (after ≡ []))
+
+-- the line that ends a plan, if more follows it in its text
+abbrev pub plan_end : List ℕ
+plan_end = codes "---"
 
 -- a line that is empty or begins with `#`
 abbrev pub asks_nothing : List ℕ → Bool

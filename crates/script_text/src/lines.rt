@@ -1,7 +1,21 @@
 //! The lines of a text, and its division into a plan and what follows it.
-ghost use Rattle.std.specs.Prelude.{◌≡◌, ◌<◌, length};
+ghost use Rattle.std.specs.Prelude.{◌≡◌, ◌<◌, ◌↔◌, ℕ, IsTrue, length};
 ghost use Rattle.std.specs.Str.Lines.{strip_carriage_return};
-ghost use Rattle.script_text.specs.Lines.{line_of, after_line, IsDivided, asks_nothing};
+ghost use Rattle.script_text.specs.Lines.{line_of, after_line, IsLine, IsDivided, asks_nothing, plan_end};
+
+/// The line that ends a plan, if more follows it in its text.
+const PLAN_END: &[u8] = b"---";
+
+/// A text that begins with a plan.
+#[derive(Clone, Copy)]
+pub struct PlanText<'a> {
+    /// What comes before the first line `---`; the whole text if it has no such line.
+    pub plan: &'a [u8],
+    /// What comes after that line; nothing if there is none.
+    pub rest: &'a [u8],
+    /// Whether the text has such a line.
+    pub has_plan_end: bool,
+}
 
 /// A line without its line feed and one carriage return before that, and what follows it.
 pub fn split_line(text: &[u8]) -> (&[u8], &[u8])
@@ -40,6 +54,19 @@ pub fn divide<'a>(text: &'a [u8], mark: &[u8]) -> (&'a [u8], &'a [u8])
         rest = after;
     }
     (text, &[])
+}
+
+/// A text divided at its first line `---`.
+pub fn divide_at_plan_end(text: &[u8]) -> PlanText<'_>
+    ensures parts { IsDivided text.now plan_end result.plan.now result.rest.now }
+    ensures end { IsTrue result.has_plan_end ↔ ((number : ℕ) × IsLine text.now number plan_end) }
+{
+    let (plan, rest) = divide(text, PLAN_END);
+    PlanText {
+        plan,
+        rest,
+        has_plan_end: plan.len() < text.len(),
+    }
 }
 
 /// Whether a line asks for nothing: it is empty or begins with `#`.

@@ -9,7 +9,7 @@ use Rattle.std.proofs.Math.Seq.{take-append_seam}
 use Rattle.std.proofs.lemmas.List.{take_all}
 use Rattle.std.proofs.lemmas.List.Elements.{All-nil, All-cons}
 use Rattle.std.specs.List.Sorted.{IsStrictlyIncreasing}
-use Rattle.line_mistakes.specs.declared.numbered.NumberedLine.{NumberedLine}
+use Rattle.script_text.specs.declared.numbered.NumberedLine.{NumberedLine}
 use Rattle.t414_assembly.specs.declared.fault.Mismatch.{Mismatch}
 use Rattle.t414_assembly.specs.declared.fault.FaultyLine.{FaultyLine}
 use Rattle.t414_assembly.specs.Faults.{wrong_lines}

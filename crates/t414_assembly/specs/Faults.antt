@@ -2,7 +2,7 @@
 use Rattle.std.specs.Prelude.{ℕ, ◌≡◌, ◌≢◌, ◌⊎◌, ◌+◌, ◌<◌, List, [], ◌∷◌, Option, Some, None, All, length, take, map, true, ◌↔◌}
 use Rattle.std.specs.List.Sorted.{IsStrictlyIncreasing}
 use Rattle.script_text.specs.Lines.{from_line}
-use Rattle.line_mistakes.specs.declared.numbered.NumberedLine.{NumberedLine}
+use Rattle.script_text.specs.declared.numbered.NumberedLine.{NumberedLine}
 use Rattle.t414_assembly.specs.declared.fault.Mismatch.{Mismatch}
 use Rattle.t414_assembly.specs.declared.fault.TextFault.{TextFault}
 use Rattle.t414_assembly.specs.declared.fault.TextFault.TheVariants as text_fault

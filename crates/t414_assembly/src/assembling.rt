@@ -9,7 +9,7 @@ use crate::faults::{FaultList, ProgramFault, first_faults};
 use crate::layout::{Image, LayoutFault, lay_out};
 use crate::parsing::Reader;
 use crate::statement::Statement;
-use line_mistakes::{NumberedLine, numbered_lines};
+use script_text::{NumberedLine, numbered_lines};
 use std::alloc::{AllocError, Global};
 
 /// A program that was read from a text, and its bytes.

@@ -2,7 +2,7 @@
 
 use crate::fault::{Expected, Mismatch};
 use crate::hints::Hint;
-use line_words::{decimal_number, hexadecimal_word};
+use script_text::{decimal_number, hexadecimal_word};
 
 /// What is left of a line. Once something else is expected than what is there, nothing is left, and `mismatch` says
 /// what was expected first. What is read until then is right, and what is read after that is 0 or empty.
@@ -182,7 +182,7 @@ impl<'a> Cursor<'a> {
             Some(b'c') => b'\r',
             Some(b't') => b'\t',
             Some(b's') => b' ',
-            Some(b'#') => self.take_code(),
+            Some(b'#') => self.take_character_code(),
             Some(byte) if matches!(byte, b'\'' | b'"' | b'*') => byte,
             _ => {
                 self.refuse_before(Expected::Character, left);
@@ -192,7 +192,7 @@ impl<'a> Cursor<'a> {
     }
 
     // A character by its code in two hexadecimal digits.
-    fn take_code(&mut self) -> u8 {
+    fn take_character_code(&mut self) -> u8 {
         let left = self.left();
         let digits = self.take_text(2);
         match hexadecimal_word(digits) {

@@ -5,8 +5,7 @@ use crate::fault::{Expected, TextFault, fault_before};
 use crate::loading::BOOTED;
 use crate::printing::{bytes_as_text, instructions_as_text};
 use crate::writing::MOST_CODE;
-use line_mistakes::{NumberedLine, numbered_lines};
-use script_text::{HexFault, bytes_of};
+use script_text::{HexFault, NumberedLine, bytes_of, numbered_lines};
 use std::alloc::{AllocError, Global};
 
 /// The bytes that pairs of hexadecimal digits spell, with blanks, tabs and line ends between digits.

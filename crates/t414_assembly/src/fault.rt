@@ -3,8 +3,7 @@ ghost use Rattle.std.specs.Prelude.{◌≡◌, IfOk};
 
 use crate::cursor::{name_length, without_blanks};
 use crate::hints::{Hint, hint_of};
-use line_mistakes::NumberedLine;
-use script_text::TextWriter;
+use script_text::{NumberedLine, TextWriter};
 use std::alloc::{AllocError, Global};
 use std::fmt;
 use thiserror::Error;

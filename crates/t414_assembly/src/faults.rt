@@ -4,7 +4,7 @@ ghost use Rattle.t414_assembly.specs.Faults.{wrong_lines};
 ghost use Rattle.t414_assembly.specs.declared.faults.ProgramFault.TheVariants as program_fault;
 
 use crate::fault::{FaultyLine, Mismatch, fault_in};
-use line_mistakes::NumberedLine;
+use script_text::NumberedLine;
 use std::alloc::{AllocError, Global};
 use std::fmt;
 use thiserror::Error;

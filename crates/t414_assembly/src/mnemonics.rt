@@ -1,8 +1,7 @@
 //! The handbook's names of functions and operations.
 
 use crate::codes::byte_of;
-use line_mistakes::is_near;
-use line_words::value_named;
+use script_text::{is_near, value_named};
 use t414_decode::{Function, decode};
 
 // The names of the functions, by their nibbles.

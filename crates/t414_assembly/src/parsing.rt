@@ -8,8 +8,7 @@ use crate::mnemonics::{Mnemonic, mnemonic_named};
 use crate::statement::{Operand, Statement};
 use crate::sums::{LabelTerm, Sum};
 use crate::writing::MOST_CODE;
-use line_mistakes::NumberedLine;
-use line_words::line_as_str;
+use script_text::NumberedLine;
 use std::alloc::{AllocError, Global};
 use t414_decode::Function;
 
@@ -115,7 +114,7 @@ impl<'a> Reader<'a> {
         self.line = line.number;
         self.has_memory &= self.lines.push(self.statements.len()).is_ok();
         let mut cursor = Cursor::of(line.text);
-        if line_as_str(line).is_err() {
+        if std::str::from_utf8(line.text).is_err() {
             cursor.refuse(Expected::Text);
         }
         cursor.skip_blanks();
@@ -216,7 +215,7 @@ impl<'a> Reader<'a> {
         if self.gathers {
             return Operand::Number(0);
         }
-        if let Some(label) = sum.misplaced() {
+        if let Some(label) = sum.misplaced_label() {
             cursor.refuse_before(Expected::OneLabel, label.left);
         }
         match sum.address() {
@@ -333,7 +332,7 @@ impl<'a> Reader<'a> {
         }
         cursor.skip_blanks();
         let sum = self.read_sum(cursor, Expected::KnownNumber);
-        if let Some(left) = sum.unknown() {
+        if let Some(left) = sum.unknown_name() {
             cursor.refuse_before(Expected::KnownNumber, left);
         }
         refuse_label(cursor, sum, Expected::KnownNumber);

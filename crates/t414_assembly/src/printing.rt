@@ -4,9 +4,7 @@ use crate::assembling::Assembly;
 use crate::disassembly::Instruction;
 use crate::loading::LOADED;
 use crate::mnemonics::{function_name, operation_name};
-use line_mistakes::numbered_lines;
-use line_words::line_as_str;
-use script_text::TextWriter;
+use script_text::{TextWriter, numbered_lines};
 use std::alloc::{AllocError, Global};
 use t414_decode::Function;
 
@@ -31,7 +29,7 @@ pub fn listing(
     let mut listed = TextWriter::new(alloc);
     for (index, line) in lines.iter().enumerate() {
         let address = origin.wrapping_add(assembly.start_of_line(index));
-        let source = line_as_str(*line).unwrap_or("");
+        let source = std::str::from_utf8(line.text).unwrap_or("");
         list_line(&mut listed, address, assembly.code_of_line(index), source);
     }
     listed.finish()

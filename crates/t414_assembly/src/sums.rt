@@ -94,7 +94,7 @@ impl<'a> Sum<'a> {
     }
 
     /// How many bytes of the line are left where a name begins that isn't defined yet, if there is one.
-    pub fn unknown(&self) -> Option<usize> {
+    pub fn unknown_name(&self) -> Option<usize> {
         self.unknown
     }
 
@@ -114,7 +114,7 @@ impl<'a> Sum<'a> {
     }
 
     /// The label that is one too many, or is subtracted from none.
-    pub fn misplaced(&self) -> Option<LabelTerm<'a>> {
+    pub fn misplaced_label(&self) -> Option<LabelTerm<'a>> {
         match self.added {
             Some(_) => self.surplus,
             None => self.subtracted,

@@ -1,5 +1,5 @@
 //! Numbers that a word spells.
-ghost use Rattle.line_words.specs.Numbers.{IsNumberOf};
+ghost use Rattle.script_text.specs.Numbers.{IsNumberOf};
 
 /// The number below 2^64 that decimal digits spell; `None` if the word is anything else.
 pub fn decimal_number(word: &str) -> Option<u64>

@@ -2,7 +2,7 @@
 ghost use Rattle.std.specs.Prelude.{◌≡◌, ◌+◌, ℕ, [], IfOk, IfSome, length, slice_get};
 ghost use Rattle.script_text.specs.Lines.{from_line, IsLine};
 
-use script_text::split_line;
+use crate::lines::split_line;
 use std::alloc::{AllocError, Global};
 
 /// A line of a text, without its end.

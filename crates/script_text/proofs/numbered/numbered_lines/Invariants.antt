@@ -1,7 +1,7 @@
 use Rattle.std.proofs.Common.{◌≡◌, ◌+◌, ℕ, length}
 use Rattle.std.specs.Prelude.{IfSome, slice_get}
 use Rattle.script_text.specs.Lines.{from_line, IsLine}
-use Rattle.line_mistakes.proofs.numbered.numbered_lines.Given as goal
+use Rattle.script_text.proofs.numbered.numbered_lines.Given as goal
 
 -- the lines so far stand before the rest
 abbrev pub invariant-loop-rest : goal.invariant-loop-rest

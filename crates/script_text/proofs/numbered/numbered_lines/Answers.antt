@@ -1,7 +1,7 @@
 use Rattle.std.proofs.Common.{rules, ◌≡◌, ◌+◌}
 use Rattle.script_text.specs.Lines.{IsLine}
-use Rattle.line_mistakes.proofs.OneMore.{one_more}
-use Rattle.line_mistakes.proofs.numbered.numbered_lines.Goals as goal
+use Rattle.script_text.proofs.OneMore.{one_more}
+use Rattle.script_text.proofs.numbered.numbered_lines.Goals as goal
 
 pub loop-rest-preserved : goal.loop-rest-preserved
 loop-rest-preserved c =
