@@ -2,3 +2,4 @@
 pub mod Version
 pub mod Fields
 pub mod Document
+pub mod Accepting

@@ -4,14 +4,16 @@
 //! plans finds here the reading and the check, with the types that they return.
 #![tactic(auto)]
 
+mod accepting;
 mod fields;
 mod read;
 mod values;
 mod version;
 
+pub use accepting::accept_plan;
 pub use plan_rules::{
     AcceptedPlan, DomainPlan, HostPart, NodePart, NodePlan, Part, Plan, PlanFault, RangePlan,
-    UserPlan, check,
+    UserNumber, UserPlan, check,
 };
 pub use read::read_plan;
 

@@ -1,5 +1,5 @@
-//! A plan of the farm as values: the rules that keep its domains separate, the check of them, and what each domain needs of an
-//! accepted plan.
+//! A plan of the farm as values: the rules that keep its domains separate, the check of them, the users of an accepted plan, and
+//! what each domain needs of it.
 #![tactic(auto)]
 
 mod accepted;
@@ -13,11 +13,13 @@ mod ports;
 mod row;
 pub mod rules;
 mod smallest;
+mod users;
 
 pub use accepted::{AcceptedPlan, check};
 pub use fault::PlanFault;
 pub use part::{HostPart, NodePart, Part};
 pub use plan::{DomainPlan, NodePlan, Plan, RangePlan, UserPlan};
+pub use users::UserNumber;
 
 /// Memory ran out.
 pub use std::alloc::AllocError as NoMemory;
