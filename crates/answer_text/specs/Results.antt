@@ -1,10 +1,10 @@
 -- What the output line of a script line shows. The words are our own.
-use Rattle.std.specs.Prelude.{◌++◌, ℕ, Bool, true, false, List, [], ◌∷◌, Option, None, Result, Ok, Err, length, map, codes, nat_lt, if◌then◌else◌}
+use Rattle.std.specs.Prelude.{◌++◌, ℕ, Bool, true, false, List, [], ◌∷◌, Option, Some, None, Result, Ok, Err, length, map, codes, nat_lt, if◌then◌else◌}
 use Rattle.std.specs.List.{filter, filter_map, flat_map, list_any}
 use Rattle.std.specs.Option.{unwrap_or, option_map_or}
 use Rattle.std.specs.Fmt.{decimal}
-use Rattle.bootstrap.specs.declared.messages.BootFault.TheVariants.{TooShort, TooLong}
-use Rattle.bootstrap.specs.Messages.{boot_fault_number}
+use Rattle.bootstrap.specs.declared.messages.BootFault.{BootFault}
+use Rattle.bootstrap.specs.Messages.{boot_fault_number, length_fault}
 use Rattle.domain_core.specs.declared.event.Refusal.{Refusal}
 use Rattle.domain_core.specs.declared.event.Reply.{Reply}
 use Rattle.domain_core.specs.declared.event.Reply.TheVariants as reply
@@ -48,12 +48,14 @@ is_written r = false
 abbrev pub taken_text : List Reply → List ℕ
 taken_text replies = behind_blank (decimal (length (filter is_written replies)))
 
--- how many bytes of a boot message, or why code is none
+-- why code is none that boots, or else what its message came to
+abbrev pub refused_or : List ℕ → Option BootFault → List ℕ
+refused_or taken (Some fault) = codes " refused " ++ decimal (boot_fault_number fault)
+refused_or taken None = taken
+
+-- how many bytes of a boot message a host took, or why code is none that boots
 abbrev pub booted_text : List ℕ → List Reply → List ℕ
-booted_text code replies =
-    if nat_lt (length code) 2 then codes " refused " ++ decimal (boot_fault_number TooShort)
-    else (if nat_lt 255 (length code) then codes " refused " ++ decimal (boot_fault_number TooLong)
-    else taken_text replies)
+booted_text code replies = refused_or (taken_text replies) (length_fault (length code))
 
 -- ---- bytes of a host
 

@@ -57,7 +57,7 @@ fn write_configured(text: &mut String, told: &[Told]) -> Result<(), NoMemory>
 }
 
 // How many bytes a host took.
-fn taken(told: &[Told]) -> usize
+fn count_taken(told: &[Told]) -> usize
     ensures { result ≡ length (filter is_written (replies_told told.now)) }
 {
     let mut count = 0;
@@ -78,7 +78,7 @@ fn is_written(reply: Reply) -> bool
 fn write_taken(text: &mut String, told: &[Told]) -> Result<(), NoMemory>
     ensures { OnOk result (string_bytes text.new ≡ string_bytes text.old ++ taken_text (replies_told told.now)) }
 {
-    let count = taken(told);
+    let count = count_taken(told);
     write!(text, " {count}")
 }
 
@@ -93,12 +93,9 @@ fn write_boot_fault(text: &mut String, fault: BootFault) -> Result<(), NoMemory>
 fn write_booted(text: &mut String, code: &[u8], told: &[Told]) -> Result<(), NoMemory>
     ensures { OnOk result (string_bytes text.new ≡ string_bytes text.old ++ booted_text code.now (replies_told told.now)) }
 {
-    if code.len() < 2 {
-        write_boot_fault(text, BootFault::TooShort)
-    } else if code.len() > 255 {
-        write_boot_fault(text, BootFault::TooLong)
-    } else {
-        write_taken(text, told)
+    match BootFault::of_length(code.len()) {
+        Some(fault) => write_boot_fault(text, fault),
+        None => write_taken(text, told),
     }
 }
 

@@ -22,7 +22,9 @@ pub use crate::laws::{
 };
 pub use crate::link_numbers::{link_of, number_of};
 pub use crate::message_laws::{boot_loads_the_code, poke_stores_the_word};
-pub use crate::messages::{BootFault, boot_message, peek_message, poke_message, word_of};
+pub use crate::messages::{
+    BootFault, LEAST_BOOTED, MOST_BOOTED, boot_message, peek_message, poke_message, word_of,
+};
 pub use crate::node::Node;
 pub use crate::seen::{Activity, Seen};
 pub use crate::state::{NodeState, Task};

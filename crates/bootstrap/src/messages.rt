@@ -2,10 +2,20 @@
 
 ghost use Rattle.std.specs.Prelude.{◌≡◌, ◌∷◌};
 ghost use Rattle.node_memory.specs.Bytes.{word_from};
-ghost use Rattle.bootstrap.specs.Messages.{bytes_of_word, poke_bytes, booted, boot_fault_number};
+ghost use Rattle.bootstrap.specs.Messages.{bytes_of_word, poke_bytes, booted, boot_fault_number, length_fault};
 
 use std::alloc::Global;
 use thiserror::Error;
+
+/// The fewest bytes of code that a boot message has: a first byte of 0 begins a poke, and one of 1 a peek.
+///
+/// Source: Transputer Reference Manual, bootstrapping.
+pub const LEAST_BOOTED: usize = 2;
+
+/// The most bytes of code that a boot message has: its first byte is their number.
+///
+/// Source: Transputer Reference Manual, bootstrapping.
+pub const MOST_BOOTED: usize = 255;
 
 /// Why code can't be sent as a boot message.
 #[derive(Clone, Copy, Debug, Error)]
@@ -22,6 +32,17 @@ pub enum BootFault {
 }
 
 impl BootFault {
+    /// Why code of this many bytes can't be sent, if its length is why.
+    pub fn of_length(count: usize) -> Option<BootFault>
+        ensures { result ≡ length_fault count }
+    {
+        match count {
+            0..LEAST_BOOTED => Some(BootFault::TooShort),
+            LEAST_BOOTED..=MOST_BOOTED => None,
+            _ => Some(BootFault::TooLong),
+        }
+    }
+
     /// The number of the fault, from 1 to 3 in the order of the variants.
     pub fn number(self) -> u8
         ensures answer { result ≡ boot_fault_number self }
@@ -76,12 +97,10 @@ pub fn poke_message(address: u32, word: u32) -> [u8; 9]
 pub fn boot_message(alloc: Global, code: &[u8]) -> Result<Vec<u8>, BootFault>
     ensures answer { booted result code.now }
 {
-    if code.len() < 2 {
-        return Err(BootFault::TooShort);
+    if let Some(fault) = BootFault::of_length(code.len()) {
+        return Err(fault);
     }
-    let Ok(length) = u8::try_from(code.len()) else {
-        return Err(BootFault::TooLong);
-    };
+    let length = code.len() as u8;
     let mut message = Vec::new(alloc);
     if message.push(length).is_err() || message.extend_from_slice(code).is_err() {
         return Err(BootFault::NoMemory);

@@ -2,9 +2,8 @@
 
 use crate::form::{HelpVerb, help_line};
 use crate::spelling::spell_out;
-use line_mistakes::{NumberedLine, numbered_lines};
 use line_words::{NumberedLineFault, line_as_str};
-use script_text::{TextWriter, divide, is_passed_over};
+use script_text::{NumberedLine, TextWriter, divide_at_plan_end, is_passed_over, numbered_lines};
 use std::alloc::{AllocError, Global};
 
 /// A file that a line loads.
@@ -49,7 +48,7 @@ impl Expansion {
 /// The names of the files that the lines of a text load, in their order.
 pub fn files_named(alloc: Global, text: &[u8]) -> Result<Vec<&str>, NumberedLineFault> {
     let mut names = Vec::new(alloc);
-    for line in &numbered_lines(alloc, divide(text, b"---").1)? {
+    for line in &numbered_lines(alloc, divide_at_plan_end(text).rest)? {
         if let Some(name) = file_named(*line) {
             names.push(name)?;
         }
@@ -89,7 +88,7 @@ pub fn expanded_line(
     };
     spell_out(alloc, &mut expansion, help, files);
     let Expansion { text, wrong } = expansion;
-    Ok(Some(finished(text, wrong)?))
+    Ok(Some(expanded_of(text, wrong)?))
 }
 
 /// Spells out the lines of a script that help: the plan and the line `---` before it stay as they are, and so do all other
@@ -101,7 +100,7 @@ pub fn expand(
     text: &[u8],
     files: &[LoadedFile<'_>],
 ) -> Result<Expanded, NumberedLineFault> {
-    let (_, script) = divide(text, b"---");
+    let script = divide_at_plan_end(text).rest;
     let mut expansion = Expansion {
         text: TextWriter::new(alloc),
         wrong: TextWriter::new(alloc),
@@ -113,10 +112,10 @@ pub fn expand(
     )?;
     expand_lines(alloc, &mut expansion, script, files)?;
     let Expansion { text, wrong } = expansion;
-    Ok(finished(text, wrong)?)
+    Ok(expanded_of(text, wrong)?)
 }
 
-fn finished(text: TextWriter, wrong: TextWriter) -> Result<Expanded, AllocError> {
+fn expanded_of(text: TextWriter, wrong: TextWriter) -> Result<Expanded, AllocError> {
     let text = text.finish()?;
     let wrong = wrong.finish()?;
     Ok(Expanded { text, wrong })

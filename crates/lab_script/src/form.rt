@@ -1,7 +1,6 @@
 //! The lines that help, and their words.
 
-use line_words::{decimal_number, value_named};
-use script_text::TextWriter;
+use script_text::{TextWriter, decimal_number, value_named};
 
 /// The verb of a line that helps.
 #[derive(Clone, Copy)]

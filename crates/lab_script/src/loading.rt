@@ -1,6 +1,7 @@
 //! The lines that load a program.
 ghost use Rattle.std.specs.Prelude.{◌≤◌};
 
+use bootstrap::BootFault;
 use script_text::TextWriter;
 use std::alloc::{AllocError, Global};
 use std::fmt;
@@ -63,10 +64,10 @@ pub fn loading_lines(
     program: &[u8],
 ) -> Result<String, LoadFault> {
     let code = code_at(alloc, BOOTED, program)?;
-    match code.len() {
-        0..=1 => Err(LoadFault::Length(code.len())),
-        2..=255 => Ok(boot_line(alloc, user, host, code.as_slice())?),
-        _ => poking_lines(alloc, user, host, program),
+    match BootFault::of_length(code.len()) {
+        None => Ok(boot_line(alloc, user, host, code.as_slice())?),
+        Some(BootFault::TooShort) => Err(LoadFault::Length(code.len())),
+        Some(_) => poking_lines(alloc, user, host, program),
     }
 }
 

@@ -1,5 +1,5 @@
 -- Why a line or a script isn't read.
-use Rattle.std.specs.Prelude.{ℕ}
+use Rattle.std.specs.Prelude.{ℕ, List, codes}
 use Rattle.script_lines.specs.declared.fault.LineFault.{LineFault}
 use Rattle.script_lines.specs.declared.fault.LineFault.TheVariants.{User, Verb, Args, Hex}
 use Rattle.script_lines.specs.declared.fault.ScriptFault.{ScriptFault}
@@ -11,6 +11,13 @@ line_fault_number User = 1
 line_fault_number Verb = 2
 line_fault_number Args = 3
 line_fault_number Hex = 4
+
+-- the word for what is wrong with a line
+abbrev pub fault_word : LineFault → List ℕ
+fault_word User = codes "user"
+fault_word Verb = codes "verb"
+fault_word Args = codes "args"
+fault_word Hex = codes "hex"
 
 -- the number of why a script isn't read
 abbrev pub script_fault_number : ScriptFault → ℕ

@@ -1,25 +1,22 @@
 //! What is wrong with a script.
 ghost use Rattle.std.specs.Prelude.{◌≡◌};
-ghost use Rattle.script_lines.specs.Faults.{line_fault_number, script_fault_number};
+ghost use Rattle.script_lines.specs.Faults.{fault_word, line_fault_number, script_fault_number};
 ghost use Rattle.script_lines.specs.declared.fault.Unread.TheVariants.{NoMemory};
 
 use std::alloc::AllocError;
+use std::fmt;
 use thiserror::Error;
 
 /// What is wrong with a script line, in the order of the tests.
-#[derive(Clone, Copy, Debug, Error)]
+#[derive(Clone, Copy, Debug)]
 pub enum LineFault {
     /// The first word is no user's name.
-    #[error("user")]
     User,
     /// The second word is no verb, or there is none.
-    #[error("verb")]
     Verb,
     /// The verb takes another number of words, or the number of a host or node isn't a decimal number to 255.
-    #[error("args")]
     Args,
     /// Bytes aren't an even number of hexadecimal digits, at least two, or an address or word isn't eight of them.
-    #[error("hex")]
     Hex,
 }
 
@@ -35,7 +32,27 @@ impl LineFault {
             LineFault::Hex => 4,
         }
     }
+
+    /// The word for the fault, as outputs and answers show it.
+    pub fn word(self) -> &'static str
+        ensures { result.now ≡ fault_word self }
+    {
+        match self {
+            LineFault::User => "user",
+            LineFault::Verb => "verb",
+            LineFault::Args => "args",
+            LineFault::Hex => "hex",
+        }
+    }
 }
+
+impl fmt::Display for LineFault {
+    fn fmt<W: fmt::Write>(&self, f: &mut fmt::Formatter<W>) -> fmt::Result {
+        f.write_str(self.word())
+    }
+}
+
+impl std::error::Error for LineFault {}
 
 /// Why a script isn't read.
 #[derive(Clone, Copy, Debug, Error)]
