@@ -1,6 +1,6 @@
 //! Rows of programs, and what they are answered.
 
-use node_answers::disassembled;
+use node_answers::disassembly_of;
 use script_text::TextWriter;
 use std::alloc::{AllocError, Global};
 use t414_assembly::{Assembly, BOOTED, Image, TextFault, assemble, code_as_text, hexadecimal};
@@ -10,7 +10,7 @@ use t414_assembly::{Assembly, BOOTED, Image, TextFault, assemble, code_as_text, 
 /// disassembled and assembled again.
 pub fn answer_row(alloc: Global, row: &str) -> Result<String, AllocError> {
     let answered = match row.strip_prefix("hex ") {
-        Some(digits) => disassembled(alloc, digits.as_bytes()),
+        Some(digits) => disassembly_of(alloc, digits.as_bytes()),
         None => answer_program(alloc, row),
     };
     without_end(alloc, answered)
@@ -65,12 +65,12 @@ fn code_of(alloc: Global, text: &[u8]) -> Result<Vec<u8>, TextFault> {
 // An answer without the line feed at its end, or a fault in words.
 fn without_end(alloc: Global, answer: Result<String, TextFault>) -> Result<String, AllocError> {
     match answer {
-        Ok(text) => trimmed(alloc, text.as_str()),
+        Ok(text) => without_line_feed(alloc, text.as_str()),
         Err(TextFault::Memory(error)) => Err(error),
         Err(fault) => format!(in alloc; "{fault}"),
     }
 }
 
-fn trimmed(alloc: Global, text: &str) -> Result<String, AllocError> {
+fn without_line_feed(alloc: Global, text: &str) -> Result<String, AllocError> {
     String::from_str(alloc, text.strip_suffix("\n").unwrap_or(text))
 }

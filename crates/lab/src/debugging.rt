@@ -3,7 +3,7 @@
 use crate::failure::wrong_debugging;
 use lab_command::{ArgumentFault, Debugging, LabFailure, TerminalMeter, read_file, readable_bytes};
 use lab_debug::{DebugFault, Debugger, ProgramOf, ProgramTexts, debug};
-use line_words::decimal_number;
+use script_text::decimal_number;
 use std::alloc::{AllocError, Global};
 use std::io::{BufReader, IsTerminal};
 
@@ -72,7 +72,7 @@ fn look_through(
     programs: &[ProgramOf],
     record: &[u8],
 ) -> Result<(), DebugFault> {
-    let mut debugger = opened(rt, record, asked.most)?;
+    let mut debugger = open_debugger(rt, record, asked.most)?;
     do_commands(rt, programs, &mut debugger)
 }
 
@@ -95,7 +95,7 @@ fn do_commands(
 }
 
 /// A record at its end, if it has no more Steps than these.
-pub fn opened<'a>(
+pub fn open_debugger<'a>(
     rt: &HostRuntime,
     record: &'a [u8],
     most: Option<u64>,

@@ -23,7 +23,7 @@ use crate::table::print_plan;
 use crate::tracing::print_trace;
 use crate::why::print_why;
 use lab_command::{
-    CommandLine, LabFailure, LabRequest, Report, end_with, read_command_line, words_of,
+    CommandLine, LabFailure, LabRequest, Report, command_words, end_with, read_command_line,
 };
 use node_answers::answer_of_node;
 use std::process::ExitCode;
@@ -33,7 +33,7 @@ fn main(rt: HostRuntime) -> ExitCode {
 }
 
 fn report(rt: &HostRuntime) -> Result<Report, LabFailure> {
-    let words = words_of(rt)?;
+    let words = command_words(rt)?;
     match read_command_line(rt.alloc(), words.as_slice())? {
         CommandLine::Help(text) => Report::of(Ok(text)),
         CommandLine::Request(LabRequest::Rows(asked)) => report_rows(rt, &asked),

@@ -9,7 +9,7 @@ use script_text::read_whole;
 use std::alloc::Global;
 
 /// Replays a text, whose lines load files from a folder, or from the one in which the program runs.
-pub fn replayed<'a>(
+pub fn replay_with_files<'a>(
     rt: &HostRuntime,
     folder: Option<&str>,
     text: &'a [u8],
@@ -27,7 +27,7 @@ fn replayed_input<'a>(
     text: &'a [u8],
 ) -> Result<Replayed<'a>, ReplayFault> {
     let mut meter = TerminalMeter::begin(rt, most);
-    let replayed = replayed(rt, None, text, &mut meter);
+    let replayed = replay_with_files(rt, None, text, &mut meter);
     meter.wipe();
     replayed
 }

@@ -4,7 +4,7 @@ use crate::assembly::answer_row;
 use crate::failure::wrong_replay;
 use crate::mistakes::tell_mistake;
 use crate::plans::try_plans;
-use crate::replays::replayed;
+use crate::replays::replay_with_files;
 use crate::scripts::folder_of;
 use lab_command::{LabFailure, Report, RowFiles, TerminalMeter, read_file};
 use line_words::{Answered, NumberedLineFault, Question, read_questions};
@@ -75,7 +75,7 @@ fn answer_replayed<'a>(
     text: &'a [u8],
     meter: &mut TerminalMeter,
 ) -> Result<Vec<Answered<'a>>, LabFailure> {
-    match replayed(rt, folder_of(file), text, meter) {
+    match replay_with_files(rt, folder_of(file), text, meter) {
         Ok(Replayed { answers, last: _ }) => Ok(answers),
         Err(fault) => Err(wrong_replay(rt.alloc(), fault)),
     }

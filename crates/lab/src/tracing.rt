@@ -1,6 +1,6 @@
 //! The nodes of a domain while a script runs.
 
-use crate::debugging::opened;
+use crate::debugging::open_debugger;
 use crate::failure::wrong_debugging;
 use crate::scripts::{folder_of, loaded_files, print_record};
 use lab_command::{LabFailure, TracedScript, USUAL_STEPS, read_file};
@@ -34,7 +34,7 @@ fn trace_record(rt: &HostRuntime, record: &[u8], steps: u64) -> Result<String, L
 
 // What the events of a record do, up to `steps` Steps.
 fn traced_record(rt: &HostRuntime, record: &[u8], steps: u64) -> Result<String, DebugFault> {
-    let mut debugger = opened(rt, record, None)?;
+    let mut debugger = open_debugger(rt, record, None)?;
     trace_of(rt.alloc(), &mut debugger, steps)
 }
 

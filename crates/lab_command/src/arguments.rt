@@ -65,115 +65,115 @@ struct ArgumentWords {
 impl Argument {
     fn words(self) -> ArgumentWords {
         match self {
-            Argument::Boot => words_of(
+            Argument::Boot => argument_words(
                 "boot",
                 "HEX",
                 Form::Word,
                 "Boots a node with this code and traces it, in place of reading lines",
             ),
-            Argument::Booted => words_of(
+            Argument::Booted => argument_words(
                 "program",
                 "FILE",
                 Form::Word,
                 "The same with the code of the program in this file; its labels and lines are shown",
             ),
-            Argument::Plan => words_of(
+            Argument::Plan => argument_words(
                 "plan",
                 "SCRIPT",
                 Form::Word,
                 "Runs the plan and script in this file, and traces all nodes of a domain and the packets between them",
             ),
-            Argument::TracedDomain => words_of(
+            Argument::TracedDomain => argument_words(
                 "domain",
                 "D",
                 Form::Domain,
                 "The number of the domain that --plan traces, 0 unless given",
             ),
-            Argument::TracedSteps => words_of(
+            Argument::TracedSteps => argument_words(
                 "steps",
                 "N",
                 Form::Number,
                 "How many Steps of booted code are traced at most, 1000 unless given; how many the lines, or the script of a plan, may do in all",
             ),
-            Argument::Steps => words_of(
+            Argument::Steps => argument_words(
                 "steps",
                 "N",
                 Form::Number,
                 "How many Steps may be done in all; more end it with status 7",
             ),
-            Argument::Until => words_of(
+            Argument::Until => argument_words(
                 "until",
                 "ADDRESS",
                 Form::Word,
                 "Stops the trace of booted code before the instruction at this address, or at this label of the program",
             ),
-            Argument::Input => words_of(
+            Argument::Input => argument_words(
                 "input",
                 "LINK:HEX",
                 Form::Words,
                 "Sends these bytes to the booted code by this link, each when the one before it is taken",
             ),
-            Argument::DrawnDomain => words_of(
+            Argument::DrawnDomain => argument_words(
                 "domain",
                 "D",
                 Form::Domain,
                 "Draws the network of this domain, its nodes, hosts and wires, in place of the switch",
             ),
-            Argument::Files => words_of(
+            Argument::Files => argument_words(
                 "file",
                 "FILE",
                 Form::Several,
                 "Files of rows: plans if the name ends with .plans, programs if it ends with .assembly, wrong lines if it ends with .mistakes, for replay if it ends with .replay, and else for trace",
             ),
-            Argument::Record => words_of(
+            Argument::Record => argument_words(
                 "record",
                 "RECORD",
                 Form::Required,
                 "The record of a domain, as live --record writes it",
             ),
-            Argument::Script => words_of(
+            Argument::Script => argument_words(
                 "script",
                 "SCRIPT",
                 Form::Optional,
                 "The file of the plan and the script, in place of standard input; the files that it loads stand beside it",
             ),
-            Argument::RecordedDomain => words_of(
+            Argument::RecordedDomain => argument_words(
                 "record",
                 "D",
                 Form::Domain,
                 "Prints the record of the domain of this number in the plan, and not the answers",
             ),
-            Argument::At => words_of(
+            Argument::At => argument_words(
                 "at",
                 "N",
                 Form::Number,
                 "Looks after the first N events of the record, and not at its end",
             ),
-            Argument::From => words_of(
+            Argument::From => argument_words(
                 "from",
                 "N",
                 Form::NumberOr("0"),
                 "Begins after the first N events of the record",
             ),
-            Argument::Count => words_of(
+            Argument::Count => argument_words(
                 "count",
                 "N",
                 Form::NumberOr("100000"),
                 "How many frames are shown at most",
             ),
-            Argument::Program => words_of(
+            Argument::Program => argument_words(
                 "program",
                 "K FILE",
                 Form::Pairs,
                 "Takes the labels and lines of node K from its program in this file",
             ),
-            Argument::Listing => words_of(
+            Argument::Listing => argument_words(
                 "listing",
                 "",
                 Form::Flag,
                 "Prints addresses and bytes beside the text",
             ),
-            Argument::Pokes => words_of(
+            Argument::Pokes => argument_words(
                 "pokes",
                 "HOST USER",
                 Form::Pairs,
@@ -188,7 +188,7 @@ impl Argument {
     }
 }
 
-fn words_of(
+fn argument_words(
     name: &'static str,
     value: &'static str,
     form: Form,

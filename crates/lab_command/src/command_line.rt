@@ -9,8 +9,9 @@ use crate::request::{
 use crate::subcommand::{SUBCOMMANDS, Subcommand};
 use clap::error::ErrorKind;
 use clap::{ArgMatches, Command};
-use std::alloc::{AllocError, Global};
-use std::{env, io};
+use std::alloc::{Alloc, AllocError, Global};
+use std::env::{self, Env};
+use std::io;
 
 /// How many Steps are traced unless the words say it.
 pub const USUAL_STEPS: u64 = 1000;
@@ -35,7 +36,7 @@ pub enum CommandLine<'a> {
 }
 
 /// The words of the command line. The first is the program's name.
-pub fn words_of(rt: &HostRuntime) -> Result<Vec<String>, LabFailure> {
+pub fn command_words<R: Env + Alloc<A = Global>>(rt: &R) -> Result<Vec<String>, LabFailure> {
     match env::args(rt) {
         Ok(words) => Ok(words.collect(rt.alloc())?),
         Err(error) if error.kind() == io::ErrorKind::OutOfMemory => Err(LabFailure::Memory),

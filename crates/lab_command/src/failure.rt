@@ -1,5 +1,6 @@
 //! Why the lab ends without its output.
 
+use bootstrap::{LEAST_BOOTED, MOST_BOOTED};
 use line_words::NumberedLineFault;
 use script_text::{ReadFault, write_whole};
 use std::alloc::{AllocError, AllocFailed, Global};
@@ -34,7 +35,7 @@ pub enum ArgumentFault {
     #[error("the code is not hexadecimal digits, two for each byte and no 0x before them (`lab assemble` prints them of a program)")]
     Code,
     /// The code has this number of bytes, which no boot takes.
-    #[error("the code has {0} bytes, and a boot takes 2 to 255{hint}", hint = hint_of_length(*.0))]
+    #[error("the code has {0} bytes, and a boot takes {least} to {most}{hint}", least = LEAST_BOOTED, most = MOST_BOOTED, hint = hint_of_length(*.0))]
     Length(usize),
     /// What comes after `--program` is no node and file.
     #[error("--program takes the number of a node, and a file")]
@@ -60,7 +61,7 @@ pub enum ArgumentFault {
 
 // A hint at what loads code of `count` bytes, if there are too many for a boot.
 fn hint_of_length(count: usize) -> &'static str {
-    if count > 255 {
+    if count > MOST_BOOTED {
         " (`lab assemble --pokes HOST USER` prints the lines of a script that load more)"
     } else {
         ""

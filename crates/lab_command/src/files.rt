@@ -1,11 +1,12 @@
 //! Files that the words of the command line name.
 
 use crate::failure::{LabFailure, NOT_READ};
-use std::alloc::AllocError;
-use std::{fs, io};
+use std::alloc::{Alloc, AllocError, Global};
+use std::fs::{self, Files};
+use std::io;
 
 /// The bytes of a file. A failure names the file.
-pub fn read_file(rt: &HostRuntime, path: &str) -> Result<Vec<u8>, LabFailure> {
+pub fn read_file<R: Files + Alloc<A = Global>>(rt: &R, path: &str) -> Result<Vec<u8>, LabFailure> {
     match readable_bytes(rt, path) {
         Ok(Some(bytes)) => Ok(bytes),
         Ok(None) => Err(LabFailure::of_text(
@@ -17,7 +18,10 @@ pub fn read_file(rt: &HostRuntime, path: &str) -> Result<Vec<u8>, LabFailure> {
 }
 
 /// The bytes of a file, or `None` if it can't be read.
-pub fn readable_bytes(rt: &HostRuntime, path: &str) -> Result<Option<Vec<u8>>, AllocError> {
+pub fn readable_bytes<R: Files + Alloc<A = Global>>(
+    rt: &R,
+    path: &str,
+) -> Result<Option<Vec<u8>>, AllocError> {
     match fs::read(rt, path) {
         Ok(bytes) => Ok(Some(bytes)),
         Err(error) if error.kind() == io::ErrorKind::OutOfMemory => Err(AllocError),

@@ -12,7 +12,7 @@ mod report;
 mod request;
 mod subcommand;
 
-pub use command_line::{CommandLine, USUAL_STEPS, read_command_line, words_of};
+pub use command_line::{CommandLine, USUAL_STEPS, command_words, read_command_line};
 pub use failure::{
     ArgumentFault, LabFailure, NO_MEMORY, NOT_READ, REFUSED_PLAN, WRONG_TEXT, WRONG_WORDS,
 };

@@ -48,7 +48,7 @@ impl ScriptArgument {
     }
 
     /// What is wanted in its place, for what helps there.
-    pub fn wanted(self) -> Wanted {
+    pub fn expectation(self) -> Wanted {
         match self {
             ScriptArgument::Host => Wanted::decimal(WordRole::Host, 0, 255),
             ScriptArgument::Node => Wanted::decimal(WordRole::Node, 0, 255),

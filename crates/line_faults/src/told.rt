@@ -1,9 +1,8 @@
 //! The wrong lines of a script, one after another.
 
 use crate::wrong::{WrongScriptLine, write_wrong_line};
-use line_mistakes::{NumberedLine, numbered_lines};
 use script_lines::{LineFault, LineWords, ScriptFault, read_script};
-use script_text::TextWriter;
+use script_text::{NumberedLine, TextWriter, numbered_lines};
 use std::alloc::{AllocError, Global};
 
 /// How many wrong lines have a message of their own.

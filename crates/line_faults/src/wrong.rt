@@ -1,11 +1,9 @@
 //! A wrong line of a script, and the message about it.
 
 use crate::form::{ScriptArgument, VERBS, VERBS_THAT_HELP, arguments_of, no_digit_of, write_form};
-use line_mistakes::{
-    MetText, NumberedLine, ShownWord, Wanted, WordForm, WordHint, WordRole, nearest_name,
-};
+use line_mistakes::{MetText, ShownWord, Wanted, WordForm, WordHint, WordRole};
 use script_lines::{LineFault, LineWords};
-use script_text::TextWriter;
+use script_text::{NumberedLine, TextWriter, nearest_name};
 
 /// How many users' names are listed at most.
 const MOST_NAMES: usize = 8;
@@ -194,7 +192,7 @@ fn write_wrong_argument(text: &mut TextWriter, wanted: &[ScriptArgument], argume
 
 // What helps where a word doesn't spell what it stands for.
 fn write_help(text: &mut TextWriter, argument: ScriptArgument, word: &[u8]) {
-    match hint_of(word, argument.wanted()) {
+    match hint_of(word, argument.expectation()) {
         Some(hint) => write_in_brackets(text, hint),
         None if argument.is_hexadecimal() => write_wrong_digit(text, word),
         None => {}

@@ -2,6 +2,7 @@
 
 use crate::failure::{wrong_length, wrong_lines, wrong_program};
 use lab_command::{AssemblyOptions, LabFailure, WRONG_TEXT};
+use node_trace::BootFault;
 use script_text::TextWriter;
 use std::alloc::Global;
 use t414_assembly::{
@@ -64,7 +65,7 @@ fn print_pokes(alloc: Global, host: &str, user: &str, code: &[u8]) -> Result<Str
 
 // The line of digits by which a boot takes code.
 fn print_boot(alloc: Global, code: &[u8]) -> Result<String, LabFailure> {
-    if code.len() < 2 || code.len() > 255 {
+    if BootFault::of_length(code.len()).is_some() {
         return Err(wrong_length(alloc, code.len()));
     }
     let mut line = TextWriter::new(alloc);
@@ -75,14 +76,14 @@ fn print_boot(alloc: Global, code: &[u8]) -> Result<String, LabFailure> {
 
 /// The instructions that hexadecimal digits spell, one a line. The failure says why they spell none.
 pub fn print_disassembled(alloc: Global, text: &[u8]) -> Result<String, LabFailure> {
-    match disassembled(alloc, text) {
+    match disassembly_of(alloc, text) {
         Ok(text) => Ok(text),
         Err(fault) => Err(wrong_program(alloc, &fault)),
     }
 }
 
 /// The instructions that hexadecimal digits spell, one a line, or why they spell none.
-pub fn disassembled(alloc: Global, text: &[u8]) -> Result<String, TextFault> {
+pub fn disassembly_of(alloc: Global, text: &[u8]) -> Result<String, TextFault> {
     let bytes = bytes_of_digits(alloc, text)?;
     code_as_text(alloc, bytes.as_slice())
 }

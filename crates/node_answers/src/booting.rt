@@ -3,20 +3,26 @@
 use crate::failure::{wrong_length, wrong_program};
 use crate::inputs::{read_code, read_inputs};
 use lab_command::{ArgumentFault, BootOptions, BootedCode, LabFailure, TerminalMeter, read_file};
-use line_words::hexadecimal_word;
 use node_trace::{BootFault, BootTrace, LinkInput, Program, trace_boot};
+use script_text::hexadecimal_word;
 use std::alloc::{AllocError, Global};
 
 /// Traces a node that is booted with the code of the words, or with that of the program in a file.
 pub fn print_booted(rt: &HostRuntime, options: &BootOptions) -> Result<String, LabFailure> {
     match options.code {
-        BootedCode::Digits(digits) => told(rt.alloc(), trace_digits(rt, options, digits)),
+        BootedCode::Digits(digits) => trace_or_failure(
+            rt.alloc(),
+            trace_digits(rt, options, digits),
+        ),
         BootedCode::Program(file) => print_program(rt, options, file),
     }
 }
 
 // A trace, or what is wrong with the words.
-fn told(alloc: Global, traced: Result<String, ArgumentFault>) -> Result<String, LabFailure> {
+fn trace_or_failure(
+    alloc: Global,
+    traced: Result<String, ArgumentFault>,
+) -> Result<String, LabFailure> {
     match traced {
         Ok(text) => Ok(text),
         Err(fault) => Err(LabFailure::of_argument(alloc, fault)),
@@ -55,7 +61,7 @@ fn print_program(
     match read_inputs(rt.alloc(), options.inputs.as_slice()) {
         Ok(inputs) => {
             let program = read_program(rt, file)?;
-            told(
+            trace_or_failure(
                 rt.alloc(),
                 trace_program(rt, options, inputs.as_slice(), &program),
             )
@@ -79,9 +85,10 @@ fn booted_program(alloc: Global, text: Vec<u8>) -> Result<Program, LabFailure> {
         Ok(program) => program,
         Err(fault) => return Err(wrong_program(alloc, &fault)),
     };
-    match program.code().len() {
-        2..=255 => Ok(program),
-        length => Err(wrong_length(alloc, length)),
+    let length = program.code().len();
+    match BootFault::of_length(length) {
+        None => Ok(program),
+        Some(_) => Err(wrong_length(alloc, length)),
     }
 }
 

@@ -1,17 +1,16 @@
 //! Bytes in the words of the command line.
 
 use lab_command::ArgumentFault;
-use line_words::decimal_number;
-use node_trace::{LinkInput, LinkNumber, link_of};
-use script_text::{HexFault, bytes_of};
+use node_trace::{BootFault, LinkInput, LinkNumber, link_of};
+use script_text::{HexFault, bytes_of, decimal_number};
 use std::alloc::{AllocError, Global};
 
 /// The code that hexadecimal digits spell, if a boot takes it.
 pub fn read_code(alloc: Global, digits: &str) -> Result<Vec<u8>, ArgumentFault> {
     let code = read_bytes(alloc, digits, ArgumentFault::Code)?;
-    match code.len() {
-        2..=255 => Ok(code),
-        length => Err(ArgumentFault::Length(length)),
+    match BootFault::of_length(code.len()) {
+        None => Ok(code),
+        Some(_) => Err(ArgumentFault::Length(code.len())),
     }
 }
 

@@ -9,5 +9,5 @@ mod inputs;
 mod tracing;
 
 pub use answering::answer_of_node;
-pub use assembly::disassembled;
+pub use assembly::disassembly_of;
 pub use failure::wrong_trace;

@@ -4,7 +4,8 @@ use crate::codes::{INSTRUCTION, read_instruction, reject_instruction};
 use crate::settings::{NodeSettings, read_link};
 use bootstrap::{LinkNumber, Packet, is_memory_size};
 use line_mistakes::{Wanted, WordForm, WordRole};
-use line_words::{WordFault, Words, decimal_number};
+use line_words::{WordFault, Words};
+use script_text::decimal_number;
 use std::alloc::{AllocError, Global};
 
 /// What a line asks for.

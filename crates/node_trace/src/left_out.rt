@@ -1,7 +1,7 @@
 //! The operations of the handbook that this processor leaves out.
 
 use line_mistakes::OperationGroup;
-use line_words::value_named;
+use script_text::value_named;
 
 // The names of operations that are left out, and what they belong to.
 //

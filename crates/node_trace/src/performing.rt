@@ -11,7 +11,10 @@ use crate::sizes::memory_size;
 use crate::snapshot::Snapshot;
 use crate::trial::write_trial;
 use answer_text::{write_seen, write_stepped};
-use bootstrap::{BootFault, CODE_START, Cpu, Links, Memory, NoMemory, Node, Stepped, boot_message};
+use bootstrap::{
+    BootFault, CODE_START, Cpu, LEAST_BOOTED, Links, MOST_BOOTED, Memory, NoMemory, Node, Stepped,
+    boot_message,
+};
 use script_text::TextWriter;
 use std::alloc::Global;
 use step_meter::{StepMeter, StepsEnd};
@@ -136,7 +139,11 @@ fn make_change<M: StepMeter>(
 fn write_refused(text: &mut TextWriter, fault: BootFault, count: usize) {
     text.push("refused ");
     text.push_decimal(u64::from(fault.number()));
-    text.push(": a boot takes 2 to 255 bytes of code, and this has ");
+    text.push(": a boot takes ");
+    text.push_decimal(LEAST_BOOTED as u64);
+    text.push(" to ");
+    text.push_decimal(MOST_BOOTED as u64);
+    text.push(" bytes of code, and this has ");
     text.push_decimal(count as u64);
     if let BootFault::TooLong = fault {
         text.push(" (`lab assemble --pokes` prints the lines of a script that load more)");

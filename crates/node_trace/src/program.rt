@@ -2,14 +2,10 @@
 ghost use Rattle.std.specs.Prelude.{◌≡◌, IfOk};
 ghost use Rattle.node_trace.specs.Placed.{IsPlaced};
 
-use line_mistakes::numbered_lines;
-use line_words::line_as_str;
-use script_text::TextWriter;
+use bootstrap::MOST_BOOTED;
+use script_text::{TextWriter, numbered_lines};
 use std::alloc::{AllocError, Global};
 use t414_assembly::{Assembly, BOOTED, LOADED, TextFault, assemble};
-
-/// The most bytes of code that a boot takes. Longer code is poked.
-const MOST_BOOTED: usize = 255;
 
 /// How wide the column of instructions is before that of places, and the column of places before the lines.
 const INSTRUCTIONS: usize = 20;
@@ -92,7 +88,7 @@ impl Program {
         let mut lines = Vec::new(alloc);
         let mut label = None;
         for (index, line) in source.iter().enumerate() {
-            let line = self.line_at(index, line_as_str(*line).unwrap_or(""), label);
+            let line = self.line_at(index, std::str::from_utf8(line.text).unwrap_or(""), label);
             label = line.label;
             lines.push(line)?;
         }

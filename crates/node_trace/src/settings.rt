@@ -3,8 +3,9 @@
 use crate::codes::{read_instruction, reject_instruction};
 use bootstrap::{Cpu, Fault, LinkNumber, Links, Memory, Node, link_of};
 use line_mistakes::{Wanted, WordForm, WordHint, WordRole};
-use line_words::{Words, value_named};
+use line_words::Words;
 use link_channels::Link;
+use script_text::value_named;
 use std::alloc::{AllocError, Global};
 
 /// One thing that is put into a node.
