@@ -1,10 +1,10 @@
 //! Why `farm` refuses a text: reads the text, and prints where and why. Of a text that isn't refused it prints nothing.
 #![tactic(auto)]
 
-use farm_input::{FarmFailure, names_of, text_read};
+use farm_input::{FarmFailure, text_read};
 use line_faults::tell_wrong_lines;
-use plan_faults::{PlanRefusal, accepted};
-use script_text::{WriteFailed, divide, write_whole};
+use plan_faults::{PlanRefusal, plan_or_reason};
+use script_text::{PlanText, WriteFailed, divide_at_plan_end, write_whole};
 use std::alloc::{AllocError, Global};
 use std::io::{Read, Write};
 use std::process::ExitCode;
@@ -31,14 +31,18 @@ fn explain<I: Read, W: Write>(
 
 // The line that says where and why a text's plan is refused, or else a line for each line of its script that is wrong.
 fn explanation_of(alloc: Global, text: &[u8]) -> Result<String, AllocError> {
-    let (plan, script) = divide(text, b"---");
-    match accepted(alloc, plan) {
+    let PlanText {
+        plan,
+        rest,
+        has_plan_end,
+    } = divide_at_plan_end(text);
+    match plan_or_reason(alloc, plan) {
         Ok(plan) => {
-            let names = names_of(alloc, &plan)?;
-            tell_wrong_lines(alloc, names.as_slice(), script)
+            let names = plan.names(alloc)?;
+            tell_wrong_lines(alloc, names.as_slice(), rest)
         }
         Err(PlanRefusal::NoMemory) => Err(AllocError),
-        Err(refusal) if plan.len() == text.len() => {
+        Err(refusal) if !has_plan_end => {
             format!(in alloc;
                 "{refusal} (no line behind it is just ---, so all was read as the plan)\n"
             )

@@ -1,3 +1,3 @@
 pub mod Options
 pub mod CommandLine
-pub mod PlanNames
+pub mod PlanFailures

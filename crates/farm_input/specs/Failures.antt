@@ -1,36 +1,26 @@
 -- Why a text has no output, and what is written about it.
-use Rattle.std.specs.Prelude.{◌≡◌, ◌≢◌, ◌++◌, ◌⊎◌, ℕ, List, true, Option, Err, codes, ⊤}
+use Rattle.std.specs.Prelude.{◌≡◌, ◌++◌, ℕ, List, true, Option, codes, ⊤}
 use Rattle.std.specs.Fmt.{decimal}
 use Rattle.std.specs.Io.KnownBytes.{Appends}
 use Rattle.std.specs.Str.Lines.{lines}
 use Rattle.plan_rules.specs.Data.{DomainData}
 use Rattle.plan_rules.specs.Fault.{plan_fault_number}
-use Rattle.plan_rules.specs.Separate.{IsSmallestFault}
+use Rattle.plan_rules.specs.Users.{all_names}
 use Rattle.plan_rules.specs.declared.fault.PlanFault.{PlanFault}
 use Rattle.plan_rules.specs.declared.fault.PlanFault.TheVariants.{NoMemory}
-use Rattle.plan_checker.specs.Document.{IsPlan, ReadsPlan}
+use Rattle.plan_checker.specs.Accepting.{IsAcceptedText, IsRefusedPlan}
 use Rattle.script_text.specs.Writing.{AppendsBeginning}
 use Rattle.script_text.specs.declared.reading.ReadFault.{ReadFault}
 use Rattle.script_text.specs.declared.reading.ReadFault.TheVariants as input
 use Rattle.script_lines.specs.declared.fault.LineFault.{LineFault}
-use Rattle.script_lines.specs.declared.fault.LineFault.TheVariants as fault
 use Rattle.script_lines.specs.declared.fault.ScriptFault.{ScriptFault}
 use Rattle.script_lines.specs.declared.fault.ScriptFault.TheVariants as script
+use Rattle.script_lines.specs.Faults.{fault_word}
 use Rattle.script_lines.specs.Script.{IsFirstFault}
 use Rattle.farm_input.specs.declared.failure.FarmFailure.{FarmFailure}
 use Rattle.farm_input.specs.declared.failure.FarmFailure.TheVariants.{Plan, Line, Memory, Io}
 use Rattle.farm_input.specs.declared.failure.Ending.{Ending}
-use Rattle.farm_input.specs.Requests.{IsAcceptedText, IsPartedText}
-use Rattle.farm_input.specs.Names.{all_names}
-
--- a text is no plan's, for this fault; or the plan's smallest fault is this
-abbrev pub IsPlanFault : List ℕ → PlanFault → Type 0
-IsPlanFault text fault =
-    ReadsPlan text (Err fault) ⊎ ((plan : List DomainData) × IsPlan text plan × IsSmallestFault plan fault)
-
--- a text is refused as a plan, for this fault. That memory ran out is no fault of a text
-abbrev pub IsRefusedPlan : List ℕ → PlanFault → Type 0
-IsRefusedPlan text fault = (fault ≢ NoMemory) × IsPlanFault text fault
+use Rattle.farm_input.specs.Requests.{IsPartedText}
 
 -- why a plan's text has no plan. If memory ran out nothing is said of the text
 abbrev pub IsPlanFailure : List ℕ → FarmFailure → Type 0
@@ -83,13 +73,6 @@ failure_status (Plan fault) = 3
 failure_status (Line number fault) = 4
 failure_status Memory = 5
 failure_status Io = 6
-
--- the word for what is wrong with a line
-abbrev pub fault_word : LineFault → List ℕ
-fault_word fault.User = codes "user"
-fault_word fault.Verb = codes "verb"
-fault_word fault.Args = codes "args"
-fault_word fault.Hex = codes "hex"
 
 -- what is written to standard error
 abbrev pub failure_text : FarmFailure → List ℕ

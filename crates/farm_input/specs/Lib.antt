@@ -1,6 +1,5 @@
 -- what must be believed
 pub mod Settings
-pub mod Names
 pub mod Requests
 pub mod Failures
 pub mod Endings

@@ -3,7 +3,7 @@ ghost use Rattle.std.specs.Prelude.{◌≡◌, OnOk, OnErr};
 ghost use Rattle.std.specs.Io.KnownBytes.{Appends};
 ghost use Rattle.script_text.specs.Writing.{AppendsBeginning};
 ghost use Rattle.farm_input.specs.declared.failure.FarmFailure.TheVariants.{Memory};
-ghost use Rattle.farm_input.specs.Failures.{EndsBy, failure_of_input, failure_of_plan, failure_of_script, failure_status, failure_text, fault_word};
+ghost use Rattle.farm_input.specs.Failures.{EndsBy, failure_of_input, failure_of_plan, failure_of_script, failure_status, failure_text};
 
 use itoa::Buffer;
 use plan_checker::PlanFault;
@@ -34,18 +34,6 @@ pub struct Ending {
     pub stderr_written: bool,
 }
 
-// The word for what is wrong with a line.
-fn word_of(fault: LineFault) -> &'static str
-    ensures { result.now ≡ fault_word fault }
-{
-    match fault {
-        LineFault::User => "user",
-        LineFault::Verb => "verb",
-        LineFault::Args => "args",
-        LineFault::Hex => "hex",
-    }
-}
-
 impl FarmFailure {
     // The status of the process.
     fn status(self) -> u8
@@ -71,7 +59,7 @@ impl FarmFailure {
             }
             FarmFailure::Line { number, fault } => {
                 let number = digits.format(number);
-                write_texts(errors, &["line ", number, ": ", word_of(fault), "\n"])
+                write_texts(errors, &["line ", number, ": ", fault.word(), "\n"])
             }
             FarmFailure::Memory => write_whole(errors, b"memory\n"),
             FarmFailure::Io => write_whole(errors, b"io\n"),

@@ -6,12 +6,10 @@ mod command_line;
 mod configuration;
 mod ending;
 mod failure;
-mod names;
 mod reading;
 
 pub use command_line::settings;
 pub use configuration::Settings;
 pub use ending::{end_by_error, refuse_arguments};
 pub use failure::{Ending, FarmFailure};
-pub use names::names_of;
-pub use reading::{accepted, lines_of, text_read};
+pub use reading::{lines_of, plan_of, text_read};

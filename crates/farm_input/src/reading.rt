@@ -1,14 +1,13 @@
 //! A text, its plan and what its script asks.
 ghost use Rattle.std.specs.Prelude.{◌≡◌, ◌<◌, IfOk, IfErr, IfSome, All, length};
 ghost use Rattle.std.specs.Str.Lines.{lines};
+ghost use Rattle.plan_rules.specs.Users.{all_names};
+ghost use Rattle.plan_checker.specs.Accepting.{IsAcceptedText};
 ghost use Rattle.script_lines.specs.Script.{IsScript};
 ghost use Rattle.farm_input.specs.Failures.{IsFailure, IsInputFailure, IsPlanFailure, IsScriptFailure};
-ghost use Rattle.farm_input.specs.Names.{all_names};
-ghost use Rattle.farm_input.specs.Requests.{IsAcceptedText};
 
 use crate::failure::FarmFailure;
-use crate::names::names_of;
-use plan_checker::{AcceptedPlan, check, read_plan};
+use plan_checker::{AcceptedPlan, accept_plan};
 use script_lines::{ScriptLine, read_script};
 use script_text::read_whole;
 use std::alloc::Global;
@@ -25,12 +24,11 @@ pub fn text_read<I: Read>(alloc: Global, input: &mut I) -> Result<Vec<u8>, FarmF
 
 /// The plan that a text gives, if the checker accepts it. Else the failure is why it is refused, or that memory ran
 /// out.
-pub fn accepted(alloc: Global, text: &[u8]) -> Result<AcceptedPlan, FarmFailure>
+pub fn plan_of(alloc: Global, text: &[u8]) -> Result<AcceptedPlan, FarmFailure>
     ensures plan { IfOk result (IsAcceptedText text.now) }
     ensures fault { IfErr result (IsPlanFailure text.now) }
 {
-    let plan = read_plan(alloc, text)?;
-    Ok(check(alloc, plan)?)
+    Ok(accept_plan(alloc, text)?)
 }
 
 /// What the lines of a script ask, and for which users of the plan. The failure is the first line that is wrong, or
@@ -44,6 +42,6 @@ pub fn lines_of(
     ensures users { IfOk result (λ asked. All (λ l. l.user < length (all_names plan.now)) asked.items) }
     ensures fault { IfErr result (IsScriptFailure (all_names plan.now) (lines script.now)) }
 {
-    let names = names_of(alloc, plan)?;
+    let names = plan.names(alloc)?;
     Ok(read_script(alloc, names.as_slice(), script)?)
 }

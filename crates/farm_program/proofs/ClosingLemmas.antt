@@ -12,7 +12,7 @@ use Rattle.script_lines.specs.declared.script.ScriptLine.{ScriptLine}
 use Rattle.farm_service.specs.declared.closed.ClosedDomain.{ClosedDomain}
 use Rattle.farm_service.specs.Passes.{SessionValue, UserPassValue, fresh_pass, passes_opened, passes_from, fresh_passes}
 use Rattle.farm_service.specs.Closed.{AreListed}
-use Rattle.farm_input.specs.Names.{all_names}
+use Rattle.plan_rules.specs.Users.{all_names}
 use Rattle.farm_program.specs.declared.users.UserEnd.{UserEnd}
 use Rattle.farm_program.specs.Closing.{ArePassesOf, AreAllListed}
 use Rattle.farm_program.specs.Users.{commands_at, unasked, IsLeftBy, HaveAnswered}

@@ -8,7 +8,7 @@ use Rattle.farm_service.specs.Passes.{UserPassValue, fresh_passes}
 use Rattle.farm_service.specs.Closed.{history_of, IsFull}
 use Rattle.farm_service.specs.Commands.{commands_of}
 use Rattle.line_answers.specs.Lines.{AreAnsweredLines}
-use Rattle.farm_input.specs.Names.{all_names}
+use Rattle.plan_rules.specs.Users.{all_names}
 use Rattle.farm_program.specs.Users.{commands_at, session_of}
 
 -- the screen of a user: the output lines of the user's lines, over the user's own commands in the history of the user's

@@ -6,7 +6,7 @@ use Rattle.script_lines.specs.declared.command.Command.{Command}
 use Rattle.script_lines.specs.declared.script.ScriptLine.{ScriptLine}
 use Rattle.farm_service.specs.Passes.{SessionValue, UserPassValue, fresh_pass, fresh_passes}
 use Rattle.line_answers.specs.Sessions.{AreAnswered}
-use Rattle.farm_input.specs.Names.{all_names}
+use Rattle.plan_rules.specs.Users.{all_names}
 use Rattle.farm_program.specs.declared.users.User.{User}
 use Rattle.farm_program.specs.declared.users.UserEnd.{UserEnd}
 

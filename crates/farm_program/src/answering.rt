@@ -8,8 +8,8 @@ ghost use Rattle.farm_input.specs.Settings.{InRange};
 ghost use Rattle.farm_program.specs.Output.{IsOutput, Prints, PrintsBeginning};
 
 use crate::farm::run_script;
-use farm_input::{Ending, FarmFailure, Settings, accepted, lines_of, text_read};
-use script_text::{WriteFailed, divide, write_texts};
+use farm_input::{Ending, FarmFailure, Settings, lines_of, plan_of, text_read};
+use script_text::{WriteFailed, divide_at_plan_end, write_texts};
 use std::alloc::Global;
 use std::io::{Read, Write};
 use std::sync::Wait;
@@ -27,9 +27,9 @@ fn screens_of<R: Threads + Wait + Sync>(
     ensures output { IfOk result (λ screens. IsOutput text.now (concat (map string_bytes screens.items))) }
     ensures failure { IfErr result (IsFailure text.now) }
 {
-    let (plan, script) = divide(text, b"---");
-    let plan = accepted(alloc, plan)?;
-    let asked = lines_of(alloc, &plan, script)?;
+    let parts = divide_at_plan_end(text);
+    let plan = plan_of(alloc, parts.plan)?;
+    let asked = lines_of(alloc, &plan, parts.rest)?;
     let ended = run_script(rt, alloc, plan, asked.as_slice(), settings)?;
     // Each history is one of its domain alone.
     each_domain_of_a_plan_is_private();

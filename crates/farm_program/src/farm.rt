@@ -3,7 +3,7 @@ ghost use Rattle.std.specs.Prelude.{◌≡◌, ◌<◌, IfOk, All, length, map, 
 ghost use Rattle.token_queue.specs.Passes.{AreItsPasses};
 ghost use Rattle.whole_farm.specs.Places.{places_of};
 ghost use Rattle.farm_service.specs.Closed.{AreDomainsOf, AreListed, AllMetFullTruly, AllAreRightlyAsked, EachMergeRuns};
-ghost use Rattle.farm_input.specs.Names.{all_names};
+ghost use Rattle.plan_rules.specs.Users.{all_names};
 ghost use Rattle.farm_input.specs.Settings.{InRange};
 ghost use Rattle.farm_program.specs.Closing.{AreAllListed};
 ghost use Rattle.farm_program.specs.Screens.{AreScreens};

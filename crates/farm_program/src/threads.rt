@@ -2,7 +2,7 @@
 ghost use Rattle.std.specs.Prelude.{◌≡◌, ◌<◌, All, IfOk, Ok, [], length, map};
 ghost use Rattle.token_queue.specs.Passes.{AreItsPasses, AreOf, HoldNone};
 ghost use Rattle.farm_service.specs.Passes.{fresh_passes};
-ghost use Rattle.farm_input.specs.Names.{all_names};
+ghost use Rattle.plan_rules.specs.Users.{all_names};
 ghost use Rattle.farm_input.specs.Settings.{InRange};
 ghost use Rattle.farm_program.specs.Users.{AreEndsOf, HasAnswered, HaveAnswered, IsLeftBy, commands_at};
 

@@ -1,10 +1,9 @@
 //! Users at a service, each in a session of their own, and what they are shown.
 ghost use Rattle.std.specs.Prelude.{◌≡◌, ◌<◌, length, map, All, IfOk};
 ghost use Rattle.farm_service.specs.Passes.{fresh_passes};
-ghost use Rattle.farm_input.specs.Names.{all_names};
+ghost use Rattle.plan_rules.specs.Users.{all_names};
 ghost use Rattle.farm_program.specs.Users.{AreUsersOf, HasAnswered, commands_at};
 
-use farm_input::names_of;
 use farm_service::{NoMemory, Service, UserPass};
 use line_answers::{Quantum, answer_lines};
 use script_lines::{Command, ScriptLine};
@@ -62,7 +61,7 @@ pub fn users_of<'a>(
     requires lines { All (λ l. l.user < length (all_names service.now.plan)) lines.now }
     ensures { IfOk result (λ users. AreUsersOf service.now.plan lines.now quantum.steps users.items) }
 {
-    let names = names_of(alloc, service.plan())?;
+    let names = service.plan().names(alloc)?;
     let mut users = Vec::with_capacity(alloc, passes.len())?;
     for pass in passes {
         let place = users.len();

@@ -6,5 +6,5 @@ mod names;
 mod refusal;
 mod shape;
 
-pub use refusal::{PlanRefusal, accepted};
+pub use refusal::{PlanRefusal, plan_or_reason};
 pub use shape::{UnreadLine, line_unread};

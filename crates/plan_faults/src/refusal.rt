@@ -1,13 +1,12 @@
 //! Reading a plan, with the reason if it is refused.
 ghost use Rattle.std.specs.Prelude.{◌≡◌, IfOk, IfErr};
-ghost use Rattle.plan_checker.specs.Document.{IsPlan};
-ghost use Rattle.plan_rules.specs.Separate.{IsSeparate};
+ghost use Rattle.plan_checker.specs.Accepting.{IsAcceptedText};
 ghost use Rattle.plan_faults.specs.declared.refusal.PlanRefusal.TheVariants.{NoMemory};
 ghost use Rattle.plan_faults.specs.Refusal.{IsRefusalOf};
 
 use crate::breach::breach_of;
-use crate::shape::{misshapen, unread};
-use plan_checker::{AcceptedPlan, PlanFault, check, read_plan};
+use crate::shape::{reason_of_shape, reason_of_text};
+use plan_checker::{AcceptedPlan, PlanFault, accept_plan, read_plan};
 use std::alloc::{AllocError, AllocFailed, Global};
 use thiserror::Error;
 
@@ -43,25 +42,19 @@ impl<T: Drop> From<AllocFailed<T>> for PlanRefusal {
     }
 }
 
-/// Reads and checks the text of a plan.
+/// The plan that a text gives, or where and why it is refused.
 ///
 /// # Errors
 ///
 /// `Refused` with the fault that the checker answers and the place that has it; `NoMemory`.
-pub fn accepted(alloc: Global, text: &[u8]) -> Result<AcceptedPlan, PlanRefusal>
-    ensures accepted { IfOk result (λ plan. IsPlan text.now plan × IsSeparate plan) }
-    ensures refused { IfErr result (λ refusal. IsRefusalOf text.now refusal) }
+pub fn plan_or_reason(alloc: Global, text: &[u8]) -> Result<AcceptedPlan, PlanRefusal>
+    ensures accepted { IfOk result (IsAcceptedText text.now) }
+    ensures refused { IfErr result (IsRefusalOf text.now) }
 {
-    let fault = match read_plan(alloc, text) {
-        Ok(plan) => match check(alloc, plan) {
-            Ok(plan) => return Ok(plan),
-            Err(fault) => fault,
-        },
-        Err(fault) => fault,
-    };
-    match fault {
-        PlanFault::NoMemory => Err(PlanRefusal::NoMemory),
-        _ => {
+    match accept_plan(alloc, text) {
+        Ok(plan) => Ok(plan),
+        Err(PlanFault::NoMemory) => Err(PlanRefusal::NoMemory),
+        Err(fault) => {
             let reason = reason_of(alloc, text, fault)?;
             Err(PlanRefusal::Refused { fault, reason })
         }
@@ -78,8 +71,8 @@ fn reason_of(alloc: Global, text: &[u8], fault: PlanFault) -> Result<String, All
 
 fn place_of(alloc: Global, text: &[u8], fault: PlanFault) -> Result<Option<String>, AllocError> {
     match fault {
-        PlanFault::Text => unread(alloc, text),
-        PlanFault::Shape => misshapen(alloc, text),
+        PlanFault::Text => reason_of_text(alloc, text),
+        PlanFault::Shape => reason_of_shape(alloc, text),
         _ => match read_plan(alloc, text) {
             Ok(plan) => breach_of(alloc, plan.domains.as_slice(), fault),
             Err(_) => Ok(None),

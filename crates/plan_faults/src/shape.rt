@@ -69,7 +69,7 @@ const USER: [PlanField; 2] = [("name", Kind::Text), ("host", Kind::Integers)];
 const NODE: [PlanField; 2] = [("memory", Kind::Integer), ("links", Kind::FourIntegers)];
 
 /// Where the text isn't UTF-8 or isn't TOML; `None` if it is a document.
-pub fn unread(alloc: Global, text: &[u8]) -> Result<Option<String>, AllocError> {
+pub fn reason_of_text(alloc: Global, text: &[u8]) -> Result<Option<String>, AllocError> {
     let Ok(text) = std::str::from_utf8(text) else {
         return Ok(Some(String::from_str(alloc, "the text isn't UTF-8")?));
     };
@@ -78,7 +78,7 @@ pub fn unread(alloc: Global, text: &[u8]) -> Result<Option<String>, AllocError> 
         Err(error) if error.is_memory() => Err(AllocError),
         Err(error) => {
             let told = format!(in alloc; "{error}")?;
-            Ok(Some(joined(alloc, told.as_str())?))
+            Ok(Some(one_line(alloc, told.as_str())?))
         }
     }
 }
@@ -125,7 +125,7 @@ fn line_at(text: &[u8], place: usize) -> UnreadLine<'_> {
 }
 
 // The lines of a text as one.
-fn joined(alloc: Global, text: &str) -> Result<String, AllocError> {
+fn one_line(alloc: Global, text: &str) -> Result<String, AllocError> {
     let mut joined = TextWriter::new(alloc);
     for line in text.lines() {
         if !joined.is_empty() {
@@ -137,7 +137,7 @@ fn joined(alloc: Global, text: &str) -> Result<String, AllocError> {
 }
 
 /// The first field of a document that a plan doesn't have so: one that is missing, unknown or of a wrong kind.
-pub fn misshapen(alloc: Global, text: &[u8]) -> Result<Option<String>, AllocError> {
+pub fn reason_of_shape(alloc: Global, text: &[u8]) -> Result<Option<String>, AllocError> {
     let Ok(text) = std::str::from_utf8(text) else {
         return Ok(None);
     };

@@ -15,8 +15,12 @@ returns-clause-output g c =
       asked = c.in_ok-asked.asked.items;
       closed = closed;
       screens = screens;
-      text_of =
-          (c.divide.result.0.now, c.divide.result.1.now, c.divide.ensures, (accepted, c.in_ok-asked.ensures.asked));
+      text_of = (
+        c.divide_at_plan_end-parts.result.plan.now,
+        c.divide_at_plan_end-parts.result.rest.now,
+        c.divide_at_plan_end-parts.ensures.parts,
+        (accepted, c.in_ok-asked.ensures.asked),
+      );
       domains = c.in_ok-ended.ensures.domains;
       alone = all_alone plan closed c.each_domain_of_a_plan_is_private.ensures.told accepted.1 runs;
       askers = c.in_ok-ended.ensures.asked;

@@ -6,7 +6,7 @@ use Rattle.token_queue.specs.Passes.{AreItsPasses}
 use Rattle.whole_farm.specs.Places.{places_of}
 use Rattle.farm_service.specs.Passes.{fresh_passes}
 use Rattle.farm_service.specs.Closed.{AreDomainsOf, EachMergeRuns}
-use Rattle.farm_input.specs.Names.{all_names}
+use Rattle.plan_rules.specs.Users.{all_names}
 use Rattle.farm_program.specs.declared.farm.ScriptEnd.{ScriptEnd}
 use Rattle.farm_program.specs.Closing.{ArePassesOf}
 use Rattle.farm_program.specs.Users.{unasked}

@@ -1,7 +1,7 @@
 use Rattle.std.proofs.Common.{◌≡◌, ◌∙◌, refl, rules, ap, length}
 use Rattle.std.proofs.lemmas.Iterator.Consumers.{YieldsList-turn, YieldsList-end}
 use Rattle.std.proofs.lemmas.Iterator.Adapters.{YieldsList-from_vec}
-use Rattle.farm_input.specs.Names.{all_names}
+use Rattle.plan_rules.specs.Users.{all_names}
 use Rattle.farm_program.proofs.Openings.{place_within, user_more, all_users}
 use Rattle.farm_program.proofs.users.users_of.Goals as goal
 

@@ -1,8 +1,0 @@
-use Rattle.std.proofs.Common.{rules}
-use Rattle.farm_input.proofs.PlanNames.{name_more}
-use Rattle.farm_input.proofs.names.add_names.Goals as goal
-
-pub loop-user-preserved : goal.loop-user-preserved
-loop-user-preserved c =
-    name_more _ c.loop-user.names.items c.push.new.self.items _ c.loop-user.user c.name.result (search rules)
-    c.name.ensures c.in_ok-push.ensures.items c.loop-user.invariant

@@ -1,8 +1,0 @@
-use Rattle.std.proofs.Common.{rules}
-use Rattle.farm_input.proofs.PlanNames.{domain_names}
-use Rattle.farm_input.proofs.names.names_of.Goals as goal
-
-pub loop-domain-preserved : goal.loop-domain-preserved
-loop-domain-preserved c =
-    domain_names c.args.plan.now c.loop-domain.domain c.loop-domain.names.items c.add_names.new.names.items
-    (search rules) c.loop-domain.invariant c.in_ok-add_names.ensures
