@@ -1,11 +1,9 @@
 //! Plans in files, each with what the checker is to answer.
 
-use line_mistakes::{
-    NumberedLine, Wanted, WordForm, WordMistake, WordRole, WrongLine, numbered_lines,
-};
+use line_mistakes::{Wanted, WordForm, WordMistake, WordRole, WrongLine};
 use line_words::{Answered, NumberedLineFault, Question, line_as_str};
-use plan_faults::{PlanRefusal, accepted};
-use script_text::TextWriter;
+use plan_faults::{PlanRefusal, plan_or_reason};
+use script_text::{NumberedLine, TextWriter, numbered_lines};
 use std::alloc::{AllocError, Global};
 
 /// What comes before a text that is replaced.
@@ -142,11 +140,11 @@ fn plan_of(
 ) -> Result<String, NumberedLineFault> {
     match lines.first() {
         Some(line) if line.starts_with(REPLACE) => changed_plan(alloc, base, number, lines),
-        _ => Ok(joined(alloc, lines)?),
+        _ => Ok(lines_as_text(alloc, lines)?),
     }
 }
 
-fn joined(alloc: Global, lines: &[&str]) -> Result<String, AllocError> {
+fn lines_as_text(alloc: Global, lines: &[&str]) -> Result<String, AllocError> {
     let mut text = TextWriter::new(alloc);
     for line in lines {
         text.push(line);
@@ -249,7 +247,7 @@ fn replaced_once(
 // What the checker answers: `accepted`, or the number of the plan's fault, or, if that is asked, the line that says where
 // and why the plan is refused.
 fn answer_plan(alloc: Global, plan: &str, tells_why: bool) -> Result<String, AllocError> {
-    match accepted(alloc, plan.as_bytes()) {
+    match plan_or_reason(alloc, plan.as_bytes()) {
         Ok(_) => String::from_str(alloc, "accepted"),
         Err(refusal) => tell_refusal(alloc, &refusal, tells_why),
     }

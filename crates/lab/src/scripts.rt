@@ -5,7 +5,7 @@ use lab_command::{LabFailure, ScriptUse, TerminalMeter, WRONG_TEXT, read_file, r
 use lab_script::{Expanded, LoadedFile, expand, files_named};
 use line_words::NumberedLineFault;
 use script_replay::{record_script, run_script};
-use script_text::{TextWriter, divide, read_whole};
+use script_text::{TextWriter, divide_at_plan_end, read_whole};
 use std::alloc::{AllocError, Global};
 
 /// Does this with the script in a file, or with the one on standard input. The files that it loads have their names from the
@@ -104,7 +104,7 @@ pub fn print_record(
 }
 
 fn print_expansion(alloc: Global, text: &[u8], files: &[LoadedFile]) -> Result<String, LabFailure> {
-    if divide(text, b"---").0.len() == text.len() {
+    if !divide_at_plan_end(text).has_plan_end {
         return Err(LabFailure::of_text(
             String::from_str(
                 alloc,

@@ -3,9 +3,9 @@
 use crate::failure::refused_plan;
 use lab_command::{LabFailure, REFUSED_PLAN};
 use line_faults::has_verb;
-use plan_faults::{PlanRefusal, accepted, line_unread};
+use plan_faults::{PlanRefusal, line_unread, plan_or_reason};
 use plan_views::table_of;
-use script_text::{divide, read_whole};
+use script_text::{divide_at_plan_end, read_whole};
 use std::alloc::{AllocError, Global};
 
 /// The plan on standard input as a table.
@@ -15,8 +15,8 @@ pub fn print_plan(rt: &HostRuntime) -> Result<String, LabFailure> {
 }
 
 fn table(alloc: Global, text: &[u8]) -> Result<String, LabFailure> {
-    let (plan, _) = divide(text, b"---");
-    match accepted(alloc, plan) {
+    let plan = divide_at_plan_end(text).plan;
+    match plan_or_reason(alloc, plan) {
         Ok(plan) => Ok(table_of(alloc, &plan)?),
         Err(refusal) => Err(tell_refused(alloc, plan, &refusal)),
     }

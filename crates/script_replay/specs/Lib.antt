@@ -1,5 +1,3 @@
 -- what must be believed
 pub mod Lines
 pub mod Recording
--- what only helps contracts
-pub mod Users

@@ -10,7 +10,6 @@ mod reader;
 mod recording;
 mod running;
 mod texts;
-mod users;
 
 pub use answering::{AnsweredLines, answer_asked_lines, answer_user_line};
 pub use asks::{AskedLine, UserLine};

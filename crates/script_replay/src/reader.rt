@@ -1,19 +1,18 @@
 //! Reading lines of users.
 
 use crate::asks::{AskedLine, UserLine};
-use crate::users::{PlanUser, names_of, user_called};
 use lab_script::{Expanded, LoadedFile, expanded_line, is_help_line};
 use line_faults::tell_wrong_line;
-use line_mistakes::{NumberedLine, numbered_lines};
-use plan_checker::AcceptedPlan;
+use plan_checker::{AcceptedPlan, UserNumber};
 use script_lines::{LineFault, LineWords, Unread, parse_request};
+use script_text::{NumberedLine, numbered_lines};
 use std::alloc::{AllocError, Global};
 
 /// A user, with the name as it is in the user's line.
 #[derive(Clone, Copy)]
 pub(crate) struct NamedUser<'a> {
     name: &'a str,
-    user: PlanUser,
+    user: UserNumber,
 }
 
 /// What the lines of a plan's users are read with.
@@ -35,7 +34,7 @@ impl<'p> LineReader<'p> {
         Ok(LineReader {
             alloc,
             plan,
-            names: names_of(alloc, plan)?,
+            names: plan.names(alloc)?,
             files,
         })
     }
@@ -43,12 +42,12 @@ impl<'p> LineReader<'p> {
     /// The user whose name a line begins with.
     pub(crate) fn user_of<'a>(&self, line: &'a [u8]) -> Option<NamedUser<'a>> {
         let mut words = LineWords::of(line);
-        let name = words.take()?;
-        let Ok(name) = std::str::from_utf8(name) else {
-            return None;
-        };
-        let user = user_called(self.plan, name)?;
-        Some(NamedUser { name, user })
+        let word = words.take()?;
+        let user = self.plan.user_named(word)?;
+        match std::str::from_utf8(word) {
+            Ok(name) => Some(NamedUser { name, user }),
+            Err(_) => None,
+        }
     }
 
     /// The user whose line this is in a text that has lines of the lab too. A user's name may begin such a line as well, as a

@@ -8,10 +8,9 @@ use crate::recording::record_of;
 use farm_replay::FarmStop;
 use lab_script::LoadedFile;
 use line_faults::WrongLines;
-use line_mistakes::numbered_lines;
 use plan_checker::AcceptedPlan;
-use plan_faults::accepted;
-use script_text::{TextWriter, divide, is_passed_over};
+use plan_faults::plan_or_reason;
+use script_text::{TextWriter, divide_at_plan_end, is_passed_over, numbered_lines};
 use std::alloc::Global;
 use step_meter::StepMeter;
 
@@ -28,9 +27,9 @@ pub fn run_script<M: StepMeter>(
     files: &[LoadedFile<'_>],
     meter: &mut M,
 ) -> Result<String, RunFault> {
-    let (plan, script) = divide(text, b"---");
-    let plan = plan_of(alloc, plan, plan.len() < text.len())?;
-    let asked = read_lines(alloc, &plan, script, files)?;
+    let text = divide_at_plan_end(text);
+    let plan = plan_of(alloc, text.plan, text.has_plan_end)?;
+    let asked = read_lines(alloc, &plan, text.rest, files)?;
     Ok(screens_of(alloc, &plan, asked.as_slice(), meter)?)
 }
 
@@ -46,12 +45,12 @@ pub fn record_script<M: StepMeter>(
     domain: u8,
     meter: &mut M,
 ) -> Result<String, RunFault> {
-    let (plan, script) = divide(text, b"---");
-    let plan = plan_of(alloc, plan, plan.len() < text.len())?;
+    let text = divide_at_plan_end(text);
+    let plan = plan_of(alloc, text.plan, text.has_plan_end)?;
     if domain >= plan.domains() {
         return Err(RunFault::Domain(domain));
     }
-    let asked = read_lines(alloc, &plan, script, files)?;
+    let asked = read_lines(alloc, &plan, text.rest, files)?;
     let AnsweredLines { texts: _, farm } = answer_asked_lines(
         alloc,
         &plan,
@@ -63,7 +62,7 @@ pub fn record_script<M: StepMeter>(
 
 // The plan of a text. A mark comes after it or doesn't.
 fn plan_of(alloc: Global, text: &[u8], is_marked: bool) -> Result<AcceptedPlan, RunFault> {
-    match accepted(alloc, text) {
+    match plan_or_reason(alloc, text) {
         Ok(plan) => Ok(plan),
         Err(refusal) => Err(RunFault::of_plan(refusal, is_marked)),
     }

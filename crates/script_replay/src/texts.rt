@@ -8,18 +8,16 @@ use crossbar::{PORTS, Word};
 use event_text::{RepeatedRequest, read_request};
 use farm_replay::{AnsweredRequests, FarmStop, answer_requests};
 use lab_script::{LoadedFile, file_loaded};
-use line_mistakes::{NumberedLine, numbered_lines};
 use line_words::{Answered, NumberedLineFault, Question, read_questions};
-use plan_checker::{AcceptedPlan, PlanFault, check, read_plan};
-use script_text::{TextWriter, divide, is_passed_over};
+use plan_checker::{AcceptedPlan, accept_plan};
+use script_text::{
+    NumberedLine, TextWriter, divide, divide_at_plan_end, is_passed_over, numbered_lines,
+};
 use std::alloc::{AllocError, Global};
 use step_meter::StepMeter;
 
 /// What divides one farm of a text from the next.
 const BETWEEN_FARMS: &[u8] = b"===";
-
-/// What divides a plan from the lines that ask its farm.
-const AFTER_THE_PLAN: &[u8] = b"---";
 
 /// What divides what a line asks from the answer that it expects.
 const BEFORE_ANSWERS: &str = " = ";
@@ -147,26 +145,21 @@ fn read_farm<'a>(
     before: u64,
     files: &[LoadedFile<'_>],
 ) -> Result<FarmText<'a>, ReplayFault> {
-    let (plan_text, rest) = divide(text, AFTER_THE_PLAN);
-    let plan = match accepted_plan(alloc, plan_text) {
+    let text = divide_at_plan_end(text);
+    let plan = match accept_plan(alloc, text.plan) {
         Ok(plan) => plan,
         Err(fault) => {
-            let is_marked = plan_text.len() < text.len();
-            return Err(ReplayFault::of_plan(fault, before.saturating_add(1), is_marked));
+            let first = before.saturating_add(1);
+            return Err(ReplayFault::of_plan(fault, first, text.has_plan_end));
         }
     };
-    let questions = read_questions(alloc, rest, lines_with_mark(plan_text, before))?;
+    let questions = read_questions(alloc, text.rest, lines_with_mark(text.plan, before))?;
     let lines = read_lines(alloc, &plan, questions.as_slice(), files)?;
     Ok(FarmText {
         plan,
         questions,
         lines,
     })
-}
-
-// The plan of a text, if it is accepted.
-fn accepted_plan(alloc: Global, text: &[u8]) -> Result<AcceptedPlan, PlanFault> {
-    check(alloc, read_plan(alloc, text)?)
 }
 
 fn read_lines<'a>(
