@@ -9,7 +9,7 @@ use live_farm::{
     FileRecords, LiveFailure, Notices, Outlet, RecordFolder, SharedOutlet, no_records, run_live,
 };
 use live_lines::{LiveSettings, live_settings};
-use plan_checker::{AcceptedPlan, check, read_plan};
+use plan_checker::{AcceptedPlan, accept_plan};
 use script_text::{ReadFault, read_whole, write_whole};
 use std::alloc::Global;
 use std::fs::File;
@@ -163,6 +163,5 @@ fn bytes_in(rt: &HostRuntime, path: &str) -> Result<Vec<u8>, LiveFailure> {
 // The plan in a file.
 fn plan_in(rt: &HostRuntime, path: &str) -> Result<AcceptedPlan, LiveFailure> {
     let text = bytes_in(rt, path)?;
-    let plan = read_plan(rt.alloc(), text.as_slice()).map_err(LiveFailure::of_plan)?;
-    check(rt.alloc(), plan).map_err(LiveFailure::of_plan)
+    accept_plan(rt.alloc(), text.as_slice()).map_err(LiveFailure::of_plan)
 }

@@ -7,7 +7,7 @@ use Rattle.farm_service.specs.declared.closed.Closed.{Closed}
 use Rattle.farm_service.specs.Closed.{AreListed, AllMetFullTruly}
 use Rattle.farm_service.specs.Histories.{with_history}
 use Rattle.farm_service.specs.Passes.{UserPassValue, fresh_passes, with_reserved}
-use Rattle.live_farm.specs.declared.crew.UserNumber.{UserNumber}
+use Rattle.plan_rules.specs.declared.users.UserNumber.{UserNumber}
 use Rattle.live_farm.specs.Crews.{number_of}
 use Rattle.live_farm.specs.Closings.{AreUsersListed}
 

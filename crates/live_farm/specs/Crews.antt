@@ -1,9 +1,8 @@
 -- All users of a farm, and to whom a line goes.
 use Rattle.std.specs.Prelude.{◌≡◌, ℕ, List, Option, Some, option_map, option_and_then, slice_get}
-use Rattle.plan_rules.specs.Data.{DomainData}
+use Rattle.plan_rules.specs.declared.users.UserNumber.{UserNumber}
 use Rattle.farm_service.specs.Passes.{UserPassValue}
 use Rattle.live_farm.specs.declared.crew.Crew.{Crew}
-use Rattle.live_farm.specs.declared.crew.UserNumber.{UserNumber}
 use Rattle.live_farm.specs.declared.letter.Letter.{Letter}
 use Rattle.live_farm.specs.declared.letter.Matter.{Matter}
 use Rattle.live_farm.specs.declared.mailbox.Mailbox.{Mailbox}
@@ -11,11 +10,6 @@ use Rattle.live_farm.specs.declared.mailbox.Mailbox.{Mailbox}
 -- whose a pass is
 abbrev pub number_of : UserPassValue → UserNumber
 number_of pass = record { domain = pass.domain; user = pass.user }
-
--- the name of a user of a plan, if the plan has this user
-abbrev pub name_at : List DomainData → UserNumber → Option (List ℕ)
-name_at plan number =
-    option_and_then (λ d. option_map (λ u. u.name) (slice_get d.users number.user)) (slice_get plan number.domain)
 
 -- a matter of the line of this number, as a letter to this user
 abbrev pub letter_to : UserNumber → ℕ → Matter → Letter

@@ -3,8 +3,8 @@ use Rattle.std.specs.Prelude.{◌≡◌, ◌==◌, ℕ, Bool, true, false, List,
 use Rattle.script_text.specs.Lines.{line_of, asks_nothing}
 use Rattle.script_lines.specs.Words.{words_between}
 use Rattle.script_lines.specs.Lines.{BeginsWith}
-use Rattle.live_lines.specs.declared.reading.InputLine.{InputLine}
-use Rattle.live_lines.specs.declared.reading.InputLine.TheVariants as input
+use Rattle.script_text.specs.declared.input_line.InputLine.{InputLine}
+use Rattle.script_text.specs.declared.input_line.InputLine.TheVariants as input
 use Rattle.live_lines.specs.declared.asked.LiveLine.TheVariants as live
 use Rattle.live_lines.specs.declared.fault.LiveFault.{LiveFault}
 use Rattle.live_lines.specs.declared.fault.LiveFault.TheVariants as live_fault

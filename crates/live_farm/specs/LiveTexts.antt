@@ -3,7 +3,7 @@ use Rattle.std.specs.Prelude.{◌++◌, ℕ, Bool, List, codes, if◌then◌else
 use Rattle.std.specs.Fmt.{decimal}
 use Rattle.std.specs.List.{flat_map}
 use Rattle.std.specs.Str.Lines.{lines}
-use Rattle.script_lines.specs.declared.fault.LineFault.TheVariants as fault
+use Rattle.script_lines.specs.Faults.{fault_word}
 use Rattle.farm_service.specs.declared.status.DomainStatus.{DomainStatus}
 use Rattle.live_farm.specs.declared.texts.RestState.{RestState}
 use Rattle.live_farm.specs.declared.texts.RestState.TheVariants as rest
@@ -12,10 +12,7 @@ use Rattle.live_farm.specs.declared.texts.Why.TheVariants as why
 
 -- why a line isn't done
 abbrev pub reason_word : Why → List ℕ
-reason_word (why.Fault fault.User) = codes "user"
-reason_word (why.Fault fault.Verb) = codes "verb"
-reason_word (why.Fault fault.Args) = codes "args"
-reason_word (why.Fault fault.Hex) = codes "hex"
+reason_word (why.Fault fault) = fault_word fault
 reason_word why.Long = codes "long"
 reason_word why.Busy = codes "busy"
 reason_word why.Record = codes "record"

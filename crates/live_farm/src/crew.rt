@@ -1,7 +1,8 @@
 //! All users of a farm, by the domains that they share.
 
 ghost use Rattle.std.specs.Prelude.{◌≡◌, ◌<◌, ◌++◌, ◌∷◌, [], length, map, IfOk, IfSome, OnOk, option_map, Some, true};
-ghost use Rattle.live_farm.specs.Crews.{number_of, name_at, mailed};
+ghost use Rattle.plan_rules.specs.Users.{name_at};
+ghost use Rattle.live_farm.specs.Crews.{number_of, mailed};
 
 use crate::failure::LiveFailure;
 use crate::group::DomainUsers;
@@ -11,16 +12,9 @@ use crate::station::Station;
 use domain_core::NoMemory;
 use farm_service::{Committed, Gate, Refusal, Service, Token, UserPass};
 use line_answers::Quantum;
-use plan_checker::AcceptedPlan;
+use plan_checker::{AcceptedPlan, UserNumber};
 use std::alloc::Global;
 use std::sync::Wait;
-
-/// A user, by the number of their domain in the plan and their number there.
-#[derive(Clone, Copy)]
-pub struct UserNumber {
-    pub domain: u8,
-    pub user: u8,
-}
 
 /// All users, in the order of the plan, and a station for each domain.
 pub struct Crew<'a> {

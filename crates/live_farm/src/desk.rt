@@ -9,7 +9,8 @@ use crate::notices::Notices;
 use crate::operator::Operator;
 use crate::outlet::SharedOutlet;
 use crate::texts::{Why, error_answer, unknown_user_answer};
-use live_lines::{OperatorRequest, next_line};
+use live_lines::{MOST_LINE_BYTES, OperatorRequest};
+use script_text::next_line;
 use std::alloc::Global;
 use std::io::BufRead;
 use std::sync::Wait;
@@ -154,7 +155,7 @@ impl Desk<'_, '_> {
         errors: &N,
         number: u64,
     ) -> Result<Goes, Trouble> {
-        let read = match next_line(self.alloc, input) {
+        let read = match next_line(self.alloc, input, MOST_LINE_BYTES) {
             Ok(read) => read,
             Err(error) => return Err(Trouble::of_input(&error)),
         };

@@ -5,10 +5,10 @@ ghost use Rattle.live_farm.specs.Fates.{begins_comment, IsWhose, IsFate, IsFateO
 use crate::letter::Matter;
 use crate::texts::Why;
 use live_lines::{
-    InputLine, LiveFault, LiveLine, LiveRequest, OperatorRequest, is_operators, parse_live_line,
+    LiveFault, LiveLine, LiveRequest, OperatorRequest, is_operators, parse_live_line,
 };
 use script_lines::{LineWords, user_named};
-use script_text::{is_passed_over, split_line};
+use script_text::{InputLine, is_passed_over, split_line};
 use std::alloc::Global;
 
 /// What becomes of a line that was read.

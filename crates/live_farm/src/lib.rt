@@ -24,7 +24,7 @@ mod station;
 mod texts;
 mod threads;
 
-pub use crew::{Crew, UserNumber};
+pub use crew::Crew;
 pub use desk::Desk;
 pub use failure::{LiveFailure, Trouble};
 pub use fate::{LineFate, fate_of};

@@ -2,12 +2,13 @@
 ghost use Rattle.std.specs.Prelude.{◌≡◌, ◌<◌};
 ghost use Rattle.farm_service.specs.Services.{IsItsOperator};
 
-use crate::crew::{Crew, UserNumber};
+use crate::crew::Crew;
 use crate::record::RecordState;
 use crate::station::Station;
 use crate::texts::LiveAnswer;
 use domain_core::NoMemory;
 use farm_service::{DomainStatus, RoomStatus, Service};
+use plan_checker::UserNumber;
 use std::alloc::Global;
 use std::fs::File;
 use std::os::unix::fs::FileExt;

@@ -1,6 +1,6 @@
 //! The records of a farm that is opened: those that are there are done again, each on its domain.
 
-use crate::crew::{UserNumber, name_of};
+use crate::crew::name_of;
 use crate::failure::LiveFailure;
 use crate::notices::Notices;
 use crate::progress::{RecordProgress, ToldReader};
@@ -9,7 +9,7 @@ use crate::record_folder::RecordFolder;
 use domain_core::NoMemory;
 use farm_records::{HeadFault, RecordFault, Redone, head_of, redo_record};
 use farm_service::{Histories, SeatedDomain};
-use plan_checker::AcceptedPlan;
+use plan_checker::{AcceptedPlan, UserNumber};
 use record_keeping::{DomainRecord, RecordStore};
 use std::alloc::{Alloc, Global};
 use std::collections::VecDeque;

@@ -36,10 +36,7 @@ impl Why {
         ensures { result.now ≡ reason_word self }
     {
         match self {
-            Why::Fault(LineFault::User) => "user",
-            Why::Fault(LineFault::Verb) => "verb",
-            Why::Fault(LineFault::Args) => "args",
-            Why::Fault(LineFault::Hex) => "hex",
+            Why::Fault(fault) => fault.word(),
             Why::Long => "long",
             Why::Busy => "busy",
             Why::Record => "record",

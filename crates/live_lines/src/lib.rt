@@ -5,13 +5,10 @@ mod asked;
 mod command_line;
 mod fault;
 mod parsing;
-mod reading;
 mod verbs;
 
 pub use asked::{LiveLine, LiveRequest, OperatorRequest, WholeRequest};
 pub use command_line::{LiveSettings, RecordSettings, live_settings};
 pub use fault::LiveFault;
-pub use parsing::{is_operators, parse_live_line};
-pub use reading::next_line;
-pub use script_text::InputLine;
+pub use parsing::{MOST_LINE_BYTES, is_operators, parse_live_line};
 pub use verbs::{DomainVerb, OperatorVerb};

@@ -12,6 +12,9 @@ use crate::verbs::{DomainVerb, OperatorVerb};
 use script_lines::{LineFault, LineWords, Unread, parse_place, parse_request, user_named};
 use std::alloc::Global;
 
+/// The most bytes of a line, with its line feed: 1 MiB.
+pub const MOST_LINE_BYTES: u32 = 1_048_576;
+
 /// Whether a line is the operator's: it begins with `!`.
 pub fn is_operators(line: &[u8]) -> bool
     ensures { result ≡ is_operators line.now }

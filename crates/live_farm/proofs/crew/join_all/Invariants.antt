@@ -1,5 +1,6 @@
 use Rattle.std.proofs.Common.{◌≡◌, ◌++◌, Some, map}
-use Rattle.live_farm.specs.Crews.{number_of, name_at}
+use Rattle.plan_rules.specs.Users.{name_at}
+use Rattle.live_farm.specs.Crews.{number_of}
 use Rattle.live_farm.proofs.crew.join_all.Given as goal
 
 -- the users so far have joined
