@@ -15,7 +15,7 @@ use crate::alone::answers_of;
 use crate::one_thread::{FarmCall, ask_on_one_thread};
 use crate::threads::ask_in_threads;
 use domain_core::{By, Event, NoMemory, Refusal, Reply};
-use plan_checker::{AcceptedPlan, PlanFault, check, read_plan};
+use plan_checker::accept_plan;
 use std::alloc::Global;
 use std::io;
 use std::sync::Wait;
@@ -66,12 +66,6 @@ const ASKED: [Event; 13] = [
     Event::Write(0, 0xf5),
 ];
 
-// The plan, as it is read and then accepted.
-fn accepted_plan(alloc: Global) -> Result<AcceptedPlan, PlanFault> {
-    let plan = read_plan(alloc, PLAN.as_bytes())?;
-    check(alloc, plan)
-}
-
 // The same calls, with one of bob's after each: it disconnects all outputs of bob's domain.
 fn beside_bob(alloc: Global, calls: &[FarmCall]) -> Result<Vec<FarmCall>, NoMemory> {
     let mut both = Vec::new(alloc);
@@ -92,7 +86,7 @@ fn show(rt: &impl Print, name: &str, last: Option<Reply>) -> io::Result<()> {
 
 // Asks the same in three ways, and prints what came.
 fn show_all<R: Threads + Wait + Sync + Print>(rt: &R, alloc: Global) -> io::Result<()> {
-    let plan = match accepted_plan(alloc) {
+    let plan = match accept_plan(alloc, PLAN.as_bytes()) {
         Ok(plan) => plan,
         Err(fault) => return println!(rt; "the plan is refused: {fault}"),
     };
