@@ -13,6 +13,7 @@ mod lists;
 mod locking;
 mod moves;
 mod opening;
+mod pacing;
 mod pass;
 mod restarting;
 mod room;

@@ -266,6 +266,7 @@ impl Service {
     // Notes that a domain was restarted.
     pub(crate) fn note_anew(&self, domain: u8) {
         self.note_halted(domain, false);
+        self.schedule.allowance().note(domain, 0);
         if let Some(flag) = self.noted.get(usize::from(domain)) {
             flag.store(false, Ordering::SeqCst);
         }

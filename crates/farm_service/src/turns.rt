@@ -118,7 +118,12 @@ impl Service {
             Some(seated) if !checked_out && self.has_no_room(token.domain, &seated) => {
                 TurnEnd::nothing()
             }
-            Some(mut seated) => end_turn(alloc, &mut seated, checked_out, slot),
+            Some(mut seated) => {
+                let ended = end_turn(alloc, &mut seated, checked_out, slot);
+                let recorded = seated.recorded();
+                self.schedule().allowance().note(token.domain, recorded);
+                ended
+            }
             None => TurnEnd::refused(Refusal::NoSuch),
         }
     }
@@ -182,7 +187,7 @@ impl Service {
     }
 
     // A turn: a burst of a node outside the lock, if it has a Step to do, and then the Moves of its domain; whether there
-    // was anything to do. There is no turn if the node rests, or if the schedule doesn't give it.
+    // was anything to do. There is no turn if the node rests, if its domain is paused, or if the schedule doesn't give it.
     pub(crate) fn turn<R: Wait, G: Gate>(
         &self,
         rt: &R,
@@ -193,7 +198,7 @@ impl Service {
         length: BurstLength,
     ) -> Result<bool, Refusal> {
         let changes = self.schedule().rest().changes(token.domain);
-        if self.schedule().rest().is_resting(token) {
+        if self.schedule().rest().is_resting(token) || self.schedule().is_paused(token.domain) {
             return Ok(false);
         }
         let Some(take) = self.schedule().take(token) else {

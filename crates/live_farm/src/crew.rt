@@ -18,6 +18,8 @@ use std::sync::Wait;
 
 /// All users, in the order of the plan, and a station for each domain.
 pub struct Crew<'a> {
+    /// The farm at which they are.
+    pub service: &'a Service,
     /// Their names.
     pub names: Vec<&'a str>,
     /// Their numbers.
@@ -30,6 +32,7 @@ pub struct Crew<'a> {
 impl Drop for Crew<'_> {
     fn drop(self) {
         let Crew {
+            service: _,
             names: _,
             numbers: _,
             stations: _,
@@ -190,6 +193,7 @@ impl<'a> Crew<'a> {
     {
         let mut groups = groups_of(alloc, service, quantum)?;
         let mut crew = Crew {
+            service,
             names: Vec::new(alloc),
             numbers: Vec::new(alloc),
             stations: Vec::new(alloc),
@@ -241,6 +245,7 @@ impl<'a> Crew<'a> {
         ensures { IfOk result (λ passes. map number_of passes.items ≡ self.entry.numbers.items) }
     {
         let Crew {
+            service: _,
             names: _,
             numbers,
             stations,

@@ -13,8 +13,16 @@ use std::io::BufRead;
 use std::sync::Wait;
 use std::thread;
 use std::thread::Threads;
+use std::time::Duration;
 
-// Starts a thread for each station of a list.
+/// How many events a domain may record in the time of [`PACE_MILLISECONDS`], once half of its limit is recorded. The other half of
+/// the greatest limit, 2^39 events, then lasts 30 hours.
+const PACED_EVENTS: u64 = 500_000;
+
+/// See [`PACED_EVENTS`].
+const PACE_MILLISECONDS: u64 = 100;
+
+// Starts a thread for each station of a list, and one that keeps the pace of programs that never end.
 fn run_stations<
     R: Threads + Wait + Sync,
     K: SharedRecord + Sync,
@@ -33,7 +41,11 @@ fn run_stations<
 ) -> Result<(), Trouble> {
     let alloc = desk.alloc;
     thread::scope(thread::scope_env(), rt, |scope| {
-        let mut started = true;
+        let service = desk.crew.service;
+        let interval = Duration::from_millis(PACE_MILLISECONDS);
+        let mut started = scope
+            .spawn(move || service.keep_pace(rt, PACED_EVENTS, interval))
+            .is_ok();
         for (station, record) in stations.iter().zip(records) {
             station.note(record.state(rt));
             station.note_sizes(record.sizes(rt));
@@ -53,6 +65,7 @@ fn run_stations<
         for station in stations {
             station.mailbox.close(rt);
         }
+        service.end_pacing();
         ended
     })
 }

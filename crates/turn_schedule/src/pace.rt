@@ -8,7 +8,7 @@ ghost use Rattle.std.specs.Prelude.{◌≤◌};
 const MOST_QUANTA: u64 = 256;
 
 /// The most Steps of a burst.
-const BURST_STEPS: u64 = 65_536;
+pub(crate) const BURST_STEPS: u64 = 65_536;
 
 /// How many Steps the bursts of a worker's turns have.
 #[derive(Clone, Copy)]

@@ -6,6 +6,7 @@
 //! one domain shares no cache line with what is noted of another.
 
 use crate::NoMemory;
+use crate::allowance::Allowance;
 use crate::pace::longer;
 use crate::rest::{MOST_DOMAINS, MOST_NODES, Rest, place_of};
 use crossbeam_utils::CachePadded;
@@ -122,6 +123,8 @@ pub struct Schedule {
     nap: AtomicU64,
     // Which nodes rest, and which workers sleep.
     rest: Rest,
+    // How many events workers may record.
+    allowance: Allowance,
 }
 
 // Dropped by hand, since a derived `Drop` makes callers prove the drop of each field.
@@ -134,6 +137,7 @@ impl Drop for Schedule {
             cores: _,
             nap: _,
             rest: _,
+            allowance: _,
         } = self;
     }
 }
@@ -213,6 +217,7 @@ impl Schedule {
             cores: AtomicUsize::new(usize::MAX),
             nap: AtomicU64::new(0),
             rest: Rest::empty(alloc)?,
+            allowance: Allowance::empty(alloc)?,
         })
     }
 
@@ -370,6 +375,16 @@ impl Schedule {
     /// Which nodes rest, and which workers sleep.
     pub fn rest(&self) -> &Rest {
         &self.rest
+    }
+
+    /// How many events workers may record in each domain.
+    pub fn allowance(&self) -> &Allowance {
+        &self.allowance
+    }
+
+    /// Whether workers do nothing in a domain for now: it has recorded all that it may, and nobody settles there.
+    pub fn is_paused(&self, domain: u8) -> bool {
+        self.allowance.is_used_up(domain) && !self.has_settler(domain)
     }
 
     /// Makes way for others before a worker's turn. If it has had nothing to do for long and may sleep, it sleeps until
