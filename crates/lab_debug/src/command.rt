@@ -18,6 +18,8 @@ pub enum Address<'a> {
 pub enum Sought<'a> {
     /// A node comes to the instruction at an address.
     At { node: u8, address: Address<'a> },
+    /// A node comes to an instruction byte that doesn't follow the one that it did.
+    Jump { node: u8 },
     /// A node meets a fault.
     Fault,
     /// A byte leaves a virtual port, or comes to it.
@@ -119,14 +121,16 @@ const FIRST_WORDS: [(&str, FirstWord); 18] = [
 #[derive(Clone, Copy)]
 enum SoughtWord {
     Node,
+    Jump,
     Fault,
     Byte,
     Write,
     Lost,
 }
 
-const SOUGHT_WORDS: [(&str, SoughtWord); 5] = [
+const SOUGHT_WORDS: [(&str, SoughtWord); 6] = [
     ("node", SoughtWord::Node),
+    ("jump", SoughtWord::Jump),
     ("fault", SoughtWord::Fault),
     ("byte", SoughtWord::Byte),
     ("write", SoughtWord::Write),
@@ -205,7 +209,7 @@ impl FirstWord {
             FirstWord::Trace => "trace [N [K]]",
             FirstWord::Back => "back [N], or back until ..",
             FirstWord::Until =>
-                "until node K at ADDR, until fault, until byte PORT, until write ADDR of node K, or until lost",
+                "until node K at ADDR, until jump of node K, until fault, until byte PORT, until write ADDR of node K, or until lost",
             FirstWord::Look => "look",
             FirstWord::Registers => "registers K",
             FirstWord::Memory => "memory K ADDR [COUNT]",
@@ -340,6 +344,9 @@ impl<'a> CommandWords<'a> {
             Some(SoughtWord::Lost) => Ok(Sought::Lost),
             Some(SoughtWord::Byte) => Ok(Sought::Byte(self.small()?)),
             Some(SoughtWord::Node) => self.sought_at(),
+            Some(SoughtWord::Jump) => Ok(Sought::Jump {
+                node: self.of_node()?,
+            }),
             Some(SoughtWord::Write) => self.sought_write(),
             None => Err(Mistake::NoSought),
         }
@@ -356,10 +363,15 @@ impl<'a> CommandWords<'a> {
     // What comes after `until write`.
     fn sought_write(&mut self) -> Result<Sought<'a>, Mistake> {
         let address = self.address()?;
+        let node = self.of_node()?;
+        Ok(Sought::Write { node, address })
+    }
+
+    // The node after `of node`.
+    fn of_node(&mut self) -> Result<u8, Mistake> {
         self.expect("of")?;
         self.expect("node")?;
-        let node = self.small()?;
-        Ok(Sought::Write { node, address })
+        self.small()
     }
 
     // What comes after `back`.

@@ -282,6 +282,10 @@ impl<'a> Debugger<'a> {
             Sought::Fault => Some(Goal::Fault),
             Sought::Lost => Some(Goal::Lost),
             Sought::Byte(port) => Some(Goal::Byte(port)),
+            Sought::Jump { node } => match self.node(node, text) {
+                Some(_) => Some(Goal::Jump { node }),
+                None => None,
+            },
             Sought::At { node, address } => match self.address_at(node, address, text)? {
                 Some(address) => Some(Goal::At { node, address }),
                 None => None,

@@ -13,6 +13,8 @@ use std::alloc::AllocError;
 pub enum Goal {
     /// A node comes to the instruction at an address.
     At { node: u8, address: u32 },
+    /// A node comes to an instruction byte that doesn't follow the one that it did.
+    Jump { node: u8 },
     /// A node meets a fault.
     Fault,
     /// A byte leaves a virtual port, or comes to it.
@@ -34,7 +36,7 @@ impl Goal {
     // The node at which it is looked for.
     fn node(self) -> Option<u8> {
         match self {
-            Goal::At { node, .. } | Goal::Write { node, .. } => Some(node),
+            Goal::At { node, .. } | Goal::Jump { node } | Goal::Write { node, .. } => Some(node),
             Goal::Fault | Goal::Byte(_) | Goal::Lost => None,
         }
     }
@@ -42,7 +44,7 @@ impl Goal {
     // What is seen of it in a node: where that goes on, or a word.
     fn seen_in(self, node: &Node) -> Result<Option<u32>, AllocError> {
         match self {
-            Goal::At { .. } => next_address(node),
+            Goal::At { .. } | Goal::Jump { .. } => next_address(node),
             Goal::Write { address, .. } => Ok(node.memory().word(address).ok()),
             Goal::Fault | Goal::Byte(_) | Goal::Lost => Ok(None),
         }
@@ -52,9 +54,18 @@ impl Goal {
     fn is_met(self, before: Option<u32>, after: Option<u32>, is_step: bool) -> bool {
         match self {
             Goal::At { address, .. } => after == Some(address) && (is_step || before != after),
+            Goal::Jump { .. } => is_step && is_jump(before, after),
             Goal::Write { .. } => before != after,
             Goal::Fault | Goal::Byte(_) | Goal::Lost => false,
         }
+    }
+}
+
+// Whether a Step at the first address led to another than the next.
+fn is_jump(before: Option<u32>, after: Option<u32>) -> bool {
+    match (before, after) {
+        (Some(from), Some(to)) => to != from.wrapping_add(1),
+        _ => false,
     }
 }
 
@@ -92,7 +103,7 @@ fn was_noted(timeline: &Timeline, goal: Goal) -> bool {
     match goal {
         Goal::Fault => is_fault(past, event),
         Goal::Lost => is_loss(past, event),
-        Goal::At { .. } | Goal::Byte(_) | Goal::Write { .. } => false,
+        Goal::At { .. } | Goal::Jump { .. } | Goal::Byte(_) | Goal::Write { .. } => false,
     }
 }
 
