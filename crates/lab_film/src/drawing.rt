@@ -4,7 +4,7 @@
 pub const DRAWING: &str = r##"
 const $ = (id) => document.getElementById(id);
 
-// An element with a class, and what stands in it: texts and elements.
+// An element with a class, and what is in it: texts and elements.
 function made(name, kind, ...inside) {
   const it = document.createElement(name);
   if (kind) it.className = kind;
@@ -58,7 +58,7 @@ function hostShown(host, number, frame, isTouched) {
 const FAULTS = ["", "an address lies outside memory", "there is no operation of this code", "the error flag was set",
   "a process or queue of high priority was asked for", "an instruction named a channel that it can't use"];
 
-// The registers, and those marked that have just changed.
+// The registers. Those that this frame changed are marked.
 function registersShown(registers, changed) {
   const box = made("div", "registers");
   for (const name of ["Iptr", "A", "W", "B", "O", "C"]) {
@@ -97,7 +97,7 @@ function linesShown(name, lines, kind) {
   return box;
 }
 
-// The queue, of which four processes are told, and the words of the workspace.
+// The queue, of which four processes are shown, and the words of the workspace.
 function processesShown(node) {
   const waiting = node.waiting.map((it) => "W " + hex(it.workspace, 8) + " at " + hex(it.instruction, 8));
   const name = "processes that wait for the processor" + (waiting.length > 3 ? ", the first four" : "");
@@ -144,7 +144,7 @@ function crossing(svg, word, x, y) {
   svg.append(drawn("circle", { cx: x, cy: y, r, fill, stroke: "var(--switch)", "stroke-width": 2 }));
 }
 
-// The sizes of the crossbar: many ports stand closer together.
+// The sizes of the crossbar: the more ports there are, the closer together they are drawn.
 const shownPorts = [...usedPorts].sort((a, b) => a - b);
 const across = shownPorts.length > 16 ? { side: 12, left: 112, kind: "small", low: 2.5 } : { side: 20, left: 136, kind: "", low: 6 };
 const TALL = across.side < 20 ? 36 : 24;
@@ -191,7 +191,7 @@ const lanes = [
   ...plan.hosts.map((user, number) => "host " + number + " " + plan.users[user]),
   ...plan.nodes.map((_, number) => "node " + number),
 ];
-// the names stand whole before the columns
+// the names are to the left of the columns, uncut
 const WIDE = 28, HIGH = 30, LEFT = Math.max(130, ...lanes.map((it) => 10 + Math.ceil(7.4 * it.length))), TOP = 30;
 const laneAt = (lane) => TOP + (lane + 1.5) * HIGH;
 const short = (number) => (number < 1000 ? String(number) : number < 1e6 ? Math.floor(number / 1e3) + "k"
@@ -332,7 +332,7 @@ function show() {
 
 let noting;
 
-// Browsers take only so many addresses a second, so one is noted when the reader rests.
+// Browsers limit how many addresses a page may note in a second, so one is noted when the reader pauses.
 function noteAddress() {
   clearTimeout(noting);
   noting = setTimeout(() => history.replaceState(null, "", "#event=" + recordedAt(now)), 200);

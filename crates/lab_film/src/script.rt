@@ -6,7 +6,7 @@ const began = performance.now();
 const film = JSON.parse(document.getElementById("film").textContent);
 const { plan, lines } = film;
 const sources = JSON.parse(document.getElementById("sources").textContent);
-// a copy of the whole domain is kept at each so many-th frame
+// a copy of the whole domain is kept at every this many frames
 const EACH = 1000;
 const START = 0x80000000;
 
@@ -33,7 +33,7 @@ const last = changes.length;
 const lastFrame = (number) => firstFrame[number] + lines[number].then.length - 1;
 const recordedAt = (frame) => (frame === 0 ? film.first : changes[frame - 1]).recorded;
 
-// the last of an ascending list's places that holds no more than a number, or -1
+// in an ascending list, the last place whose number is at most the given one, or -1
 function lastUpTo(list, number) {
   let low = 0, high = list.length;
   while (low < high) {
@@ -44,7 +44,7 @@ function lastUpTo(list, number) {
   return low - 1;
 }
 
-// the frame after so many events, or the one before it that is nearest
+// the frame after this number of events, or the nearest one before it
 function frameOfEvent(event) {
   let low = 0, high = last;
   while (low < high) {
@@ -207,7 +207,7 @@ function noteLine(number, frame, isOverrun) {
   });
 })();
 
-// ---- what a node's workspace, queue and links are told as
+// ---- how a node's workspace, queue and links are shown
 
 // The words from the workspace on that are known, each by its address.
 function workspaceWords(node, registers) {
@@ -222,7 +222,7 @@ function workspaceWords(node, registers) {
 const bytesCounted = (count) => count + (count === "1" ? " byte" : " bytes");
 const LINK_LETTERS = { s: (it) => "sends byte " + it, h: (it) => "holds byte " + it, k: () => "sends an acknowledge",
   w: () => "awaits an acknowledge", d: () => "has an acknowledge", v: () => "an alternative waits for a byte",
-  i: (it) => "a process waits for " + bytesCounted(it), o: (it) => bytesCounted(it) + " to be sent behind that one" };
+  i: (it) => "a process waits for " + bytesCounted(it), o: (it) => bytesCounted(it) + " to be sent after that one" };
 
 // What a link does, by the letters that the film has for it.
 const linkText = (letters) => [...letters.matchAll(/([sh])(..)|([kwdv])|([io])(\d+)/g)]
@@ -240,7 +240,7 @@ const labelled = (it) => (it.label === undefined ? "" : it.label + (it.behind ? 
 const names = new Map(plan.operations.map((it) => [it.code, it.name]));
 const isPrefix = (byte) => byte >> 4 === 2 || byte >> 4 === 6;
 
-// the instruction that begins at a place, and the place behind it; nothing if its bytes aren't known
+// the instruction that begins at a place, and the place after it; nothing if its bytes aren't known
 function instructionAt(code, place) {
   let operand = 0;
   for (let at = place; at < place + 16; at += 1) {
@@ -259,14 +259,14 @@ function instructionAt(code, place) {
   return undefined;
 }
 
-// the place of the first of the prefixes that stand before a place
+// the place of the first of the prefixes right before a place
 function prefixesBefore(code, end, most) {
   let at = end;
   while (at > end - most && code.has(at - 1) && isPrefix(code.get(at - 1))) at -= 1;
   return at;
 }
 
-// The instructions before and behind the instruction pointer. Only the bytes around it are those of now: 16 before, 32 behind.
+// The instructions before and after the instruction pointer. Only the bytes around it are those of now: 16 before, 32 after.
 function listing(node, registers) {
   const here = registers.Iptr - START, lowest = here - 16, code = node.code;
   const begin = registers.O === 0 ? here : prefixesBefore(code, here, 8);
