@@ -1,31 +1,58 @@
-//! Why `farm` refuses a text: reads the text, and prints where and why. Of a text that isn't refused it prints nothing.
+//! Runs a script as `farm` does. If its text is refused, it says then on standard error where and why.
 #![tactic(auto)]
 
-use farm_input::{FarmFailure, text_read};
+use farm_input::{refuse_arguments, text_read};
+use farm_program::{run, settings};
 use line_faults::tell_wrong_lines;
 use plan_faults::{PlanRefusal, plan_or_reason};
-use script_text::{PlanText, WriteFailed, divide_at_plan_end, write_whole};
+use script_text::{PlanText, divide_at_plan_end, write_whole};
 use std::alloc::{AllocError, Global};
-use std::io::{Read, Write};
+use std::env;
+use std::io::{self, Cursor, Write};
 use std::process::ExitCode;
 
+/// The status of a refused plan.
+const REFUSED_PLAN: u8 = 3;
+
+/// The status of a refused line.
+const REFUSED_LINE: u8 = 4;
+
+// The text is kept while `farm` runs over it. If the words give no settings nothing is read.
 fn main(rt: HostRuntime) -> ExitCode {
-    match explain(rt.alloc(), &mut rt.reader(), &mut rt.stdout()) {
-        Ok(()) => ExitCode::from(0),
-        Err(failure) => ExitCode::from(failure.report(&mut rt.stderr()).status),
+    let alloc = rt.alloc();
+    let (mut input, mut output, mut errors) = (rt.reader(), rt.stdout(), rt.stderr());
+    let words = match words_of(&rt) {
+        Ok(words) => words,
+        Err(error) => return ExitCode::from(refuse_arguments(&error, &mut errors).status),
+    };
+    let words = words.as_slice();
+    if settings(alloc, words).is_err() {
+        let status = run(&rt, alloc, words, &mut input, &mut output, &mut errors);
+        return ExitCode::from(status);
+    }
+    let text = match text_read(alloc, &mut input) {
+        Ok(text) => text,
+        Err(failure) => return ExitCode::from(failure.report(&mut errors).status),
+    };
+    let mut kept = Cursor::new(text.as_slice());
+    let status = run(&rt, alloc, words, &mut kept, &mut output, &mut errors);
+    if status == REFUSED_PLAN || status == REFUSED_LINE {
+        explain(alloc, text.as_slice(), &mut errors);
+    }
+    ExitCode::from(status)
+}
+
+fn words_of(rt: &HostRuntime) -> io::Result<Vec<String>> {
+    match env::args(rt)?.collect(rt.alloc()) {
+        Ok(words) => Ok(words),
+        Err(_) => Err(io::Error::from(io::ErrorKind::OutOfMemory)),
     }
 }
 
-fn explain<I: Read, W: Write>(
-    alloc: Global,
-    input: &mut I,
-    output: &mut W,
-) -> Result<(), FarmFailure> {
-    let text = text_read(alloc, input)?;
-    let explanation = explanation_of(alloc, text.as_slice())?;
-    match write_whole(output, explanation.as_bytes()) {
-        Ok(()) => Ok(()),
-        Err(WriteFailed) => Err(FarmFailure::Io),
+// Writes where and why a text is refused. If this can't be written, or there is no memory for it, the run ends as it would without it.
+fn explain<E: Write>(alloc: Global, text: &[u8], errors: &mut E) {
+    if let Ok(explanation) = explanation_of(alloc, text) {
+        let _ = write_whole(errors, explanation.as_bytes());
     }
 }
 
