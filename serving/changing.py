@@ -8,7 +8,7 @@ import shutil
 import signal
 import time
 
-from .folder import CLASS, FOLDER_MODE, PLAN, Refused, account_name, is_locked, made, ready
+from .folder import CLASS, FOLDER_MODE, PLAN, Refused, account_name, build, is_locked, made
 from .holders import serve_of
 from .kept import class_in
 from .places import parts_of, text_of
@@ -255,7 +255,7 @@ class Change:
         self.written()
         up = self.up()
         if up:
-            ready("live")
+            build("live")
         stopping = [farm for farm in self.touched if farm in up]
         before = {farm: outs(farm) for farm in stopping}
         begun = time.monotonic()

@@ -12,7 +12,7 @@ from .checking import check
 from .coming import add, change_one, remove, rename
 from .escapes import escaped
 from .finishing import finish
-from .folder import CLASS, FOLDER_MODE, Refused, is_locked, made, mode_of, program, ready, socket_path
+from .folder import CLASS, FOLDER_MODE, Refused, build, is_locked, made, mode_of, program, socket_path
 from .kept import Kept, Rooms, class_in, keep, save
 from .plans import LIMIT, Machine, farms_of, plan_of, students_of
 from .rooms import RECORD_ROOM, ROOM, Needed, add_rooms
@@ -74,7 +74,7 @@ def make(words):
 def start(folder):
     """Starts each farm that isn't served yet, and waits until it answers."""
     class_in(folder)
-    ready("live")
+    build("live")
     with hold(folder, fcntl.LOCK_SH):
         kept = class_in(folder)
         return do_all([starting(kept, farm, folder, names) for farm, names in kept.farms.items()])

@@ -45,16 +45,6 @@ def program(name):
     return os.path.abspath(os.environ.get(name.upper()) or os.path.join(TOP, name))
 
 
-def ready(name):
-    """Builds a program if it isn't built or is stale, and shows that. One that a variable names is taken as it is. Of the lab
-    only that is built which gives the help, since it assembles too."""
-    if os.environ.get(name.upper()):
-        return
-    call = [os.path.join(TOP, name), "--help"]
-    if subprocess.run(call, stdin=subprocess.DEVNULL, stdout=subprocess.DEVNULL, check=False).returncode != 0:
-        raise Refused(f"the program {name} can't be built: see above")
-
-
 def is_built(name):
     """Whether a program can be run without building it."""
     if os.environ.get(name.upper()):
@@ -64,7 +54,7 @@ def is_built(name):
 
 
 def build(name):
-    """Builds a whole program unless it is built, and shows that."""
+    """Builds a program if it isn't built or is stale, and shows that. One that a variable names is taken as it is."""
     if is_built(name):
         return
     call = [os.path.join(TOP, "tools", "start"), "--only-build", name]

@@ -3,7 +3,7 @@ import os
 import re
 import subprocess
 
-from .folder import EXAMPLES, OPERATOR, Refused, program, ready
+from .folder import EXAMPLES, OPERATOR, Refused, build, program
 from .hints import meant
 from .verbs import ALIASES, ALL, FILE, OPERATORS, SENTENCE, TEXT, USERS, Wrong, check, find, with_ports
 
@@ -91,7 +91,7 @@ def loading(name, host, file):
     """The lines that boot a program: its code, or pokes and a jump if it is too long for a boot."""
     path = found(file)
     try:
-        ready("lab")
+        build("lab")
         code, told = assembled(path)
         if code:
             return [f"boot {host} {code[0]}"]

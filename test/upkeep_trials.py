@@ -16,7 +16,7 @@ from live_lines import PLAN
 from serving_trials import SECONDS, Served, hears_ctrl_c, wanted
 from trials import EXAMPLES, TOP, built, contents
 
-PROGRAMS = ("farm", "farm_explain", "live", "lab", "lab_node")
+PROGRAMS = ("farm", "farm_explain", "live", "lab")
 # A plan whose node has the port of the host, and what `lab plan` says of it (docs/guides/OPERATOR.md).
 CLASHING = 'version = 1\ndomain = [{name="ann", first=0, last=7, limit=1000, host=[7], node=[{memory=4096, links=[0,7,-1,-1]}]}]\n'
 CLASH = "plan: 11: domain 0 (ann): user 0's host 0 and node 0's link 1 are both at virtual port 7, which holds one of them"

@@ -8,7 +8,7 @@ from proofs import stood_on
 from tree import TOP, crate_lines, crates_below
 
 TEXT = f"{TOP}/docs/HASHES.txt"
-PROGRAMS = ("farm", "farm_explain", "live", "lab", "lab_node")
+PROGRAMS = ("farm", "farm_explain", "live", "lab")
 # The folders of a crate that its bytes come from. Definitions and proofs leave none in a program.
 FOLDERS = ("src",)
 HEAD = """# The SHA-256 of each proved program, as the toolchain named below makes it from the sources whose digest is beside it.

@@ -19,7 +19,7 @@ def crates_below(lines):
 
 def built(name):
     """The path of a program, which is proved and built first if it isn't there or is older than a source. If a variable
-    of its name in capitals is set (FARM, FARM_EXPLAIN, LAB, LAB_NODE, LIVE), the program is the one at that path, and nothing
+    of its name in capitals is set (FARM, FARM_EXPLAIN, LAB, LIVE), the program is the one at that path, and nothing
     is built."""
     given = os.environ.get(name.upper())
     if given:

@@ -36,21 +36,21 @@ fn report(rt: &HostRuntime) -> Result<Report, LabFailure> {
     let words = command_words(rt)?;
     match read_command_line(rt.alloc(), words.as_slice())? {
         CommandLine::Help(text) => Report::of(Ok(text)),
-        CommandLine::Request(LabRequest::Rows(asked)) => report_rows(rt, &asked),
-        CommandLine::Request(request) => Report::of(answer(rt, &request)),
+        CommandLine::Request(request) => answer(rt, &request),
     }
 }
 
-fn answer(rt: &HostRuntime, request: &LabRequest) -> Result<String, LabFailure> {
+fn answer(rt: &HostRuntime, request: &LabRequest) -> Result<Report, LabFailure> {
     match request {
-        LabRequest::Plan => print_plan(rt),
-        LabRequest::Replay(most) => print_replayed(rt, *most),
-        LabRequest::Draw(drawing) => print_drawing(rt, *drawing),
-        LabRequest::Script(script, what) => print_script(rt, *script, *what),
-        LabRequest::TraceScript(asked) => print_trace(rt, *asked),
-        LabRequest::Why(asked) => print_why(rt, *asked),
-        LabRequest::Film(asked) => print_film(rt, asked),
-        LabRequest::Debug(asked) => print_debugging(rt, asked),
-        _ => answer_of_node(rt, request),
+        LabRequest::Rows(asked) => report_rows(rt, asked),
+        LabRequest::Node(asked) => Report::of(answer_of_node(rt, asked)),
+        LabRequest::Plan => Report::of(print_plan(rt)),
+        LabRequest::Replay(most) => Report::of(print_replayed(rt, *most)),
+        LabRequest::Draw(drawing) => Report::of(print_drawing(rt, *drawing)),
+        LabRequest::Script(script, what) => Report::of(print_script(rt, *script, *what)),
+        LabRequest::TraceScript(asked) => Report::of(print_trace(rt, *asked)),
+        LabRequest::Why(asked) => Report::of(print_why(rt, *asked)),
+        LabRequest::Film(asked) => Report::of(print_film(rt, asked)),
+        LabRequest::Debug(asked) => Report::of(print_debugging(rt, asked)),
     }
 }

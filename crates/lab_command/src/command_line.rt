@@ -3,8 +3,8 @@
 use crate::arguments::arg_of;
 use crate::failure::{ArgumentFault, LabFailure, WRONG_WORDS};
 use crate::request::{
-    AssemblyOptions, BootOptions, BootedCode, Debugging, Drawing, Explaining, LabRequest, RowFiles,
-    ScriptUse, Showing, TracedScript,
+    AssemblyOptions, BootOptions, BootedCode, Debugging, Drawing, Explaining, LabRequest,
+    NodeRequest, RowFiles, ScriptUse, Showing, TracedScript,
 };
 use crate::subcommand::{SUBCOMMANDS, Subcommand};
 use clap::error::ErrorKind;
@@ -190,8 +190,8 @@ fn read_subcommand<'a>(
         Subcommand::Plan => Ok(LabRequest::Plan),
         Subcommand::Draw => Ok(LabRequest::Draw(drawing_of(matches))),
         Subcommand::Trace => read_trace(alloc, matches),
-        Subcommand::Assemble => Ok(LabRequest::Assemble(read_options(matches))),
-        Subcommand::Disassemble => Ok(LabRequest::Disassemble),
+        Subcommand::Assemble => Ok(LabRequest::Node(NodeRequest::Assemble(read_options(matches)))),
+        Subcommand::Disassemble => Ok(LabRequest::Node(NodeRequest::Disassemble)),
         Subcommand::Rows => read_rows(alloc, matches),
         Subcommand::Why => read_why(matches),
         Subcommand::Film => read_film(alloc, matches),
@@ -317,18 +317,18 @@ fn read_trace<'a>(
             domain: matches.get_one::<u8>("domain").unwrap_or(0),
             most: steps,
         }),
-        None => LabRequest::Trace(steps),
+        None => LabRequest::Node(NodeRequest::Trace(steps)),
     })
 }
 
 fn read_boot<'a>(alloc: Global, matches: &ArgMatches<'a>) -> Result<LabRequest<'a>, ArgumentFault> {
     let inputs = Vec::from_slice(alloc, matches.get_strs("input").unwrap_or(&[]))?;
-    Ok(LabRequest::Boot(BootOptions {
+    Ok(LabRequest::Node(NodeRequest::Boot(BootOptions {
         code: booted_code(matches),
         steps: steps_of(matches).unwrap_or(USUAL_STEPS),
         until: matches.get_str("until"),
         inputs,
-    }))
+    })))
 }
 
 fn booted_code<'a>(matches: &ArgMatches<'a>) -> BootedCode<'a> {

@@ -52,9 +52,6 @@ pub enum ArgumentFault {
     /// `--input` is no link with bytes.
     #[error("--input takes a link, 0 to 3, a colon and bytes in hexadecimal digits: --input 1:0a0b")]
     Input,
-    /// Another program of the lab answers this.
-    #[error("another program answers this subcommand, and the command `lab` starts the right one")]
-    Elsewhere,
     #[error("memory")]
     Memory(#[from(alloc)] AllocError),
 }

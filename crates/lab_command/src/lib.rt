@@ -1,6 +1,4 @@
 //! The command line of the lab: its subcommands and their arguments, what the words ask, and why no answer comes.
-//!
-//! Two programs answer: `lab` all that can be asked, and `lab_node` a part. They read all words alike, and write the same help.
 #![tactic(auto)]
 
 mod arguments;
@@ -20,6 +18,6 @@ pub use files::{read_file, readable_bytes};
 pub use meter::TerminalMeter;
 pub use report::{Report, end_with, print_answers};
 pub use request::{
-    AssemblyOptions, BootOptions, BootedCode, Debugging, Drawing, Explaining, LabRequest, RowFiles,
-    ScriptUse, Showing, TracedScript,
+    AssemblyOptions, BootOptions, BootedCode, Debugging, Drawing, Explaining, LabRequest,
+    NodeRequest, RowFiles, ScriptUse, Showing, TracedScript,
 };

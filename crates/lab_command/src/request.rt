@@ -3,14 +3,8 @@
 /// What the words ask.
 #[derive(Drop)]
 pub enum LabRequest<'a> {
-    /// To trace what standard input asks of a node, if that takes no more Steps than these.
-    Trace(Option<u64>),
-    /// To boot a node with code, and to trace it.
-    Boot(BootOptions<'a>),
-    /// To assemble standard input.
-    Assemble(AssemblyOptions<'a>),
-    /// To disassemble standard input.
-    Disassemble,
+    /// About a node by itself, or a program.
+    Node(NodeRequest<'a>),
     /// To show the plan on standard input.
     Plan,
     /// To replay standard input on farms, if that takes no more Steps than these.
@@ -29,6 +23,19 @@ pub enum LabRequest<'a> {
     Film(Showing<'a>),
     /// To look through a record by commands.
     Debug(Debugging<'a>),
+}
+
+/// What is asked of a node by itself, or of a program.
+#[derive(Drop)]
+pub enum NodeRequest<'a> {
+    /// To trace what standard input asks of a node, if that takes no more Steps than these.
+    Trace(Option<u64>),
+    /// To boot a node with code, and to trace it.
+    Boot(BootOptions<'a>),
+    /// To assemble standard input.
+    Assemble(AssemblyOptions<'a>),
+    /// To disassemble standard input.
+    Disassemble,
 }
 
 /// How a node is traced that is booted with code.

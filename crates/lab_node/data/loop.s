@@ -1,3 +1,0 @@
-        ldc 3
-loop:   adc -1
-        j loop
