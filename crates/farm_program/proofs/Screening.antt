@@ -11,16 +11,17 @@ use Rattle.script_lines.specs.declared.script.ScriptLine.{ScriptLine}
 use Rattle.domain_core.specs.declared.event.Told.{Told}
 use Rattle.farm_service.specs.declared.closed.ClosedDomain.{ClosedDomain}
 use Rattle.farm_service.specs.Passes.{SessionValue, UserPassValue, fresh_pass, passes_opened, passes_from, fresh_passes}
-use Rattle.farm_service.specs.Closed.{AreListed, IsListed, IsFull, MetFullTruly, AllMetFullTruly, history_of}
+use Rattle.farm_service.specs.Closed.{AreListed, IsListed, IsFull, IsNearlyFull, MetFullTruly, AllMetFullTruly}
+use Rattle.farm_service.specs.Closed.{history_of}
 use Rattle.farm_service.specs.Commands.{commands_of}
 use Rattle.line_answers.specs.Lines.{AreAnsweredLines}
-use Rattle.line_answers.specs.Sessions.{HasMetFull, with_all}
+use Rattle.line_answers.specs.Sessions.{with_all}
+use Rattle.line_answers.specs.Laws.{FullIsSaidTruly}
 use Rattle.farm_program.specs.declared.farm.ScriptEnd.{ScriptEnd}
 use Rattle.farm_program.specs.declared.farm.UsersEnd.{UsersEnd}
 use Rattle.farm_program.specs.declared.users.UserEnd.{UserEnd}
 use Rattle.farm_program.specs.Users.{commands_at, session_of, IsLeftBy, HaveAnswered}
 use Rattle.farm_program.specs.Screens.{IsScreen, AreScreens}
-use Rattle.farm_program.proofs.FullJournals.{lines_if}
 use Rattle.farm_program.proofs.Places.{read_at, there_is}
 
 -- ---- a pass before its user has asked anything
@@ -44,41 +45,42 @@ some_then None P Q then given = tt
 some_then (Some x) P Q then given = then x given
 
 -- a user's screen, who has given his pass back
-one_screen : (plan : List DomainData) (closed : List ClosedDomain) (pass : UserPassValue) (name : List ℕ)
-    (commands : List Command) (end : UserEnd)
+one_screen : FullIsSaidTruly → (plan : List DomainData) (closed : List ClosedDomain) (pass : UserPassValue)
+    (name : List ℕ) (commands : List Command) (end : UserEnd)
     → pass.told ≡ [] → IsLeftBy plan pass name commands end
     → IsListed closed end.pass → MetFullTruly plan closed end.pass
     → IsScreen plan closed pass name commands (string_bytes end.screen)
-one_screen plan closed pass name commands end unasked lines listed truly =
+one_screen law plan closed pass name commands end unasked lines listed truly =
     let P : Type 0 = IsFull plan closed pass.domain in
+    let near : Type 0 = IsNearlyFull plan closed pass.domain in
     let screen : List ℕ = string_bytes end.screen in
-    let at : session_of plan end.pass ≡ with_all (session_of plan pass) lines.told end.pass.met_full =
+    let at : session_of plan end.pass
+    ≡ with_all (session_of plan pass) lines.told end.pass.met_full end.pass.met_nearly_full =
     lines.gains.list in
     let told : end.pass.told ≡ lines.told =
     ap (λ (s : SessionValue). s.pass.told) at ∙ ap (λ (before : List Told). before ++ lines.told) unasked in
-    let full : HasMetFull (session_of plan end.pass) → P =
-    λ is. subst (λ (s : SessionValue). IsFull plan closed s.pass.domain) at (truly is) in
-    let own : AreAnsweredLines P (session_of plan pass) name commands lines.told screen =
-    lines_if full (session_of plan pass) name commands lines.told screen lines.lines in
-    let theirs : AreAnsweredLines P (session_of plan pass) name commands end.pass.told screen =
-    subst (λ (list : List Told). AreAnsweredLines P (session_of plan pass) name commands list screen) (sym told) own in
+    let own : AreAnsweredLines P near (session_of plan pass) name commands lines.told screen =
+    law plan closed (session_of plan pass) (session_of plan end.pass) name commands screen lines truly in
+    let theirs : AreAnsweredLines P near (session_of plan pass) name commands end.pass.told screen =
+    subst (λ (list : List Told). AreAnsweredLines P near (session_of plan pass) name commands list screen) (sym told)
+    own in
     let here : IfSome (slice_get closed pass.domain) (λ c. commands_of pass.user (history_of c) ≡ end.pass.told) =
     subst (λ (s : SessionValue). IfSome (slice_get closed s.pass.domain)
     (λ c. commands_of s.pass.user (history_of c) ≡ end.pass.told))
     at listed in
     some_then (slice_get closed pass.domain) (λ c. commands_of pass.user (history_of c) ≡ end.pass.told)
-    (λ c. AreAnsweredLines P (session_of plan pass) name commands (commands_of pass.user (history_of c)) screen)
-    (λ c is. subst (λ (list : List Told). AreAnsweredLines P (session_of plan pass) name commands list screen)
+    (λ c. AreAnsweredLines P near (session_of plan pass) name commands (commands_of pass.user (history_of c)) screen)
+    (λ c is. subst (λ (list : List Told). AreAnsweredLines P near (session_of plan pass) name commands list screen)
     (sym is) theirs)
     here
 
 -- users who were all answered, and whose commands closing lists, have the screens of the plan's users
-all_screens : (plan : List DomainData) (lines : List ScriptLine) (ends : List UserEnd)
+all_screens : FullIsSaidTruly → (plan : List DomainData) (lines : List ScriptLine) (ends : List UserEnd)
     (passes : List UserPassValue) (screens : List (List ℕ)) (closed : List ClosedDomain)
     → HaveAnswered plan lines ends → passes ≡ map (λ e. e.pass) ends
     → screens ≡ map (λ e. string_bytes e.screen) ends → AreListed closed passes → AllMetFullTruly plan closed passes
     → AreScreens plan lines closed screens
-all_screens plan lines ends passes screens closed answered left shown listed truly = record {
+all_screens law plan lines ends passes screens closed answered left shown listed truly = record {
   count = ap length shown ∙ length-map ends (λ (e : UserEnd). string_bytes e.screen) ∙ answered.count;
   each = λ place pass name screen at_pass at_name at_screen.
       let within : place < length ends =
@@ -91,7 +93,7 @@ all_screens plan lines ends passes screens closed answered left shown listed tru
       let text : string_bytes e.0.screen ≡ screen =
       read_at (λ (d : UserEnd). string_bytes d.screen) ends screens place e.0 screen (sym shown) e.1 at_screen in
       subst (IsScreen plan closed pass name (commands_at lines place)) text
-      (one_screen plan closed pass name (commands_at lines place) e.0 unasked
+      (one_screen law plan closed pass name (commands_at lines place) e.0 unasked
       (answered.each place pass name e.0 at_pass at_name e.1)
       (at_pass_of (IsListed closed) place e.0 e.1 within listed)
       (at_pass_of (MetFullTruly plan closed) place e.0 e.1 within truly));
@@ -108,7 +110,8 @@ all_screens plan lines ends passes screens closed answered left shown listed tru
         (omega (arith, less, ap length left, length-map ends (λ (d : UserEnd). d.pass))) all)
 
 -- the same of users with whose passes the service was then closed
-pub closed_screens : {E : Type 0} (plan opened_plan : List DomainData) (lines : List ScriptLine) (ends : List UserEnd)
+pub closed_screens : {E : Type 0} → FullIsSaidTruly → (plan opened_plan : List DomainData) (lines : List ScriptLine)
+    (ends : List UserEnd)
     (left : UsersEnd) (outcome : Result ScriptEnd E)
     → opened_plan ≡ plan → HaveAnswered opened_plan lines ends
     → left.passes.items ≡ map (λ e. e.pass) ends
@@ -117,8 +120,8 @@ pub closed_screens : {E : Type 0} (plan opened_plan : List DomainData) (lines : 
     → IfOk outcome (λ e. AllMetFullTruly opened_plan e.closed.domains.items left.passes.items)
     → IfOk outcome (λ e. e.screens ≡ left.screens)
     → IfOk outcome (λ e. AreScreens plan lines e.closed.domains.items (map string_bytes e.screens.items))
-closed_screens plan opened_plan lines ends left (Err e) same answered passes screens listed truly kept = tt
-closed_screens plan opened_plan lines ends left (Ok e) same answered passes screens listed truly kept =
+closed_screens law plan opened_plan lines ends left (Err e) same answered passes screens listed truly kept = tt
+closed_screens law plan opened_plan lines ends left (Ok e) same answered passes screens listed truly kept =
     subst (λ (p : List DomainData). AreScreens p lines e.closed.domains.items (map string_bytes e.screens.items)) same
-    (all_screens opened_plan lines ends left.passes.items (map string_bytes e.screens.items) e.closed.domains.items
+    (all_screens law opened_plan lines ends left.passes.items (map string_bytes e.screens.items) e.closed.domains.items
     answered passes (ap (λ v. map string_bytes v.items) kept ∙ screens) listed truly)

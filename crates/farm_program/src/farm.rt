@@ -12,6 +12,7 @@ use crate::threads::{Passes, ThreadEnds, run_threads};
 use crate::users::UserEnd;
 use farm_input::Settings;
 use farm_service::{Closed, NoMemory, Opened, Service, UserPass, WorkerPass};
+use line_answers::laws::full_is_said_truly;
 use plan_checker::AcceptedPlan;
 use script_lines::ScriptLine;
 use std::alloc::Global;
@@ -109,5 +110,7 @@ pub fn run_script<R: Threads + Wait + Sync>(
     let ends = run_threads(rt, alloc, &service, settings, lines, passes)?;
     let ThreadEnds { workers, users } = ends;
     let left = parted(alloc, users)?;
+    // What lines say of full journals is so if closing finds it so of the passes.
+    full_is_said_truly();
     close(rt, alloc, service, workers, left)
 }

@@ -10,13 +10,14 @@ use Rattle.domain_core.specs.PrivateFarm.{Answer, Call}
 use Rattle.domain_core.specs.declared.event.Told.{Told}
 
 -- whose it is, by the number of the user's domain in the plan and the user's number there; what the user asked and was
--- answered, in the user's order; whether the journal of the domain was full when the user asked; and for how many
--- commands in all memory is reserved
+-- answered, in the user's order; whether the journal of the domain was full when the user asked; whether it was nearly
+-- full when the domain was to settle for the user; and for how many commands in all memory is reserved
 pub record UserPassValue : Type 0 where
   pub domain : ℕ
   pub user : ℕ
   pub told : List Told
   pub met_full : Bool
+  pub met_nearly_full : Bool
   pub reserved : ℕ
 
 -- the plan of its service, and the user's pass
@@ -28,11 +29,18 @@ pub record SessionValue : Type 0 where
 
 -- a pass before its user has asked anything
 abbrev pub fresh_pass : ℕ → ℕ → UserPassValue
-fresh_pass domain user = record { domain = domain; user = user; told = []; met_full = false; reserved = 0 }
+fresh_pass domain user = record {
+  domain = domain;
+  user = user;
+  told = [];
+  met_full = false;
+  met_nearly_full = false;
+  reserved = 0;
+}
 
 -- the pass as it was before its user asked anything
 abbrev pub pass_begun_anew : UserPassValue → UserPassValue
-pass_begun_anew pass = record pass { told = []; met_full = false }
+pass_begun_anew pass = record pass { told = []; met_full = false; met_nearly_full = false }
 
 -- the pass with memory reserved for this number of commands
 abbrev pub with_reserved : ℕ → UserPassValue → UserPassValue
@@ -67,6 +75,10 @@ abbrev pub with_refusal : UserPassValue → Refusal → UserPassValue
 with_refusal pass JournalFull = record pass { met_full = true }
 with_refusal pass NoSuch = pass
 with_refusal pass NoMemory = pass
+
+-- the pass of a user who has met a journal that is nearly full
+abbrev pub with_nearly_full : UserPassValue → UserPassValue
+with_nearly_full pass = record pass { met_nearly_full = true }
 
 -- the list gains an answered event with its reply, and nothing else; it gains nothing if the event was refused
 abbrev pub Gains : SessionValue → Event → Answer → SessionValue → Type 0

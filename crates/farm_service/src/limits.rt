@@ -1,7 +1,8 @@
-//! Whether each pass has met a full journal only if that of its domain is full.
-ghost use Rattle.std.specs.Prelude.{◌≡◌, ◌∷◌, [], length, true, IfSome};
+//! Whether each pass has met a full journal only if that of its domain is full, and one that is nearly full only if that of
+//! its domain is nearly full.
+ghost use Rattle.std.specs.Prelude.{◌≡◌, ◌+◌, ◌<◌, ◌∷◌, [], length, true, IfSome};
 ghost use Rattle.domain_core.specs.Journal.{expanded};
-ghost use Rattle.farm_service.specs.Closed.{IsFull, MetFullTruly, AllMetFullTruly};
+ghost use Rattle.farm_service.specs.Closed.{most_quantum, IsFull, IsNearlyFull, MetFullTruly, AllMetFullTruly};
 
 use crate::closed::ClosedDomain;
 use crate::pass::UserPass;
@@ -10,6 +11,9 @@ use domain_core::laws::journals_add_up;
 use domain_core::{Entry, Journal};
 use plan_rules::AcceptedPlan;
 use std::sync::Wait;
+
+// The most Steps that a node does at a time while its domain settles.
+const MOST_QUANTUM: u64 = 4096;
 
 // How many events an entry stands for.
 fn event_count(entry: &Entry) -> u64
@@ -58,11 +62,35 @@ fn is_full(plan: &AcceptedPlan, closed: &[ClosedDomain], domain: u8) -> bool
     }
 }
 
-// Whether a pass has met a full journal only if that of its domain is full.
+// Whether a journal has fewer events below this limit than the most that a node does at a time.
+fn is_near(journal: &Journal, limit: u64) -> bool
+    ensures { result ≡ true → limit < length (expanded journal.now.entries) + most_quantum }
+{
+    match all_events(journal) {
+        Some(events) => limit.saturating_sub(events) < MOST_QUANTUM,
+        None => false,
+    }
+}
+
+// Whether the domain of this number is closed with so many events that the plan's limit for it is near.
+fn is_nearly_full(plan: &AcceptedPlan, closed: &[ClosedDomain], domain: u8) -> bool
+    ensures { result ≡ true → IsNearlyFull plan.now closed.now domain }
+{
+    if domain >= plan.domains() {
+        return false;
+    }
+    match closed.get(usize::from(domain)) {
+        Some(closed) => is_near(&closed.journal, plan.part(domain).limit()),
+        None => false,
+    }
+}
+
+// Whether a pass has met a journal that is full, or nearly full, only if that of its domain is.
 fn met_full_truly(plan: &AcceptedPlan, closed: &[ClosedDomain], pass: &UserPass) -> bool
     ensures { result ≡ true → MetFullTruly plan.now closed.now pass.now }
 {
-    !pass.met_full() || is_full(plan, closed, pass.domain())
+    (!pass.met_full() || is_full(plan, closed, pass.domain()))
+        && (!pass.met_nearly_full() || is_nearly_full(plan, closed, pass.domain()))
 }
 
 // Whether each pass has.
@@ -77,7 +105,8 @@ fn all_met_full_truly(plan: &AcceptedPlan, closed: &[ClosedDomain], users: &[Use
     true
 }
 
-/// Sees that each pass has met a full journal only if that of its domain is full. If it isn't so, waits for ever.
+/// Sees that each pass has met a journal that is full, or nearly full, only if that of its domain is. If it isn't so, waits
+/// for ever.
 pub(crate) fn await_limits<R: Wait>(
     rt: &R,
     plan: &AcceptedPlan,

@@ -4,7 +4,7 @@ ghost use Rattle.std.specs.Prelude.{◌≡◌, ◌≢◌, ◌<◌, ◌≤◌, Er
 ghost use Rattle.domain_core.specs.declared.event.Refusal.TheVariants.{NoSuch, NoMemory};
 ghost use Rattle.domain_core.specs.declared.event.Event.TheVariants.{Config, Write, Read, Reset, Look};
 ghost use Rattle.farm_service.specs.Answers.{IsTold, HasNoRoomLeft};
-ghost use Rattle.farm_service.specs.Passes.{Gains};
+ghost use Rattle.farm_service.specs.Passes.{Gains, with_nearly_full};
 ghost use Rattle.farm_service.specs.Restarts.{begun_anew};
 
 use crate::pass::UserPass;
@@ -181,6 +181,14 @@ impl Session<'_> {
         ensures list { Gains self.old (Look node) result self.new }
     {
         self.ask(rt, alloc, Event::Look(node))
+    }
+
+    /// Notes in the user's pass that a settling was refused with `JournalFull`: the domain's journal was full, or had
+    /// fewer events below its limit than the Steps of a node's quantum. Whether it is so is seen when the service is closed.
+    pub fn note_nearly_full(&mut self)
+        ensures { self.new ≡ record self.old { pass = with_nearly_full self.old.pass } }
+    {
+        self.pass.note_nearly_full();
     }
 
     /// Does up to `rounds` rounds of the domain, until it is quiet: in each round every node does up to

@@ -6,8 +6,8 @@ ghost use Rattle.farm_service.specs.Commands.{commands_of};
 
 use domain_core::{By, Entry, Event, Told};
 
-/// Whether a session can ask it.
-pub(crate) fn is_command(event: Event) -> bool
+/// Whether an event is a command, for which users ask.
+pub fn is_command(event: Event) -> bool
     ensures { result ≡ is_command event }
 {
     match event {

@@ -45,16 +45,31 @@ asked_more next before (u ∷ told) other_told given same = (
 
 -- ---- what a session gains
 
+-- the session with this list, and whether its user has met a journal that is full, or nearly full
+abbrev pub with_list : SessionValue → List Told → Bool → Bool → SessionValue
+with_list s list full nearly_full =
+    record s { pass = record s.pass { told = list; met_full = full; met_nearly_full = nearly_full } }
+
+-- the same session by equal notes
+pub same_notes : (s : SessionValue) (told : List Told) (full other_full near other_near : Bool) → full ≡ other_full
+    → near ≡ other_near → with_all s told full near ≡ with_all s told other_full other_near
+same_notes s told full other_full near other_near same same_near =
+    ap (λ (b : Bool). with_all s told b near) same ∙ ap (λ (b : Bool). with_all s told other_full b) same_near
+
 -- one event more
 gained_more : (s t session : SessionValue) (told : List Told) (e : Event) (r : Reply)
     → HasGained s t told → Gains t e (Ok r) session → HasGained s session (told ++ told_of e r ∷ [])
 gained_more s t session told e r so_far gains =
-    let same : session.pass.met_full ≡ t.pass.met_full = ap (λ (v : SessionValue). v.pass.met_full) gains in record {
+    let same : session.pass.met_full ≡ t.pass.met_full = ap (λ (v : SessionValue). v.pass.met_full) gains in
+    let same_nearly : session.pass.met_nearly_full ≡ t.pass.met_nearly_full =
+    ap (λ (v : SessionValue). v.pass.met_nearly_full) gains in
+    let told_all : List Told = told ++ told_of e r ∷ [] in record {
       list = gains ∙ ap (λ (v : SessionValue). record v { pass = with_told v.pass e r }) so_far.list
-          ∙ ap (λ (list : List Told). record s { pass = record s.pass { told = list; met_full = t.pass.met_full } })
+          ∙ ap (λ (list : List Told). with_list s list t.pass.met_full t.pass.met_nearly_full)
           (append_assoc s.pass.told told (told_of e r ∷ []))
-          ∙ ap (λ (full : Bool). with_all s (told ++ told_of e r ∷ []) full) (sym same);
+          ∙ same_notes s told_all _ _ _ _ (sym same) (sym same_nearly);
       full = λ met. same ∙ so_far.full met;
+      nearly_full = λ met. same_nearly ∙ so_far.nearly_full met;
     }
 
 -- whoever is refused for a full journal has met it
@@ -72,10 +87,13 @@ gained_still s t session told e NoSuch so_far same =
 gained_still s t session told e NoMemory so_far same =
     subst (λ (v : SessionValue). HasGained s v told) (sym same) so_far
 gained_still s t session told e JournalFull so_far same =
-    let met : HasMetFull session = now_met t session e JournalFull same refl in record {
+    let met : HasMetFull session = now_met t session e JournalFull same refl in
+    let same_nearly : session.pass.met_nearly_full ≡ t.pass.met_nearly_full =
+    ap (λ (v : SessionValue). v.pass.met_nearly_full) same in record {
       list = same ∙ ap (λ (v : SessionValue). record v { pass = record v.pass { met_full = true } }) so_far.list
-          ∙ ap (λ (full : Bool). with_all s told full) (sym met);
+          ∙ same_notes s told _ _ _ _ (sym met) (sym same_nearly);
       full = λ before. met;
+      nearly_full = λ before. same_nearly ∙ so_far.nearly_full before;
     }
 
 -- what a session is told, it is told after a refusal too
@@ -127,6 +145,7 @@ begun next s = record {
   gains = record {
     list = ap (λ (told : List Told). record s { pass = record s.pass { told = told } }) (sym (append-nil s.pass.told));
     full = λ met. met;
+    nearly_full = λ met. met;
   };
   asked = tt;
 }

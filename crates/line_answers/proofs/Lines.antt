@@ -23,16 +23,18 @@ use Rattle.domain_core.specs.declared.event.Refusal.{Refusal}
 use Rattle.domain_core.specs.declared.event.Refusal.TheVariants.{NoSuch, JournalFull, NoMemory}
 use Rattle.farm_service.specs.Answers.{IsTold}
 use Rattle.domain_core.specs.declared.event.Told.{Told}
-use Rattle.farm_service.specs.Passes.{SessionValue}
+use Rattle.farm_service.specs.Closed.{IsFull, IsNearlyFull}
+use Rattle.farm_service.specs.Passes.{SessionValue, with_nearly_full}
 use Rattle.script_lines.specs.declared.command.Command.{Command}
 use Rattle.script_lines.specs.declared.command.Command.TheVariants as command
 use Rattle.line_answers.specs.Asks.{is_write, is_read, had_no_room, is_byte, write_replies, read_replies}
 use Rattle.line_answers.specs.Asks.{next_write, next_boot, next_read, next_event, AreAsked}
-use Rattle.line_answers.proofs.Exchange.{begun}
+use Rattle.line_answers.proofs.Exchange.{begun, with_list, same_notes}
 use Rattle.line_answers.specs.Lines.{LineHasEnded, IsAnsweredLine, AreAnsweredLines}
 use Rattle.answer_text.specs.Results.{line_text, replies_told}
-use Rattle.line_answers.specs.Sessions.{HasMetFull, with_all, HasGained, HasEnded, IsOver, AsksJust, AsksLine}
-use Rattle.line_answers.specs.Sessions.{GainsSome}
+use Rattle.line_answers.specs.Sessions.{HasMetFull, HasMetNearlyFull, with_all, HasGained, HasSettled, HasEnded}
+use Rattle.line_answers.specs.Sessions.{GainsSome, IsOver, AsksJust, AsksLine}
+use Rattle.line_answers.specs.Laws.{FullIsSaidTruly}
 use Rattle.line_answers.specs.Sessions.{IsAnswered, AreAnswered}
 
 -- ---- what is asked by one rule is asked by another
@@ -214,10 +216,12 @@ writes_of_peek host address told e is = ap (λ (first : Option Event). option_or
 joined : (s t session : SessionValue) (xs ys : List Told) → HasGained s t xs → HasGained t session ys
     → HasGained s session (xs ++ ys)
 joined s t session xs ys first second = record {
-  list = second.list ∙ ap (λ (v : SessionValue). with_all v ys session.pass.met_full) first.list
-      ∙ ap (λ (list : List Told). record s { pass = record s.pass { told = list; met_full = session.pass.met_full } })
+  list = second.list
+      ∙ ap (λ (v : SessionValue). with_all v ys session.pass.met_full session.pass.met_nearly_full) first.list
+      ∙ ap (λ (list : List Told). with_list s list session.pass.met_full session.pass.met_nearly_full)
       (append_assoc s.pass.told xs ys);
   full = λ met. second.full (first.full met);
+  nearly_full = λ met. second.nearly_full (first.nearly_full met);
 }
 
 peek_end : {A : Type 0} (host address : ℕ) (xs ys : List Told) (session : SessionValue) (outcome : Result A Refusal)
@@ -286,21 +290,38 @@ peek_out_of_memory host address s t a writes = record {
   );
 }
 
+-- the user of a session has met a journal that is nearly full, and its list stays
+now_nearly_full : (s t session : SessionValue) (told : List Told) → HasGained s t told
+    → session ≡ record t { pass = with_nearly_full t.pass } → HasGained s session told
+now_nearly_full s t session told so_far is =
+    let met : HasMetNearlyFull session = ap (λ (v : SessionValue). v.pass.met_nearly_full) is in
+    let same : session.pass.met_full ≡ t.pass.met_full = ap (λ (v : SessionValue). v.pass.met_full) is in record {
+      list = is ∙ ap (λ (v : SessionValue). record v { pass = with_nearly_full v.pass }) so_far.list
+          ∙ same_notes s told _ _ _ _ (sym same) (sym met);
+      full = λ before. same ∙ so_far.full before;
+      nearly_full = λ before. met;
+    }
+
 -- a peek ends if its domain can't settle
-pub peek_unsettled : {A B : Type 0} (host address : ℕ) (s t : SessionValue) (a : A) (refusal : Refusal)
-    → AsksJust (next_write host (1 ∷ bytes_of_word address)) s (Ok a) t → refusal ≢ NoSuch
-    → AsksLine {A = B} (command.Peek host address) s (Err refusal) t
-peek_unsettled host address s t a NoSuch writes there = absurd (there refl)
-peek_unsettled host address s t a JournalFull writes there = record {
+pub peek_unsettled : {A B : Type 0} (host address : ℕ) (s t session : SessionValue) (a : A) (refusal : Refusal)
+    → AsksJust (next_write host (1 ∷ bytes_of_word address)) s (Ok a) t
+    → HasSettled {A = Unit {0}} t (Err refusal) session
+    → AsksLine {A = B} (command.Peek host address) s (Err refusal) session
+peek_unsettled host address s t session a NoSuch writes settles = absurd settles
+peek_unsettled host address s t session a JournalFull writes settles = record {
   told = writes.told;
-  gains = writes.gains;
+  gains = now_nearly_full s t session writes.told writes.gains settles;
   asked =
       asked_as (next_write host (1 ∷ bytes_of_word address)) (next_event (command.Peek host address))
       (writes_of_peek host address) [] writes.told writes.asked;
-  ended = inr (no_reads host (1 ∷ bytes_of_word address) [] writes.told writes.asked);
+  ended = inr (
+    no_reads host (1 ∷ bytes_of_word address) [] writes.told writes.asked,
+    ap (λ (v : SessionValue). v.pass.met_nearly_full) settles,
+  );
 }
-peek_unsettled host address s t a NoMemory writes there =
-    whole (command.Peek host address) s t (Err NoMemory) (peek_out_of_memory host address s t a writes)
+peek_unsettled {A} {B} host address s t session a NoMemory writes settles =
+    subst (λ (v : SessionValue). AsksLine {A = B} (command.Peek host address) s (Err NoMemory) v) (sym settles)
+    (whole (command.Peek host address) s t (Err NoMemory) (peek_out_of_memory host address s t a writes))
 
 -- ---- the same of results that are known by equations
 
@@ -320,20 +341,21 @@ unwritten {A} {B} host address bytes s t outcome other_outcome refusal bytes_are
     (subst (λ (bytes : List ℕ). AsksJust (next_write host bytes) s outcome t) bytes_are asks))))
 
 -- the same as `peek_unsettled`, of results that are known by equations
-pub unsettled : {A B : Type 0} (host address : ℕ) (bytes : List ℕ) (s t : SessionValue) (a : A)
+pub unsettled : {A B : Type 0} (host address : ℕ) (bytes : List ℕ) (s t session : SessionValue) (a : A)
     (outcome : Result A Refusal)
     (other_outcome : Result B Refusal) (refusal : Refusal)
     → bytes ≡ 1 ∷ bytes_of_word address → outcome ≡ Ok a → IsErrAnd other_outcome (λ given. given ≡ refusal)
     → AsksJust (next_write host bytes) s outcome t
-    → refusal ≢ NoSuch → AsksLine (command.Peek host address) s other_outcome t
-unsettled {A} {B} host address bytes s t a outcome other_outcome refusal bytes_are is returned asks there =
+    → HasSettled {A = Unit {0}} t (Err refusal) session → AsksLine (command.Peek host address) s other_outcome session
+unsettled {A} {B} host address bytes s t session a outcome other_outcome refusal bytes_are is returned asks
+    settles =
     let exit = err_from_is_err_and other_outcome returned in
-    subst (λ (other_outcome : Result B Refusal). AsksLine (command.Peek host address) s other_outcome t)
+    subst (λ (other_outcome : Result B Refusal). AsksLine (command.Peek host address) s other_outcome session)
     (sym (exit.1 ∙ ap Err exit.2))
-    (peek_unsettled host address s t a refusal
+    (peek_unsettled host address s t session a refusal
     (subst (λ (outcome : Result A Refusal). AsksJust (next_write host (1 ∷ bytes_of_word address)) s outcome t) is
     (subst (λ (bytes : List ℕ). AsksJust (next_write host bytes) s outcome t) bytes_are asks))
-    there)
+    settles)
 
 -- the same as `peeked`, of results that are known by equations
 pub settled : {A B : Type 0} (host address : ℕ) (bytes : List ℕ) (s t session : SessionValue) (a : A)
@@ -364,7 +386,7 @@ of_command next c other_command s t outcome is same asks =
 -- a line that ran out of memory has no end
 line_end : {A : Type 0} (c : Command) (told gained : List Told) (s t : SessionValue) (outcome : Result A Refusal)
     → HasGained s t gained → IsOver c told t outcome → outcome ≢ Err NoMemory
-    → LineHasEnded (HasMetFull t) s c told outcome
+    → LineHasEnded (HasMetFull t) (HasMetNearlyFull t) s c told outcome
 line_end c told gained s t (Ok a) gains over fine = over
 line_end c told gained s t (Err NoSuch) gains over fine = elim over [
   | inl ended ↦ inl
@@ -401,69 +423,86 @@ answered name c s t outcome asks screen more fine is = record {
   text = is;
 }
 
-end_for : {A : Type 0} (P : Type 0) (c : Command) (told : List Told) (s : SessionValue) (before : List Told)
-    (full : Bool) (outcome : Result A Refusal)
-    → LineHasEnded P (with_all s before full) c told outcome → LineHasEnded P s c told outcome
-end_for P c told s before full (Ok a) over = over
-end_for P c told s before full (Err NoSuch) over = over
-end_for P c told s before full (Err JournalFull) over = over
-end_for P c told s before full (Err NoMemory) over = over
+end_for : {A : Type 0} (P near : Type 0) (c : Command) (told : List Told) (s : SessionValue) (before : List Told)
+    (full nearly_full : Bool) (outcome : Result A Refusal)
+    → LineHasEnded P near (with_all s before full nearly_full) c told outcome → LineHasEnded P near s c told outcome
+end_for P near c told s before full nearly_full (Ok a) over = over
+end_for P near c told s before full nearly_full (Err NoSuch) over = over
+end_for P near c told s before full nearly_full (Err JournalFull) over = over
+end_for P near c told s before full nearly_full (Err NoMemory) over = over
 
-end_if : {A P Q : Type 0} → (P → Q) → (c : Command) (told : List Told) (s : SessionValue) (outcome : Result A Refusal)
-    → LineHasEnded P s c told outcome → LineHasEnded Q s c told outcome
-end_if so c told s (Ok a) over = over
-end_if so c told s (Err NoSuch) over = over
-end_if so c told s (Err JournalFull) over = elim over [
-  | inl ended ↦ inl (ended.0, ended.1, (ended.2.0, so ended.2.1))
-  | inr unsettled ↦ inr unsettled
+end_if : {A P near Q later : Type 0} → (P → Q) → (near → later) → (c : Command) (told : List Told) (s : SessionValue)
+    (outcome : Result A Refusal)
+    → LineHasEnded P near s c told outcome → LineHasEnded Q later s c told outcome
+end_if so also c told s (Ok a) over = over
+end_if so also c told s (Err NoSuch) over = elim over [
+  | inl ended ↦ inl ended
+  | inr unsettled ↦ inr (unsettled.0, also unsettled.1)
 ]
-end_if so c told s (Err NoMemory) over = over
+end_if so also c told s (Err JournalFull) over = elim over [
+  | inl ended ↦ inl (ended.0, ended.1, (ended.2.0, so ended.2.1))
+  | inr unsettled ↦ inr (unsettled.0, also unsettled.1)
+]
+end_if so also c told s (Err NoMemory) over = elim over [
+  | inl ended ↦ absurd ended.2
+  | inr unsettled ↦ inr (unsettled.0, also unsettled.1)
+]
 
 -- a line is answered for each session of its user
-line_for : (P : Type 0) (s : SessionValue) (before : List Told) (full : Bool) (name : List ℕ) (c : Command)
+line_for : (P near : Type 0) (s : SessionValue) (before : List Told) (full nearly_full : Bool) (name : List ℕ)
+    (c : Command) (told : List Told) (text : List ℕ)
+    → IsAnsweredLine P near (with_all s before full nearly_full) name c told text
+    → IsAnsweredLine P near s name c told text
+line_for P near s before full nearly_full name c told text line = record {
+  result = line.result;
+  asked = line.asked;
+  ended = end_for P near c told s before full nearly_full line.result line.ended;
+  is_text = line.is_text;
+}
+
+line_if : {P near Q later : Type 0} → (P → Q) → (near → later) → (s : SessionValue) (name : List ℕ) (c : Command)
     (told : List Told) (text : List ℕ)
-    → IsAnsweredLine P (with_all s before full) name c told text
-    → IsAnsweredLine P s name c told text
-line_for P s before full name c told text line = record {
+    → IsAnsweredLine P near s name c told text → IsAnsweredLine Q later s name c told text
+line_if so also s name c told text line = record {
   result = line.result;
   asked = line.asked;
-  ended = end_for P c told s before full line.result line.ended;
+  ended = end_if so also c told s line.result line.ended;
   is_text = line.is_text;
 }
 
-line_if : {P Q : Type 0} → (P → Q) → (s : SessionValue) (name : List ℕ) (c : Command) (told : List Told) (text : List ℕ)
-    → IsAnsweredLine P s name c told text → IsAnsweredLine Q s name c told text
-line_if so s name c told text line = record {
-  result = line.result;
-  asked = line.asked;
-  ended = end_if so c told s line.result line.ended;
-  is_text = line.is_text;
-}
-
--- what one fact says of a full journal, another says that follows from it
-lines_if : {P Q : Type 0} → (P → Q) → (s : SessionValue) (name : List ℕ) (commands : List Command)
-    (told : List Told) (screen : List ℕ)
-    → AreAnsweredLines P s name commands told screen → AreAnsweredLines Q s name commands told screen
-lines_if so s name [] told screen lines = lines
-lines_if so s name (c ∷ commands) told screen lines = (
+-- what some facts say of a journal that is full, or nearly full, others say that follow from them
+lines_if : {P near Q later : Type 0} → (P → Q) → (near → later) → (s : SessionValue) (name : List ℕ)
+    (commands : List Command) (told : List Told) (screen : List ℕ)
+    → AreAnsweredLines P near s name commands told screen → AreAnsweredLines Q later s name commands told screen
+lines_if so also s name [] told screen lines = lines
+lines_if so also s name (c ∷ commands) told screen lines = (
   lines.0,
   lines.1,
   lines.2,
   lines.3,
   lines.4,
   lines.5,
-  line_if so s name c lines.0 lines.2 lines.6,
-  lines_if so s name commands lines.1 lines.3 lines.7,
+  line_if so also s name c lines.0 lines.2 lines.6,
+  lines_if so also s name commands lines.1 lines.3 lines.7,
 )
+
+-- the law `full_is_said_truly`
+pub full_is_said_truly : FullIsSaidTruly
+full_is_said_truly plan closed s t name commands screen lines truly =
+    let same : t.pass.domain ≡ s.pass.domain = ap (λ (v : SessionValue). v.pass.domain) lines.gains.list in
+    lines_if
+    (λ met. subst (IsFull plan closed) same (truly.full met))
+    (λ met. subst (IsNearlyFull plan closed) same (truly.nearly_full met))
+    s name commands lines.told screen lines.lines
 
 -- ---- lines one after another
 
-lines_more : (P : Type 0) (s : SessionValue) (name : List ℕ) (commands : List Command) (c : Command)
+lines_more : (P near : Type 0) (s : SessionValue) (name : List ℕ) (commands : List Command) (c : Command)
     (told some : List Told) (screen line : List ℕ)
-    → AreAnsweredLines P s name commands told screen
-    → IsAnsweredLine P s name c some line
-    → AreAnsweredLines P s name (commands ++ c ∷ []) (told ++ some) (screen ++ line)
-lines_more P s name [] c told some screen line lines is = (
+    → AreAnsweredLines P near s name commands told screen
+    → IsAnsweredLine P near s name c some line
+    → AreAnsweredLines P near s name (commands ++ c ∷ []) (told ++ some) (screen ++ line)
+lines_more P near s name [] c told some screen line lines is = (
   some,
   [],
   line,
@@ -473,7 +512,7 @@ lines_more P s name [] c told some screen line lines is = (
   is,
   (refl, refl),
 )
-lines_more P s name (first ∷ commands) c told some screen line lines is = (
+lines_more P near s name (first ∷ commands) c told some screen line lines is = (
   lines.0,
   lines.1 ++ some,
   lines.2,
@@ -481,7 +520,7 @@ lines_more P s name (first ∷ commands) c told some screen line lines is = (
   ap (λ (before : List Told). before ++ some) lines.4 ∙ append_assoc lines.0 lines.1 some,
   ap (λ (before : List ℕ). before ++ line) lines.5 ∙ append_assoc lines.2 lines.3 line,
   lines.6,
-  lines_more P s name commands c lines.1 some lines.3 line lines.7 is,
+  lines_more P near s name commands c lines.1 some lines.3 line lines.7 is,
 )
 
 -- no commands show nothing
@@ -495,17 +534,19 @@ pub one_shown : (name : List ℕ) (commands : List Command) (c : Command) (s t s
     → IsAnswered name c t session screen more → AreAnswered name (commands ++ c ∷ []) s session more
 one_shown name commands c s t session screen more so_far line =
     let P : Type 0 = HasMetFull session in
-    let is : IsAnsweredLine P s name c line.told line.line =
-    line_for P s so_far.told t.pass.met_full name c line.told line.line
-    (subst (λ (v : SessionValue). IsAnsweredLine P v name c line.told line.line) so_far.gains.list line.is_line) in
+    let near : Type 0 = HasMetNearlyFull session in
+    let is : IsAnsweredLine P near s name c line.told line.line =
+    line_for P near s so_far.told t.pass.met_full t.pass.met_nearly_full name c line.told line.line
+    (subst (λ (v : SessionValue). IsAnsweredLine P near v name c line.told line.line) so_far.gains.list line.is_line) in
     record {
       told = so_far.told ++ line.told;
       gains = joined s t session so_far.told line.told so_far.gains line.gains;
       lines =
-          subst (λ (text : List ℕ). AreAnsweredLines P s name (commands ++ c ∷ []) (so_far.told ++ line.told) text)
+          subst
+          (λ (text : List ℕ). AreAnsweredLines P near s name (commands ++ c ∷ []) (so_far.told ++ line.told) text)
           (sym line.text)
-          (lines_more P s name commands c so_far.told line.told screen line.line
-          (lines_if line.gains.full s name commands so_far.told screen so_far.lines) is);
+          (lines_more P near s name commands c so_far.told line.told screen line.line
+          (lines_if line.gains.full line.gains.nearly_full s name commands so_far.told screen so_far.lines) is);
     }
 
 -- one command more of those that are lent

@@ -2,3 +2,5 @@
 pub mod Asks
 pub mod Lines
 pub mod Sessions
+-- what only helps contracts
+pub mod Laws

@@ -2,10 +2,10 @@
 use Rattle.std.specs.Prelude.{◌≡◌, ◌++◌, ◌⊎◌, ℕ, Bool, true, List, [], Option, Some, None, Result, Ok, Err}
 use Rattle.domain_core.specs.declared.event.Event.{Event}
 use Rattle.domain_core.specs.declared.event.Refusal.{Refusal}
-use Rattle.domain_core.specs.declared.event.Refusal.TheVariants.{JournalFull}
+use Rattle.domain_core.specs.declared.event.Refusal.TheVariants.{NoSuch, JournalFull, NoMemory}
 use Rattle.domain_core.specs.declared.event.Told.{Told}
 use Rattle.farm_service.specs.Answers.{IsTold}
-use Rattle.farm_service.specs.Passes.{SessionValue}
+use Rattle.farm_service.specs.Passes.{SessionValue, with_nearly_full}
 use Rattle.script_lines.specs.declared.command.Command.{Command}
 use Rattle.line_answers.specs.Asks.{next_event, AreAsked}
 use Rattle.line_answers.specs.Lines.{IsUnsettled, IsAnsweredLine, AreAnsweredLines}
@@ -14,18 +14,35 @@ use Rattle.line_answers.specs.Lines.{IsUnsettled, IsAnsweredLine, AreAnsweredLin
 abbrev pub HasMetFull : SessionValue → Type 0
 HasMetFull s = s.pass.met_full ≡ true
 
--- the session whose list gained these, and whether its user has met a full journal
-abbrev pub with_all : SessionValue → List Told → Bool → SessionValue
-with_all s told full = record s { pass = record s.pass { told = s.pass.told ++ told; met_full = full } }
+-- whether a settling for the user of a session was refused because the journal was nearly full
+abbrev pub HasMetNearlyFull : SessionValue → Type 0
+HasMetNearlyFull s = s.pass.met_nearly_full ≡ true
 
--- the session of the same user, whose list gained these; a user who has met a full journal has met it from then on
+-- the session whose list gained these, and whether its user has met a journal that is full, or nearly full
+abbrev pub with_all : SessionValue → List Told → Bool → Bool → SessionValue
+with_all s told full nearly_full =
+    record s {
+      pass = record s.pass { told = s.pass.told ++ told; met_full = full; met_nearly_full = nearly_full };
+    }
+
+-- the session of the same user, whose list gained these; a user who has met a journal that is full, or nearly full, has
+-- met it from then on
 pub record HasGained (s t : SessionValue) (told : List Told) : Type 0 where
-  pub list : t ≡ with_all s told t.pass.met_full
+  pub list : t ≡ with_all s told t.pass.met_full t.pass.met_nearly_full
   pub full : HasMetFull s → HasMetFull t
+  pub nearly_full : HasMetNearlyFull s → HasMetNearlyFull t
 
 -- the same of some list
 abbrev pub GainsSome : SessionValue → SessionValue → Type 0
 GainsSome s t = (told : List Told) × HasGained s t told
+
+-- a session has settled, or that was refused since memory ran out, or since the journal is nearly full, which its user
+-- has then met
+abbrev pub HasSettled : {A : Type 0} → SessionValue → Result A Refusal → SessionValue → Type 0
+HasSettled s (Ok done) t = t ≡ s
+HasSettled s (Err NoSuch) t = ⊥
+HasSettled s (Err JournalFull) t = t ≡ record s { pass = with_nearly_full s.pass }
+HasSettled s (Err NoMemory) t = t ≡ s
 
 -- nothing more is asked, or what is asked next is refused; if it is for a full journal, the user has met it
 abbrev pub HasEnded : {A : Type 0} → (List Told → Option Event) → List Told → SessionValue → Result A Refusal
@@ -43,11 +60,13 @@ pub record AsksJust {A : Type 0} (next : List Told → Option Event) (s : Sessio
   pub asked : AreAsked next [] told
   pub ended : HasEnded next told t result
 
--- a line asks nothing more, or what it asks next is refused, or it is a peek that can't settle
+-- a line asks nothing more, or what it asks next is refused, or it is a peek that can't settle, and the user has met a
+-- journal that is nearly full
 abbrev pub IsOver : {A : Type 0} → Command → List Told → SessionValue → Result A Refusal → Type 0
 IsOver command told t (Ok done) = HasEnded (next_event command) told t (Ok done)
 IsOver {A} command told t (Err refusal) =
-    HasEnded {A = A} (next_event command) told t (Err refusal) ⊎ IsUnsettled command told refusal
+    HasEnded {A = A} (next_event command) told t (Err refusal)
+    ⊎ (IsUnsettled command told refusal × HasMetNearlyFull t)
 
 -- a session asks what a line asks, up to its end
 pub record AsksLine {A : Type 0} (command : Command) (s : SessionValue) (result : Result A Refusal) (t : SessionValue)
@@ -62,7 +81,7 @@ pub record IsAnswered (name : List ℕ) (command : Command) (s t : SessionValue)
   pub told : List Told
   pub line : List ℕ
   pub gains : HasGained s t told
-  pub is_line : IsAnsweredLine (HasMetFull t) s name command told line
+  pub is_line : IsAnsweredLine (HasMetFull t) (HasMetNearlyFull t) s name command told line
   pub text : more ≡ screen ++ line
 
 -- lines are answered, one after another: the user's screen shows their output lines
@@ -70,4 +89,4 @@ pub record AreAnswered (name : List ℕ) (commands : List Command) (s t : Sessio
     : Type 0 where
   pub told : List Told
   pub gains : HasGained s t told
-  pub lines : AreAnsweredLines (HasMetFull t) s name commands told screen
+  pub lines : AreAnsweredLines (HasMetFull t) (HasMetNearlyFull t) s name commands told screen

@@ -1,9 +1,9 @@
 //! What a line asks of its user's domain.
-ghost use Rattle.std.specs.Prelude.{◌≡◌, ◌≢◌, ◌<◌, length, IfErr, MatchResult, Ok, Err};
+ghost use Rattle.std.specs.Prelude.{◌≡◌, ◌≢◌, ◌<◌, length, MatchResult, Ok, Err};
 ghost use Rattle.domain_core.specs.declared.event.Refusal.TheVariants.{NoSuch};
 ghost use Rattle.script_lines.specs.declared.command.Command.TheVariants.{Peek};
 ghost use Rattle.line_answers.specs.Asks.{had_no_room, is_byte, next_config, next_write, next_boot, next_read, next_collect};
-ghost use Rattle.line_answers.specs.Sessions.{AsksJust, AsksLine};
+ghost use Rattle.line_answers.specs.Sessions.{HasSettled, AsksJust, AsksLine};
 
 use crate::quantum::Quantum;
 use bootstrap::{BootFault, boot_message, peek_message, poke_message};
@@ -125,17 +125,21 @@ pub fn settle<R: Wait>(
     Ok(())
 }
 
-// Settles before a peek reads. A pass is of a domain of the plan, so there is one.
+// Settles before a peek reads. A pass is of a domain of the plan, so there is one. If it is refused because the journal is
+// nearly full, the user's pass notes it.
 fn settle_to_read<R: Wait>(
     rt: &R,
     alloc: Global,
-    session: &Session<'_>,
+    session: &mut Session<'_>,
     quantum: Quantum,
 ) -> Result<(), Refusal>
-    ensures { IfErr result (λ refusal. refusal ≢ NoSuch) }
+    ensures { HasSettled session.old result session.new }
 {
     match settle(rt, alloc, session, quantum) {
-        Err(Refusal::JournalFull) => Err(Refusal::JournalFull),
+        Err(Refusal::JournalFull) => {
+            session.note_nearly_full();
+            Err(Refusal::JournalFull)
+        }
         Err(Refusal::NoMemory) => Err(Refusal::NoMemory),
         Ok(()) | Err(Refusal::NoSuch) => Ok(()),
     }

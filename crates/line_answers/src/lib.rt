@@ -2,6 +2,7 @@
 #![tactic(auto)]
 
 mod asking;
+pub mod laws;
 mod line;
 mod quantum;
 

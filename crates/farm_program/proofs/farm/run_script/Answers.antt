@@ -28,8 +28,8 @@ returns-clause-users g c =
 
 pub returns-clause-screens : goal.returns-clause-screens
 returns-clause-screens g c =
-    closed_screens c.args.plan c.in-Ok.opened.service.plan c.args.lines.now c.in_ok-ends.ends.users.items
-    c.in_ok-left.left c.close.result c.in-Ok.ensures.plan c.in_ok-ends.ensures.users
+    closed_screens c.full_is_said_truly.ensures.law c.args.plan c.in-Ok.opened.service.plan c.args.lines.now
+    c.in_ok-ends.ends.users.items c.in_ok-left.left c.close.result c.in-Ok.ensures.plan c.in_ok-ends.ensures.users
     c.in_ok-left.ensures.passes c.in_ok-left.ensures.screens
     c.close.ensures.users c.close.ensures.full c.close.ensures.screens
 
