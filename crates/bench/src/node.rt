@@ -1,7 +1,7 @@
 //! A loop of instruction bytes through a node's bursts, `node`, and through the processor's steps alone, `processor`, so that
 //! their rates can be compared.
 
-use crate::processor::{begun, place};
+use crate::processor::{cpu_at, place};
 use crate::selection::Selection;
 use crate::step::ARITHMETIC;
 use bootstrap::{Node, boot_message};
@@ -50,7 +50,7 @@ fn run_processor(rt: &impl Print, alloc: Global, count: u64) -> io::Result<()> {
     if place(&mut memory, START, code(alloc)?.as_slice()).is_err() {
         return Ok(());
     }
-    let mut cpu = begun(START, WORKSPACE, LinkNumber::Zero.input_channel());
+    let mut cpu = cpu_at(START, WORKSPACE, LinkNumber::Zero.input_channel());
     let mut links = Links::new();
     let (done, _) = run(&mut cpu, &mut memory, &mut links, count);
     println!(rt; "processor: {done} bytes")

@@ -4,7 +4,7 @@ use node_memory::{Fault, Memory};
 use t414_step::Cpu;
 
 /// The registers of a running processor that has done nothing: where its code and its workspace lie, and what C has.
-pub fn begun(instruction: u32, workspace: u32, c: u32) -> Cpu {
+pub fn cpu_at(instruction: u32, workspace: u32, c: u32) -> Cpu {
     Cpu {
         c,
         ..Cpu::started(instruction, workspace)

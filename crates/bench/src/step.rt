@@ -1,6 +1,6 @@
 //! Steps the processor through loops of instruction bytes: `arithmetic`, `memory`, `lend`, `channel` and `sieve`.
 
-use crate::processor::{begun, place};
+use crate::processor::{cpu_at, place};
 use crate::selection::Selection;
 use link_channels::Links;
 use node_memory::Memory;
@@ -84,7 +84,7 @@ fn run_loop(rt: &impl Print, alloc: Global, name: &str, code: &[u8], count: u64)
     if place(&mut memory, START, code).is_err() {
         return Ok(());
     }
-    let mut cpu = begun(START, WORKSPACE, 0);
+    let mut cpu = cpu_at(START, WORKSPACE, 0);
     let mut links = Links::new();
     let (done, _) = run(&mut cpu, &mut memory, &mut links, count);
     let word = memory.word(WORKSPACE + 4).unwrap_or(0);

@@ -3,7 +3,8 @@
 use crate::request::{DomainRequest, RepeatedRequest, Request};
 use domain_core::{By, Event, TICKET_STEPS};
 use line_mistakes::{Wanted, WordForm, WordHint, WordRole};
-use line_words::{WordFault, Words, decimal_number};
+use line_words::{WordFault, Words};
+use script_text::decimal_number;
 use std::alloc::{AllocError, Global};
 
 /// The most times that one line is asked, unless it asks the farm for Steps.
@@ -126,7 +127,7 @@ fn read_once(alloc: Global, words: &mut Words) -> Result<Request, AllocError> {
     }
     let domain = words.small_decimal(WordRole::Domain);
     let wanted = Wanted::Word(WordRole::DomainVerb, WordForm::OneOf(&VERB_NAMES));
-    Ok(match words.named(&VERBS, RequestVerb::Quiet, wanted) {
+    Ok(match words.value_in(&VERBS, RequestVerb::Quiet, wanted) {
         RequestVerb::Quiet => Request::Domain(domain, DomainRequest::Quiet),
         RequestVerb::Word => Request::Domain(
             domain,

@@ -1,7 +1,7 @@
 -- The head of a domain's record: a plan that has this domain alone, and the line `---`, as `lab rows` divides them
 -- (docs/LAB.md).
-use Rattle.std.specs.Prelude.{◌≡◌, ℕ, List, [], ◌∷◌, codes, Some, slice_get}
-use Rattle.script_text.specs.Lines.{IsDivided}
+use Rattle.std.specs.Prelude.{◌≡◌, ℕ, List, [], ◌∷◌, Some, slice_get}
+use Rattle.script_text.specs.Lines.{IsDivided, plan_end}
 use Rattle.plan_rules.specs.Data.{UserData, DomainData}
 use Rattle.plan_rules.specs.Part.{part_of, physical_ports}
 use Rattle.plan_checker.specs.Document.{IsPlan}
@@ -29,7 +29,7 @@ pub record IsOnlyDomain (plan : List DomainData) (number : ℕ) (other : List Do
 -- the text is such a plan up to its first line `---`, and nothing comes after that line
 pub record ReadsAs (text : List ℕ) (plan : List DomainData) : Type 0 where
   pub before : List ℕ
-  pub divided : IsDivided text (codes "---") before []
+  pub divided : IsDivided text plan_end before []
   pub reads : IsPlan before plan
 
 -- the text is the plan of the domain of this number alone, and the line `---` after it

@@ -5,11 +5,8 @@ ghost use Rattle.farm_records.specs.Heads.{AreNamedAlike, IsOnlyDomain, IsHead, 
 use crate::fault::HeadFault;
 use crossbar::PortRange;
 use plan_checker::{AcceptedPlan, HostPart, NodePart, PlanFault, check, read_plan};
-use script_text::divide;
+use script_text::divide_at_plan_end;
 use std::alloc::Global;
-
-/// What divides the plan from the events.
-const BEHIND_THE_PLAN: &[u8] = b"---";
 
 // Appends what comes before an entry of a list: a comma, unless it is the first.
 fn write_comma(text: &mut String, is_first: bool) -> Result<(), HeadFault> {
@@ -115,11 +112,11 @@ impl From<PlanFault> for HeadFault {
 fn plan_of_head(alloc: Global, text: &[u8]) -> Result<AcceptedPlan, HeadFault>
     ensures { IfOk result (ReadsAs text.now) }
 {
-    let (before, behind) = divide(text, BEHIND_THE_PLAN);
-    if !behind.is_empty() {
+    let divided = divide_at_plan_end(text);
+    if !divided.rest.is_empty() {
         return Err(HeadFault::Unlike);
     }
-    Ok(check(alloc, read_plan(alloc, before)?)?)
+    Ok(check(alloc, read_plan(alloc, divided.plan)?)?)
 }
 
 // Whether the users of a plan's only domain have the names of those of this domain.

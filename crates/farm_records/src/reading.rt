@@ -8,6 +8,7 @@ use crate::fault::{RecordFault, RedoFault};
 use crate::redoing::{Redoing, redo_line};
 use crossbar::Outputs;
 use domain_core::Domain;
+use script_text::count_lines;
 use std::alloc::Global;
 use std::io::{self, BufRead};
 
@@ -113,11 +114,6 @@ fn redo_lines<I: BufRead, O: Outputs + Drop>(
     Err(RecordFault::of_line(u64::MAX, RedoFault::NoLine))
 }
 
-// How many lines a text has, each with its line feed.
-fn lines_in(text: &[u8]) -> u64 {
-    text.iter().filter(|byte| **byte == b'\n').count() as u64
-}
-
 /// Reads the record of a freshly opened domain, and does again what it says. Each line is compared with what the domain
 /// answers, byte by byte. What comes after the last line feed isn't done: it is the beginning of a line, and nobody was given
 /// the answer in it.
@@ -139,7 +135,7 @@ pub fn redo_record<I: BufRead, O: Outputs + Drop>(
         return Ok(Redone::Beginning);
     }
     let mut redoing = Redoing::new(alloc);
-    let first = lines_in(head.as_bytes()).saturating_add(1);
+    let first = (count_lines(head.as_bytes()) as u64).saturating_add(1);
     let torn = redo_lines(input, &mut line, &mut redoing, domain, first)?;
     Ok(Redone::Lines { torn })
 }

@@ -98,7 +98,7 @@ impl Model for Service {
 }
 
 // Asks a domain that is the plan's of this number.
-fn ask(
+fn ask_planned(
     alloc: Global,
     domain: &mut SeatedDomain,
     plan: &AcceptedPlan,
@@ -134,7 +134,7 @@ fn ask_reserved<R: Wait>(
     ensures memory { result ≡ Err refusal_of.NoMemory → IsJournalOutOfRoom plan.now number reserved }
 {
     let there = domain.reserved();
-    let told = ask(alloc, domain, plan, number, by, event);
+    let told = ask_planned(alloc, domain, plan, number, by, event);
     if matches!(told, Err(Refusal::NoMemory)) && there < reserved {
         return block_forever(rt);
     }
@@ -346,7 +346,7 @@ impl Service {
 
     // Asks a domain under its lock. If that one isn't the plan's, or has no memory though it has as many entries as this at the
     // most and none is reserved for them, waits for ever.
-    pub(crate) fn ask<R: Wait>(
+    pub(crate) fn ask_domain<R: Wait>(
         &self,
         rt: &R,
         alloc: Global,

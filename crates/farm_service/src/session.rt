@@ -102,7 +102,7 @@ impl Session<'_> {
         let (domain, by) = (pass.domain, By::User(pass.user));
         let answer = self
             .service
-            .ask(rt, alloc, domain, by, event, pass.reserved);
+            .ask_domain(rt, alloc, domain, by, event, pass.reserved);
         match answer {
             Ok(reply) => pass.told.push_reserved(Told { event, reply }),
             Err(refusal) => pass.note_refusal(refusal),

@@ -298,7 +298,7 @@ impl Service {
 
     // How many quanta the bursts of a round used, of the `quanta` that each could use: the most that one of them did,
     // and at least one.
-    fn used(&self, domain: u8, nodes: u8, quantum: u64, quanta: u64) -> u64
+    fn quanta_used(&self, domain: u8, nodes: u8, quantum: u64, quanta: u64) -> u64
         requires quantum { 1 ≤ quantum }
         requires quanta { 1 ≤ quanta }
     {
@@ -356,7 +356,7 @@ impl Service {
         Ok(RoundEnd {
             moved,
             is_quiet,
-            rounds: self.used(domain, nodes, quantum, quanta),
+            rounds: self.quanta_used(domain, nodes, quantum, quanta),
             was_shortened: self.schedule().round_quanta(domain) < quanta,
         })
     }

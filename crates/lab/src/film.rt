@@ -7,7 +7,8 @@ use lab_debug::ProgramOf;
 use lab_film::{SourceLine, Span, film_of, page_of, sources_of};
 use node_trace::Program;
 use record_following::RecordStop;
-use std::alloc::{AllocError, Global};
+use std::alloc::{Alloc, AllocError, Global};
+use std::fs::Files;
 use t414_assembly::TextFault;
 
 /// The program of a node.
@@ -40,7 +41,10 @@ fn print_record(
 }
 
 // The lines of programs, as the page has them.
-fn read_sources(rt: &HostRuntime, programs: &[ProgramOf]) -> Result<String, LabFailure> {
+fn read_sources<R: Files + Alloc<A = Global>>(
+    rt: &R,
+    programs: &[ProgramOf],
+) -> Result<String, LabFailure> {
     let mut read = Vec::new(rt.alloc());
     for of in programs {
         let text = read_file(rt, of.file)?;

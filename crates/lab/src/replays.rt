@@ -6,11 +6,12 @@ use lab_command::{Drawing, LabFailure, TerminalMeter, print_answers};
 use plan_views::{draw, draw_network};
 use script_replay::{ReplayFault, Replayed, ReplayedFarm, files_loaded, replay};
 use script_text::read_whole;
-use std::alloc::Global;
+use std::alloc::{Alloc, Global};
+use std::fs::Files;
 
 /// Replays a text, whose lines load files from a folder, or from the one in which the program runs.
-pub fn replay_with_files<'a>(
-    rt: &HostRuntime,
+pub fn replay_with_files<'a, R: Files + Alloc<A = Global>>(
+    rt: &R,
     folder: Option<&str>,
     text: &'a [u8],
     meter: &mut TerminalMeter,

@@ -12,7 +12,8 @@ use node_answers::wrong_trace;
 use node_trace::{TraceFault, trace};
 use script_replay::Replayed;
 use script_text::TextWriter;
-use std::alloc::Global;
+use std::alloc::{Alloc, Global};
+use std::fs::Files;
 
 /// Compares the rows of files. Each wrong row has a line that names its file and line, what it asked, the answer and
 /// what was expected; each file has a line that counts. The status is 1 if a row is wrong or a file has none.
@@ -23,8 +24,8 @@ pub fn report_rows(rt: &HostRuntime, asked: &RowFiles) -> Result<Report, LabFail
     report
 }
 
-fn report_files(
-    rt: &HostRuntime,
+fn report_files<R: Files + Alloc<A = Global>>(
+    rt: &R,
     files: &[&str],
     meter: &mut TerminalMeter,
 ) -> Result<Report, LabFailure> {
@@ -40,8 +41,8 @@ fn report_files(
 }
 
 // Compares the rows of a file, and tells whether there are rows and all are right.
-fn report_file(
-    rt: &HostRuntime,
+fn report_file<R: Files + Alloc<A = Global>>(
+    rt: &R,
     file: &str,
     meter: &mut TerminalMeter,
     text: &mut TextWriter,
@@ -54,8 +55,8 @@ fn report_file(
 }
 
 // The answers to the rows of a file, which its name tells how to read.
-fn answer_rows<'a>(
-    rt: &HostRuntime,
+fn answer_rows<'a, R: Files + Alloc<A = Global>>(
+    rt: &R,
     file: &str,
     text: &'a [u8],
     meter: &mut TerminalMeter,
@@ -69,8 +70,8 @@ fn answer_rows<'a>(
     }
 }
 
-fn answer_replayed<'a>(
-    rt: &HostRuntime,
+fn answer_replayed<'a, R: Files + Alloc<A = Global>>(
+    rt: &R,
     file: &str,
     text: &'a [u8],
     meter: &mut TerminalMeter,

@@ -6,7 +6,8 @@ use lab_script::{Expanded, LoadedFile, expand, files_named};
 use line_words::NumberedLineFault;
 use script_replay::{record_script, run_script};
 use script_text::{TextWriter, divide_at_plan_end, read_whole};
-use std::alloc::{AllocError, Global};
+use std::alloc::{Alloc, AllocError, Global};
+use std::fs::Files;
 
 /// Does this with the script in a file, or with the one on standard input. The files that it loads have their names from the
 /// folder of that file, or from the one in which the program runs.
@@ -48,8 +49,8 @@ fn print_text(
 }
 
 /// The files that the lines of a script load, as far as they can be read.
-pub fn loaded_files<'a>(
-    rt: &HostRuntime,
+pub fn loaded_files<'a, R: Files + Alloc<A = Global>>(
+    rt: &R,
     folder: Option<&str>,
     text: &'a [u8],
 ) -> Result<Vec<LoadedFile<'a>>, NumberedLineFault> {
@@ -133,8 +134,8 @@ fn right_lines(expanded: Expanded) -> Result<String, LabFailure> {
 }
 
 /// The files of these names, from a folder or from the one in which the program runs, as far as they can be read.
-pub fn read_files<'a>(
-    rt: &HostRuntime,
+pub fn read_files<'a, R: Files + Alloc<A = Global>>(
+    rt: &R,
     folder: Option<&str>,
     names: &[&'a str],
 ) -> Result<Vec<LoadedFile<'a>>, AllocError> {
@@ -146,8 +147,8 @@ pub fn read_files<'a>(
 }
 
 // A file with its text, if it can be read.
-fn loaded_file<'a>(
-    rt: &HostRuntime,
+fn loaded_file<'a, R: Files + Alloc<A = Global>>(
+    rt: &R,
     folder: Option<&str>,
     name: &'a str,
 ) -> Result<LoadedFile<'a>, AllocError> {

@@ -110,7 +110,7 @@ fn file_named(words: &[String]) -> Option<(Subcommand, &str)> {
     let [_, name, behind @ ..] = words else {
         return None;
     };
-    let subcommand = Subcommand::named(name.as_str())?;
+    let subcommand = Subcommand::of(name.as_str())?;
     let file = file_behind(subcommand, behind)?;
     Some((subcommand, file))
 }
@@ -173,7 +173,7 @@ fn read_matches<'a>(
     let Some((name, matches)) = matches.subcommand() else {
         return Err(ArgumentFault::Subcommand);
     };
-    match Subcommand::named(name) {
+    match Subcommand::of(name) {
         Some(subcommand) => read_subcommand(alloc, subcommand, matches),
         None => Err(ArgumentFault::Subcommand),
     }

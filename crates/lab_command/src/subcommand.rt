@@ -21,7 +21,7 @@ pub(crate) enum Subcommand {
 
 impl Subcommand {
     /// The one of this name.
-    pub(crate) fn named(name: &str) -> Option<Subcommand> {
+    pub(crate) fn of(name: &str) -> Option<Subcommand> {
         for subcommand in &SUBCOMMANDS {
             if subcommand.name() == name {
                 return Some(*subcommand);

@@ -1,9 +1,7 @@
 //! The commands of the debugger, as they are read.
 ghost use Rattle.std.specs.Prelude.{◌≤◌, IfOk};
 
-use line_mistakes::nearest_entry;
-use line_words::{decimal_number, hexadecimal_word, value_named};
-use script_text::TextWriter;
+use script_text::{TextWriter, decimal_number, hexadecimal_word, nearest_entry, value_named};
 
 /// An address, as it is written.
 #[derive(Clone, Copy)]

@@ -5,7 +5,6 @@ mod code;
 mod command;
 mod fault;
 mod moving;
-mod reading;
 mod showing;
 mod talking;
 mod tracing;

@@ -3,10 +3,12 @@
 use crate::command::{DebugCommand, read_command};
 use crate::fault::DebugFault;
 use crate::moving::Debugger;
-use crate::reading::{TypedLine, next_line};
-use script_text::{TextWriter, write_whole};
+use script_text::{InputLine, TextWriter, next_line, write_whole};
 use std::alloc::{AllocError, Global};
 use std::io::{BufRead, Write};
+
+/// The most bytes of a command, with its line feed.
+const MOST_COMMAND_BYTES: u32 = 4_096;
 
 /// The program of a node, by the file that has its text.
 #[derive(Clone, Copy)]
@@ -62,17 +64,18 @@ fn answer<T: ProgramTexts, W: Write>(
     alloc: Global,
     debugger: &mut Debugger,
     texts: &T,
-    read: &TypedLine,
+    read: &InputLine,
     output: &mut W,
 ) -> Result<bool, DebugFault> {
     let mut text = TextWriter::new(alloc);
     let goes_on = match read {
-        TypedLine::End => false,
-        TypedLine::Long => {
+        InputLine::End => false,
+        InputLine::NoMemory(_) => return Err(DebugFault::Memory(AllocError)),
+        InputLine::Long(_) => {
             text.push("a command has at most 4096 bytes\n");
             true
         }
-        TypedLine::Whole(bytes) => match std::str::from_utf8(bytes.as_slice()) {
+        InputLine::Whole(bytes) => match std::str::from_utf8(bytes.as_slice()) {
             Ok(line) => answer_line(debugger, texts, line, &mut text)?,
             Err(_) => {
                 text.push("a command is a text in UTF-8\n");
@@ -127,7 +130,7 @@ fn answer_next<R: BufRead, W: Write, T: ProgramTexts>(
     if is_terminal {
         prompt(alloc, debugger, output)?;
     }
-    let read = next_line(alloc, input)?;
+    let read = next_line(alloc, input, MOST_COMMAND_BYTES)?;
     answer(alloc, debugger, texts, &read, output)
 }
 

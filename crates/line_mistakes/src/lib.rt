@@ -7,5 +7,4 @@ mod wanted;
 
 pub use hint::{OperationGroup, WordHint};
 pub use mistake::{MetText, ShownWord, WordMistake, WrongLine, column_at};
-pub use script_text::{NumberedLine, is_near, nearest_entry, nearest_name, numbered_lines};
 pub use wanted::{Wanted, WordForm, WordRole};

@@ -8,6 +8,5 @@ mod words;
 
 pub use fault::{NumberedLineFault, WordFault};
 pub use questions::{Answered, Question, read_questions};
-pub use script_text::{decimal_number, hexadecimal_word, value_named};
 pub use utf8::line_as_str;
 pub use words::{WordPlace, Words};

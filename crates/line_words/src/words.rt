@@ -135,7 +135,7 @@ impl<'a> Words<'a> {
     }
 
     /// A value of a table by its name, or this one in its place.
-    pub fn named<T: Copy>(&mut self, table: &[(&str, T)], other: T, wanted: Wanted) -> T {
+    pub fn value_in<T: Copy>(&mut self, table: &[(&str, T)], other: T, wanted: Wanted) -> T {
         let place = self.next;
         let name = self.take(wanted);
         self.or_reject(place, value_named(table, name), other, wanted)

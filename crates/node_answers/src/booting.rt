@@ -5,7 +5,8 @@ use crate::inputs::{read_code, read_inputs};
 use lab_command::{ArgumentFault, BootOptions, BootedCode, LabFailure, TerminalMeter, read_file};
 use node_trace::{BootFault, BootTrace, LinkInput, Program, trace_boot};
 use script_text::hexadecimal_word;
-use std::alloc::{AllocError, Global};
+use std::alloc::{Alloc, AllocError, Global};
+use std::fs::Files;
 
 /// Traces a node that is booted with the code of the words, or with that of the program in a file.
 pub fn print_booted(rt: &HostRuntime, options: &BootOptions) -> Result<String, LabFailure> {
@@ -71,7 +72,7 @@ fn print_program(
 }
 
 // The program in a file, if a boot takes its code.
-fn read_program(rt: &HostRuntime, file: &str) -> Result<Program, LabFailure> {
+fn read_program<R: Files + Alloc<A = Global>>(rt: &R, file: &str) -> Result<Program, LabFailure> {
     let text = read_file(rt, file)?;
     match booted_program(rt.alloc(), text) {
         Ok(program) => Ok(program),

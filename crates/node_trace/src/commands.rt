@@ -157,7 +157,7 @@ const VERB_NAMES: [&str; 20] = [
 pub fn read_command(alloc: Global, line: &str) -> Result<TraceCommand, WordFault> {
     let mut words = Words::of(line);
     let wanted = Wanted::Word(WordRole::NodeVerb, WordForm::OneOf(&VERB_NAMES));
-    let verb = words.named(&VERBS, TraceVerb::Look, wanted);
+    let verb = words.value_in(&VERBS, TraceVerb::Look, wanted);
     let command = read_behind(alloc, verb, &mut words)?;
     words.finish(command)
 }
@@ -271,7 +271,7 @@ fn read_steps_or_one(words: &mut Words) -> u64 {
 
 fn read_packet(words: &mut Words) -> Packet {
     let wanted = Wanted::Word(WordRole::Packet, WordForm::OneOf(&PACKET_NAMES));
-    match words.named(&PACKET_KINDS, PacketKind::Acknowledge, wanted) {
+    match words.value_in(&PACKET_KINDS, PacketKind::Acknowledge, wanted) {
         PacketKind::Byte => Packet::Byte(words.byte(WordForm::TwoDigits)),
         PacketKind::Acknowledge => Packet::Ack,
     }

@@ -28,7 +28,7 @@ impl LinkEnd {
         ensures { result ≡ fresh_end }
     {
         LinkEnd {
-            latch: Latch::empty(),
+            latch: Latch::new(),
             input: LinkIn::new(),
             output: LinkOut::new(),
         }

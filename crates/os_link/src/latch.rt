@@ -26,8 +26,8 @@ pub struct Latch {
 }
 
 impl Latch {
-    /// The latch where nothing waits.
-    pub fn empty() -> Latch
+    /// A latch in which nothing waits.
+    pub fn new() -> Latch
         ensures { result ≡ record { byte = None; acknowledge = false } }
     {
         Latch {

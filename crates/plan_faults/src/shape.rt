@@ -1,8 +1,7 @@
 //! Where a text isn't TOML, or a document isn't a plan's.
 
 use crate::names::{write_place, write_quoted};
-use line_mistakes::nearest_entry;
-use script_text::{TextWriter, split_line};
+use script_text::{TextWriter, nearest_entry, split_line};
 use std::alloc::{AllocError, Global};
 use toml::{Table, Value};
 

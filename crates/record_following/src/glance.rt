@@ -61,7 +61,7 @@ pub fn is_in_mask(mask: u32, output: u8) -> bool
 }
 
 // The registers of the process that memory has first in the queue.
-fn resumed(memory: &Memory, cpu: Cpu) -> Option<Cpu> {
+fn resume_process(memory: &Memory, cpu: Cpu) -> Option<Cpu> {
     if cpu.queue.front == NOT_PROCESS {
         return None;
     }
@@ -73,12 +73,12 @@ fn resumed(memory: &Memory, cpu: Cpu) -> Option<Cpu> {
 }
 
 // The registers of a process that goes on once the links are served.
-fn served(memory: &Memory, links: &Links, cpu: Cpu) -> Result<Option<Cpu>, NoMemory> {
+fn serve_links(memory: &Memory, links: &Links, cpu: Cpu) -> Result<Option<Cpu>, NoMemory> {
     let mut memory = memory.copy(memory.allocator())?;
     let mut links = links.copy();
     let mut cpu = cpu;
     Ok(match links.serve_all(&mut memory, &mut cpu.queue) {
-        Ok(_) => resumed(&memory, cpu),
+        Ok(_) => resume_process(&memory, cpu),
         Err(_) => None,
     })
 }
@@ -87,8 +87,8 @@ fn served(memory: &Memory, links: &Links, cpu: Cpu) -> Result<Option<Cpu>, NoMem
 pub fn next_registers(node: &Node) -> Result<Option<Cpu>, NoMemory> {
     match node.registers() {
         Some(cpu) if cpu.running => Ok(Some(cpu)),
-        Some(cpu) if cpu.queue.front != NOT_PROCESS => Ok(resumed(node.memory(), cpu)),
-        Some(cpu) => served(node.memory(), node.links(), cpu),
+        Some(cpu) if cpu.queue.front != NOT_PROCESS => Ok(resume_process(node.memory(), cpu)),
+        Some(cpu) => serve_links(node.memory(), node.links(), cpu),
         None => Ok(None),
     }
 }

@@ -3,14 +3,10 @@ ghost use Rattle.std.specs.Prelude.{◌≡◌, length, IfOk};
 
 use crate::fault::WhyFault;
 use crate::line::{RecordedLine, read_line};
-use line_mistakes::{NumberedLine, numbered_lines};
 use line_words::line_as_str;
 use plan_checker::{AcceptedPlan, check, read_plan};
-use script_text::{divide, is_passed_over};
+use script_text::{NumberedLine, count_lines, divide_at_plan_end, is_passed_over, numbered_lines};
 use std::alloc::Global;
-
-/// What divides the plan from the events.
-const BEHIND_THE_PLAN: &[u8] = b"---";
 
 /// What a record says.
 #[derive(Drop)]
@@ -42,17 +38,6 @@ fn whole_lines(text: &[u8]) -> &[u8] {
         Some(place) => &text[..=place],
         None => &[],
     }
-}
-
-// How many lines a text has, each with its line feed.
-fn lines_in(text: &[u8]) -> u64 {
-    let mut lines: u64 = 0;
-    for byte in text {
-        if *byte == b'\n' {
-            lines = lines.saturating_add(1);
-        }
-    }
-    lines
 }
 
 // A line, or the beginning of it, of as many events as are left to be done.
@@ -110,17 +95,17 @@ fn read_numbered<'a>(alloc: Global, line: NumberedLine<'a>) -> Result<RecordedLi
 pub fn read_record<'a>(alloc: Global, text: &'a [u8], most: u64) -> Result<Record<'a>, WhyFault>
     ensures { IfOk result (λ read. length read.plan ≡ 1) }
 {
-    let (head, behind) = divide(text, BEHIND_THE_PLAN);
-    if head.len() == text.len() {
+    let divided = divide_at_plan_end(text);
+    if !divided.has_plan_end {
         return Err(WhyFault::NoMark);
     }
-    let plan = read_head(alloc, head)?;
-    let whole = whole_lines(behind);
+    let plan = read_head(alloc, divided.plan)?;
+    let whole = whole_lines(divided.rest);
     let numbered = numbered_lines(alloc, whole)?;
-    let before = lines_in(head).saturating_add(1);
+    let before = (count_lines(divided.plan) as u64).saturating_add(1);
     Ok(Record {
         plan,
         lines: read_lines(alloc, numbered.as_slice(), before, most)?,
-        is_cut: whole.len() < behind.len(),
+        is_cut: whole.len() < divided.rest.len(),
     })
 }

@@ -5,7 +5,7 @@ ghost use Rattle.line_answers.specs.Asks.{is_write, is_read, had_no_room, is_byt
 ghost use Rattle.script_lines.specs.declared.command.Command.TheVariants.{Peek};
 ghost use Rattle.script_replay.specs.Lines.{is_peek};
 
-use bootstrap::{peek_message, poke_message};
+use bootstrap::{LEAST_BOOTED, MOST_BOOTED, peek_message, poke_message};
 use domain_core::{Event, Reply, Told};
 use script_lines::Command;
 
@@ -128,7 +128,7 @@ fn boot_byte(code: &[u8], index: usize) -> Option<u8>
 fn next_boot(host: u8, code: &[u8], told: &[Told]) -> Option<Event>
     ensures { result ≡ next_boot host code.now told.now }
 {
-    if code.len() < 2 || code.len() > 255 || was_full(told) {
+    if code.len() < LEAST_BOOTED || code.len() > MOST_BOOTED || was_full(told) {
         return None;
     }
     match boot_byte(code, writes(told)) {

@@ -319,14 +319,14 @@ fn share_out<'a>(
         rest = after;
         answers.push(Answered {
             question: *question,
-            answer: joined(alloc, own)?,
+            answer: join_texts(alloc, own)?,
         })?;
     }
     Ok(())
 }
 
 // Texts one after another, without the last line feed.
-fn joined(alloc: Global, texts: &[String]) -> Result<String, AllocError> {
+fn join_texts(alloc: Global, texts: &[String]) -> Result<String, AllocError> {
     let mut all = TextWriter::new(alloc);
     for (place, text) in texts.iter().enumerate() {
         if place > 0 {

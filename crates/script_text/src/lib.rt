@@ -15,7 +15,7 @@ mod writing;
 
 pub use hexadecimal::{HexFault, bytes_of};
 pub use input_line::{InputLine, next_line};
-pub use lines::{PlanText, divide, divide_at_plan_end, is_passed_over, split_line};
+pub use lines::{PlanText, count_lines, divide, divide_at_plan_end, is_passed_over, split_line};
 pub use names::value_named;
 pub use nearest::{is_near, nearest_entry, nearest_name};
 pub use numbered::{NumberedLine, numbered_lines};

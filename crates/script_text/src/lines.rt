@@ -1,7 +1,8 @@
 //! The lines of a text, and its division into a plan and what follows it.
 ghost use Rattle.std.specs.Prelude.{◌≡◌, ◌<◌, ◌↔◌, ℕ, IsTrue, length};
+ghost use Rattle.std.specs.List.{filter};
 ghost use Rattle.std.specs.Str.Lines.{strip_carriage_return};
-ghost use Rattle.script_text.specs.Lines.{line_of, after_line, IsLine, IsDivided, asks_nothing, plan_end};
+ghost use Rattle.script_text.specs.Lines.{is_line_feed, line_of, after_line, IsLine, IsDivided, asks_nothing, plan_end};
 
 /// The line that ends a plan, if more follows it in its text.
 const PLAN_END: &[u8] = b"---";
@@ -67,6 +68,25 @@ pub fn divide_at_plan_end(text: &[u8]) -> PlanText<'_>
         rest,
         has_plan_end: plan.len() < text.len(),
     }
+}
+
+fn is_line_feed(byte: u8) -> bool
+    ensures { result ≡ is_line_feed byte }
+{
+    byte == b'\n'
+}
+
+/// How many line feeds a text has. If it ends with one, it has as many lines.
+pub fn count_lines(text: &[u8]) -> usize
+    ensures { result ≡ length (filter is_line_feed text.now) }
+{
+    let mut count = 0;
+    for byte in text {
+        if is_line_feed(*byte) {
+            count += 1;
+        }
+    }
+    count
 }
 
 /// Whether a line asks for nothing: it is empty or begins with `#`.

@@ -16,7 +16,7 @@ use node_memory::Memory;
 
 // A count of bytes after `more` further ones.
 #[inline(always)]
-fn counted(before: u32, more: u64) -> u32
+fn count_bytes(before: u32, more: u64) -> u32
     ensures { result ≡ min (before + more) 1024 }
 {
     u64::from(before).saturating_add(more).min(1024) as u32
@@ -49,12 +49,12 @@ impl Cpu {
                 Next::Byte => {}
                 Next::Jumped if left >= sliced => {}
                 next => {
-                    self.bytes = counted(before, most - left);
+                    self.bytes = count_bytes(before, most - left);
                     return (most - left, next);
                 }
             }
         }
-        self.bytes = counted(before, most);
+        self.bytes = count_bytes(before, most);
         (most, Next::Byte)
     }
 

@@ -1,5 +1,5 @@
 use Rattle.farm_service.proofs.Asked.{asked}
-use Rattle.farm_service.proofs.service.ask.Goals as goal
+use Rattle.farm_service.proofs.service.ask_planned.Goals as goal
 
 pub returns-clause-answer : goal.returns-clause-answer
 returns-clause-answer c =
