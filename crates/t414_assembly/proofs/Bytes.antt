@@ -5,7 +5,7 @@ use Rattle.std.proofs.lemmas.Nat.{or_shifted}
 use Rattle.t414_decode.specs.Codes.{function_of, accumulated, shifted}
 use Rattle.t414_decode.specs.declared.instruction.Function.{Function}
 use Rattle.t414_decode.specs.declared.instruction.Function.TheVariants.{Prefix, NegativePrefix}
-use Rattle.t414_assembly.specs.Meaning.{read_from, continues}
+use Rattle.t414_decode.specs.Meaning.{read_from, continues}
 use Rattle.t414_assembly.specs.Spelled.{prefix_of}
 
 -- the operand of prefixes ends with a nibble of 0, into which the next nibble is put

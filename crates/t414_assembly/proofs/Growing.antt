@@ -13,7 +13,7 @@ use Rattle.std.proofs.lemmas.Option.{get_or_from_slice_get, slice_get_within}
 use Rattle.t414_assembly.specs.declared.statement.Operand.TheVariants.{Number, Label, Difference}
 use Rattle.t414_assembly.specs.declared.statement.Statement.{Statement}
 use Rattle.t414_assembly.specs.declared.statement.Statement.TheVariants.{Instruction, Byte, Word, Align, Space}
-use Rattle.t414_assembly.specs.Meaning.{read_from}
+use Rattle.t414_decode.specs.Meaning.{read_from}
 use Rattle.t414_assembly.specs.Program.{address_of, IsPiece, IsImage}
 use Rattle.t414_assembly.specs.Layout.{size_of, IsTight, AreRooms, AreStarts, PutsPiece}
 

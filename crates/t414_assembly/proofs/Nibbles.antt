@@ -3,7 +3,7 @@ use Rattle.std.proofs.Common.{ℕ, ◌≡◌, ◌<◌, ◌/◌, ◌%◌, ◌++�
 use Rattle.std.proofs.Common.{false, cond, zero, suc, refl, sym, ap, ◌∙◌, arith}
 use Rattle.t414_decode.specs.Codes.{function_of}
 use Rattle.t414_decode.specs.declared.instruction.Function.{Function}
-use Rattle.t414_assembly.specs.Meaning.{continues}
+use Rattle.t414_decode.specs.Meaning.{continues}
 use Rattle.t414_assembly.specs.Usual.{nibble_of, byte_with, prefixes_of, usual}
 use Rattle.t414_assembly.proofs.Usual.{none_of}
 

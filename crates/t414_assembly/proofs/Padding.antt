@@ -5,7 +5,7 @@ use Rattle.std.proofs.Common.{true, replicate, refl, sym, ap, ◌∙◌, append_
 use Rattle.t414_decode.specs.Codes.{function_of, accumulated, shifted}
 use Rattle.t414_decode.specs.declared.instruction.Function.{Function}
 use Rattle.t414_decode.specs.declared.instruction.Function.TheVariants.{Prefix}
-use Rattle.t414_assembly.specs.Meaning.{read_from, continues}
+use Rattle.t414_decode.specs.Meaning.{read_from, continues}
 use Rattle.t414_assembly.specs.Spelled.{Means}
 use Rattle.t414_assembly.proofs.Bytes.{passes, taken_in}
 

@@ -6,7 +6,7 @@ use Rattle.t414_decode.specs.declared.instruction.Function.{Function}
 use Rattle.t414_assembly.specs.declared.statement.Operand.{Operand}
 use Rattle.t414_assembly.specs.declared.statement.Operand.TheVariants.{Number, Label, Difference}
 use Rattle.t414_assembly.specs.declared.statement.Statement.TheVariants.{Instruction, Align}
-use Rattle.t414_assembly.specs.Meaning.{continues}
+use Rattle.t414_decode.specs.Meaning.{continues}
 use Rattle.t414_assembly.specs.Spelled.{Means, IsShortest, IsByteOf}
 use Rattle.t414_assembly.specs.Program.{operand_of, address_of, IsInstruction, IsPiece}
 use Rattle.t414_assembly.specs.Layout.{gap, IsTight}

@@ -5,7 +5,7 @@ use Rattle.std.proofs.Common.{List, [], ◌∷◌, length, Option, Some, None, t
 use Rattle.t414_decode.specs.Codes.{function_of, accumulated, shifted}
 use Rattle.t414_decode.specs.declared.instruction.Function.{Function}
 use Rattle.t414_decode.specs.declared.instruction.Function.TheVariants.{Prefix, NegativePrefix}
-use Rattle.t414_assembly.specs.Meaning.{Meant, read_from, continues}
+use Rattle.t414_decode.specs.Meaning.{Meant, read_from, continues}
 use Rattle.std.proofs.Math.Nat.{pow-suc, pow-le-pow_right}
 use Rattle.std.proofs.lemmas.Bool.{cases_lt}
 use Rattle.t414_assembly.specs.Reach.{Reaches}

@@ -3,7 +3,7 @@ use Rattle.std.specs.Prelude.{ℕ, ◌≡◌, ◌+◌, ◌-◌, ◌<◌, ◌≤�
 use Rattle.t414_assembly.specs.declared.statement.Operand.TheVariants.{Number}
 use Rattle.t414_assembly.specs.declared.statement.Statement.{Statement}
 use Rattle.t414_assembly.specs.declared.statement.Statement.TheVariants.{Instruction, Byte, Word, Align, Space}
-use Rattle.t414_assembly.specs.Meaning.{continues, meaning}
+use Rattle.t414_decode.specs.Meaning.{continues, meaning}
 use Rattle.t414_assembly.specs.Program.{address_of, IsPiece}
 
 -- how far the next multiple of a size is

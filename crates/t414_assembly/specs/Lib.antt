@@ -1,5 +1,4 @@
 -- what must be believed
-pub mod Meaning
 pub mod Spelled
 pub mod Usual
 pub mod Program

@@ -7,7 +7,7 @@ use Rattle.t414_assembly.specs.declared.statement.Operand.{Operand}
 use Rattle.t414_assembly.specs.declared.statement.Operand.TheVariants.{Number, Label, Difference}
 use Rattle.t414_assembly.specs.declared.statement.Statement.{Statement}
 use Rattle.t414_assembly.specs.declared.statement.Statement.TheVariants.{Instruction, Byte, Word, Align, Space}
-use Rattle.t414_assembly.specs.Meaning.{continues}
+use Rattle.t414_decode.specs.Meaning.{continues}
 use Rattle.t414_assembly.specs.Usual.{usual}
 use Rattle.t414_assembly.specs.Spelled.{Means, IsShortest, IsByteOf}
 

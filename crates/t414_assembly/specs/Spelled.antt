@@ -4,7 +4,7 @@ use Rattle.t414_decode.specs.Codes.{function_of}
 use Rattle.t414_decode.specs.declared.instruction.Function.{Function}
 use Rattle.t414_decode.specs.declared.instruction.Function.TheVariants.{Prefix, NegativePrefix}
 use Rattle.t414_assembly.specs.declared.spelling.Spelling.{Spelling}
-use Rattle.t414_assembly.specs.Meaning.{meaning}
+use Rattle.t414_decode.specs.Meaning.{meaning}
 
 -- the bytes of a spelling
 abbrev pub spelled : Spelling → List ℕ

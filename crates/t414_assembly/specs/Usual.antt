@@ -3,7 +3,7 @@
 use Rattle.std.specs.Prelude.{ℕ, ◌+◌, ◌-◌, ◌*◌, ◌/◌, ◌%◌, ◌^◌, ◌++◌, List, [], ◌∷◌, Bool, true, false, zero, suc, nat_lt, if◌then◌else◌}
 use Rattle.t414_decode.specs.declared.instruction.Function.{Function}
 use Rattle.t414_decode.specs.declared.instruction.Function.TheVariants.{Jump, LoadLocalPointer, Prefix, LoadNonLocal, LoadConstant, LoadNonLocalPointer, NegativePrefix, LoadLocal, AddConstant, Call, ConditionalJump, AdjustWorkspace, EqualsConstant, StoreLocal, StoreNonLocal, Operate}
-use Rattle.t414_assembly.specs.Meaning.{continues}
+use Rattle.t414_decode.specs.Meaning.{continues}
 use Rattle.t414_assembly.specs.Spelled.{prefix_of}
 
 -- the high nibble of a function

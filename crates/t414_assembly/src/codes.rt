@@ -1,7 +1,7 @@
 //! The byte of a function and a nibble, and which functions are prefixes.
 ghost use Rattle.std.specs.Prelude.{◌≡◌, ◌<◌, ◌/◌, ◌%◌, ◌+◌, ◌*◌};
 ghost use Rattle.t414_decode.specs.Codes.{function_of};
-ghost use Rattle.t414_assembly.specs.Meaning.{continues};
+ghost use Rattle.t414_decode.specs.Meaning.{continues};
 ghost use Rattle.t414_assembly.specs.Usual.{nibble_of};
 
 use t414_decode::Function;

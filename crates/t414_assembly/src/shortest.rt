@@ -1,7 +1,7 @@
 //! The shortest bytes that mean an instruction.
 ghost use Rattle.std.specs.Prelude.{◌≡◌, ◌<◌, ◌≤◌, ◌-◌, ◌%◌, ◌^◌, ◌++◌, ◌∷◌, ◌⊎◌, [], List, ℕ, true, false, length, IsTrue};
 ghost use Rattle.t414_decode.specs.Codes.{shifted};
-ghost use Rattle.t414_assembly.specs.Meaning.{read_from, continues};
+ghost use Rattle.t414_decode.specs.Meaning.{read_from, continues};
 ghost use Rattle.t414_assembly.specs.Reach.{Reaches};
 ghost use Rattle.t414_assembly.specs.Usual.{prefix_bytes, prefixes_of, usual};
 ghost use Rattle.t414_assembly.specs.Spelled.{spelled, Means, IsShortest, IsByteOf, prefix_of};

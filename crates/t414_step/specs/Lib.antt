@@ -4,7 +4,8 @@ pub mod ChannelRows
 pub mod Rows
 pub mod Step
 pub mod Answers
+pub mod Steps
+pub mod Instructions
 -- what only helps contracts
 pub mod Laws
 pub mod Next
-pub mod Steps

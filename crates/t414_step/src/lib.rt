@@ -10,6 +10,7 @@ mod cpu;
 mod direct;
 mod dispatch;
 mod flags;
+mod instruction_laws;
 mod laws;
 mod long;
 mod next;
@@ -19,6 +20,7 @@ mod stepping;
 mod storage;
 
 pub use crate::cpu::Cpu;
+pub use crate::instruction_laws::instructions_are_steps;
 pub use crate::laws::{great_count_is_the_most, idle_where_it_rests, move_stops_at_the_edge};
 pub use crate::running::run;
 pub use crate::stepping::{Stepped, step};

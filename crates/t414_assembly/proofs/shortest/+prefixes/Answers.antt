@@ -1,5 +1,5 @@
 use Rattle.std.proofs.Common.{ℕ, inl, inr, ◌*◌, ◌+◌, ◌≡◌, ◌-◌, ◌%◌, ◌/◌, ◌^◌, ◌++◌, List, sym, ap, ◌∙◌, arith}
-use Rattle.t414_assembly.specs.Meaning.{read_from}
+use Rattle.t414_decode.specs.Meaning.{read_from}
 use Rattle.t414_assembly.specs.Spelled.{spelled, prefix_of}
 use Rattle.t414_assembly.specs.Usual.{byte_with, nibble_of}
 use Rattle.t414_assembly.proofs.Usual.{more_prefixes}

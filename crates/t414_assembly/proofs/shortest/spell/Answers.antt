@@ -1,5 +1,5 @@
 use Rattle.std.proofs.Common.{ℕ, ◌≡◌, ◌≤◌, ◌-◌, ◌%◌, ◌+◌, ◌++◌, ◌∷◌, [], List, length, ap, ◌∙◌, arith, length-append}
-use Rattle.t414_assembly.specs.Meaning.{read_from}
+use Rattle.t414_decode.specs.Meaning.{read_from}
 use Rattle.t414_assembly.specs.Spelled.{spelled}
 use Rattle.t414_assembly.proofs.Bytes.{last_one}
 use Rattle.t414_assembly.proofs.Reaching.{reaches_whole}
