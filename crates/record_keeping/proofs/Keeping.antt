@@ -1,24 +1,30 @@
 -- What a record kept, piece by piece.
-use Rattle.std.proofs.Common.{rules, refl, sym, subst, append-nil, ◌≡◌, ◌∙◌, inl, inr, ℕ, Bool, true, false}
-use Rattle.std.proofs.Common.{List, [], ◌++◌, vec_capacity, Option, None, Some}
+use Rattle.std.proofs.Common.{rules, refl, sym, ap, subst, append-nil, ◌≡◌, ◌∙◌, ◌+◌, inl, inr, ℕ, Bool, true, false}
+use Rattle.std.proofs.Common.{List, [], ◌++◌, vec_capacity, string_bytes, Option, None, Some}
 use Rattle.std.specs.Io.KnownBytes.{Appends}
 use Rattle.std.proofs.KnownBytes.{Appends-trans}
 use Rattle.plan_rules.specs.Data.{DomainData}
+use Rattle.domain_core.specs.Laws.{JournalsAddUp}
 use Rattle.farm_records.specs.RecordText.{record_text, lines_of}
 use Rattle.record_keeping.specs.declared.domain_record.DomainRecord.{DomainRecord}
-use Rattle.record_keeping.specs.Pieces.{entries_of, AreGained, EndWithRoom}
+use Rattle.record_keeping.specs.Counts.{commands_among, count_of}
+use Rattle.record_keeping.specs.Pieces.{entries_of, AreGained, EndWithRoom, IsAtStart}
 use Rattle.record_keeping.specs.Keeping.{IsSameRecord, KeepsGained, KeepsSome}
 use Rattle.record_keeping.specs.KeptPieces.{KeepsPieces, KeepsNothing}
-use Rattle.record_keeping.specs.Writing.{stored_text}
-use Rattle.record_keeping.proofs.Pieces.{both_gained, all_end_with_room, text_of_both}
+use Rattle.record_keeping.specs.Writing.{stored_text, Becomes}
+use Rattle.record_keeping.proofs.Counting.{count_twice, count_stays}
+use Rattle.record_keeping.proofs.Pieces.{both_gained, all_end_with_room, text_of_both, commands_of_both}
 
 -- pieces, and pieces behind them
-pub both_kept : {S : Type 0} {g : _} (whole : S → Option (List ℕ)) (plan : List DomainData) (number : ℕ) (more : Bool)
+pub both_kept : JournalsAddUp
+    → {S : Type 0} {g : _} (whole : S → Option (List ℕ)) (plan : List DomainData) (number : ℕ) (more : Bool)
     (old between new : DomainRecord S g) → vec_capacity between.room ≡ vec_capacity old.room
     → KeepsPieces whole plan number true old between → KeepsPieces whole plan number more between new
     → KeepsPieces whole plan number more old new
-both_kept whole plan number more old between new same first second =
+both_kept law whole plan number more old between new same first second =
     let places = vec_capacity old.room in
+    let some = commands_among (entries_of first.pieces) in
+    let others = commands_among (entries_of second.pieces) in
     let gained : AreGained plan number places between.mark second.pieces new.mark =
     subst (λ (n : ℕ). AreGained plan number n between.mark second.pieces new.mark) same second.gained in
     record {
@@ -36,7 +42,22 @@ both_kept whole plan number more old between new same first second =
           (Appends-trans (stored_text whole old.store) (stored_text whole between.store)
           (stored_text whole new.store) (record_text (lines_of (entries_of first.pieces)))
           (record_text (lines_of (entries_of second.pieces))) first.text second.text);
+      commands =
+          second.commands ∙ ap (λ (n : ℕ). count_of (n + others)) first.commands
+          ∙ count_twice old.commands some others
+          ∙ ap (λ (n : ℕ). count_of (old.commands + n)) (sym (commands_of_both law first.pieces second.pieces));
     }
+
+-- pieces after which there is no more are pieces after which there may be more
+pub more_kept : {S : Type 0} {g : _} (whole : S → Option (List ℕ)) (plan : List DomainData) (number : ℕ) (more : Bool)
+    (old new : DomainRecord S g) → KeepsPieces whole plan number more old new → KeepsPieces whole plan number true old new
+more_kept whole plan number more old new kept = record {
+  pieces = kept.pieces;
+  gained = kept.gained;
+  last = λ none. absurd (search rules);
+  text = kept.text;
+  commands = kept.commands;
+}
 
 -- one record, and again the same
 pub still_same : {S : Type 0} {g : _} (old between new : DomainRecord S g) → IsSameRecord old between
@@ -61,6 +82,7 @@ nothing_kept whole plan number old new none = record {
   gained = none.mark;
   last = λ more. absurd (search rules);
   text = stays_whole (stored_text whole old.store) (stored_text whole new.store) none.text;
+  commands = none.commands ∙ count_stays old.commands 0 old.in_range refl;
 }
 
 -- pieces behind the mark of a record that owes no other
@@ -74,6 +96,40 @@ kept_behind whole plan number more old new begun kept = record {
   gained = kept.gained;
   last = kept.last;
   text = kept.text;
+  commands = kept.commands;
+  begun = begun;
+}
+
+becomes_then : (before between after : Option (List ℕ)) (head text : List ℕ) → Becomes before between head
+    → Appends between after text → Becomes before after (head ++ text)
+becomes_then None between after head text first second = tt
+becomes_then (Some was) None after head text first second = absurd first
+becomes_then (Some was) (Some is) None head text first second = absurd second
+becomes_then (Some was) (Some is) (Some now) head text first second =
+    second ∙ ap (λ (begun : List ℕ). begun ++ text) first
+
+-- pieces in a record that has begun with its head alone
+pub kept_anew : {S : Type 0} {g : _} (whole : S → Option (List ℕ)) (plan : List DomainData) (number : ℕ) (more : Bool)
+    (old between new : DomainRecord S g) → vec_capacity between.room ≡ vec_capacity old.room
+    → IsAtStart between.mark → between.commands ≡ 0
+    → Becomes (stored_text whole old.store) (stored_text whole between.store) (string_bytes old.head)
+    → new.owes_next ≡ false → KeepsPieces whole plan number more between new
+    → KeepsGained whole plan number true more old new
+kept_anew whole plan number more old between new same start none text begun kept = record {
+  from = between.mark;
+  pieces = kept.pieces;
+  beginning = start;
+  gained =
+      subst (λ (places : ℕ). AreGained plan number places between.mark kept.pieces new.mark) same kept.gained;
+  last =
+      λ done inside.
+      subst (λ (places : ℕ). EndWithRoom places kept.pieces) same (kept.last done inside);
+  text =
+      becomes_then (stored_text whole old.store) (stored_text whole between.store) (stored_text whole new.store)
+      (string_bytes old.head) (record_text (lines_of (entries_of kept.pieces))) text kept.text;
+  commands =
+      kept.commands
+      ∙ ap (λ (n : ℕ). count_of (n + commands_among (entries_of kept.pieces))) none;
   begun = begun;
 }
 
@@ -82,6 +138,6 @@ pub still_owed : {S : Type 0} {g : _} (whole : S → Option (List ℕ)) (plan : 
     (old new : DomainRecord S g) → new.owes_next ≡ anew → KeepsNothing whole old new
     → KeepsSome whole plan number anew old new
 still_owed whole plan number true old new owed none =
-    inl (record { is_anew = refl; owed = owed; mark = none.mark; text = none.text })
+    inl (record { is_anew = refl; owed = owed; mark = none.mark; commands = none.commands; text = none.text })
 still_owed whole plan number false old new owed none =
     inr (kept_behind whole plan number true old new owed (nothing_kept whole plan number old new none))

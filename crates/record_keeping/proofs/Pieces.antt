@@ -1,12 +1,15 @@
 -- Pieces of a journal, one after another.
-use Rattle.std.proofs.Common.{◌≡◌, ◌∙◌, ℕ, List, [], ◌∷◌, ◌++◌, ap, refl, sym, subst, append-nil}
+use Rattle.std.proofs.Common.{◌≡◌, ◌∙◌, ◌+◌, ℕ, List, [], ◌∷◌, ◌++◌, ap, refl, sym, subst, append-nil}
 use Rattle.std.proofs.lemmas.Grind.{flat_map-append}
 use Rattle.plan_rules.specs.Data.{DomainData}
 use Rattle.domain_core.specs.declared.copying.Mark.{Mark}
 use Rattle.domain_core.specs.declared.journal.Entry.{Entry}
 use Rattle.farm_records.specs.RecordText.{RecordLine, record_line_text, entry_lines, record_text, lines_of}
 use Rattle.farm_service.specs.Domains.{GainsCopies}
+use Rattle.domain_core.specs.Laws.{JournalsAddUp}
+use Rattle.record_keeping.specs.Counts.{commands_among}
 use Rattle.record_keeping.specs.Pieces.{JournalPiece, entries_of, AreGained, EndWithRoom}
+use Rattle.record_keeping.proofs.Counting.{commands_among_both}
 
 -- pieces up to a mark, and pieces from there
 pub both_gained : (plan : List DomainData) (number places : ℕ) (from between to : Mark)
@@ -26,24 +29,40 @@ all_end_with_room places (piece ∷ []) [] room = absurd room
 all_end_with_room places (piece ∷ []) (next ∷ later) room = room
 all_end_with_room places (piece ∷ next ∷ before) later room = all_end_with_room places (next ∷ before) later room
 
+-- the entries of pieces, and of pieces after them
+entries_of_both : (before later : List JournalPiece) → entries_of (before ++ later) ≡ entries_of before ++ entries_of later
+entries_of_both before later = flat_map-append (λ (piece : JournalPiece). piece.entries) before later
+
 -- the text of pieces, and of pieces behind them
 pub text_of_both : (before later : List JournalPiece)
     → record_text (lines_of (entries_of (before ++ later)))
     ≡ record_text (lines_of (entries_of before)) ++ record_text (lines_of (entries_of later))
 text_of_both before later =
-    let entries : entries_of (before ++ later) ≡ entries_of before ++ entries_of later =
-    flat_map-append (λ (piece : JournalPiece). piece.entries) before later in
     let lines : lines_of (entries_of (before ++ later))
     ≡ lines_of (entries_of before) ++ lines_of (entries_of later) =
-    ap (λ (xs : List Entry). lines_of xs) entries
+    ap (λ (xs : List Entry). lines_of xs) (entries_of_both before later)
     ∙ flat_map-append entry_lines (entries_of before) (entries_of later) in
     ap (λ (xs : List RecordLine). record_text xs) lines
     ∙ flat_map-append record_line_text (lines_of (entries_of before)) (lines_of (entries_of later))
+
+-- the commands of pieces, and of pieces after them
+pub commands_of_both : JournalsAddUp
+    → (before later : List JournalPiece)
+    → commands_among (entries_of (before ++ later))
+    ≡ commands_among (entries_of before) + commands_among (entries_of later)
+commands_of_both law before later =
+    ap commands_among (entries_of_both before later)
+    ∙ commands_among_both law (entries_of before) (entries_of later)
 
 -- the text of one piece
 pub text_of_one : (piece : JournalPiece)
     → record_text (lines_of piece.entries) ≡ record_text (lines_of (entries_of (piece ∷ [])))
 text_of_one piece = ap (λ (xs : List Entry). record_text (lines_of xs)) (sym (append-nil piece.entries))
+
+-- the commands of one piece
+pub commands_of_one : (piece : JournalPiece)
+    → commands_among piece.entries ≡ commands_among (entries_of (piece ∷ []))
+commands_of_one piece = ap commands_among (sym (append-nil piece.entries))
 
 -- what was copied to empty room, of which there is as much as before
 pub one_gained : (plan : List DomainData) (number places : ℕ) (from to : Mark) (held room : ℕ) (old new : List Entry)

@@ -1,9 +1,10 @@
 -- What the record of a domain keeps.
-use Rattle.std.specs.Prelude.{◌≡◌, ◌<◌, ◌↔◌, ◌⊎◌, ℕ, Bool, true, false, List, length, Option, IsSome, vec_capacity, string_bytes}
+use Rattle.std.specs.Prelude.{◌≡◌, ◌+◌, ◌<◌, ◌↔◌, ◌⊎◌, ℕ, Bool, true, false, List, length, Option, IsSome, vec_capacity, string_bytes, if◌then◌else◌}
 use Rattle.plan_rules.specs.Data.{DomainData}
 use Rattle.domain_core.specs.declared.copying.Mark.{Mark}
 use Rattle.farm_records.specs.RecordText.{record_text, lines_of}
 use Rattle.record_keeping.specs.declared.domain_record.DomainRecord.{DomainRecord}
+use Rattle.record_keeping.specs.Counts.{commands_among, count_of}
 use Rattle.record_keeping.specs.Pieces.{JournalPiece, entries_of, AreGained, EndWithRoom, IsBeginning}
 use Rattle.record_keeping.specs.Writing.{IsWritten, stored_text}
 
@@ -15,7 +16,8 @@ pub record IsSameRecord {S : Type 0} {g : _} (old new : DomainRecord S g) : Type
 
 -- a record kept what the journal of a domain of this number gained: pieces up to the mark that the record has now, and
 -- the last of them leaves room, unless there may be more. What is whole of the record gained exactly the lines of their
--- entries. If the journal began again, so did the record
+-- entries, and its count of commands gained as many as are among them. If the journal began again, so did the record,
+-- and its count began at 0
 pub record KeepsGained {S : Type 0} {g : _} (whole : S → Option (List ℕ)) (plan : List DomainData) (number : ℕ)
     (anew more : Bool) (old new : DomainRecord S g) : Type 0 where
   pub from : Mark
@@ -25,14 +27,17 @@ pub record KeepsGained {S : Type 0} {g : _} (whole : S → Option (List ℕ)) (p
   pub last : more ≡ false → number < length plan → EndWithRoom (vec_capacity old.room) pieces
   pub text : IsWritten anew (string_bytes old.head) (stored_text whole old.store) (stored_text whole new.store)
       (record_text (lines_of (entries_of pieces)))
+  pub commands :
+      new.commands ≡ count_of ((if anew then 0 else old.commands) + commands_among (entries_of pieces))
   pub begun : new.owes_next ≡ false
 
--- the next record is still owed to a journal that began again: the mark and what is whole of the record stay
+-- the next record is still owed to a journal that began again: the mark, the count and what is whole of the record stay
 pub record StillOwes {S : Type 0} {g : _} (whole : S → Option (List ℕ)) (anew : Bool) (old new : DomainRecord S g)
     : Type 0 where
   pub is_anew : anew ≡ true
   pub owed : new.owes_next ≡ true
   pub mark : new.mark ≡ old.mark
+  pub commands : new.commands ≡ old.commands
   pub text : stored_text whole new.store ≡ stored_text whole old.store
 
 -- after an error nothing that the journal gained is left out and nothing is there twice: the record kept some pieces

@@ -1,5 +1,5 @@
 //! The record of a domain, as it is kept between calls.
-ghost use Rattle.std.specs.Prelude.{◌≡◌, false, true, None, string_bytes};
+ghost use Rattle.std.specs.Prelude.{◌≡◌, ◌<◌, ◌^◌, false, true, None, string_bytes};
 ghost use Rattle.std.proofs.Props.{props};
 ghost use Rattle.record_keeping.specs.Writing.{IsAllWhole, IsJust};
 
@@ -12,6 +12,8 @@ pub struct DomainRecord<S: RecordStore> {
     pub(crate) head: String,
     // How far the journal is recorded.
     pub(crate) mark: Mark,
+    // How many commands of users the record has since its journal began.
+    pub(crate) commands: u64,
     // Reserved, for what the journal gained.
     pub(crate) room: Vec<Entry>,
     pub(crate) text: String,
@@ -23,6 +25,7 @@ pub struct DomainRecord<S: RecordStore> {
     pub(crate) is_out: bool,
     // Whether it is known that the record holds its head alone.
     pub(crate) is_bare: bool,
+    ghost in_range: { commands < 2 ^ 64 },
     ghost ready: { failed ≡ false → IsAllWhole S.contents S.whole store },
     ghost bare: { is_bare ≡ true → IsJust S.whole store (string_bytes head) } by { Prim.hlevel props },
     ghost nothing: { store ≡ None → (failed ≡ false) × (is_out ≡ false) },
@@ -36,6 +39,7 @@ impl<S: RecordStore> Drop for DomainRecord<S> {
             store: _,
             head: _,
             mark: _,
+            commands: _,
             room: _,
             text: _,
             failed: _,

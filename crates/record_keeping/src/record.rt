@@ -1,7 +1,8 @@
 //! The record of a domain: an answer is written to it before anybody is given the answer.
-ghost use Rattle.std.specs.Prelude.{◌≡◌, ◌↔◌, ◌<◌, ◌||◌, ◌&&◌, [], false, true, not, None, Some, Ok, IfOk, OnOk, OnErr, IsErr, IsTrue, IsSome, IfSome, MatchResult, length, vec_capacity, string_bytes};
+ghost use Rattle.std.specs.Prelude.{◌≡◌, ◌↔◌, ◌<◌, ◌≤◌, ◌+◌, ◌^◌, ◌||◌, ◌&&◌, [], ◌∷◌, false, true, not, None, Some, Ok, IfOk, OnOk, OnErr, IsErr, IsTrue, IsSome, IfSome, length, vec_capacity, string_bytes};
 ghost use Rattle.std.specs.Io.KnownBytes.{Appends};
 ghost use Rattle.farm_records.specs.RecordText.{record_text, lines_of};
+ghost use Rattle.record_keeping.specs.Counts.{commands_among, count_of, IsCountBefore};
 ghost use Rattle.record_keeping.specs.Keeping.{KeepsGained, KeepsSome, IsSameRecord};
 ghost use Rattle.record_keeping.specs.KeptPieces.{KeepsPieces, KeepsNothing};
 ghost use Rattle.record_keeping.specs.Pieces.{IsAtStart};
@@ -9,9 +10,10 @@ ghost use Rattle.record_keeping.specs.Writing.{Becomes, stored_text, IsAllWhole}
 
 use crate::domain_record::DomainRecord;
 use crate::store::{NotKept, RecordStore};
+use domain_core::laws::journals_add_up;
 use domain_core::{Entry, Journal, Mark, NoMemory};
 use farm_records::write_records_of;
-use farm_service::Service;
+use farm_service::{Service, is_command};
 use std::alloc::Global;
 use std::io;
 use std::sync::Wait;
@@ -19,20 +21,82 @@ use std::sync::Wait;
 /// The most entries that are copied under a domain's lock at a time.
 pub const PIECE: usize = 1024;
 
-// The mark after all that a journal has.
-fn end_of(journal: &Journal, room: &mut Vec<Entry>) -> Mark
-    ensures { vec_capacity room.new ≡ vec_capacity room.old }
+// How many commands an entry has: one or none.
+fn commands_of(entry: Entry) -> u64
+    ensures commands { result ≡ commands_among (entry ∷ []) }
+    ensures most { result ≤ 1 }
 {
-    let mut mark = Mark::start();
+    match entry {
+        Entry::One { event, .. } => {
+            if is_command(event) {
+                1
+            } else {
+                0
+            }
+        }
+        Entry::Run { .. } => 0,
+    }
+}
+
+// How many commands entries have.
+fn commands_of_all(entries: &[Entry]) -> u64
+    ensures { result ≡ commands_among entries.now }
+{
+    // Entries stand for what the one and then the others stand for.
+    journals_add_up();
+    let mut commands = 0;
+    for entry in entries {
+        commands += commands_of(*entry);
+    }
+    commands
+}
+
+// A count of commands, and then those of these entries.
+fn count_with(commands: u64, entries: &[Entry]) -> u64
+    ensures { result ≡ count_of (commands + commands_among entries.now) }
+{
+    commands.saturating_add(commands_of_all(entries))
+}
+
+// How far a journal is recorded, and how many commands it has up to there.
+#[derive(Clone, Copy)]
+struct Reached {
+    mark: Mark,
+    commands: u64,
+}
+
+// The next place to which a journal is recorded, after as many entries as there is room for.
+fn next_reached(reached: Reached, journal: &Journal, room: &mut Vec<Entry>) -> Reached
+    requires commands { IsCountBefore journal.now.entries reached.mark reached.commands }
+    requires short { length journal.now.entries < 2 ^ 64 }
+    ensures commands { IsCountBefore journal.now.entries result.mark result.commands }
+    ensures places { vec_capacity room.new ≡ vec_capacity room.old }
+{
+    room.clear();
+    let mark = journal.copy_since(reached.mark, room);
+    Reached {
+        mark,
+        commands: reached.commands + commands_of_all(room.as_slice()),
+    }
+}
+
+// After all that a journal has.
+fn end_of(journal: &Journal, room: &mut Vec<Entry>) -> Reached
+    ensures commands { IsCountBefore journal.now.entries result.mark result.commands }
+    ensures places { vec_capacity room.new ≡ vec_capacity room.old }
+{
+    let mut reached = Reached {
+        mark: Mark::start(),
+        commands: 0,
+    };
     for _ in 0..=journal.len() {
-        room.clear();
-        mark = journal.copy_since(mark, room);
+        reached = next_reached(reached, journal, room);
         if room.len() < room.capacity() {
             break;
         }
     }
     room.clear();
-    mark
+    reached
 }
 
 impl<S: RecordStore> DomainRecord<S> {
@@ -44,6 +108,7 @@ impl<S: RecordStore> DomainRecord<S> {
             store: None,
             head: String::new(alloc),
             mark: Mark::start(),
+            commands: 0,
             room: Vec::new(alloc),
             text: String::new(alloc),
             failed: false,
@@ -53,8 +118,8 @@ impl<S: RecordStore> DomainRecord<S> {
         }
     }
 
-    /// A store that holds this head, and after it what this journal has.
-    // Six clauses: what the store holds, and with what the record begins.
+    /// A store that holds this head, and after it what this journal has. The record counts the commands of the journal.
+    // Seven clauses: what the store holds, and with what the record begins.
     pub fn of(
         alloc: Global,
         store: S,
@@ -66,14 +131,16 @@ impl<S: RecordStore> DomainRecord<S> {
         ensures store { IfOk result (λ opened. opened.store ≡ Some store) }
         ensures head { IfOk result (λ opened. opened.head ≡ head) }
         ensures places { IfOk result (λ opened. vec_capacity opened.room ≡ PIECE) }
+        ensures commands { IfOk result (λ opened. IsCountBefore journal.now.entries opened.mark opened.commands) }
         ensures kept { IfOk result (λ opened. (opened.failed ≡ false) × (opened.owes_next ≡ false)) }
     {
         let mut room = Vec::with_capacity(alloc, PIECE)?;
-        let mark = end_of(journal, &mut room);
+        let Reached { mark, commands } = end_of(journal, &mut room);
         Ok(DomainRecord {
             store: Some(store),
             head,
             mark,
+            commands,
             room,
             text: String::new(alloc),
             failed: false,
@@ -95,6 +162,7 @@ impl<S: RecordStore> DomainRecord<S> {
             store: Some(store),
             head,
             mark: Mark::start(),
+            commands: 0,
             room,
             text: String::new(alloc),
             failed: true,
@@ -116,7 +184,8 @@ impl<S: RecordStore> DomainRecord<S> {
         ensures err { OnErr result (stored_text S.whole self.new.store ≡ stored_text S.whole self.old.store) }
         ensures same { IsSameRecord self.old self.new }
         ensures rest { (self.new.mark ≡ self.old.mark) × (self.new.room ≡ self.old.room) × (self.new.failed ≡ self.old.failed)
-            × (self.new.owes_next ≡ self.old.owes_next) × (self.new.is_out ≡ self.old.is_out) }
+            × (self.new.owes_next ≡ self.old.owes_next) × (self.new.is_out ≡ self.old.is_out)
+            × (self.new.commands ≡ self.old.commands) }
     {
         if self.room.is_empty() {
             return Ok(());
@@ -138,7 +207,8 @@ impl<S: RecordStore> DomainRecord<S> {
         !self.room.is_empty() && self.room.len() == self.room.capacity()
     }
 
-    // Records the next piece that the journal gained; whether there may be more. After an error nothing of it is whole.
+    // Records the next piece that the journal gained, and counts its commands; whether there may be more. After an error nothing
+    // of it is whole.
     // Eight clauses: a record that is written to, what is kept then or after an error, and what stays.
     fn keep_piece<R: Wait>(
         &mut self,
@@ -161,23 +231,41 @@ impl<S: RecordStore> DomainRecord<S> {
         };
         self.write_room()?;
         self.mark = mark;
+        self.commands = count_with(self.commands, self.room.as_slice());
         Ok(self.is_room_full())
     }
 
-    // Records all that the journal has gained by now.
-    // Eight clauses: a record that is written to, what is kept then or after an error, and what stays.
-    fn keep_gained<R: Wait>(&mut self, rt: &R, service: &Service, domain: u8) -> Result<(), NotKept>
+    // Whether all is recorded: there is no more, and the record has as many commands as were asked.
+    fn has_all(&self, more: bool, asked: u64) -> bool
+        ensures { result ≡ true → (more ≡ false) × (asked ≤ self.now.commands) }
+    {
+        !more && asked <= self.commands
+    }
+
+    // Records all that the journal has gained by now, and at least this number of commands in all.
+    // Nine clauses: a record that is written to, what is kept then or after an error, and what stays.
+    fn keep_gained<R: Wait>(
+        &mut self,
+        rt: &R,
+        service: &Service,
+        domain: u8,
+        asked: u64,
+    ) -> Result<(), NotKept>
         requires store { IsSome self.old.store }
         requires ready { IsAllWhole S.contents S.whole self.old.store }
         requires failed { self.old.failed ≡ true }
         ensures kept { OnOk result (KeepsPieces S.whole service.now.plan domain false self.old self.new) }
+        ensures has_all { OnOk result (asked ≤ self.new.commands) }
         ensures ready { OnOk result (IsAllWhole S.contents S.whole self.new.store) }
         ensures err { OnErr result (KeepsPieces S.whole service.now.plan domain true self.old self.new) }
         ensures same { IsSameRecord self.old self.new }
         ensures rest { (self.new.failed ≡ self.old.failed) × (self.new.owes_next ≡ self.old.owes_next) × (self.new.is_out ≡ self.old.is_out) }
     {
+        // Entries stand for what the one and then the others stand for.
+        journals_add_up();
         for _ in rt.forever() {
-            if !self.keep_piece(rt, service, domain)? {
+            let more = self.keep_piece(rt, service, domain)?;
+            if self.has_all(more, asked) {
                 break;
             }
         }
@@ -196,8 +284,8 @@ impl<S: RecordStore> DomainRecord<S> {
         ensures ready { OnOk result (IsAllWhole S.contents S.whole self.new.store) }
         ensures err { OnErr result (stored_text S.whole self.new.store ≡ stored_text S.whole self.old.store) }
         ensures same { IsSameRecord self.old self.new }
-        ensures rest { (self.new.mark ≡ self.old.mark) × (self.new.failed ≡ self.old.failed)
-            × (self.new.owes_next ≡ self.old.owes_next) × (self.new.is_out ≡ self.old.is_out) }
+        ensures rest { (self.new.mark ≡ self.old.mark) × (self.new.commands ≡ self.old.commands)
+            × (self.new.failed ≡ self.old.failed) × (self.new.owes_next ≡ self.old.owes_next) × (self.new.is_out ≡ self.old.is_out) }
     {
         if self.is_bare {
             return Ok(());
@@ -217,7 +305,7 @@ impl<S: RecordStore> DomainRecord<S> {
         requires ready { IsAllWhole S.contents S.whole self.old.store }
         requires failed { self.old.failed ≡ true }
         requires out { self.old.is_out ≡ false }
-        ensures mark { OnOk result (IsAtStart self.new.mark) }
+        ensures mark { OnOk result (IsAtStart self.new.mark × (self.new.commands ≡ 0)) }
         ensures text { OnOk result (Becomes (stored_text S.whole self.old.store) (stored_text S.whole self.new.store)
             (string_bytes self.old.head)) }
         ensures begun { OnOk result (self.new.owes_next ≡ false) }
@@ -228,18 +316,27 @@ impl<S: RecordStore> DomainRecord<S> {
     {
         self.renew()?;
         self.mark = Mark::start();
+        self.commands = 0;
         self.owes_next = false;
         Ok(())
     }
 
-    // Begins the next record if it is owed, and records all that the journal has gained by now.
-    // Nine clauses: a record that is written to and not out, what is kept then or after an error, and what stays.
-    fn keep_owed<R: Wait>(&mut self, rt: &R, service: &Service, domain: u8) -> Result<(), NotKept>
+    // Begins the next record if it is owed, and records all that the journal has gained by now, and at least this number of
+    // commands in all.
+    // Ten clauses: a record that is written to and not out, what is kept then or after an error, and what stays.
+    fn keep_owed<R: Wait>(
+        &mut self,
+        rt: &R,
+        service: &Service,
+        domain: u8,
+        asked: u64,
+    ) -> Result<(), NotKept>
         requires store { IsSome self.old.store }
         requires ready { IsAllWhole S.contents S.whole self.old.store }
         requires failed { self.old.failed ≡ true }
         requires out { self.old.is_out ≡ false }
         ensures kept { OnOk result (KeepsGained S.whole service.now.plan domain self.old.owes_next false self.old self.new) }
+        ensures has_all { OnOk result (asked ≤ self.new.commands) }
         ensures ready { OnOk result (IsAllWhole S.contents S.whole self.new.store) }
         ensures err { OnErr result (KeepsSome S.whole service.now.plan domain self.old.owes_next self.old self.new) }
         ensures same { IsSameRecord self.old self.new }
@@ -248,7 +345,7 @@ impl<S: RecordStore> DomainRecord<S> {
         if self.owes_next {
             self.begin_next()?;
         }
-        self.keep_gained(rt, service, domain)
+        self.keep_gained(rt, service, domain, asked)
     }
 
     // Cuts off what isn't whole.
@@ -268,45 +365,50 @@ impl<S: RecordStore> DomainRecord<S> {
         Ok(())
     }
 
-    // Cuts off what isn't whole, and records what isn't recorded.
-    // Eight clauses: a record that failed and isn't out, what is kept then or after an error, and what stays.
+    // Cuts off what isn't whole, and records what isn't recorded, and at least this number of commands in all.
+    // Nine clauses: a record that failed and isn't out, what is kept then or after an error, and what stays.
     fn mend_and_keep<R: Wait>(
         &mut self,
         rt: &R,
         service: &Service,
         domain: u8,
+        asked: u64,
     ) -> Result<(), NotKept>
         requires store { IsSome self.old.store }
         requires failed { self.old.failed ≡ true }
         requires out { self.old.is_out ≡ false }
         ensures kept { OnOk result (KeepsGained S.whole service.now.plan domain self.old.owes_next false self.old self.new) }
+        ensures has_all { OnOk result (asked ≤ self.new.commands) }
         ensures ready { OnOk result (IsAllWhole S.contents S.whole self.new.store) }
         ensures err { OnErr result (KeepsSome S.whole service.now.plan domain self.old.owes_next self.old self.new) }
         ensures same { IsSameRecord self.old self.new }
         ensures rest { (self.new.failed ≡ self.old.failed) × (self.new.is_out ≡ self.old.is_out) }
     {
         self.cut_back()?;
-        self.keep_owed(rt, service, domain)
+        self.keep_owed(rt, service, domain, asked)
     }
 
     /// Records all that the domain has answered by now, in the next record if its journal began again. A record that holds
-    /// no line is used again then. Where nothing is recorded, nothing changes.
+    /// no line is used again then. `asked` is how many commands the domain's users were answered since its journal began: the
+    /// call goes on until the record has as many. Where nothing is recorded, nothing changes.
     ///
     /// # Errors
     ///
     /// `Out` if the domain's record can't be taken, as long as its journal doesn't begin again; nothing has changed then.
     /// Else why it can't be written: what was recorded by then stays, and the next call cuts off what isn't whole and goes
     /// on after what is, so that nothing is missing and nothing is there twice.
-    // Eight clauses: what is kept then or after an error, of no store, of a record that is out, and what stays.
+    // Nine clauses: what is kept then or after an error, of no store, of a record that is out, and what stays.
     pub fn keep<R: Wait>(
         &mut self,
         rt: &R,
         service: &Service,
         domain: u8,
         begins_anew: bool,
+        asked: u64,
     ) -> Result<(), NotKept>
         ensures kept { OnOk result (IsSome self.old.store
             → KeepsGained S.whole service.now.plan domain (self.old.owes_next || begins_anew) false self.old self.new) }
+        ensures has_all { OnOk result (IsSome self.old.store → asked ≤ self.new.commands) }
         ensures all { OnOk result (IsAllWhole S.contents S.whole self.new.store) }
         ensures err { OnErr result (KeepsSome S.whole service.now.plan domain (self.old.owes_next || begins_anew) self.old self.new) }
         ensures none { self.old.store ≡ None → (result ≡ Ok tt) × (self.new ≡ self.old) }
@@ -324,10 +426,10 @@ impl<S: RecordStore> DomainRecord<S> {
         self.is_out = false;
         self.owes_next = self.owes_next || begins_anew;
         if self.failed {
-            self.mend_and_keep(rt, service, domain)?;
+            self.mend_and_keep(rt, service, domain, asked)?;
         } else {
             self.failed = true;
-            self.keep_owed(rt, service, domain)?;
+            self.keep_owed(rt, service, domain, asked)?;
         }
         self.failed = false;
         Ok(())
@@ -357,7 +459,7 @@ impl<S: RecordStore> DomainRecord<S> {
     /// The system's. All records stay.
     pub fn remove_oldest(&mut self) -> io::Result<Option<String>>
         ensures text { stored_text S.whole self.new.store ≡ stored_text S.whole self.old.store }
-        ensures mark { self.new.mark ≡ self.old.mark }
+        ensures mark { (self.new.mark ≡ self.old.mark) × (self.new.commands ≡ self.old.commands) }
         ensures rest { (self.new.failed ≡ self.old.failed) × (self.new.owes_next ≡ self.old.owes_next) × (self.new.is_out ≡ self.old.is_out) }
         ensures same { IsSameRecord self.old self.new }
     {
