@@ -1,3 +1,4 @@
 pub mod Whole
 pub mod Closings
 pub mod Rests
+pub mod Recorded

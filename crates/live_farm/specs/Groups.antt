@@ -1,5 +1,5 @@
 -- What the lines of a domain's users do to their sessions, and how they are answered.
-use Rattle.std.specs.Prelude.{string_bytes, ◌≡◌, ◌≤◌, ◌⊎◌, ℕ, Bool, true, false, List, [], Option, Some, None, IfSome, length, map, slice_get, slice_set, codes, if◌then◌else◌}
+use Rattle.std.specs.Prelude.{string_bytes, ◌≡◌, ◌≤◌, ◌⊎◌, ⊤, ℕ, Bool, true, false, List, [], Option, Some, None, IfSome, length, map, slice_get, slice_set, codes, if◌then◌else◌}
 use Rattle.std.specs.Borrow.{Bor}
 use Rattle.domain_core.specs.Domain.{DomainValue}
 use Rattle.farm_service.specs.declared.status.DomainStatus.{DomainStatus}
@@ -42,6 +42,10 @@ IsNamedSo group user name = slice_get group.names.items user ≡ Some name
 -- nobody's session changes
 abbrev pub AllStay : DomainUsers → DomainUsers → Type 0
 AllStay before after = after.sessions.items ≡ before.sessions.items
+
+-- they are the users of the same domain of the same service
+abbrev pub IsSameDomain : DomainUsers → DomainUsers → Type 0
+IsSameDomain before after = (after.service ≡ before.service) × (after.domain ≡ before.domain)
 
 -- the session of each is that of a user who hasn't asked anything
 abbrev pub AllBegin : DomainUsers → DomainUsers → Type 0
@@ -119,6 +123,11 @@ AnswersMatter before after user number matter.OperatorRestart anew text =
 abbrev pub AnswersLetter : DomainUsers → DomainUsers → Letter → LiveAnswer → Type 0
 AnswersLetter before after letter answer =
     AnswersMatter before after letter.user letter.number letter.matter answer.begins_anew (string_bytes answer.text)
+
+-- after an error nobody's session has changed; but a line of a script may have asked a part of what it says
+abbrev pub StaysAfterError : DomainUsers → DomainUsers → Matter → Type 0
+StaysAfterError before after (matter.Asked (request.Script command)) = ⊤
+StaysAfterError before after other = AllStay before after
 
 -- as whom a matter is answered: the operator is called `!`
 abbrev pub asker_name : List ℕ → Matter → List ℕ

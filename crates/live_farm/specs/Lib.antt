@@ -7,5 +7,7 @@ pub mod Fates
 pub mod Crews
 pub mod Closings
 -- what only helps contracts
+pub mod Asking
+pub mod Kept
 pub mod Mailboxes
 pub mod LiveStatuses

@@ -1,9 +1,10 @@
 //! What is answered to the users of a domain.
-ghost use Rattle.std.specs.Prelude.{◌≡◌, ◌<◌, true, false, length, map, IfOk, string_bytes};
+ghost use Rattle.std.specs.Prelude.{◌≡◌, ◌<◌, true, false, length, map, IfOk, OnErr, string_bytes};
 ghost use Rattle.farm_service.specs.Restarts.{begun_anew};
 ghost use Rattle.farm_service.specs.declared.status.DomainStatus.{DomainStatus as SpecStatus};
 ghost use Rattle.live_farm.specs.LiveTexts.{rest_state_of};
 ghost use Rattle.live_farm.specs.Groups.{IsStatusHere, AnswersLine, AnswersRest, AnswersRestart, AnswersWhy, AnswersOperator, AnswersLetter};
+ghost use Rattle.live_farm.specs.Groups.{IsSameDomain, StaysAfterError};
 
 use crate::causes::told_of;
 use crate::group::DomainUsers;
@@ -30,7 +31,8 @@ impl DomainUsers<'_> {
         command: &Command,
     ) -> Result<String, NoMemory>
         requires { user < length self.old.sessions.items }
-        ensures { IfOk result (λ text. AnswersLine self.old self.new user command.now (string_bytes text)) }
+        ensures line { IfOk result (λ text. AnswersLine self.old self.new user command.now (string_bytes text)) }
+        ensures same { IsSameDomain self.old self.new }
     {
         let mut text = String::new(alloc);
         answer_line(
@@ -57,6 +59,7 @@ impl DomainUsers<'_> {
         requires { user < length self.old.sessions.items }
         ensures line { IfOk result (λ a. AnswersLine self.old self.new user command.now (string_bytes a.text)) }
         ensures anew { IfOk result (λ a. a.begins_anew ≡ false) }
+        ensures same { IsSameDomain self.old self.new }
     {
         Ok(LiveAnswer::of(self.line_of(rt, alloc, user, command)?))
     }
@@ -80,6 +83,7 @@ impl DomainUsers<'_> {
         ensures done { result ≡ true → self.new.sessions.items ≡ map begun_anew self.old.sessions.items }
         ensures refused { result ≡ false → self.new.sessions.items ≡ self.old.sessions.items }
         ensures names { self.new.names ≡ self.old.names }
+        ensures same { IsSameDomain self.old self.new }
     {
         self.service
             .restart(rt, self.sessions.as_mut_slice())
@@ -111,7 +115,7 @@ impl DomainUsers<'_> {
         rest_answer(alloc, self.name(user), self.rest_state(rt))
     }
 
-    // Begins the domain again for a user who is alone in it.
+    // Begins the domain again for a user who is alone in it. Both texts are made before that, so after an error nothing has changed.
     fn answer_restart<R: Wait>(
         &mut self,
         rt: &R,
@@ -119,14 +123,21 @@ impl DomainUsers<'_> {
         user: usize,
     ) -> Result<LiveAnswer, NoMemory>
         requires { user < length self.old.sessions.items }
-        ensures { IfOk result (λ a. AnswersRestart self.old self.new user a.begins_anew (string_bytes a.text)) }
+        ensures restart { IfOk result (λ a. AnswersRestart self.old self.new user a.begins_anew (string_bytes a.text)) }
+        ensures err { OnErr result (self.new ≡ self.old) }
+        ensures same { IsSameDomain self.old self.new }
     {
         let name = self.name(user);
+        let refused = restart_answer(alloc, name, false)?;
         if self.users() != 1 {
-            return restart_answer(alloc, name, false);
+            return Ok(refused);
         }
-        let is_done = self.begin_anew(rt);
-        restart_answer(alloc, name, is_done)
+        let done = restart_answer(alloc, name, true)?;
+        if self.begin_anew(rt) {
+            Ok(done)
+        } else {
+            Ok(refused)
+        }
     }
 
     // Tells why the nodes of the domain, or one of them, do no more than they do. The domain is asked nothing.
@@ -155,7 +166,8 @@ impl DomainUsers<'_> {
         }
     }
 
-    // Begins the domain again for the operator, who names one of its users in the line of this number.
+    // Begins the domain again for the operator, who names one of its users in the line of this number. Both texts are made before
+    // that, so after an error nothing has changed.
     fn answer_operator<R: Wait>(
         &mut self,
         rt: &R,
@@ -164,13 +176,17 @@ impl DomainUsers<'_> {
         number: u64,
     ) -> Result<LiveAnswer, NoMemory>
         requires { user < length self.old.sessions.items }
-        ensures { IfOk result (λ a. AnswersOperator self.old self.new user number a.begins_anew (string_bytes a.text)) }
+        ensures operator { IfOk result (λ a. AnswersOperator self.old self.new user number a.begins_anew (string_bytes a.text)) }
+        ensures err { OnErr result (self.new ≡ self.old) }
+        ensures same { IsSameDomain self.old self.new }
     {
         let name = self.name(user);
+        let done = operator_restart_answer(alloc, name)?;
+        let refused = error_answer(alloc, "!", number, Why::Fault(LineFault::User))?;
         if self.begin_anew(rt) {
-            operator_restart_answer(alloc, name)
+            Ok(done)
         } else {
-            error_answer(alloc, "!", number, Why::Fault(LineFault::User))
+            Ok(refused)
         }
     }
 }
@@ -179,7 +195,8 @@ impl DomainUsers<'_> {
 ///
 /// # Errors
 ///
-/// `NoMemory` if a command or the text ran out of memory. What was taken before it stays.
+/// `NoMemory` if a command or the text ran out of memory. What a line of a script took before it stays. Any other line has changed
+/// nothing: a domain that can't be answered so doesn't begin again.
 pub fn answer_letter<R: Wait>(
     rt: &R,
     alloc: Global,
@@ -187,7 +204,9 @@ pub fn answer_letter<R: Wait>(
     letter: &Letter,
 ) -> Result<LiveAnswer, NoMemory>
     requires { letter.now.user < length group.old.sessions.items }
-    ensures { IfOk result (AnswersLetter group.old group.new letter.now) }
+    ensures answer { IfOk result (AnswersLetter group.old group.new letter.now) }
+    ensures err { OnErr result (StaysAfterError group.old group.new letter.now.matter) }
+    ensures same { IsSameDomain group.old group.new }
 {
     let user = usize::from(letter.user);
     match &letter.matter {

@@ -236,12 +236,12 @@ impl<'a> Crew<'a> {
         false
     }
 
-    /// Ends all sessions, and gives their passes back, in the order of the users.
+    /// Ends all sessions, and gives their passes back, in the order of the users, in the memory of an empty list.
     ///
     /// # Errors
     ///
-    /// `Histories` if they aren't the passes of these users, which no run comes to; `Memory`.
-    pub fn end(self, alloc: Global) -> Result<Vec<UserPass>, LiveFailure>
+    /// `Histories` if they aren't the passes of these users, which no run comes to; `Memory` if the list has no room for them.
+    pub fn end(self, room: Vec<UserPass>) -> Result<Vec<UserPass>, LiveFailure>
         ensures { IfOk result (λ passes. map number_of passes.items ≡ self.entry.numbers.items) }
     {
         let Crew {
@@ -250,7 +250,7 @@ impl<'a> Crew<'a> {
             numbers,
             stations,
         } = self;
-        let mut passes = Vec::new(alloc);
+        let mut passes = room;
         for station in stations {
             station.into_group().end(&mut passes)?;
         }

@@ -2,6 +2,7 @@
 #![tactic(auto)]
 
 mod answering;
+mod asked;
 mod causes;
 mod crew;
 mod desk;
@@ -24,6 +25,7 @@ mod station;
 mod texts;
 mod threads;
 
+pub use asked::Asked;
 pub use crew::Crew;
 pub use desk::Desk;
 pub use failure::{LiveFailure, Trouble};

@@ -5,9 +5,11 @@ ghost use Rattle.whole_farm.specs.Places.{places_of};
 ghost use Rattle.farm_service.specs.Closed.{AreDomainsOf, EachMergeRuns, AreListed, AllMetFullTruly, AllAreRightlyAsked};
 ghost use Rattle.farm_service.specs.Services.{IsItsOperator};
 ghost use Rattle.live_lines.specs.LiveRanges.{IsInRange};
+ghost use Rattle.live_farm.specs.Asking.{commands_listed};
 ghost use Rattle.live_farm.specs.Crews.{number_of};
 ghost use Rattle.live_farm.specs.Closings.{AreUsersListed};
 
+use crate::asked::Asked;
 use crate::crew::{Crew, RestGate};
 use crate::failure::{LiveFailure, Trouble};
 use crate::notices::Notices;
@@ -15,7 +17,7 @@ use crate::operator::Operator;
 use crate::outlet::SharedOutlet;
 use crate::record::{RecordState, SharedRecord, keep_and_tell};
 use crate::threads::run_crew;
-use domain_core::Refusal;
+use domain_core::{NoMemory, Refusal};
 use farm_service::{
     Closed, Histories, Opened, Service, UserPass, WorkerPass, run_users_and_workers,
 };
@@ -37,7 +39,7 @@ struct LiveReader<'a, 'b, I: BufRead> {
     ended: Result<(), Trouble>,
 }
 
-// Reads lines to their end, with a thread for each domain and the workers beside them, and then records what isn't recorded yet.
+// Reads lines to their end, with a thread for each domain and the workers beside them.
 fn run_all<
     R: Threads + Wait + Sync,
     K: SharedRecord + Sync,
@@ -82,12 +84,11 @@ fn run_all<
         &act,
         slice::from_mut(reader),
     )?;
-    let kept = keep_rest(rt, alloc, service, records, errors);
-    reader.ended?;
-    kept
+    Ok(())
 }
 
-// Answers all lines, and gives the users' passes back.
+// Answers all lines, then records what isn't recorded yet, and gives the users' passes back. The memory of that list is reserved
+// before the first line: if there is none at the end, records are written all the same.
 fn serve_all<
     R: Threads + Wait + Sync,
     K: SharedRecord + Sync,
@@ -112,6 +113,7 @@ fn serve_all<
     ensures users { IfOk result (λ back. map number_of back.items ≡ map number_of users.items) }
 {
     let quantum = Quantum::of(settings.quantum);
+    let room = Vec::with_capacity(alloc, users.len())?;
     let crew = Crew::new(alloc, service, users, quantum, settings.record_room)?;
     run_all(
         rt,
@@ -125,7 +127,29 @@ fn serve_all<
         reader,
         errors,
     )?;
-    crew.end(alloc)
+    let back = crew.end(room)?;
+    let kept = keep_rest(rt, alloc, service, back.as_slice(), records, errors);
+    reader.ended?;
+    kept?;
+    Ok(back)
+}
+
+// Records what a domain answered since its last line, with all that the passes of its users list. The answer is the state of its
+// record then.
+fn keep_last<R: Wait, K: SharedRecord, N: Notices>(
+    rt: &R,
+    alloc: Global,
+    service: &Service,
+    domain: u8,
+    passes: &[UserPass],
+    record: &K,
+    errors: &N,
+) -> Result<RecordState, NoMemory>
+    ensures { IfOk result (λ state. state ≡ RecordState.Kept
+        → K.has_kept record.now service.now.plan domain (commands_listed domain passes.now)) }
+{
+    let asked = Asked::of_passes(domain, passes);
+    keep_and_tell(rt, alloc, service, asked, record, false, errors)
 }
 
 // Records what the domains answered since their last lines. All threads have ended. If several records aren't whole, the
@@ -134,12 +158,13 @@ fn keep_rest<R: Wait, K: SharedRecord, N: Notices>(
     rt: &R,
     alloc: Global,
     service: &Service,
+    passes: &[UserPass],
     records: &[K],
     errors: &N,
 ) -> Result<(), LiveFailure> {
     let mut kept = Ok(());
     for (domain, record) in (0..service.plan().domains()).zip(records) {
-        let state = keep_and_tell(rt, alloc, service, domain, record, false, errors)?;
+        let state = keep_last(rt, alloc, service, domain, passes, record, errors)?;
         if state == RecordState::Unrecorded {
             kept = Err(record.failure(rt, alloc));
         }

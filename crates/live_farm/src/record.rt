@@ -1,4 +1,9 @@
 //! The record of a domain, which threads share.
+ghost use Rattle.std.specs.Prelude.{◌≡◌, ℕ, List, ⊤, IfOk, OnOk};
+ghost use Rattle.plan_rules.specs.Data.{DomainData};
+ghost use Rattle.live_farm.specs.Kept.{HasKept};
+
+use crate::asked::Asked;
 use crate::failure::LiveFailure;
 use crate::notices::Notices;
 use crate::resuming::names_of;
@@ -46,14 +51,19 @@ impl RecordSizes {
 
 /// A record that a domain's thread uses, and at the end who closes the farm.
 pub trait SharedRecord {
-    /// As [`DomainRecord::keep`].
+    // Holds after a call of `keep` that is Ok: of a domain of this number of a plan the record had at least this number of
+    // commands.
+    ghost has_kept: { Self → List DomainData → ℕ → ℕ → Type 0 } = { λ _ _ _ _. ⊤ };
+
+    /// As [`DomainRecord::keep`], for the domain that was asked.
     fn keep<R: Wait>(
         &self,
         rt: &R,
         service: &Service,
-        domain: u8,
+        asked: Asked,
         begins_anew: bool,
-    ) -> Result<(), NotKept>;
+    ) -> Result<(), NotKept>
+        ensures { OnOk result (has_kept self.now service.now.plan asked.domain asked.commands) };
 
     /// How it is with the record.
     fn state<R: Wait>(&self, rt: &R) -> RecordState;
@@ -72,14 +82,17 @@ pub trait SharedRecord {
 }
 
 impl<S: RecordStore> SharedRecord for Mutex<DomainRecord<S>> {
+    ghost has_kept = { λ lock plan number asked. HasKept S.whole lock plan number asked };
+
     fn keep<R: Wait>(
         &self,
         rt: &R,
         service: &Service,
-        domain: u8,
+        asked: Asked,
         begins_anew: bool,
     ) -> Result<(), NotKept> {
-        self.lock(rt).keep(rt, service, domain, begins_anew)
+        self.lock(rt)
+            .keep(rt, service, asked.domain, begins_anew, asked.commands)
     }
 
     fn state<R: Wait>(&self, rt: &R) -> RecordState {
@@ -148,8 +161,9 @@ fn tell_written<R: Wait, K: SharedRecord, N: Notices>(
     Ok(())
 }
 
-/// Records what a domain has answered by now, in the next record if its journal began again. The answer is the state of the
-/// record then. A notice says when a record can't be written that was written before, and when it is written again.
+/// Records what a domain has answered by now, in the next record if its journal began again: at least as many commands as were
+/// asked of it. The answer is the state of the record then. A notice says when a record can't be written that was written before,
+/// and when it is written again.
 ///
 /// # Errors
 ///
@@ -158,13 +172,16 @@ pub(crate) fn keep_and_tell<R: Wait, K: SharedRecord, N: Notices>(
     rt: &R,
     alloc: Global,
     service: &Service,
-    domain: u8,
+    asked: Asked,
     record: &K,
     begins_anew: bool,
     errors: &N,
-) -> Result<RecordState, NoMemory> {
+) -> Result<RecordState, NoMemory>
+    ensures { IfOk result (λ state. state ≡ RecordState.Kept
+        → K.has_kept record.now service.now.plan asked.domain asked.commands) }
+{
     let before = record.state(rt);
-    match record.keep(rt, service, domain, begins_anew) {
+    match record.keep(rt, service, asked, begins_anew) {
         Ok(()) => {
             if before == RecordState::Unrecorded {
                 tell_written(rt, alloc, record, errors)?;
@@ -173,7 +190,7 @@ pub(crate) fn keep_and_tell<R: Wait, K: SharedRecord, N: Notices>(
         }
         Err(NotKept::Failed(error)) => {
             if before != RecordState::Unrecorded {
-                tell_unwritten(rt, alloc, service, domain, record, &error, errors)?;
+                tell_unwritten(rt, alloc, service, asked.domain, record, &error, errors)?;
             }
             Ok(RecordState::Unrecorded)
         }

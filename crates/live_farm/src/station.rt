@@ -1,8 +1,10 @@
 //! A domain's thread: it answers the lines that come to its mailbox.
 ghost use Rattle.std.specs.Prelude.{◌≡◌, ◌<◌, ◌⊎◌, false, length, IfOk, string_bytes};
+ghost use Rattle.live_farm.specs.Asking.{commands_asked};
 ghost use Rattle.live_farm.specs.Groups.{AllStay, AnswersLetter, TellsUnrecorded, TellsFull, may_be_answered};
 
 use crate::answering::answer_letter;
+use crate::asked::Asked;
 use crate::group::DomainUsers;
 use crate::letter::{Letter, Matter};
 use crate::mailbox::{Mail, Mailbox};
@@ -241,8 +243,9 @@ fn has_room_for<R: Wait>(
     }
 }
 
-// Answers a letter, and records what the domain answered by then before the answer is given to anybody. If the state of the
-// record doesn't allow an answer, or if there is no room, the domain is asked nothing.
+// Answers a letter, and records what the domain answered by then before the answer is given to anybody: the record has at least
+// as many commands as all users of the domain were answered. If the state of the record doesn't allow an answer, or if there is
+// no room, the domain is asked nothing.
 fn answer_and_keep<R: Wait, K: SharedRecord, N: Notices>(
     rt: &R,
     alloc: Global,
@@ -254,7 +257,8 @@ fn answer_and_keep<R: Wait, K: SharedRecord, N: Notices>(
     errors: &N,
 ) -> Result<AnsweredLetter, NoMemory>
     requires { letter.now.user < length group.old.sessions.items }
-    ensures answer { IfOk result (λ a. AnswersLetter group.old group.new letter.now a.answer
+    ensures answer { IfOk result (λ a. (AnswersLetter group.old group.new letter.now a.answer
+        × K.has_kept record.now group.old.service.now.plan group.old.domain (commands_asked group.new))
         ⊎ (TellsUnrecorded group.new letter.now (string_bytes a.answer.text)
         ⊎ (has_room ≡ false × AllStay group.old group.new × TellsFull group.new letter.now (string_bytes a.answer.text)))) }
     ensures not_asked { may_be_answered state letter.now.matter ≡ false
@@ -279,15 +283,14 @@ fn answer_and_keep<R: Wait, K: SharedRecord, N: Notices>(
         rt,
         alloc,
         group.service,
-        group.domain,
+        Asked::of_group(group),
         record,
         answer.begins_anew,
         errors,
     )?;
-    let answer = if state == RecordState::Kept {
-        answer
-    } else {
-        record_answer(alloc, group, letter)?
+    let answer = match state {
+        RecordState::Kept => answer,
+        RecordState::Unrecorded | RecordState::Out => record_answer(alloc, group, letter)?,
     };
     Ok(AnsweredLetter {
         answer,
@@ -307,8 +310,8 @@ fn state_before<R: Wait, K: SharedRecord, N: Notices>(
 ) -> Result<RecordState, NoMemory> {
     match station.record_state() {
         RecordState::Unrecorded => {
-            let service = group.service;
-            keep_and_tell(rt, alloc, service, group.domain, record, false, errors)
+            let asked = Asked::of_group(group);
+            keep_and_tell(rt, alloc, group.service, asked, record, false, errors)
         }
         state => Ok(state),
     }

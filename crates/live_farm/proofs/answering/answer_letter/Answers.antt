@@ -7,8 +7,8 @@ use Rattle.live_farm.specs.Groups.{AnswersRest}
 use Rattle.live_farm.proofs.Rests.{rest_answered}
 use Rattle.live_farm.proofs.answering.answer_letter.Goals as goal
 
-pub returns-in-Asked-Domain-Rest : goal.returns-in-Asked-Domain-Rest
-returns-in-Asked-Domain-Rest g c =
+pub returns-in-Asked-Domain-Rest-clause-answer : goal.returns-in-Asked-Domain-Rest-clause-answer
+returns-in-Asked-Domain-Rest-clause-answer g c =
     let is : c.args.letter.now.matter ≡ matter.Asked (request.Domain whole.Rest) = search rules in
     rest_answered c.args.group.now c.args.letter.now c.answer_rest.result is
     (subst (λ (user : ℕ). IfOk c.answer_rest.result (λ a. AnswersRest c.args.group.now user (string_bytes a.text)))

@@ -2,8 +2,8 @@ use Rattle.std.proofs.Common.{◌<◌, ◌∙◌, Some, length, refl, sym, ap, r
 use Rattle.std.proofs.lemmas.Option.{slice_get-get_or}
 use Rattle.live_farm.proofs.group.DomainUsers.line_of.Goals as goal
 
-pub returns : goal.returns
-returns g c =
+pub returns-clause-line : goal.returns-clause-line
+returns-clause-line g c =
     let named : c.args.user < length c.args.self.now.names.items = search rules in
     let there : c.args.user < length c.args.self.now.sessions.items = search rules in
     record {
