@@ -1,7 +1,7 @@
 -- How many commands the users of a domain were answered since it began: what their lists have together.
 use Rattle.std.specs.Prelude.{◌==◌, ℕ, List, length, sum_by, if◌then◌else◌}
 use Rattle.farm_service.specs.Passes.{UserPassValue, SessionValue}
-use Rattle.record_keeping.specs.Counts.{count_of}
+use Rattle.record_keeping.specs.Counts.{saturated}
 use Rattle.live_farm.specs.declared.group.DomainUsers.{DomainUsers}
 
 -- how many commands sessions list
@@ -18,8 +18,8 @@ commands_of_passes domain passes = sum_by (commands_of_pass domain) passes
 
 -- how many commands the users of a domain were answered, as 64 bits count them
 abbrev pub commands_asked : DomainUsers → ℕ
-commands_asked group = count_of (commands_of_sessions group.sessions.items)
+commands_asked group = saturated (commands_of_sessions group.sessions.items)
 
 -- the same by the passes of all users
 abbrev pub commands_listed : ℕ → List UserPassValue → ℕ
-commands_listed domain passes = count_of (commands_of_passes domain passes)
+commands_listed domain passes = saturated (commands_of_passes domain passes)

@@ -5,8 +5,8 @@ use Rattle.plan_rules.specs.Data.{DomainData}
 use Rattle.record_keeping.specs.declared.domain_record.DomainRecord.{DomainRecord}
 use Rattle.record_keeping.specs.Keeping.{KeepsGained}
 
--- under a lock there was a record that kept what the journal of a domain of this number gained, and then it had at least
--- this number of commands since that journal began; unless nothing is recorded there
+-- under a lock there was a record that kept what the journal of a domain of this number gained, and then it had at
+-- least this number of commands since that journal began; unless nothing is recorded there
 pub record HasKept {S : Type 0} {g : _} (whole : S → Option (List ℕ)) (lock : Mutex (DomainRecord S g))
     (plan : List DomainData) (number asked : ℕ) : Type 0 where
   pub anew : Bool

@@ -1,6 +1,6 @@
 //! How many commands the users of a domain were answered, which its record is to have.
 ghost use Rattle.std.specs.Prelude.{◌≡◌};
-ghost use Rattle.record_keeping.specs.Counts.{count_of};
+ghost use Rattle.record_keeping.specs.Counts.{saturated};
 ghost use Rattle.live_farm.specs.Asking.{commands_of_sessions, commands_of_pass, commands_asked, commands_listed};
 
 use crate::group::DomainUsers;
@@ -8,7 +8,7 @@ use farm_service::{Session, UserPass};
 
 /// How many commands the users of a domain were answered since its journal began.
 #[derive(Clone, Copy)]
-pub struct Asked {
+pub struct AskedCommands {
     /// The number of the domain.
     pub domain: u8,
     /// How many commands all its users list together.
@@ -17,7 +17,7 @@ pub struct Asked {
 
 // How many commands these sessions list.
 fn commands_of_sessions(sessions: &[Session<'_>]) -> u64
-    ensures { result ≡ count_of (commands_of_sessions sessions.now) }
+    ensures { result ≡ saturated (commands_of_sessions sessions.now) }
 {
     let mut commands: u64 = 0;
     for session in sessions {
@@ -48,24 +48,24 @@ fn commands_of_passes(domain: u8, passes: &[UserPass]) -> u64
     commands
 }
 
-impl Asked {
+impl AskedCommands {
     /// By the sessions of the domain's users.
-    pub fn of_group(group: &DomainUsers<'_>) -> Asked
+    pub fn of_group(group: &DomainUsers<'_>) -> AskedCommands
         ensures domain { result.domain ≡ group.now.domain }
         ensures commands { result.commands ≡ commands_asked group.now }
     {
-        Asked {
+        AskedCommands {
             domain: group.domain,
             commands: commands_of_sessions(group.sessions.as_slice()),
         }
     }
 
     /// By the passes of all users of the farm.
-    pub fn of_passes(domain: u8, passes: &[UserPass]) -> Asked
+    pub fn of_passes(domain: u8, passes: &[UserPass]) -> AskedCommands
         ensures domain { result.domain ≡ domain }
         ensures commands { result.commands ≡ commands_listed domain passes.now }
     {
-        Asked {
+        AskedCommands {
             domain,
             commands: commands_of_passes(domain, passes),
         }

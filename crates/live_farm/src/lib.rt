@@ -25,7 +25,7 @@ mod station;
 mod texts;
 mod threads;
 
-pub use asked::Asked;
+pub use asked::AskedCommands;
 pub use crew::Crew;
 pub use desk::Desk;
 pub use failure::{LiveFailure, Trouble};

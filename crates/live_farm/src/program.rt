@@ -9,7 +9,7 @@ ghost use Rattle.live_farm.specs.Asking.{commands_listed};
 ghost use Rattle.live_farm.specs.Crews.{number_of};
 ghost use Rattle.live_farm.specs.Closings.{AreUsersListed};
 
-use crate::asked::Asked;
+use crate::asked::AskedCommands;
 use crate::crew::{Crew, RestGate};
 use crate::failure::{LiveFailure, Trouble};
 use crate::notices::Notices;
@@ -148,7 +148,7 @@ fn keep_last<R: Wait, K: SharedRecord, N: Notices>(
     ensures { IfOk result (λ state. state ≡ RecordState.Kept
         → K.has_kept record.now service.now.plan domain (commands_listed domain passes.now)) }
 {
-    let asked = Asked::of_passes(domain, passes);
+    let asked = AskedCommands::of_passes(domain, passes);
     keep_and_tell(rt, alloc, service, asked, record, false, errors)
 }
 

@@ -3,7 +3,7 @@ ghost use Rattle.std.specs.Prelude.{◌≡◌, ℕ, List, ⊤, IfOk, OnOk};
 ghost use Rattle.plan_rules.specs.Data.{DomainData};
 ghost use Rattle.live_farm.specs.Kept.{HasKept};
 
-use crate::asked::Asked;
+use crate::asked::AskedCommands;
 use crate::failure::LiveFailure;
 use crate::notices::Notices;
 use crate::resuming::names_of;
@@ -60,7 +60,7 @@ pub trait SharedRecord {
         &self,
         rt: &R,
         service: &Service,
-        asked: Asked,
+        asked: AskedCommands,
         begins_anew: bool,
     ) -> Result<(), NotKept>
         ensures { OnOk result (has_kept self.now service.now.plan asked.domain asked.commands) };
@@ -88,7 +88,7 @@ impl<S: RecordStore> SharedRecord for Mutex<DomainRecord<S>> {
         &self,
         rt: &R,
         service: &Service,
-        asked: Asked,
+        asked: AskedCommands,
         begins_anew: bool,
     ) -> Result<(), NotKept> {
         self.lock(rt)
@@ -172,7 +172,7 @@ pub(crate) fn keep_and_tell<R: Wait, K: SharedRecord, N: Notices>(
     rt: &R,
     alloc: Global,
     service: &Service,
-    asked: Asked,
+    asked: AskedCommands,
     record: &K,
     begins_anew: bool,
     errors: &N,

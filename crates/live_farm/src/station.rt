@@ -4,7 +4,7 @@ ghost use Rattle.live_farm.specs.Asking.{commands_asked};
 ghost use Rattle.live_farm.specs.Groups.{AllStay, AnswersLetter, TellsUnrecorded, TellsFull, may_be_answered};
 
 use crate::answering::answer_letter;
-use crate::asked::Asked;
+use crate::asked::AskedCommands;
 use crate::group::DomainUsers;
 use crate::letter::{Letter, Matter};
 use crate::mailbox::{Mail, Mailbox};
@@ -283,7 +283,7 @@ fn answer_and_keep<R: Wait, K: SharedRecord, N: Notices>(
         rt,
         alloc,
         group.service,
-        Asked::of_group(group),
+        AskedCommands::of_group(group),
         record,
         answer.begins_anew,
         errors,
@@ -310,7 +310,7 @@ fn state_before<R: Wait, K: SharedRecord, N: Notices>(
 ) -> Result<RecordState, NoMemory> {
     match station.record_state() {
         RecordState::Unrecorded => {
-            let asked = Asked::of_group(group);
+            let asked = AskedCommands::of_group(group);
             keep_and_tell(rt, alloc, group.service, asked, record, false, errors)
         }
         state => Ok(state),

@@ -1,5 +1,5 @@
--- How many commands entries of a journal have, and how many a record has that gains them: the contracts of `commands_of`,
--- `commands_of_all` and `next_reached`, and the counts of `KeepsPieces`.
+-- How many commands entries of a journal have, and how many a record has that gains them: the contracts of
+-- `commands_of`, `commands_of_all` and `next_reached`, and the counts of `KeepsPieces`.
 use Rattle.std.proofs.Common.{◌≡◌, ◌∙◌, ◌+◌, ◌-◌, ◌^◌, ◌<◌, ◌≤◌, ℕ, zero, suc, min, Bool, true, false, cond}
 use Rattle.std.proofs.Common.{List, [], ◌∷◌, ◌++◌, length, take, get_or, replicate, refl, ap, append_assoc, arith}
 use Rattle.std.specs.Prelude.{filter}
@@ -15,7 +15,7 @@ use Rattle.domain_core.specs.Commands.{is_command}
 use Rattle.domain_core.specs.Journal.{AnsweredCall, answered_step, expanded, steps}
 use Rattle.domain_core.specs.Laws.{JournalsAddUp}
 use Rattle.domain_core.specs.Marks.{Copies, events_from}
-use Rattle.record_keeping.specs.Counts.{asks_command, commands_in, commands_among, count_of, IsCountBefore}
+use Rattle.record_keeping.specs.Counts.{asks_command, commands_in, commands_among, saturated, IsCountBefore}
 
 -- ---- one history after another
 
@@ -79,8 +79,8 @@ commands_within (Run by node count last ∷ entries) =
 
 -- ---- a journal up to a mark
 
--- a count up to a mark, and then the commands of the entries that were copied from there, is the count up to where the copy
--- ended
+-- a count up to a mark, and then the commands of the entries that were copied from there, is the count up to where the
+-- copy ended
 pub counted_on : (journal : List Entry) (from to : Mark) (copied : List Entry) (commands : ℕ)
     → events_from from journal ≡ expanded copied ++ events_from to journal → IsCountBefore journal from commands
     → IsCountBefore journal to (commands + commands_among copied)
@@ -97,9 +97,10 @@ count_within journal to commands before = omega (arith, before, commands_within 
 -- ---- a record's count
 
 -- a count in 64 bits that gains some, and then others, is a count that gains all of them
-pub count_twice : (before some others : ℕ) → count_of (count_of (before + some) + others) ≡ count_of (before + (some + others))
+pub count_twice : (before some others : ℕ)
+    → saturated (saturated (before + some) + others) ≡ saturated (before + (some + others))
 count_twice before some others = omega arith
 
 -- a count that gains none stays
-pub count_stays : (before none : ℕ) → before < 2 ^ 64 → none ≡ 0 → before ≡ count_of (before + none)
+pub count_stays : (before none : ℕ) → before < 2 ^ 64 → none ≡ 0 → before ≡ saturated (before + none)
 count_stays before none less is = omega (arith, less, is)

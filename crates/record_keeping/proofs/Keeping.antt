@@ -7,7 +7,7 @@ use Rattle.plan_rules.specs.Data.{DomainData}
 use Rattle.domain_core.specs.Laws.{JournalsAddUp}
 use Rattle.farm_records.specs.RecordText.{record_text, lines_of}
 use Rattle.record_keeping.specs.declared.domain_record.DomainRecord.{DomainRecord}
-use Rattle.record_keeping.specs.Counts.{commands_among, count_of}
+use Rattle.record_keeping.specs.Counts.{commands_among, saturated}
 use Rattle.record_keeping.specs.Pieces.{entries_of, AreGained, EndWithRoom, IsAtStart}
 use Rattle.record_keeping.specs.Keeping.{IsSameRecord, KeepsGained, KeepsSome}
 use Rattle.record_keeping.specs.KeptPieces.{KeepsPieces, KeepsNothing}
@@ -43,14 +43,15 @@ both_kept law whole plan number more old between new same first second =
           (stored_text whole new.store) (record_text (lines_of (entries_of first.pieces)))
           (record_text (lines_of (entries_of second.pieces))) first.text second.text);
       commands =
-          second.commands ∙ ap (λ (n : ℕ). count_of (n + others)) first.commands
+          second.commands ∙ ap (λ (n : ℕ). saturated (n + others)) first.commands
           ∙ count_twice old.commands some others
-          ∙ ap (λ (n : ℕ). count_of (old.commands + n)) (sym (commands_of_both law first.pieces second.pieces));
+          ∙ ap (λ (n : ℕ). saturated (old.commands + n)) (sym (commands_of_both law first.pieces second.pieces));
     }
 
 -- pieces after which there is no more are pieces after which there may be more
 pub more_kept : {S : Type 0} {g : _} (whole : S → Option (List ℕ)) (plan : List DomainData) (number : ℕ) (more : Bool)
-    (old new : DomainRecord S g) → KeepsPieces whole plan number more old new → KeepsPieces whole plan number true old new
+    (old new : DomainRecord S g) → KeepsPieces whole plan number more old new
+    → KeepsPieces whole plan number true old new
 more_kept whole plan number more old new kept = record {
   pieces = kept.pieces;
   gained = kept.gained;
@@ -129,7 +130,7 @@ kept_anew whole plan number more old between new same start none text begun kept
       (string_bytes old.head) (record_text (lines_of (entries_of kept.pieces))) text kept.text;
   commands =
       kept.commands
-      ∙ ap (λ (n : ℕ). count_of (n + commands_among (entries_of kept.pieces))) none;
+      ∙ ap (λ (n : ℕ). saturated (n + commands_among (entries_of kept.pieces))) none;
   begun = begun;
 }
 

@@ -30,7 +30,8 @@ all_end_with_room places (piece ∷ []) (next ∷ later) room = room
 all_end_with_room places (piece ∷ next ∷ before) later room = all_end_with_room places (next ∷ before) later room
 
 -- the entries of pieces, and of pieces after them
-entries_of_both : (before later : List JournalPiece) → entries_of (before ++ later) ≡ entries_of before ++ entries_of later
+entries_of_both : (before later : List JournalPiece)
+    → entries_of (before ++ later) ≡ entries_of before ++ entries_of later
 entries_of_both before later = flat_map-append (λ (piece : JournalPiece). piece.entries) before later
 
 -- the text of pieces, and of pieces behind them

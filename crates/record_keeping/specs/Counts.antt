@@ -19,8 +19,8 @@ abbrev pub commands_among : List Entry → ℕ
 commands_among entries = commands_in (expanded entries)
 
 -- a number as 64 bits count it, which stop at the greatest number that they have
-abbrev pub count_of : ℕ → ℕ
-count_of number = min number (2 ^ 64 - 1)
+abbrev pub saturated : ℕ → ℕ
+saturated number = min number (2 ^ 64 - 1)
 
 -- this is how many commands of a journal come before a mark: with those after the mark they are all that it has
 abbrev pub IsCountBefore : List Entry → Mark → ℕ → Type 0

@@ -4,7 +4,7 @@ use Rattle.plan_rules.specs.Data.{DomainData}
 use Rattle.domain_core.specs.declared.copying.Mark.{Mark}
 use Rattle.farm_records.specs.RecordText.{record_text, lines_of}
 use Rattle.record_keeping.specs.declared.domain_record.DomainRecord.{DomainRecord}
-use Rattle.record_keeping.specs.Counts.{commands_among, count_of}
+use Rattle.record_keeping.specs.Counts.{commands_among, saturated}
 use Rattle.record_keeping.specs.Pieces.{JournalPiece, entries_of, AreGained, EndWithRoom, IsBeginning}
 use Rattle.record_keeping.specs.Writing.{IsWritten, stored_text}
 
@@ -28,7 +28,7 @@ pub record KeepsGained {S : Type 0} {g : _} (whole : S → Option (List ℕ)) (p
   pub text : IsWritten anew (string_bytes old.head) (stored_text whole old.store) (stored_text whole new.store)
       (record_text (lines_of (entries_of pieces)))
   pub commands :
-      new.commands ≡ count_of ((if anew then 0 else old.commands) + commands_among (entries_of pieces))
+      new.commands ≡ saturated ((if anew then 0 else old.commands) + commands_among (entries_of pieces))
   pub begun : new.owes_next ≡ false
 
 -- the next record is still owed to a journal that began again: the mark, the count and what is whole of the record stay

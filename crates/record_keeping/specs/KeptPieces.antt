@@ -4,7 +4,7 @@ use Rattle.std.specs.Io.KnownBytes.{Appends}
 use Rattle.plan_rules.specs.Data.{DomainData}
 use Rattle.farm_records.specs.RecordText.{record_text, lines_of}
 use Rattle.record_keeping.specs.declared.domain_record.DomainRecord.{DomainRecord}
-use Rattle.record_keeping.specs.Counts.{commands_among, count_of}
+use Rattle.record_keeping.specs.Counts.{commands_among, saturated}
 use Rattle.record_keeping.specs.Pieces.{JournalPiece, entries_of, AreGained, EndWithRoom}
 use Rattle.record_keeping.specs.Writing.{stored_text}
 
@@ -16,7 +16,7 @@ pub record KeepsPieces {S : Type 0} {g : _} (whole : S → Option (List ℕ)) (p
   pub last : more ≡ false → number < length plan → EndWithRoom (vec_capacity old.room) pieces
   pub text : Appends (stored_text whole old.store) (stored_text whole new.store)
       (record_text (lines_of (entries_of pieces)))
-  pub commands : new.commands ≡ count_of (old.commands + commands_among (entries_of pieces))
+  pub commands : new.commands ≡ saturated (old.commands + commands_among (entries_of pieces))
 
 -- the mark, the count and what is whole of a record stay
 pub record KeepsNothing {S : Type 0} {g : _} (whole : S → Option (List ℕ)) (old new : DomainRecord S g)

@@ -2,7 +2,7 @@
 ghost use Rattle.std.specs.Prelude.{◌≡◌, ◌↔◌, ◌<◌, ◌≤◌, ◌+◌, ◌^◌, ◌||◌, ◌&&◌, [], ◌∷◌, false, true, not, None, Some, Ok, IfOk, OnOk, OnErr, IsErr, IsTrue, IsSome, IfSome, length, vec_capacity, string_bytes};
 ghost use Rattle.std.specs.Io.KnownBytes.{Appends};
 ghost use Rattle.farm_records.specs.RecordText.{record_text, lines_of};
-ghost use Rattle.record_keeping.specs.Counts.{commands_among, count_of, IsCountBefore};
+ghost use Rattle.record_keeping.specs.Counts.{commands_among, saturated, IsCountBefore};
 ghost use Rattle.record_keeping.specs.Keeping.{KeepsGained, KeepsSome, IsSameRecord};
 ghost use Rattle.record_keeping.specs.KeptPieces.{KeepsPieces, KeepsNothing};
 ghost use Rattle.record_keeping.specs.Pieces.{IsAtStart};
@@ -53,7 +53,7 @@ fn commands_of_all(entries: &[Entry]) -> u64
 
 // A count of commands, and then those of these entries.
 fn count_with(commands: u64, entries: &[Entry]) -> u64
-    ensures { result ≡ count_of (commands + commands_among entries.now) }
+    ensures { result ≡ saturated (commands + commands_among entries.now) }
 {
     commands.saturating_add(commands_of_all(entries))
 }

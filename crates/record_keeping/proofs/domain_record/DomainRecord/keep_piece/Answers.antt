@@ -1,7 +1,7 @@
 use Rattle.std.proofs.Common.{rules, ◌≡◌, ◌∙◌, ◌+◌, ◌<◌, ap, subst, List, [], ◌∷◌, ℕ, length, vec_capacity}
 use Rattle.std.specs.Io.KnownBytes.{Appends}
 use Rattle.domain_core.specs.declared.journal.Entry.{Entry}
-use Rattle.record_keeping.specs.Counts.{commands_among, count_of}
+use Rattle.record_keeping.specs.Counts.{commands_among, saturated}
 use Rattle.record_keeping.specs.Pieces.{JournalPiece}
 use Rattle.record_keeping.specs.Writing.{stored_text}
 use Rattle.record_keeping.proofs.Pieces.{one_gained, text_of_one, commands_of_one}
@@ -31,7 +31,7 @@ returns-clause-kept g c =
       commands =
           let held : c.as_slice.result.now ≡ piece.entries = search rules in
           c.count_with.ensures
-          ∙ ap (λ (n : ℕ). count_of (n + commands_among c.as_slice.result.now)) c.in_ok-write_room.ensures.rest.5
-          ∙ ap (λ (entries : List Entry). count_of (old.commands + commands_among entries)) held
-          ∙ ap (λ (n : ℕ). count_of (old.commands + n)) (commands_of_one piece);
+          ∙ ap (λ (n : ℕ). saturated (n + commands_among c.as_slice.result.now)) c.in_ok-write_room.ensures.rest.5
+          ∙ ap (λ (entries : List Entry). saturated (old.commands + commands_among entries)) held
+          ∙ ap (λ (n : ℕ). saturated (old.commands + n)) (commands_of_one piece);
     }
