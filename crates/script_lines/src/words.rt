@@ -53,4 +53,11 @@ impl<'a> LineWords<'a> {
             }
         }
     }
+
+    /// The rest of the line, which is all words that are still to be read with the blanks between them; `None` after the last.
+    pub fn rest_of_line(self) -> Option<&'a [u8]>
+        ensures { MatchOption result (self.entry ≡ []) (λ rest. self.entry ≡ words_between rest.now) }
+    {
+        self.rest
+    }
 }

@@ -1,0 +1,3 @@
+pub mod Characters
+pub mod Meanings
+pub mod Refusals
