@@ -1,8 +1,9 @@
 //! A text for `farm` with lines that help, as one without them.
 
-use crate::form::{HelpVerb, help_line};
+use crate::form::{Help, help_line};
 use crate::spelling::spell_out;
 use line_words::{NumberedLineFault, line_as_str};
+use script_lines::Command;
 use script_text::{NumberedLine, TextWriter, divide_at_plan_end, is_passed_over, numbered_lines};
 use std::alloc::{AllocError, Global};
 
@@ -32,16 +33,38 @@ pub struct Expansion {
 }
 
 impl Expansion {
-    /// Appends a plain line of a user: a verb between blanks, a host, and digits, if there are some.
-    pub fn push_line(&mut self, user: &str, verb: &str, host: &str, digits: &str) {
+    /// Appends the plain line by which a user asks this.
+    pub fn push_command(&mut self, user: &str, command: &Command) {
         self.text.push(user);
-        self.text.push(verb);
-        self.text.push(host);
-        if !digits.is_empty() {
+        self.text.push(" ");
+        self.text.push(command.verb().name());
+        if let Some(place) = command.place() {
             self.text.push(" ");
-            self.text.push(digits);
+            self.text.push_decimal(u64::from(place));
+        }
+        match command {
+            Command::Config(bytes) | Command::Write { bytes, .. } => {
+                self.push_bytes(bytes.as_slice());
+            }
+            Command::Boot { code, .. } => self.push_bytes(code.as_slice()),
+            Command::Poke { address, word, .. } => {
+                self.push_word(*address);
+                self.push_word(*word);
+            }
+            Command::Peek { address, .. } => self.push_word(*address),
+            Command::Collect { .. } | Command::Reset { .. } | Command::Look { .. } => {}
         }
         self.text.push("\n");
+    }
+
+    fn push_bytes(&mut self, bytes: &[u8]) {
+        self.text.push(" ");
+        self.text.push_hex_bytes(bytes);
+    }
+
+    fn push_word(&mut self, word: u32) {
+        self.text.push(" ");
+        self.text.push_word(word);
     }
 }
 
@@ -66,7 +89,7 @@ fn file_named(line: NumberedLine<'_>) -> Option<&str> {
 /// The name of the file that a line loads, if it loads one.
 pub fn file_loaded(line: &str) -> Option<&str> {
     match help_line(0, line) {
-        Some(help) if matches!(help.verb, HelpVerb::Load) => Some(help.halves().1),
+        Some(line) if matches!(line.help, Help::Load) => Some(line.halves().1),
         _ => None,
     }
 }

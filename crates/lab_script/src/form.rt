@@ -1,55 +1,54 @@
 //! The lines that help, and their words.
 
-use script_text::{TextWriter, decimal_number, value_named};
+use help_lines::{HelpVerb, LOAD};
+use script_text::TextWriter;
 
-/// The verb of a line that helps.
+/// What a line that helps does.
 #[derive(Clone, Copy)]
-pub enum HelpVerb {
+pub enum Help {
     /// A program is assembled and booted, long code through pokes.
     Load,
-    /// Two ports are joined both ways and made ready.
-    Join,
-    /// A host gets the bytes of a text.
-    Send,
-    /// All bytes that came to a host are taken.
-    Text,
+    /// It asks what a plain line asks.
+    Asks(HelpVerb),
 }
 
-const VERBS: [(&str, HelpVerb); 4] = [
-    ("load", HelpVerb::Load),
-    ("join", HelpVerb::Join),
-    ("send", HelpVerb::Send),
-    ("text", HelpVerb::Text),
-];
+impl Help {
+    // What a line with this verb does, if it helps.
+    fn of(verb: &str) -> Option<Help> {
+        if verb == LOAD {
+            return Some(Help::Load);
+        }
+        match HelpVerb::of(verb.as_bytes()) {
+            Some(verb) => Some(Help::Asks(verb)),
+            None => None,
+        }
+    }
 
-impl HelpVerb {
     // What comes after the user's name in a line.
     fn form(self) -> &'static str {
         match self {
-            HelpVerb::Load => " load HOST FILE",
-            HelpVerb::Join => " join PORT PORT",
-            HelpVerb::Send => " send HOST \"TEXT\"",
-            HelpVerb::Text => " text HOST",
+            Help::Load => " load HOST FILE",
+            Help::Asks(HelpVerb::Join) => " join PORT PORT",
+            Help::Asks(HelpVerb::Send) => " send HOST \"TEXT\"",
+            Help::Asks(HelpVerb::Text) => " text HOST",
         }
     }
 
     fn name(self) -> &'static str {
         match self {
-            HelpVerb::Load => "load",
-            HelpVerb::Join => "join",
-            HelpVerb::Send => "send",
-            HelpVerb::Text => "text",
+            Help::Load => LOAD,
+            Help::Asks(verb) => verb.name(),
         }
     }
 }
 
-/// The words of a line that helps: who asks, the verb, and what comes after it.
+/// The words of a line that helps: who asks, what the verb does, and what comes after the verb.
 #[derive(Clone, Copy)]
 pub struct HelpLine<'a> {
     /// The number of the line in its script, from 1.
     pub number: u64,
     pub user: &'a str,
-    pub verb: HelpVerb,
+    pub help: Help,
     pub rest: &'a str,
 }
 
@@ -70,11 +69,11 @@ pub fn help_line(number: u64, line: &str) -> Option<HelpLine<'_>> {
 }
 
 fn with_verb<'a>(number: u64, user: &'a str, verb: &str, rest: &'a str) -> Option<HelpLine<'a>> {
-    match value_named(&VERBS, verb) {
-        Some(verb) => Some(HelpLine {
+    match Help::of(verb) {
+        Some(help) => Some(HelpLine {
             number,
             user,
-            verb,
+            help,
             rest,
         }),
         None => None,
@@ -94,21 +93,13 @@ impl<'a> HelpLine<'a> {
         text.push(", ");
         text.push(self.user);
         text.push(" ");
-        text.push(self.verb.name());
+        text.push(self.help.name());
         text.push(": ");
     }
 
     /// Appends the form that the line should have.
     pub fn write_form(self, text: &mut TextWriter) {
         text.push(self.user);
-        text.push(self.verb.form());
-    }
-}
-
-/// The number that decimal digits spell, if it is at most so great.
-pub fn number_up_to(word: &str, most: u8) -> Option<u8> {
-    match decimal_number(word) {
-        Some(number) if number <= u64::from(most) => Some(number as u8),
-        _ => None,
+        text.push(self.help.form());
     }
 }

@@ -1,7 +1,6 @@
 //! Lines that help in a script, and the plain lines into which they are spelled out.
 #![tactic(auto)]
 
-mod bytes;
 mod expanding;
 mod form;
 mod loading;

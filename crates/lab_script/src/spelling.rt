@@ -1,12 +1,13 @@
 //! The plain lines into which a line that helps is spelled out.
 
-use crate::bytes::digits_of;
 use crate::expanding::{Expansion, LoadedFile};
-use crate::form::{HelpLine, HelpVerb, number_up_to};
+use crate::form::{Help, HelpLine};
 use crate::loading::loading_lines;
+use help_lines::{HelpFault, HelpVerb, parse_help};
 use line_mistakes::ShownWord;
+use script_lines::{LineWords, parse_place};
 use script_text::TextWriter;
-use std::alloc::Global;
+use std::alloc::{AllocError, Global};
 
 const NO_PORT: &str = " is no port number: decimal digits, 0 to 31";
 
@@ -24,50 +25,18 @@ pub fn spell_out(
     line: HelpLine<'_>,
     files: &[LoadedFile<'_>],
 ) {
-    match line.verb {
-        HelpVerb::Join => spell_join(expansion, line),
-        HelpVerb::Text => spell_text(expansion, line),
-        HelpVerb::Send => spell_send(alloc, expansion, line),
-        HelpVerb::Load => spell_load(alloc, expansion, line, files),
+    match line.help {
+        Help::Load => spell_load(alloc, expansion, line, files),
+        Help::Asks(verb) => spell_asked(alloc, expansion, line, verb),
     }
 }
 
-fn spell_join(expansion: &mut Expansion, line: HelpLine<'_>) {
-    let (first, second) = line.halves();
-    if second.contains(" ") {
-        refuse_words(&mut expansion.wrong, line);
-        return;
-    }
-    match (number_up_to(first, 31), number_up_to(second, 31)) {
-        (Some(first), Some(second)) => {
-            expansion.text.push(line.user);
-            expansion.text.push(" config 01");
-            expansion.text.push_hex_byte(first);
-            expansion.text.push_hex_byte(second);
-            expansion.text.push("03\n");
-        }
-        (None, _) => refuse(&mut expansion.wrong, line, first, NO_PORT),
-        (_, None) => refuse(&mut expansion.wrong, line, second, NO_PORT),
-    }
-}
-
-fn spell_text(expansion: &mut Expansion, line: HelpLine<'_>) {
-    if is_host(expansion, line, line.rest) {
-        expansion.push_line(line.user, " collect ", line.rest, "");
-    }
-}
-
-fn spell_send(alloc: Global, expansion: &mut Expansion, line: HelpLine<'_>) {
-    let (host, quoted) = line.halves();
-    if !is_host(expansion, line, host) {
-        return;
-    }
-    match digits_of(alloc, quoted) {
-        Ok(Some(digits)) => {
-            expansion.push_line(line.user, " write ", host, digits.as_str());
-        }
-        Ok(None) => refuse(&mut expansion.wrong, line, quoted, NO_TEXT),
-        Err(error) => expansion.text.keep_failure(Err(error)),
+fn spell_asked(alloc: Global, expansion: &mut Expansion, line: HelpLine<'_>, verb: HelpVerb) {
+    match parse_help(alloc, verb, LineWords::of(line.rest.as_bytes())) {
+        Ok(command) => expansion.push_command(line.user, &command),
+        Err(HelpFault::NoMemory) => expansion.text.keep_failure(Err(AllocError)),
+        Err(HelpFault::TooManyWords) => refuse_words(&mut expansion.wrong, line, verb),
+        Err(fault) => refuse_words_of(&mut expansion.wrong, line, fault),
     }
 }
 
@@ -78,7 +47,8 @@ fn spell_load(
     files: &[LoadedFile<'_>],
 ) {
     let (host, name) = line.halves();
-    if !is_host(expansion, line, host) {
+    if parse_place(host.as_bytes()).is_err() {
+        refuse(&mut expansion.wrong, line, host, NO_HOST);
         return;
     }
     let program = files
@@ -104,17 +74,12 @@ fn spell_program(alloc: Global, expansion: &mut Expansion, line: HelpLine<'_>, p
     }
 }
 
-// Whether a word is a host's number. If it isn't, a message says so.
-fn is_host(expansion: &mut Expansion, line: HelpLine<'_>, word: &str) -> bool {
-    let is_number = number_up_to(word, 255).is_some();
-    if !is_number {
-        refuse(&mut expansion.wrong, line, word, NO_HOST);
+// Tells that there are more words than the line should have. All that comes after `text` is shown as its host's number.
+fn refuse_words(text: &mut TextWriter, line: HelpLine<'_>, verb: HelpVerb) {
+    if matches!(verb, HelpVerb::Text) {
+        refuse(text, line, line.rest, NO_HOST);
+        return;
     }
-    is_number
-}
-
-// Tells that there are more words than the line should have.
-fn refuse_words(text: &mut TextWriter, line: HelpLine<'_>) {
     line.write_head(text);
     text.push("too many words: ");
     line.write_form(text);
@@ -122,6 +87,20 @@ fn refuse_words(text: &mut TextWriter, line: HelpLine<'_>) {
         text.push(" (a blank stands at the end of the line)");
     }
     text.push("\n");
+}
+
+// Tells which word after the verb is wrong, or that one is missing.
+fn refuse_words_of(text: &mut TextWriter, line: HelpLine<'_>, fault: HelpFault) {
+    let (first, behind) = line.halves();
+    match fault {
+        HelpFault::FirstPort => refuse(text, line, first, NO_PORT),
+        HelpFault::SecondPort => refuse(text, line, behind, NO_PORT),
+        HelpFault::Host => refuse(text, line, first, NO_HOST),
+        HelpFault::Text => refuse(text, line, behind, NO_TEXT),
+        HelpFault::TooFewWords | HelpFault::TooManyWords | HelpFault::NoMemory => {
+            refuse(text, line, "", "");
+        }
+    }
 }
 
 // Tells what is wrong with a word; or, if it is missing, what the line should be.

@@ -9,9 +9,6 @@ pub const VERBS: WordForm = WordForm::OneOf(&[
     "config", "write", "boot", "poke", "peek", "collect", "reset", "look",
 ]);
 
-/// The verbs of lines that help, and no others. Not every program takes them.
-pub const VERBS_THAT_HELP: [&str; 4] = ["load", "join", "send", "text"];
-
 /// What a word after a verb stands for.
 #[derive(Clone, Copy)]
 pub enum ScriptArgument {

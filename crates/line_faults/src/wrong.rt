@@ -1,6 +1,7 @@
 //! A wrong line of a script, and the message about it.
 
-use crate::form::{ScriptArgument, VERBS, VERBS_THAT_HELP, arguments_of, no_digit_of, write_form};
+use crate::form::{ScriptArgument, VERBS, arguments_of, no_digit_of, write_form};
+use help_lines::NAMES_THAT_HELP;
 use line_mistakes::{MetText, ShownWord, Wanted, WordForm, WordHint, WordRole};
 use script_lines::{LineFault, LineWords};
 use script_text::{NumberedLine, TextWriter, nearest_name};
@@ -92,7 +93,7 @@ pub fn has_verb(line: &[u8]) -> bool {
 
 // The verb of a line that helps which a word is, in small letters or capitals.
 fn helping_verb(word: &[u8]) -> Option<&'static str> {
-    same_letters(&VERBS_THAT_HELP, word)
+    same_letters(&NAMES_THAT_HELP, word)
 }
 
 // The first names, and how many more there are.
@@ -141,7 +142,7 @@ fn write_hint_of_verb(text: &mut TextWriter, word: &[u8]) {
 
 // The verb of a line that helps which is nearest to a word.
 fn write_near_help(text: &mut TextWriter, word: &str) {
-    if let Some(verb) = nearest_name(word, &VERBS_THAT_HELP) {
+    if let Some(verb) = nearest_name(word, &NAMES_THAT_HELP) {
         text.push(" (is it ");
         text.push(verb);
         text.push("? That helps in `lab run`; `lab expand` spells its line out)");

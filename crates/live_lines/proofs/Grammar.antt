@@ -1,10 +1,14 @@
 -- What the reading of a line rests on: the clauses `fault` of `parse_rest` and `parse_live_line`.
-use Rattle.std.proofs.Common.{◌≡◌, ℕ, List, [], ◌∷◌, Ok, Err, false, inl, sym, ap, subst, ◌∙◌}
+use Rattle.std.proofs.Common.{◌≡◌, ℕ, List, [], ◌∷◌, Ok, Err, false, inl, inr, sym, ap, subst, ◌∙◌}
 use Rattle.std.specs.Prelude.{IfErr, Result}
 use Rattle.script_lines.specs.declared.fault.LineFault.{LineFault}
 use Rattle.script_lines.specs.declared.fault.LineFault.TheVariants as fault
 use Rattle.script_lines.specs.Words.{words_between}
+use Rattle.script_lines.specs.declared.command.Command.{Command}
 use Rattle.script_lines.specs.Lines.{IsRestFault}
+use Rattle.help_lines.specs.declared.verb.HelpVerb.{HelpVerb}
+use Rattle.help_lines.specs.HelpVerbs.{help_name}
+use Rattle.help_lines.specs.HelpLines.{IsOfHelp, HelpAsks}
 use Rattle.live_lines.specs.declared.asked.LiveLine.{LiveLine}
 use Rattle.live_lines.specs.declared.fault.LiveFault.{LiveFault}
 use Rattle.live_lines.specs.declared.fault.LiveFault.TheVariants as live_fault
@@ -23,14 +27,34 @@ not_of_domain rest behind word is none verb arguments of = none verb (ap (first 
     first d [] = d
     first d (x ∷ xs) = x
 
--- what a script refuses is refused, if it asks nothing of the domain as a whole
+-- if it is no verb that helps, the words ask nothing by one
+pub not_of_help : (rest behind : List (List ℕ)) (word : List ℕ)
+    → rest ≡ word ∷ behind → ((v : HelpVerb) → ¬ (word ≡ help_name v))
+    → (verb : HelpVerb) (arguments : List (List ℕ))
+    → ¬ IsOfHelp rest verb arguments
+not_of_help rest behind word is none verb arguments of = none verb (ap (first word) (sym is ∙ of))
+  where
+    first : List ℕ → List (List ℕ) → List ℕ
+    first d [] = d
+    first d (x ∷ xs) = x
+
+-- what a script refuses is refused, if its verb is none of the domain as a whole and none that helps
 pub live_refused : (rest : List (List ℕ)) (f : LineFault)
-    → ((verb : DomainVerb) (arguments : List (List ℕ)) → ¬ IsOfDomain rest verb arguments) → IsRestFault rest f
+    → ((verb : DomainVerb) (arguments : List (List ℕ)) → ¬ IsOfDomain rest verb arguments)
+    → ((verb : HelpVerb) (arguments : List (List ℕ)) → ¬ IsOfHelp rest verb arguments)
+    → IsRestFault rest f
     → IsLiveRestFault rest f
-live_refused rest fault.User none wrong = wrong
-live_refused rest fault.Verb none wrong = (wrong, none)
-live_refused rest fault.Args none wrong = inl wrong
-live_refused rest fault.Hex none wrong = wrong
+live_refused rest fault.User none no_help wrong = wrong
+live_refused rest fault.Verb none no_help wrong = (wrong, none, no_help)
+live_refused rest fault.Args none no_help wrong = inl wrong
+live_refused rest fault.Hex none no_help wrong = wrong
+
+-- if nothing is asked by a verb that helps, the words after it are wrong
+pub help_refused : (rest arguments : List (List ℕ)) (verb : HelpVerb) (f : LineFault) → IsOfHelp rest verb arguments
+    → (f ≡ fault.Args) × ((c : Command) → ¬ HelpAsks verb arguments c)
+    → IsLiveRestFault rest f
+help_refused rest arguments verb f of wrong =
+    subst (IsLiveRestFault rest) (sym wrong.0) (inr (inr (verb, arguments, of, wrong.1)))
 
 -- if a line isn't the operator's, what is wrong with it as a user's line is wrong with it
 pub user_line_refused : (names : List (List ℕ)) (line : List ℕ) (words : List (List ℕ))

@@ -1,10 +1,12 @@
--- A line of a farm that stays up: a line of a script, `USER rest`, `USER restart`, `USER why` or `USER why NODE`; or
--- one of the operator, which begins with `!`: `!words`, `!users`, `!memory`, `!restart USER` or `!stop`.
+-- A line of a farm that stays up: a line of a script; one that helps; `USER rest`, `USER restart`, `USER why` or `USER
+-- why NODE`; or one of the operator, which begins with `!`: `!words`, `!users`, `!memory`, `!restart USER` or `!stop`.
 use Rattle.std.specs.Prelude.{◌≡◌, ◌==◌, ◌⊎◌, ℕ, Bool, true, false, List, [], ◌∷◌, Some, None, ⊤}
 use Rattle.script_lines.specs.declared.fault.LineFault.{LineFault}
 use Rattle.script_lines.specs.declared.fault.LineFault.TheVariants as fault
 use Rattle.script_lines.specs.Words.{words_between, IsDecimal}
 use Rattle.script_lines.specs.Lines.{BeginsWith, IsUserName, IsPlaceNumber, IsRequest, IsRestFault}
+use Rattle.help_lines.specs.declared.verb.HelpVerb.{HelpVerb}
+use Rattle.help_lines.specs.HelpLines.{IsOfHelp, Helps, HelpsNothing}
 use Rattle.live_lines.specs.declared.asked.WholeRequest.{WholeRequest}
 use Rattle.live_lines.specs.declared.asked.WholeRequest.TheVariants as whole
 use Rattle.live_lines.specs.declared.asked.LiveRequest.{LiveRequest}
@@ -48,9 +50,10 @@ HasDomainArguments domain.Why [] = ⊤
 HasDomainArguments domain.Why (number ∷ []) = IsPlaceNumber number
 HasDomainArguments verb arguments = ⊥
 
--- the words after a user's name ask this
+-- the words after a user's name ask this: what a plain line asks, by that line or one that helps, or something of the
+-- domain as a whole
 abbrev pub AsksLive : List (List ℕ) → LiveRequest → Type 0
-AsksLive rest (request.Script command) = IsRequest rest command
+AsksLive rest (request.Script command) = IsRequest rest command ⊎ Helps rest command
 AsksLive rest (request.Domain asked) =
     (verb : DomainVerb) × (arguments : List (List ℕ)) × IsOfDomain rest verb arguments
     × DomainAsks verb arguments asked
@@ -61,17 +64,21 @@ IsUserLine names words (live.User user asked) =
     (rest : List (List ℕ)) × BeginsWith names words user rest × AsksLive rest asked
 IsUserLine names words (live.Operator asked) = ⊥
 
--- what follows a user's name is wrong: as in a script, or what follows a word that asks something of the domain as a
--- whole
+-- the words after a user's name begin with a verb that asks something of the domain as a whole, and ask nothing by it
+abbrev pub AsksNothingOfDomain : List (List ℕ) → Type 0
+AsksNothingOfDomain rest =
+    (verb : DomainVerb) × (arguments : List (List ℕ)) × IsOfDomain rest verb arguments
+    × (¬ HasDomainArguments verb arguments)
+
+-- what follows a user's name is wrong: there is no verb, neither a script's nor another; or what follows the verb is
+-- wrong, as in a script, of the domain as a whole, or of one that helps
 abbrev pub IsLiveRestFault : List (List ℕ) → LineFault → Type 0
 IsLiveRestFault rest fault.User = ⊥
 IsLiveRestFault rest fault.Verb =
     IsRestFault rest fault.Verb
     × ((verb : DomainVerb) (arguments : List (List ℕ)) → ¬ IsOfDomain rest verb arguments)
-IsLiveRestFault rest fault.Args =
-    IsRestFault rest fault.Args
-    ⊎ ((verb : DomainVerb) × (arguments : List (List ℕ)) × IsOfDomain rest verb arguments
-    × (¬ HasDomainArguments verb arguments))
+    × ((verb : HelpVerb) (arguments : List (List ℕ)) → ¬ IsOfHelp rest verb arguments)
+IsLiveRestFault rest fault.Args = IsRestFault rest fault.Args ⊎ (AsksNothingOfDomain rest ⊎ HelpsNothing rest)
 IsLiveRestFault rest fault.Hex = IsRestFault rest fault.Hex
 
 -- why the words of a user's line ask nothing

@@ -1,15 +1,19 @@
 //! Reading a line.
-ghost use Rattle.std.specs.Prelude.{◌≡◌, ◌∷◌, [], ℕ, List, map, IfOk, IfErr};
+ghost use Rattle.std.specs.Prelude.{◌≡◌, ◌≢◌, ◌∷◌, [], ℕ, List, map, IfOk, IfErr};
+ghost use Rattle.script_lines.specs.declared.command.Command.{Command as SpecCommand};
 ghost use Rattle.script_lines.specs.declared.fault.LineFault.{LineFault as SpecLineFault};
 ghost use Rattle.script_lines.specs.declared.fault.LineFault.TheVariants.{Args};
-ghost use Rattle.script_lines.specs.declared.fault.Unread.TheVariants.{Faulty};
+ghost use Rattle.script_lines.specs.declared.fault.Unread.TheVariants.{Faulty, NoMemory};
+ghost use Rattle.help_lines.specs.declared.fault.HelpFault.TheVariants as help_fault;
+ghost use Rattle.help_lines.specs.HelpLines.{HelpAsks};
 ghost use Rattle.live_lines.specs.LiveLines.{is_operators, DomainAsks, HasDomainArguments, AsksLive, IsLiveRestFault, IsUserLine, IsUserFault};
 ghost use Rattle.live_lines.specs.LiveLines.{OperatorAsks, IsOperatorArgumentFault, IsOperatorLine, IsOperatorFault, IsLiveLine, IsLiveFault};
 
 use crate::asked::{LiveLine, LiveRequest, OperatorRequest, WholeRequest};
 use crate::fault::LiveFault;
 use crate::verbs::{DomainVerb, OperatorVerb};
-use script_lines::{LineFault, LineWords, Unread, parse_place, parse_request, user_named};
+use help_lines::{HelpFault, HelpVerb, parse_help};
+use script_lines::{Command, LineFault, LineWords, Unread, parse_place, parse_request, user_named};
 use std::alloc::Global;
 
 /// The most bytes of a line, with its line feed: 1 MiB.
@@ -66,6 +70,37 @@ fn parse_domain_arguments(
     }
 }
 
+// Why a line that helps isn't read.
+fn unread_of(fault: HelpFault) -> Unread
+    ensures wrong { (f : SpecLineFault) → result ≡ Faulty f → (f ≡ Args) × (fault ≢ help_fault.NoMemory) }
+    ensures memory { result ≡ NoMemory → fault ≡ help_fault.NoMemory }
+{
+    match fault {
+        HelpFault::NoMemory => Unread::NoMemory,
+        HelpFault::TooFewWords
+        | HelpFault::TooManyWords
+        | HelpFault::FirstPort
+        | HelpFault::SecondPort
+        | HelpFault::Host
+        | HelpFault::Text => Unread::Faulty(LineFault::Args),
+    }
+}
+
+// What a verb that helps asks with the words after it.
+fn parse_help_arguments(
+    alloc: Global,
+    verb: HelpVerb,
+    words: LineWords<'_>,
+) -> Result<Command, Unread>
+    ensures asked { IfOk result (HelpAsks verb words.entry) }
+    ensures fault { IfErr result (λ u. (f : SpecLineFault) → u ≡ Faulty f → (f ≡ Args) × ((c : SpecCommand) → ¬ HelpAsks verb words.entry c)) }
+{
+    match parse_help(alloc, verb, words) {
+        Ok(command) => Ok(command),
+        Err(fault) => Err(unread_of(fault)),
+    }
+}
+
 // What the words after a user's name ask.
 fn parse_rest(alloc: Global, words: LineWords<'_>) -> Result<LiveRequest, Unread>
     ensures asked { IfOk result (AsksLive words.entry) }
@@ -75,10 +110,13 @@ fn parse_rest(alloc: Global, words: LineWords<'_>) -> Result<LiveRequest, Unread
     let Some(word) = behind.take() else {
         return Err(Unread::Faulty(LineFault::Verb));
     };
-    let Some(verb) = DomainVerb::of(word) else {
+    if let Some(verb) = DomainVerb::of(word) {
+        return Ok(LiveRequest::Domain(parse_domain_arguments(verb, behind)?));
+    }
+    let Some(verb) = HelpVerb::of(word) else {
         return Ok(LiveRequest::Script(parse_request(alloc, words)?));
     };
-    Ok(LiveRequest::Domain(parse_domain_arguments(verb, behind)?))
+    Ok(LiveRequest::Script(parse_help_arguments(alloc, verb, behind)?))
 }
 
 // What a user's line asks.
