@@ -4,6 +4,7 @@ import tempfile
 import time
 
 from serving.orders import lines_of, loading
+from serving.texts import quoted
 from serving.verbs import Wrong
 
 from .failures import FarmError
@@ -112,7 +113,7 @@ class Verbs:
 
     def send(self, host, text):
         """Gives a host the bytes of a text in UTF-8, and returns how many."""
-        return self.write(host, text.encode())
+        return self.do(question(f"send {host:d} {quoted(text)}"))
 
     def boot(self, host, code):
         """Boots the node that is joined with the host with this code, and returns how many bytes the host took."""

@@ -1,6 +1,7 @@
 """The answers at a terminal: to which line each belongs, what it means, and the text of what was collected."""
 import re
 
+from .texts import bytes_meant
 from .verbs import NUMBERED
 
 LOST = "error: not answered, send it again if you want it: "
@@ -38,6 +39,8 @@ MEANINGS = (
 # The words by which an answer refuses its line, and those of verbs that have others.
 REFUSALS = ("nosuch", "journalfull")
 REFUSING = {"config": ("badport", "badcommand", "journalfull"), "boot": (*REFUSALS, "refused"), "restart": ("operator",)}
+# The verbs by which lines that help are answered.
+ANSWERING = {"join": "config", "send": "write", "text": "collect"}
 
 
 class Loading:
@@ -65,15 +68,15 @@ class Due:
         self.line, self.loading = line, loading
 
     def is_answered_by(self, answer):
-        """Whether this may be its answer: it has its verb, and its host or node. Other clients of the user hear and are
-        heard too."""
+        """Whether this may be its answer: it has its verb, or that of the plain line in its place, and its host or node. Other
+        clients of the user hear and are heard too."""
         if answer.startswith(LOST):
             # a long line is cut, perhaps within a character
             return bytes_of(self.line).startswith(bytes_of(answer[len(LOST):].removesuffix(MORE)))
         if re.fullmatch(r"(! )?error \d+ \w+", answer):
             return True
         told, asked = answer.split(), self.line.split()
-        if told[:1] != asked[:1]:
+        if told[:1] != [ANSWERING.get(asked[0], asked[0])]:
             return False
         return asked[0] not in NUMBERED or told[1:2] == [asked[1].lstrip("0") or "0"]
 
@@ -112,12 +115,20 @@ def bytes_taken(answer):
     return int(answer.split()[2])
 
 
+def bytes_given(line):
+    """How many bytes a line gives a host, with those by which a message begins."""
+    verb, _, content = line.removesuffix("\r").split(" ", 2)
+    if verb == "send":
+        return len(bytes_meant(content))
+    return 9 if verb == "poke" else len(content) // 2 + (verb == "boot")
+
+
 def shortfall(line, answer):
     """What it means that a host took fewer bytes than the line gives it; none if it took all."""
-    asked, told = line.split(), answer.split()
-    if asked[0] not in ("write", "boot", "poke") or len(told) != 3 or not told[2].isdigit():
+    told = answer.split()
+    if line.split()[0] not in ("write", "send", "boot", "poke") or len(told) != 3 or not told[2].isdigit():
         return None
-    whole = 9 if asked[0] == "poke" else len(asked[2]) // 2 + (asked[0] == "boot")
+    whole = bytes_given(line)
     if int(told[2]) >= whole:
         return None
     return f"the host took {told[2]} of {whole} bytes, as its queue is full: is it joined with a node (join) that takes them?"

@@ -5,8 +5,8 @@ import re
 from typing import NamedTuple
 
 from .folder import Refused
-from .orders import text_bytes
 from .plans import LIMIT, Machine
+from .texts import bytes_meant
 from .verbs import Wrong
 
 # The file of an exercise that is a folder, and how many bytes it may have.
@@ -87,7 +87,7 @@ def bytes_of(pieces):
         at += 1
         if word.startswith('"'):
             try:
-                made += text_bytes(word)
+                made += bytes_meant(word)
             except Wrong as wrong:
                 raise Unfit(str(wrong).partition(" Try: ")[0].rstrip(".")) from None
         elif word == "hex":

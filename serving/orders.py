@@ -1,13 +1,12 @@
-"""What a line at a terminal sends: the lines of one verb, or those of load, join and send."""
+"""What a line at a terminal sends: a line for `live`, or several for load, which reads a file. Words that are wrong are refused with
+what to try, and `live` decides by itself."""
 import os
-import re
 import subprocess
 
 from .folder import EXAMPLES, OPERATOR, Refused, build, program
 from .hints import meant
+from .texts import in_quotes
 from .verbs import ALIASES, ALL, FILE, OPERATORS, SENTENCE, TEXT, USERS, Wrong, check, find, with_ports
-
-ESCAPES = {"n": b"\n", "r": b"\r", "t": b"\t", "0": b"\0", "\\": b"\\", '"': b'"'}
 
 
 def table_of(name, ports=None):
@@ -38,33 +37,11 @@ def lines_of(name, line, ports=None):
     if first in ALL:
         return []
     check(first, verb, words)
-    if first == "join":
-        return [f"config 01{int(words[0]):02x}{int(words[1]):02x}03"]
-    if first == "send":
-        return [f"write {words[0]} {text_bytes(words[1]).hex()}"]
     if first == "load":
         return loading(name, words[0], words[1])
+    if first == "send":
+        words[1] = in_quotes(words[1])
     return [" ".join(([f"!{first}"] if name == OPERATOR else [first]) + words)]
-
-
-def text_bytes(word):
-    """The bytes of a text, with or without quotes round it."""
-    quoted = re.fullmatch(r'"((?:[^"\\]|\\.)*)"', word)
-    if not quoted and word.startswith('"'):
-        raise Wrong(f"{word} has no closing quote, or something behind it. Try: send 0 \"hello\\n\"")
-    text, made = (quoted[1] if quoted else word), b""
-    for piece in re.findall(r"\\x[0-9a-fA-F]{2}|\\.|[^\\]+|\\", text):
-        if piece.startswith("\\x") and len(piece) == 4:
-            made += bytes.fromhex(piece[2:])
-        elif piece.startswith("\\"):
-            if piece[1:] not in ESCAPES:
-                raise Wrong(f"{piece} is no escape: there are \\n \\r \\t \\0 \\\\ \\\" and \\x41")
-            made += ESCAPES[piece[1:]]
-        else:
-            made += piece.encode("utf-8", "surrogateescape")
-    if not made:
-        raise Wrong("the text is empty. Try: send 0 \"hello\\n\"")
-    return made
 
 
 def found(file):

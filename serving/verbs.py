@@ -58,6 +58,7 @@ USERS = {
     "join": Verb((PORT, PORT), "join P Q", "joins two ports both ways and makes them ready: those of a link and of a host"),
     "load": Verb((HOST, FILE), "load 0 hello.s", "assembles a program and boots it; long code is poked first", more=LOADING),
     "send": Verb((HOST, TEXT), "send 0 \"hello\\n\"", "gives a host the bytes of a text"),
+    "text": Verb((HOST,), "text 0", "takes all bytes that came to the host, as collect does"),
 }
 OPERATORS = {
     "words": Verb((), "words", "the words of the 32 physical outputs"),
