@@ -146,6 +146,7 @@ def verbs_have_results(live, _):
                (Loaded(16, 0), b"hello\n", b"\x87\x80", b""))
         wanted((ann.restart(), ann.join(0, 7), ann.load(0, f"{TOP}/examples/programs/echo.s")), (None, None, Loaded(14, 0)))
         wanted([ann.send(0, "hé\n"), ann.write(0, b"\0\1"), ann.collect(0, 6)], [4, 2, "hé\n".encode() + b"\0\1"])
+        wanted([ann.send(0, ' say "\\"\0\x1b\t '), ann.collect(0, 12)], [12, b' say "\\"\0\x1b\t '])
         wanted(it.stop()[0], 0)
         wanted(f"{raised(ann.rest, NoFarm)}", "the farm has ended the connection")
     return "every verb"
@@ -158,15 +159,16 @@ def scripts_are_refused(live, _):
         rows = [(lambda: ann.look(1), "nosuch"), (lambda: ann.why(4), "nosuch"), (lambda: bob.write(1, b"a"), "nosuch"),
                 (lambda: ann.config(b"\x00\x00\x09"), "badport"), (lambda: ann.config(b"\x07"), "badcommand"),
                 (lambda: ann.boot(0, b"1"), "refused"), (lambda: ann.boot(0, bytes(256)), "refused"), (bob.restart, "operator"),
-                (lambda: bob.write(0, bytes(5000)), "hostfull"), (lambda: bob.load(0, HELLO), "hostfull"),
+                (lambda: bob.write(0, bytes(5000)), "hostfull"), (lambda: bob.send(0, "\n" * 3), "hostfull"),
+                (lambda: ann.join(0, 9), "badport"), (lambda: bob.load(0, HELLO), "hostfull"),
                 (lambda: bob.load(0, HELLO + bytes(300)), "hostfull"), (lambda: ann.config(bytes(100)), "journalfull")]
         for call, word in rows:
             wanted(raised(call, Refused).word, word)
         full = raised(lambda: bob.write(0, b"abc"), Refused)
         wanted((full.line, full.answer, full.taken, full.number), ("write 0 616263", "write 0 0", 0, None))
         for call in (lambda: ann.look(-1), lambda: ann.look(256), lambda: ann.join(0, 32), lambda: ann.poke(0, 1 << 32, 0),
-                     lambda: ann.write(0, b""), lambda: ann.load(0, "none.s"), lambda: ann.load(0, b""), lambda: ann.look("0"),
-                     lambda: ann.ask("look 0\nlook 0")):
+                     lambda: ann.write(0, b""), lambda: ann.send(0, ""), lambda: ann.load(0, "none.s"), lambda: ann.load(0, b""),
+                     lambda: ann.look("0"), lambda: ann.ask("look 0\nlook 0")):
             raised(call, (ValueError))
         for folder, name in ((it.folder, "zed"), (f"{it.folder}/none", "ann"), (it.plan, "ann")):
             raised(lambda: Farm(folder).user(name), NoFarm)
@@ -297,10 +299,11 @@ def lines_behind_c(live, _):
             wanted((words, ended, text[:len(told)]), (words, status, told))
         wanted(call("-c", "look 0", it.folder, "ann"), (0, f"{LOOKED}\n"))
         wanted([(row["line"], row["answer"], row["refused"]) for row in objects("-c", "why 0")], why)
-        told = objects("-c", "join 0 7", "-c", "load 0 long", "-c", "collect 0", "-c", "look 9", "-c", "lok", status=1)
+        told = objects("-c", "join 0 7", "-c", "load 0 long", "-c", "collect 0", "-c", "text 0", "-c", "look 9", "-c", "lok",
+                       status=1)
         wanted([(row["line"], row["refused"], row.get("result")) for row in told],
-               [("join 0 7", None, ""), ("load 0 long", None, 9), ("collect 0", None, "2a000000"), ("look 9", "nosuch", None),
-                ("lok", "wrong", None)])
+               [("join 0 7", None, ""), ("load 0 long", None, 9), ("collect 0", None, "2a000000"), ("text 0", None, ""),
+                ("look 9", "nosuch", None), ("lok", "wrong", None)])
         wanted(objects(text="look 0\n\nreset 0\n")[0]["result"], {"state": "idle", "fault": None, "operation": None,
                                                                  "overruns": [0] * 4})
         # lines that come through a pipe have the same statuses
