@@ -7,7 +7,7 @@ use Rattle.hex.specs.Hex.{hex_digit_value, digit_or_error, decode_of, decode_pai
 use Rattle.hex.specs.declared.error.FromHexError.{FromHexError}
 use Rattle.script_text.specs.Hexadecimal.{Spells}
 use Rattle.help_lines.specs.QuotedTexts.{quote, backslash, letter_x, escaped, IsCharacter}
-use Rattle.help_lines.specs.Reading.{value_of_two, two_digits, with_rest, read_after_x, read_after_backslash, read_character}
+use Rattle.help_lines.specs.Reading.{value_of_two, two_digits, byte_and_rest, read_after_x, read_after_backslash, read_character}
 
 -- ---- what readings hold
 
@@ -27,7 +27,7 @@ same_reading byte another rest other same =
 
 -- a reading of a byte with a rest is that byte and that rest
 byte_read : (found : Option ℕ) (after : List ℕ) (byte : ℕ) (rest : List ℕ)
-    → with_rest found after ≡ Some (byte, rest)
+    → byte_and_rest found after ≡ Some (byte, rest)
     → (found ≡ Some byte) × (after ≡ rest)
 byte_read None after byte rest is = absurd (cc)
 byte_read (Some another) after byte rest is =
@@ -92,7 +92,8 @@ x_begins first letter byte (high ∷ low ∷ after) rest slash is_x is =
     )
 
 letter_begins : (first letter byte : ℕ) (more rest : List ℕ) (is_x : Bool) → first ≡ backslash
-    → (letter == letter_x) ≡ is_x → cond is_x (read_after_x more) (with_rest (escaped letter) more) ≡ Some (byte, rest)
+    → (letter == letter_x) ≡ is_x
+    → cond is_x (read_after_x more) (byte_and_rest (escaped letter) more) ≡ Some (byte, rest)
     → Begins (first ∷ letter ∷ more) byte rest
 letter_begins first letter byte more rest true slash test is =
     x_begins first letter byte more rest slash (eqb-true letter letter_x test) is
@@ -153,13 +154,13 @@ letter_read : (letter byte : ℕ) (rest : List ℕ) → escaped letter ≡ Some 
     → read_after_backslash (letter ∷ rest) ≡ Some (byte, rest)
 letter_read letter byte rest means =
     cond-false (letter == letter_x) _ _ (ne_eqb letter letter_x (is_no_x letter byte means))
-    ∙ ap (λ it. with_rest it rest) means
+    ∙ ap (λ it. byte_and_rest it rest) means
 
 x_read : (letter high low byte : ℕ) (rest : List ℕ) → letter ≡ letter_x → Spells (high ∷ low ∷ []) (byte ∷ [])
     → read_after_backslash (letter ∷ high ∷ low ∷ rest) ≡ Some (byte, rest)
 x_read letter high low byte rest is_x spells =
     cond-true (letter == letter_x) _ _ (eq-eqb letter letter_x is_x)
-    ∙ ap (λ it. with_rest it rest) (spelled_digits high low byte spells)
+    ∙ ap (λ it. byte_and_rest it rest) (spelled_digits high low byte spells)
 
 -- a character with which a text begins is what is read of it, with what is after it
 pub character_read : (text : List ℕ) (byte : ℕ) (rest character : List ℕ) → text ≡ character ++ rest

@@ -13,20 +13,20 @@ unfoldable pub two_digits : ℕ → ℕ → Option ℕ
 two_digits high low = value_of_two (hex_digit_value high) (hex_digit_value low)
 
 -- a byte, if there is one, with what is after it
-abbrev pub with_rest : Option ℕ → List ℕ → Option (ℕ × List ℕ)
-with_rest None rest = None
-with_rest (Some byte) rest = Some (byte, rest)
+abbrev pub byte_and_rest : Option ℕ → List ℕ → Option (ℕ × List ℕ)
+byte_and_rest None rest = None
+byte_and_rest (Some byte) rest = Some (byte, rest)
 
 -- what is read after a backslash and an x
 abbrev pub read_after_x : List ℕ → Option (ℕ × List ℕ)
-read_after_x (high ∷ low ∷ rest) = with_rest (two_digits high low) rest
+read_after_x (high ∷ low ∷ rest) = byte_and_rest (two_digits high low) rest
 read_after_x text = None
 
 -- what is read after a backslash
 abbrev pub read_after_backslash : List ℕ → Option (ℕ × List ℕ)
 read_after_backslash [] = None
 read_after_backslash (letter ∷ rest) =
-    if letter == letter_x then read_after_x rest else with_rest (escaped letter) rest
+    if letter == letter_x then read_after_x rest else byte_and_rest (escaped letter) rest
 
 -- what is read at the beginning of a text
 abbrev pub read_character : List ℕ → Option (ℕ × List ℕ)
