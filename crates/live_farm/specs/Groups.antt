@@ -20,6 +20,7 @@ use Rattle.live_farm.specs.declared.record.RecordState.TheVariants as state
 use Rattle.live_farm.specs.declared.texts.LiveAnswer.{LiveAnswer}
 use Rattle.live_farm.specs.declared.texts.Why.{Why}
 use Rattle.live_farm.specs.declared.texts.Why.TheVariants as why
+use Rattle.live_farm.specs.Asking.{commands_asked}
 use Rattle.live_farm.specs.Whys.{IsToldOf}
 use Rattle.live_farm.specs.LiveTexts.{error_text, rest_text, rest_state_of, restart_text, why_text, no_node_text, operator_restart_text}
 
@@ -56,10 +57,12 @@ abbrev pub BeginsIf : Bool → DomainUsers → DomainUsers → Type 0
 BeginsIf true before after = AllBegin before after
 BeginsIf false before after = AllStay before after
 
--- this was the status of these users' domain when it was looked at
+-- this was the status of these users' domain when it was looked at: it had recorded as many events as its users were
+-- answered commands, or more
 abbrev pub IsStatusHere : DomainUsers → DomainStatus → Type 0
 IsStatusHere group status =
     (d : DomainValue) × IsFound group.service.now.plan group.domain d × IsStatusOf d status
+    × (commands_asked group ≤ status.recorded)
 
 -- a user is answered whether the user's domain is at rest, as its status says
 abbrev pub AnswersRest : DomainUsers → ℕ → List ℕ → Type 0
@@ -87,7 +90,7 @@ LacksNode group (Some node) name text =
 abbrev pub AnswersWhy : DomainUsers → ℕ → ℕ → Option ℕ → List ℕ → Type 0
 AnswersWhy group user number node text =
     (name : Bor (List ℕ)) × IsNamedSo group user name
-    × (((told : List ℕ) × IsToldOf group.service.now.plan group.domain told × (text ≡ why_text name.now told))
+    × (((told : List ℕ) × IsToldOf group told × (text ≡ why_text name.now told))
     ⊎ (LacksNode group node name.now text ⊎ (text ≡ error_text name.now number why.Journal)))
 
 -- the domain of a user begins again, as the operator asked in the line of this number; or nothing changes, and the

@@ -1,4 +1,5 @@
 -- what must be believed
+pub mod Asking
 pub mod LiveTexts
 pub mod WholeLines
 pub mod Whys
@@ -7,7 +8,6 @@ pub mod Fates
 pub mod Crews
 pub mod Closings
 -- what only helps contracts
-pub mod Asking
 pub mod Kept
 pub mod Mailboxes
 pub mod LiveStatuses

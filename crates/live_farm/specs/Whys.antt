@@ -1,12 +1,13 @@
 -- Why the nodes of a domain do no more than they do.
 use Rattle.std.specs.Prelude.{◌≡◌, ◌≤◌, ◌==◌, ◌++◌, ℕ, List, [], Option, codes, nat_lt, if◌then◌else◌}
 use Rattle.std.specs.Fmt.{decimal}
-use Rattle.plan_rules.specs.Data.{DomainData}
 use Rattle.domain_core.specs.Domain.{DomainValue}
 use Rattle.domain_core.specs.Moments.{MomentValue}
 use Rattle.farm_service.specs.declared.status.DomainStatus.{DomainStatus}
 use Rattle.farm_service.specs.Domains.{IsFound, IsStatusOf}
 use Rattle.record_following.specs.Following.{IsReached}
+use Rattle.live_farm.specs.declared.group.DomainUsers.{DomainUsers}
+use Rattle.live_farm.specs.Asking.{commands_asked}
 
 -- up to which event a domain was done again, of all that are recorded
 abbrev pub after_text : ℕ → ℕ → List ℕ
@@ -38,14 +39,16 @@ stop_text status room =
 abbrev pub moment_text : DomainStatus → ℕ → ℕ → List ℕ → List ℕ
 moment_text status room done causes = after_text done status.recorded ++ stop_text status room ++ causes
 
--- what is said of the domain of this number of a plan: of a moment to which calls of it lead, and of its status
-pub record IsToldOf (plan : List DomainData) (number : ℕ) (told : List ℕ) : Type 0 where
+-- what is said of the domain of these users: of a moment to which calls of it lead, and of its status when it had
+-- recorded as many events as its users were answered commands, or more
+pub record IsToldOf (group : DomainUsers) (told : List ℕ) : Type 0 where
   pub domain : DomainValue
   pub status : DomainStatus
   pub moment : MomentValue
   pub room : ℕ
   pub causes : List ℕ
-  pub found : IsFound plan number domain
+  pub found : IsFound group.service.now.plan group.domain domain
   pub status_of : IsStatusOf domain status
-  pub reached : IsReached plan number moment
+  pub recorded : commands_asked group ≤ status.recorded
+  pub reached : IsReached group.service.now.plan group.domain moment
   pub text : told ≡ moment_text status room moment.recorded causes

@@ -1,11 +1,13 @@
 //! What is answered to the users of a domain.
-ghost use Rattle.std.specs.Prelude.{◌≡◌, ◌<◌, true, false, length, map, IfOk, OnErr, string_bytes};
+ghost use Rattle.std.specs.Prelude.{◌≡◌, ◌<◌, true, false, length, map, IfOk, IfSome, OnErr, string_bytes};
 ghost use Rattle.farm_service.specs.Restarts.{begun_anew};
 ghost use Rattle.farm_service.specs.declared.status.DomainStatus.{DomainStatus as SpecStatus};
+ghost use Rattle.live_farm.specs.Asking.{commands_asked};
 ghost use Rattle.live_farm.specs.LiveTexts.{rest_state_of};
 ghost use Rattle.live_farm.specs.Groups.{IsStatusHere, AnswersLine, AnswersRest, AnswersRestart, AnswersWhy, AnswersOperator, AnswersLetter};
 ghost use Rattle.live_farm.specs.Groups.{IsSameDomain, StaysAfterError};
 
+use crate::asked::AskedCommands;
 use crate::causes::told_of;
 use crate::group::DomainUsers;
 use crate::letter::{Letter, Matter};
@@ -14,6 +16,7 @@ use crate::texts::{
     restart_answer, why_answer,
 };
 use domain_core::{NoMemory, Refusal};
+use farm_service::DomainStatus;
 use line_answers::{answer_line, settle};
 use live_lines::{LiveRequest, WholeRequest};
 use record_following::FollowFault;
@@ -90,14 +93,36 @@ impl DomainUsers<'_> {
             .is_ok()
     }
 
-    // Whether the domain is at rest. The plan has this domain, so it isn't refused.
+    // How it is with the domain, if it has recorded as many events as this.
+    fn status_after<R: Wait>(&self, rt: &R, asked: u64) -> Option<DomainStatus>
+        requires { asked ≡ commands_asked self.now }
+        ensures { IfSome result (IsStatusHere self.now) }
+    {
+        match self.service.status(rt, self.domain) {
+            Ok(status) if asked <= status.recorded => Some(status),
+            _ => None,
+        }
+    }
+
+    // How it is with the domain, with all commands in its journal that its users list. They are there before they are listed, so
+    // no run asks twice.
+    fn status<R: Wait>(&self, rt: &R) -> DomainStatus
+        ensures { IsStatusHere self.now result }
+    {
+        let asked = AskedCommands::of_group(self).commands;
+        for _ in rt.forever() {
+            if let Some(status) = self.status_after(rt, asked) {
+                return status;
+            }
+        }
+        unreachable!()
+    }
+
+    // Whether the domain is at rest.
     fn rest_state<R: Wait>(&self, rt: &R) -> RestState
         ensures { (status : SpecStatus) × IsStatusHere self.now status × (result ≡ rest_state_of status) }
     {
-        match self.service.status(rt, self.domain) {
-            Ok(status) => RestState::of(status),
-            Err(_) => RestState::Busy,
-        }
+        RestState::of(self.status(rt))
     }
 
     // Tells whether the domain is at rest, after it has settled.
@@ -159,7 +184,7 @@ impl DomainUsers<'_> {
         {
             return no_node_answer(alloc, name, node);
         }
-        match told_of(rt, alloc, self.service, self.domain, node) {
+        match told_of(rt, alloc, self, self.status(rt), node) {
             Ok(told) => why_answer(alloc, name, told.as_str()),
             Err(FollowFault::Memory(_)) => Err(NoMemory),
             Err(_) => error_answer(alloc, name, number, Why::Journal),

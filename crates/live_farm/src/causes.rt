@@ -1,10 +1,10 @@
 //! Why the nodes of a domain do no more than they do: what it answered is done again on a separate domain.
 ghost use Rattle.std.specs.Prelude.{◌≡◌, ◌<◌, IfOk, length, string_bytes};
-ghost use Rattle.domain_core.specs.Domain.{DomainValue as SpecDomain};
-ghost use Rattle.farm_service.specs.Domains.{IsFound, IsStatusOf};
 ghost use Rattle.record_following.specs.Following.{IsReached};
+ghost use Rattle.live_farm.specs.Groups.{IsStatusHere};
 ghost use Rattle.live_farm.specs.Whys.{IsToldOf, after_text, full_text, moment_text, stop_text, used_text};
 
+use crate::group::DomainUsers;
 use domain_core::{Entry, Mark, NoMemory};
 use farm_service::{DomainStatus, Service};
 use node_causes::explain_moment;
@@ -117,18 +117,17 @@ impl Shadow {
         &mut self,
         rt: &R,
         alloc: Global,
-        service: &Service,
-        domain: u8,
+        group: &DomainUsers<'_>,
         status: DomainStatus,
         node: Option<u8>,
     ) -> Result<String, FollowFault>
-        requires reached { IsReached service.now.plan domain self.old.follower }
-        requires status { (d : SpecDomain) × IsFound service.now.plan domain d × IsStatusOf d status }
-        ensures { IfOk result (λ told. IsToldOf service.now.plan domain (string_bytes told)) }
+        requires reached { IsReached group.now.service.now.plan group.now.domain self.old.follower }
+        requires status { IsStatusHere group.now status }
+        ensures { IfOk result (λ told. IsToldOf group.now (string_bytes told)) }
     {
-        self.follow_journal(rt, service, domain, status.recorded)?;
+        self.follow_journal(rt, group.service, group.domain, status.recorded)?;
         let causes = explain_moment(alloc, &self.follower, node)?;
-        let (room, done) = (service.room().bytes(), self.follower.recorded());
+        let (room, done) = (group.service.room().bytes(), self.follower.recorded());
         Ok(tell(alloc, status, room, done, causes.as_str())?)
     }
 }
@@ -195,24 +194,22 @@ fn tell(
     format!(in alloc; "{reach}{stop}{causes}")
 }
 
-/// Says why the nodes of a domain, or one of them, do no more than they do. The domain is asked nothing: what it answered up to now
-/// is copied in pieces, each under its lock, and done again on a separate domain.
+/// Says why the nodes of these users' domain, or one of them, do no more than they do, by a status of the domain. The domain is asked
+/// nothing: what it answered up to now is copied in pieces, each under its lock, and done again on a separate domain.
 ///
 /// # Errors
 ///
-/// `NoSuch` if the plan has no such domain; why what was copied can't be done again, which no run comes to; `Memory`.
+/// Why what was copied can't be done again, which no run comes to; `Memory`.
 pub(crate) fn told_of<R: Wait>(
     rt: &R,
     alloc: Global,
-    service: &Service,
-    domain: u8,
+    group: &DomainUsers<'_>,
+    status: DomainStatus,
     node: Option<u8>,
 ) -> Result<String, FollowFault>
-    ensures { IfOk result (λ told. IsToldOf service.now.plan domain (string_bytes told)) }
+    requires { IsStatusHere group.now status }
+    ensures { IfOk result (λ told. IsToldOf group.now (string_bytes told)) }
 {
-    let Ok(status) = service.status(rt, domain) else {
-        return Err(FollowFault::NoSuch);
-    };
-    let mut shadow = Shadow::open(alloc, service.plan(), domain)?;
-    shadow.tell_of_journal(rt, alloc, service, domain, status, node)
+    let mut shadow = Shadow::open(alloc, group.service.plan(), group.domain)?;
+    shadow.tell_of_journal(rt, alloc, group, status, node)
 }

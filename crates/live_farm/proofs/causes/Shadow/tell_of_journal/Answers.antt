@@ -11,6 +11,7 @@ returns g c = record {
   causes = c.as_str.result.now;
   found = c.requires.status.1;
   status_of = c.requires.status.2;
+  recorded = c.requires.status.3;
   reached = c.in_ok-follow_journal.ensures;
   text =
       subst
