@@ -120,7 +120,7 @@ fn serve_all<
         alloc,
         service,
         passes,
-        u64::from(settings.quantum),
+        quantum.steps(),
         &crew,
         records,
         outlet,
