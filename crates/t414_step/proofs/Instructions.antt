@@ -79,6 +79,11 @@ no-bytes : (operand : ℕ) (what : Meant) → read_from operand [] ≡ Some what
 unfolding read_from
 no-bytes operand what same = cc
 
+-- what was read, or something else if nothing was
+meant-by : Option Meant → Meant → Meant
+meant-by None other = other
+meant-by (Some what) other = what
+
 -- the registers after a prefix
 abbrev after_prefix : ℕ → Cpu → Cpu
 after_prefix byte s =
@@ -96,9 +101,11 @@ last-byte rests byte bytes f k s ls m ends means there runs rest =
     let found : Some (record { function = function_of (byte / 16); operand = accumulated s.operand byte; rest = bytes })
     ≡ Some (record { function = f; operand = k; rest = [] }) =
     sym (ends-there s.operand byte bytes ends) ∙ means in
-    let function : function_of (byte / 16) ≡ f = cc in
-    let operand : shifted (function_of (byte / 16)) joined ≡ k = cc in
-    let none : bytes ≡ [] = cc in
+    let what : Meant = record { function = f; operand = k; rest = [] } in
+    let function : function_of (byte / 16) ≡ f = ap (λ (o : Option Meant). (meant-by o what).function) found in
+    let operand : shifted (function_of (byte / 16)) joined ≡ k =
+    ap (λ (o : Option Meant). (meant-by o what).operand) found in
+    let none : bytes ≡ [] = ap (λ (o : Option Meant). (meant-by o what).rest) found in
     let last : joined ≡ k = sym (plain-operand (function_of (byte / 16)) joined ends) ∙ operand in
     let one : nth_step 1 s ls m ≡ Some (stepped (direct f k (past_bytes 1 s) ls m)) =
     step-there rests s ls m byte (direct f k (fetched s) ls m) rest runs there
