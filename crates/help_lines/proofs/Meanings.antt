@@ -1,7 +1,7 @@
 -- What a text means, as far as it is read, and a text in quotes: for the loop of `bytes_meant`, for `without_quotes`
 -- and for `quoted_bytes`.
 use Rattle.std.proofs.Common.{◌≡◌, ◌≢◌, ◌<◌, ◌++◌, ℕ, List, [], ◌∷◌, Option, Some, None, length}
-use Rattle.std.proofs.Common.{refl, sym, ap, ◌∙◌, subst, append_assoc, append-nil, arith}
+use Rattle.std.proofs.Common.{refl, sym, ap, ◌∙◌, subst, append_assoc, append-nil, length-append, arith}
 use Rattle.std.proofs.lemmas.List.{same_from_push}
 use Rattle.help_lines.specs.QuotedTexts.{quote, TextMeans, IsQuotedText}
 use Rattle.help_lines.specs.Reading.{read_character}
@@ -80,19 +80,33 @@ pub same_between : (text other : List ℕ) → quote ∷ text ++ quote ∷ [] �
 same_between text other same =
     let after : text ++ quote ∷ [] ≡ other ++ quote ∷ [] = cc in (same_from_push text other quote quote after).0
 
--- a list with a last element that is no quote is in no quotes
+-- an empty list is in no quotes
+pub no_quotes : (quoted : List ℕ) → length quoted ≡ 0 → (other : List ℕ) → quoted ≢ quote ∷ other ++ quote ∷ []
+no_quotes quoted none other same = omega (arith, none, ap length same)
+
+-- neither is a list with one element
+pub no_second_quote : (quoted after : List ℕ) (first : ℕ) → quoted ≡ first ∷ after → length after ≡ 0
+    → (other : List ℕ)
+    → quoted ≢ quote ∷ other ++ quote ∷ []
+no_second_quote quoted after first begins none other same =
+    omega (arith, none, ap length begins, ap length same, length-append other (quote ∷ []))
+
+-- neither is one whose first element is no quote
+pub no_first_quote : (quoted after : List ℕ) (first : ℕ) → quoted ≡ first ∷ after → first ≢ quote
+    → (other : List ℕ)
+    → quoted ≢ quote ∷ other ++ quote ∷ []
+no_first_quote quoted after first begins no_quote other same =
+    let both : first ∷ after ≡ quote ∷ other ++ quote ∷ [] = sym begins ∙ same in
+    let is : first ≡ quote = cc in no_quote is
+
+-- neither is one whose last element is no quote
 pub no_last_quote : (quoted after text : List ℕ) (first last : ℕ) → quoted ≡ first ∷ after
     → after ≡ text ++ last ∷ [] → last ≢ quote → (other : List ℕ)
     → quoted ≢ quote ∷ other ++ quote ∷ []
 no_last_quote quoted after text first last begins ends no_quote other same =
-    let behind : text ++ last ∷ [] ≡ other ++ quote ∷ [] = cc in
-    no_quote (same_from_push text other last quote behind).1
-
--- a list with one element is in no quotes
-pub no_two_quotes : (quoted : List ℕ) (first : ℕ) → quoted ≡ first ∷ [] → (other : List ℕ)
-    → quoted ≢ quote ∷ other ++ quote ∷ []
-no_two_quotes quoted first alone [] same = absurd (cc)
-no_two_quotes quoted first alone (byte ∷ other) same = absurd (cc)
+    let both : first ∷ after ≡ quote ∷ other ++ quote ∷ [] = sym begins ∙ same in
+    let behind : after ≡ other ++ quote ∷ [] = cc in
+    no_quote (same_from_push text other last quote (sym ends ∙ behind)).1
 
 -- a text that is in no quotes is no text in quotes
 pub unquoted_means_nothing : (quoted : List ℕ) → ((text : List ℕ) → quoted ≢ quote ∷ text ++ quote ∷ [])
