@@ -144,8 +144,8 @@ impl Ticket {
         self.stepped_law();
     }
 
-    // Does Steps one by one, up to `most`, until the copy is the start again. Returns for how many it asked.
-    fn burst_to_start(&mut self, most: u64) -> u64
+    /// Does Steps one by one, up to `most`, until the copy is its start again. Returns for how many it asked.
+    pub fn burst_to_start(&mut self, most: u64) -> u64
         ensures few { result ≤ most }
         ensures bursts { Bursts result self.old self.new }
     {
@@ -162,9 +162,9 @@ impl Ticket {
         most
     }
 
-    // Whether the copy is its start again, after some Steps.
-    fn is_start_again(&self) -> bool
-        ensures { IsTrue result → (0 < self.now.steps) × (self.now.node ≡ self.now.start) }
+    /// Whether the copy is its start again, after some Steps: then all Steps since the checkout are a period.
+    pub fn is_start_again(&self) -> bool
+        ensures { IsTrue result ↔ ((0 < self.now.steps) × (self.now.node ≡ self.now.start)) }
     {
         self.steps > 0 && self.node.same(&self.start)
     }

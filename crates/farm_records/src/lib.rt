@@ -5,6 +5,7 @@ mod fault;
 mod head;
 pub mod laws;
 mod line;
+mod node_loop;
 mod reading;
 mod redoing;
 mod writing;

@@ -8,6 +8,7 @@ ghost use Rattle.farm_records.specs.Records.{GainsHistory, RedoesLine};
 
 use crate::fault::RedoFault;
 use crate::line::{CallLine, RecordedCall, read_call};
+use crate::node_loop::NodeLoop;
 use crate::writing::write_line;
 use crossbar::Outputs;
 use domain_core::{By, Committed, Domain, Event, Refusal, Reply, Ticket};
@@ -15,13 +16,14 @@ use line_words::WordFault;
 use std::alloc::Global;
 use t414_step::Stepped;
 
-// How many Steps of a line the first burst has, at most.
-const FIRST_BURST: u64 = 1 << 16;
+/// The most nodes of a domain.
+const MOST_NODES: usize = 8;
 
-/// What serves one line after another: a ticket for Steps, and a text to compare with.
+/// What serves one line after another: a ticket for Steps, the loops in which nodes are, and a text to compare with.
 pub struct Redoing {
     alloc: Global,
     ticket: Option<Ticket>,
+    loops: [NodeLoop; MOST_NODES],
     text: String,
 }
 
@@ -31,6 +33,7 @@ impl Drop for Redoing {
         let Redoing {
             alloc: _,
             ticket: _,
+            loops: _,
             text: _,
         } = self;
     }
@@ -42,6 +45,7 @@ impl Redoing {
         Redoing {
             alloc,
             ticket: None,
+            loops: [NodeLoop::none(); MOST_NODES],
             text: String::new(alloc),
         }
     }
@@ -99,6 +103,7 @@ fn redo_burst<O: Outputs + Drop>(
     alloc: Global,
     domain: &mut Domain<O>,
     slot: &mut Option<Ticket>,
+    known: &mut NodeLoop,
     node: u8,
     times: u64,
 ) -> Result<(), RedoFault>
@@ -108,7 +113,8 @@ fn redo_burst<O: Outputs + Drop>(
     let Some(ticket) = slot else {
         return Err(RedoFault::Differs);
     };
-    ticket.burst_by_periods(times);
+    known.begin(ticket, times);
+    ticket.burst_by_periods(times.saturating_sub(ticket.steps()));
     if ticket.steps() != times || ticket.last() != Some(Stepped::Ran) {
         return Err(RedoFault::Differs);
     }
@@ -118,14 +124,13 @@ fn redo_burst<O: Outputs + Drop>(
     }
 }
 
-// Does Steps of a node, at least one. The first burst is short, and each other has as many Steps as all before it. So where a
-// program comes to an endless loop a burst begins in the loop before the program has done twice as many Steps, and counts
-// its periods. All of them ran.
+// Does Steps of a node, at least one, in as many bursts as what is known of its loop says. All of them ran.
 #[tactic(auto, using(crate::proofs::Steps::more_steps))]
 fn redo_steps<O: Outputs + Drop>(
     alloc: Global,
     domain: &mut Domain<O>,
     slot: &mut Option<Ticket>,
+    known: &mut NodeLoop,
     node: u8,
     times: u64,
 ) -> Result<(), RedoFault>
@@ -135,11 +140,11 @@ fn redo_steps<O: Outputs + Drop>(
     if times == 0 {
         return Err(RedoFault::Differs);
     }
-    let mut done = times.min(FIRST_BURST);
-    redo_burst(alloc, domain, slot, node, done)?;
+    let mut done = known.first_steps(times);
+    redo_burst(alloc, domain, slot, known, node, done)?;
     while done < times {
-        let more = done.min(times - done);
-        redo_burst(alloc, domain, slot, node, more)?;
+        let more = known.next_steps(done, times - done);
+        redo_burst(alloc, domain, slot, known, node, more)?;
         done += more;
     }
     Ok(())
@@ -159,6 +164,7 @@ fn redo_call<O: Outputs + Drop>(
     alloc: Global,
     domain: &mut Domain<O>,
     slot: &mut Option<Ticket>,
+    loops: &mut [NodeLoop; MOST_NODES],
     call: RecordedCall,
 ) -> Result<Reply, RedoFault>
     ensures gains { IfOk result (λ reply. GainsHistory (line_history (record {
@@ -174,7 +180,10 @@ fn redo_call<O: Outputs + Drop>(
     match (times, by, event) {
         (1, _, _) => redo_event(alloc, domain, by, event),
         (_, By::Farm, Event::Step(node)) => {
-            redo_steps(alloc, domain, slot, node, times)?;
+            let Some(known) = loops.get_mut(usize::from(node)) else {
+                return Err(RedoFault::Differs);
+            };
+            redo_steps(alloc, domain, slot, known, node, times)?;
             Ok(Reply::Stepped(Stepped::Ran))
         }
         _ => Err(RedoFault::NoLine),
@@ -198,7 +207,7 @@ pub fn redo_line<O: Outputs + Drop>(
 {
     let alloc = redoing.alloc;
     let call = call_of(alloc, line)?;
-    let reply = redo_call(alloc, domain, &mut redoing.ticket, call)?;
+    let reply = redo_call(alloc, domain, &mut redoing.ticket, &mut redoing.loops, call)?;
     let text = &mut redoing.text;
     text.clear();
     write_line(text, call.times, call.by, call.event, reply)?;
