@@ -16,7 +16,7 @@ use std::alloc::Global;
 use std::sync::Wait;
 
 /// The most Steps that are done again for an answer. Each entry of a journal counts as `ENTRY_COUNTS` Steps more.
-const MOST_AGAIN: u64 = 1 << 28;
+const MOST_AGAIN: u64 = 1 << 27;
 
 const ENTRY_COUNTS: u64 = 64;
 
