@@ -146,7 +146,7 @@ fn keep_last<R: Wait, K: SharedRecord, N: Notices>(
     errors: &N,
 ) -> Result<RecordState, NoMemory>
     ensures { IfOk result (λ state. state ≡ RecordState.Kept
-        → K.has_kept record.now service.now.plan domain (commands_listed domain passes.now)) }
+        → K.has_kept «record».now service.now.plan domain (commands_listed domain passes.now)) }
 {
     let asked = AskedCommands::of_passes(domain, passes);
     keep_and_tell(rt, alloc, service, asked, record, false, errors)

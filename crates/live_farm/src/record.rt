@@ -178,7 +178,7 @@ pub(crate) fn keep_and_tell<R: Wait, K: SharedRecord, N: Notices>(
     errors: &N,
 ) -> Result<RecordState, NoMemory>
     ensures { IfOk result (λ state. state ≡ RecordState.Kept
-        → K.has_kept record.now service.now.plan asked.domain asked.commands) }
+        → K.has_kept «record».now service.now.plan asked.domain asked.commands) }
 {
     let before = record.state(rt);
     match record.keep(rt, service, asked, begins_anew) {

@@ -258,7 +258,7 @@ fn answer_and_keep<R: Wait, K: SharedRecord, N: Notices>(
 ) -> Result<AnsweredLetter, NoMemory>
     requires { letter.now.user < length group.old.sessions.items }
     ensures answer { IfOk result (λ a. (AnswersLetter group.old group.new letter.now a.answer
-        × K.has_kept record.now group.old.service.now.plan group.old.domain (commands_asked group.new))
+        × K.has_kept «record».now group.old.service.now.plan group.old.domain (commands_asked group.new))
         ⊎ (TellsUnrecorded group.new letter.now (string_bytes a.answer.text)
         ⊎ (has_room ≡ false × AllStay group.old group.new × TellsFull group.new letter.now (string_bytes a.answer.text)))) }
     ensures not_asked { may_be_answered state letter.now.matter ≡ false
