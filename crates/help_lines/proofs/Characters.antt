@@ -19,11 +19,12 @@ some_is one other same = ap (held one) same
     held default None = default
     held default (Some it) = it
 
--- if two readings are the same, so are their bytes, and what is after these
-pub same_reading : (byte another : ℕ) (rest other : List ℕ) → Some (byte, rest) ≡ Some (another, other)
+-- a reading has one byte, and one rest
+pub same_reading : (reading : Option (ℕ × List ℕ)) (byte another : ℕ) (rest other : List ℕ)
+    → reading ≡ Some (byte, rest) → reading ≡ Some (another, other)
     → (byte ≡ another) × (rest ≡ other)
-same_reading byte another rest other same =
-    let both = some_is (byte, rest) (another, other) same in (ap (λ it. it.0) both, ap (λ it. it.1) both)
+same_reading reading byte another rest other one two =
+    let both = some_is (byte, rest) (another, other) (sym one ∙ two) in (ap (λ it. it.0) both, ap (λ it. it.1) both)
 
 -- a reading of a byte with a rest is that byte and that rest
 byte_read : (found : Option ℕ) (after : List ℕ) (byte : ℕ) (rest : List ℕ)
@@ -31,7 +32,7 @@ byte_read : (found : Option ℕ) (after : List ℕ) (byte : ℕ) (rest : List �
     → (found ≡ Some byte) × (after ≡ rest)
 byte_read None after byte rest is = absurd (cc)
 byte_read (Some another) after byte rest is =
-    let same = same_reading another byte after rest is in (ap Some same.0, same.1)
+    let same = same_reading (Some (another, after)) another byte after rest refl is in (ap Some same.0, same.1)
 
 -- ---- two hexadecimal digits
 
@@ -116,7 +117,7 @@ first_begins first byte more rest true is_quote slash mark is =
     escape_begins first byte more rest (eqb-true first backslash slash) is
 first_begins first byte more rest false true slash mark is = absurd (cc)
 first_begins first byte more rest false false slash mark is =
-    let same = same_reading first byte more rest is in (
+    let same = same_reading (Some (first, more)) first byte more rest refl is in (
       first ∷ [],
       ap (λ it. first ∷ it) same.1,
       (same.0, eqb-false first quote mark, eqb-false first backslash slash),

@@ -32,7 +32,7 @@ read_back rest after bytes all [] byte is whole meant =
     let none : read_character rest ≡ None = ap read_character meant in absurd (cc)
 read_back rest after bytes all (another ∷ others) byte is whole meant =
     let read = character_read rest another meant.1 meant.0 meant.2 meant.3 in
-    let same = same_reading byte another after meant.1 (sym is ∙ read) in (
+    let same = same_reading (read_character rest) byte another after meant.1 is read in (
       others,
       whole ∙ ap (λ it. bytes ++ it ∷ others) (sym same.0) ∙ sym (append_assoc bytes (byte ∷ []) others),
       subst (λ it. TextMeans it others) (sym same.1) meant.4,
@@ -62,8 +62,7 @@ meant_whole text rest bytes meant none =
 nothing_meant : (rest more : List ℕ) → 0 < length rest → read_character rest ≡ None → ¬ TextMeans rest more
 nothing_meant rest [] some none meant = omega (arith, ap length meant, some)
 nothing_meant rest (byte ∷ more) some none meant =
-    let read = character_read rest byte meant.1 meant.0 meant.2 meant.3 in
-    let both : None ≡ Some (byte, meant.1) = sym none ∙ read in cc
+    let read = character_read rest byte meant.1 meant.0 meant.2 meant.3 in cc
 
 -- if the rest begins with no character the text means nothing
 pub meant_nothing : (text rest bytes : List ℕ) → IsMeantTo text rest bytes → 0 < length rest
