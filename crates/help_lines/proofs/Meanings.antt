@@ -1,7 +1,7 @@
 -- What a text means, as far as it is read, and a text in quotes: for the loop of `bytes_meant`, for `without_quotes`
 -- and for `quoted_bytes`.
-use Rattle.std.proofs.Common.{◌≡◌, ◌≢◌, ◌<◌, ◌++◌, ℕ, List, [], ◌∷◌, Option, Some, None, length}
-use Rattle.std.proofs.Common.{refl, sym, ap, ◌∙◌, subst, append_assoc, append-nil, length-append, arith}
+use Rattle.std.proofs.Common.{◌≡◌, ◌<◌, ◌++◌, ℕ, List, [], ◌∷◌, Some, None, length}
+use Rattle.std.proofs.Common.{refl, sym, ap, ◌∙◌, subst, append_assoc, append-nil, arith}
 use Rattle.std.proofs.lemmas.List.{same_from_push}
 use Rattle.help_lines.specs.QuotedTexts.{quote, TextMeans, IsQuotedText}
 use Rattle.help_lines.specs.Reading.{read_character}
@@ -74,59 +74,17 @@ meant_nothing text rest bytes meant some none all is =
 -- ---- between quotes
 
 -- what is between two quotes, if it is between any
-pub same_between : (text other : List ℕ) → quote ∷ text ++ quote ∷ [] ≡ quote ∷ other ++ quote ∷ []
+same_between : (text other : List ℕ) → quote ∷ text ++ quote ∷ [] ≡ quote ∷ other ++ quote ∷ []
     → text ≡ other
 same_between text other same =
     let after : text ++ quote ∷ [] ≡ other ++ quote ∷ [] = cc in (same_from_push text other quote quote after).0
-
--- an empty list is in no quotes
-pub no_quotes : (quoted : List ℕ) → length quoted ≡ 0 → (other : List ℕ) → quoted ≢ quote ∷ other ++ quote ∷ []
-no_quotes quoted none other same = omega (arith, none, ap length same)
-
--- neither is a list with one element
-pub no_second_quote : (quoted after : List ℕ) (first : ℕ) → quoted ≡ first ∷ after → length after ≡ 0
-    → (other : List ℕ)
-    → quoted ≢ quote ∷ other ++ quote ∷ []
-no_second_quote quoted after first begins none other same =
-    omega (arith, none, ap length begins, ap length same, length-append other (quote ∷ []))
-
--- neither is one whose first element is no quote
-pub no_first_quote : (quoted after : List ℕ) (first : ℕ) → quoted ≡ first ∷ after → first ≢ quote
-    → (other : List ℕ)
-    → quoted ≢ quote ∷ other ++ quote ∷ []
-no_first_quote quoted after first begins no_quote other same =
-    let both : first ∷ after ≡ quote ∷ other ++ quote ∷ [] = sym begins ∙ same in
-    let is : first ≡ quote = cc in no_quote is
-
--- neither is one whose last element is no quote
-pub no_last_quote : (quoted after text : List ℕ) (first last : ℕ) → quoted ≡ first ∷ after
-    → after ≡ text ++ last ∷ [] → last ≢ quote → (other : List ℕ)
-    → quoted ≢ quote ∷ other ++ quote ∷ []
-no_last_quote quoted after text first last begins ends no_quote other same =
-    let both : first ∷ after ≡ quote ∷ other ++ quote ∷ [] = sym begins ∙ same in
-    let behind : after ≡ other ++ quote ∷ [] = cc in
-    no_quote (same_from_push text other last quote (sym ends ∙ behind)).1
-
--- a text that is in no quotes is no text in quotes
-pub unquoted_means_nothing : (quoted : List ℕ) → ((text : List ℕ) → quoted ≢ quote ∷ text ++ quote ∷ [])
-    → (bytes : List ℕ)
-    → ¬ IsQuotedText quoted bytes
-unquoted_means_nothing quoted none bytes is = none is.text is.quotes
-
--- neither is one between whose quotes is what means nothing
-pub between_means_nothing : (quoted text : List ℕ) → quoted ≡ quote ∷ text ++ quote ∷ []
-    → ((bytes : List ℕ) → ¬ TextMeans text bytes) → (bytes : List ℕ)
-    → ¬ IsQuotedText quoted bytes
-between_means_nothing quoted text quotes none bytes is =
-    let same = same_between is.text text (sym is.quotes ∙ quotes) in
-    none bytes (subst (λ it. TextMeans it bytes) same is.means)
 
 empty_means : (bytes : List ℕ) → TextMeans [] bytes → bytes ≡ []
 empty_means [] meant = refl
 empty_means (byte ∷ bytes) meant =
     let read = character_read [] byte meant.1 meant.0 meant.2 meant.3 in absurd (cc)
 
--- neither is one between whose quotes is what means no byte
+-- if what is between two quotes means no byte, there is no text in quotes
 pub empty_means_nothing : (quoted text none : List ℕ) → quoted ≡ quote ∷ text ++ quote ∷ [] → TextMeans text none
     → length none ≡ 0 → (bytes : List ℕ)
     → ¬ IsQuotedText quoted bytes
@@ -134,10 +92,3 @@ empty_means_nothing quoted text none quotes meant without bytes is =
     let empty : text ≡ [] = subst (TextMeans text) (empty_from_length none without) meant in
     let same : is.text ≡ [] = same_between is.text text (sym is.quotes ∙ quotes) ∙ empty in
     is.some (empty_means bytes (subst (λ it. TextMeans it bytes) same is.means))
-
--- one between whose quotes is what means bytes is a text in quotes that means them
-pub quoted_means : (quoted text bytes : List ℕ) → quoted ≡ quote ∷ text ++ quote ∷ [] → TextMeans text bytes
-    → length bytes ≢ 0
-    → IsQuotedText quoted bytes
-quoted_means quoted text bytes quotes meant some =
-    record { text = text; quotes = quotes; means = meant; some = λ empty. some (ap length empty) }

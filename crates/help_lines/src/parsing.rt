@@ -68,7 +68,7 @@ fn parse_join(alloc: Global, mut words: LineWords<'_>) -> Result<Command, HelpFa
 }
 
 // What `send` asks.
-#[tactic(auto, using(crate::proofs::Refusals::quoted_again, crate::proofs::Refusals::unquoted_again))]
+#[tactic(auto, using(crate::proofs::Refusals::quoted_again))]
 fn parse_send(alloc: Global, mut words: LineWords<'_>) -> Result<Command, HelpFault>
     ensures asked { IfOk result (HelpAsks Send words.entry) }
     ensures fault { IfErr result (IsHelpFault Send words.entry) }
@@ -116,11 +116,7 @@ fn parse_text(mut words: LineWords<'_>) -> Result<Command, HelpFault>
 /// What a verb that helps asks with the words after it, or what is wrong with them. Too many words come first among faults,
 /// then a wrong word, from the left, and then too few words.
 #[tactic(auto, using(crate::proofs::Refusals::nothing_is_asked))]
-pub fn parse_help(
-    alloc: Global,
-    verb: HelpVerb,
-    words: LineWords<'_>,
-) -> Result<Command, HelpFault>
+pub fn parse_help(alloc: Global, verb: HelpVerb, words: LineWords<'_>) -> Result<Command, HelpFault>
     ensures asked { IfOk result (HelpAsks verb words.entry) }
     ensures fault { IfErr result (IsHelpFault verb words.entry) }
     ensures nothing { IfErr result (λ f. f ≢ NoMemory → (c : SpecCommand) → ¬ HelpAsks verb words.entry c) }

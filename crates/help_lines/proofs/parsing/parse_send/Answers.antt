@@ -1,4 +1,4 @@
-use Rattle.std.proofs.Common.{◌≡◌, ◌∷◌, ℕ, List, subst, sym}
+use Rattle.std.proofs.Common.{ℕ, List, subst, sym}
 use Rattle.help_lines.specs.declared.fault.HelpFault.TheVariants as fault
 use Rattle.help_lines.specs.declared.verb.HelpVerb.TheVariants as help
 use Rattle.help_lines.specs.QuotedTexts.{IsQuotedText}
