@@ -95,7 +95,7 @@ last-byte : ServiceLeavesTheRest → (byte : ℕ) (bytes : List ℕ) (f : Functi
     → read_from s.operand (byte ∷ bytes) ≡ Some (record { function = f; operand = k; rest = [] })
     → byte_at m s.instruction ≡ Ok byte → s.running ≡ true → any_has_work ls ≡ false
     → nth_step (suc (length bytes)) s ls m ≡ Some (stepped (direct f k (past_bytes (suc (length bytes)) s) ls m))
-unfolding accumulated
+unfolding accumulated function_of meant-by
 last-byte rests byte bytes f k s ls m ends means there runs rest =
     let joined = bit_or s.operand (byte % 16) in
     let found : Some (record { function = function_of (byte / 16); operand = accumulated s.operand byte; rest = bytes })

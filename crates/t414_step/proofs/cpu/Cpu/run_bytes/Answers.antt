@@ -66,7 +66,7 @@ returns-in_default-clause-answer c =
     let new : c.do_byte.new.self.bytes ≡ min (c.loop-left.self.bytes + 1) 1024 = c.do_byte.ensures.counted in
     let old : min c.loop-left.self.bytes 1024 ≡ min (c.args.self.now.bytes + (c.args.most - c.loop-left.left)) 1024 =
     c.loop-left.invariant.counted in
-    let same : c.do_byte.new.self.bytes ≡ c.counted-self.result = omega arith in
+    let same : c.do_byte.new.self.bytes ≡ c.count_bytes-self.result = omega arith in
     let more : c.args.most - (c.loop-left.left - 1) ≡ c.args.most - c.loop-left.left + 1 = omega arith in
     ap (λ (k : ℕ). nth_step k c.args.self.now c.args.links.now c.args.memory.now) more
     ∙ byte-more c.services_act_on_work.ensures.rest (c.args.most - c.loop-left.left) c.args.self.now c.loop-left.self
@@ -74,4 +74,4 @@ returns-in_default-clause-answer c =
     (completed c.do_byte.result c.do_byte.new.self c.args.links.now c.do_byte.new.memory) c.requires.rest
     c.loop-left.invariant.ran c.loop-left.invariant.running (c.do_byte.ensures.answer c.args.links.now)
     ∙ ap (λ (s : Cpu). Some (stepped (completed c.do_byte.result s c.args.links.now c.do_byte.new.memory)))
-    (recounted c.do_byte.new.self c.counted-self.result same)
+    (recounted c.do_byte.new.self c.count_bytes-self.result same)
