@@ -1,12 +1,10 @@
 -- How many commands entries of a journal have, and how many a record has that gains them: the contracts of
 -- `commands_of`, `commands_of_all` and `next_reached`, and the counts of `KeepsPieces`.
-use Rattle.std.proofs.Common.{◌≡◌, ◌∙◌, ◌+◌, ◌-◌, ◌^◌, ◌<◌, ◌≤◌, ℕ, zero, suc, min, Bool, true, false, cond}
-use Rattle.std.proofs.Common.{List, [], ◌∷◌, ◌++◌, length, take, get_or, replicate, refl, ap, append_assoc, arith}
+use Rattle.std.proofs.Common.{◌≡◌, ◌∙◌, ◌+◌, ◌^◌, ◌<◌, ◌≤◌, ℕ, zero, suc, Bool, true, false, cond}
+use Rattle.std.proofs.Common.{List, [], ◌∷◌, ◌++◌, length, take, get_or, replicate, refl, ap, arith}
 use Rattle.std.specs.Prelude.{filter}
 use Rattle.std.proofs.lemmas.List.{length-append, take_more}
 use Rattle.std.proofs.lemmas.List.Elements.{filter-append}
-use Rattle.t414_step.specs.declared.stepping.Stepped.{Stepped}
-use Rattle.t414_step.specs.declared.stepping.Stepped.TheVariants.{Ran}
 use Rattle.domain_core.specs.declared.copying.Mark.{Mark}
 use Rattle.domain_core.specs.declared.event.By.{By}
 use Rattle.domain_core.specs.declared.journal.Entry.{Entry}
@@ -14,7 +12,7 @@ use Rattle.domain_core.specs.declared.journal.Entry.TheVariants.{One, Run}
 use Rattle.domain_core.specs.Commands.{is_command}
 use Rattle.domain_core.specs.Journal.{AnsweredCall, answered_step, expanded, steps}
 use Rattle.domain_core.specs.Laws.{JournalsAddUp}
-use Rattle.domain_core.specs.Marks.{Copies, events_from}
+use Rattle.domain_core.specs.Marks.{events_from}
 use Rattle.record_keeping.specs.Counts.{asks_command, commands_in, commands_among, saturated, IsCountBefore}
 
 -- ---- one history after another
@@ -35,30 +33,33 @@ commands_among_both law entries later =
 
 -- ---- one entry
 
-no_replicated : (by : By) (node count : ℕ) (rest : List AnsweredCall)
-    → commands_in (replicate count (answered_step by node Ran) ++ rest) ≡ commands_in rest
-no_replicated by node zero rest = refl
-no_replicated by node (suc count) rest = no_replicated by node count rest
+no_replicated : (by : By) (node count : ℕ) (answer : _) (rest : List AnsweredCall)
+    → commands_in (replicate count (answered_step by node answer) ++ rest) ≡ commands_in rest
+no_replicated by node zero answer rest = refl
+no_replicated by node (suc count) answer rest = no_replicated by node count answer rest
 
-no_steps : (by : By) (node count : ℕ) (last : Stepped) → commands_in (steps by node count last) ≡ 0
+no_steps : (by : By) (node count : ℕ) (last : _) → commands_in (steps by node count last) ≡ 0
 no_steps by node zero last = refl
-no_steps by node (suc count) last = no_replicated by node count (answered_step by node last ∷ [])
+no_steps by node (suc count) last = no_replicated by node count _ (answered_step by node last ∷ [])
 
 -- a run of Steps has no command
-pub no_commands : (by : By) (node count : ℕ) (last : Stepped) → commands_among (Run by node count last ∷ []) ≡ 0
+pub no_commands : (by : By) (node count : ℕ) (last : _) → commands_among (Run by node count last ∷ []) ≡ 0
 no_commands by node count last =
     commands_in_both (steps by node count last) [] ∙ ap (λ (n : ℕ). n + 0) (no_steps by node count last)
 
 -- ---- entries
 
--- entries up to a place, and then the next, have as many commands as those and that one
+-- the commands of the entries up to a place, and those of the next, are those of one entry more
 pub commands_more : JournalsAddUp
-    → (entries : List Entry) (i : ℕ) (entry : Entry) → i < length entries
-    → commands_among (take (i + 1) entries)
-    ≡ commands_among (take i entries) + commands_among (get_or entries i entry ∷ [])
-commands_more law entries i entry within =
+    → (entries : List Entry) (i : ℕ) (entry : Entry) (commands more : ℕ) → i < length entries
+    → commands ≡ commands_among (take i entries) → more ≡ commands_among (get_or entries i entry ∷ [])
+    → commands + more ≡ commands_among (take (i + 1) entries)
+commands_more law entries i entry commands more within so_far next =
+    let all : commands_among (take (i + 1) entries)
+    ≡ commands_among (take i entries) + commands_among (get_or entries i entry ∷ []) =
     ap commands_among (take_more entries i entry within)
-    ∙ commands_among_both law (take i entries) (get_or entries i entry ∷ [])
+    ∙ commands_among_both law (take i entries) (get_or entries i entry ∷ []) in
+    omega (arith, all, so_far, next)
 
 one_within : (test : Bool) (a : AnsweredCall) (history : List AnsweredCall) (entries : ℕ) → length history ≤ entries
     → length (cond test (a ∷ history) history) ≤ suc entries

@@ -1,6 +1,6 @@
 -- What a record kept, piece by piece.
 use Rattle.std.proofs.Common.{rules, refl, sym, ap, subst, append-nil, ◌≡◌, ◌∙◌, ◌+◌, inl, inr, ℕ, Bool, true, false}
-use Rattle.std.proofs.Common.{List, [], ◌++◌, vec_capacity, string_bytes, Option, None, Some}
+use Rattle.std.proofs.Common.{List, [], ◌++◌, vec_capacity, Option, None, Some}
 use Rattle.std.specs.Io.KnownBytes.{Appends}
 use Rattle.std.proofs.KnownBytes.{Appends-trans}
 use Rattle.plan_rules.specs.Data.{DomainData}
@@ -8,10 +8,10 @@ use Rattle.domain_core.specs.Laws.{JournalsAddUp}
 use Rattle.farm_records.specs.RecordText.{record_text, lines_of}
 use Rattle.record_keeping.specs.declared.domain_record.DomainRecord.{DomainRecord}
 use Rattle.record_keeping.specs.Counts.{commands_among, saturated}
-use Rattle.record_keeping.specs.Pieces.{entries_of, AreGained, EndWithRoom, IsAtStart}
+use Rattle.record_keeping.specs.Pieces.{entries_of, AreGained, EndWithRoom}
 use Rattle.record_keeping.specs.Keeping.{IsSameRecord, KeepsGained, KeepsSome}
 use Rattle.record_keeping.specs.KeptPieces.{KeepsPieces, KeepsNothing}
-use Rattle.record_keeping.specs.Writing.{stored_text, Becomes}
+use Rattle.record_keeping.specs.Writing.{stored_text}
 use Rattle.record_keeping.proofs.Counting.{count_twice, count_stays}
 use Rattle.record_keeping.proofs.Pieces.{both_gained, all_end_with_room, text_of_both, commands_of_both}
 
@@ -98,39 +98,6 @@ kept_behind whole plan number more old new begun kept = record {
   last = kept.last;
   text = kept.text;
   commands = kept.commands;
-  begun = begun;
-}
-
-becomes_then : (before between after : Option (List ℕ)) (head text : List ℕ) → Becomes before between head
-    → Appends between after text → Becomes before after (head ++ text)
-becomes_then None between after head text first second = tt
-becomes_then (Some was) None after head text first second = absurd first
-becomes_then (Some was) (Some is) None head text first second = absurd second
-becomes_then (Some was) (Some is) (Some now) head text first second =
-    second ∙ ap (λ (begun : List ℕ). begun ++ text) first
-
--- pieces in a record that has begun with its head alone
-pub kept_anew : {S : Type 0} {g : _} (whole : S → Option (List ℕ)) (plan : List DomainData) (number : ℕ) (more : Bool)
-    (old between new : DomainRecord S g) → vec_capacity between.room ≡ vec_capacity old.room
-    → IsAtStart between.mark → between.commands ≡ 0
-    → Becomes (stored_text whole old.store) (stored_text whole between.store) (string_bytes old.head)
-    → new.owes_next ≡ false → KeepsPieces whole plan number more between new
-    → KeepsGained whole plan number true more old new
-kept_anew whole plan number more old between new same start none text begun kept = record {
-  from = between.mark;
-  pieces = kept.pieces;
-  beginning = start;
-  gained =
-      subst (λ (places : ℕ). AreGained plan number places between.mark kept.pieces new.mark) same kept.gained;
-  last =
-      λ done inside.
-      subst (λ (places : ℕ). EndWithRoom places kept.pieces) same (kept.last done inside);
-  text =
-      becomes_then (stored_text whole old.store) (stored_text whole between.store) (stored_text whole new.store)
-      (string_bytes old.head) (record_text (lines_of (entries_of kept.pieces))) text kept.text;
-  commands =
-      kept.commands
-      ∙ ap (λ (n : ℕ). saturated (n + commands_among (entries_of kept.pieces))) none;
   begun = begun;
 }
 

@@ -4,10 +4,10 @@ use Rattle.std.proofs.lemmas.Grind.{flat_map-append}
 use Rattle.plan_rules.specs.Data.{DomainData}
 use Rattle.domain_core.specs.declared.copying.Mark.{Mark}
 use Rattle.domain_core.specs.declared.journal.Entry.{Entry}
+use Rattle.domain_core.specs.Laws.{JournalsAddUp}
 use Rattle.farm_records.specs.RecordText.{RecordLine, record_line_text, entry_lines, record_text, lines_of}
 use Rattle.farm_service.specs.Domains.{GainsCopies}
-use Rattle.domain_core.specs.Laws.{JournalsAddUp}
-use Rattle.record_keeping.specs.Counts.{commands_among}
+use Rattle.record_keeping.specs.Counts.{commands_among, saturated}
 use Rattle.record_keeping.specs.Pieces.{JournalPiece, entries_of, AreGained, EndWithRoom}
 use Rattle.record_keeping.proofs.Counting.{commands_among_both}
 
@@ -60,10 +60,13 @@ pub text_of_one : (piece : JournalPiece)
     → record_text (lines_of piece.entries) ≡ record_text (lines_of (entries_of (piece ∷ [])))
 text_of_one piece = ap (λ (xs : List Entry). record_text (lines_of xs)) (sym (append-nil piece.entries))
 
--- the commands of one piece
-pub commands_of_one : (piece : JournalPiece)
-    → commands_among piece.entries ≡ commands_among (entries_of (piece ∷ []))
-commands_of_one piece = ap commands_among (sym (append-nil piece.entries))
+-- a count that gained the entries of the room gained one piece, if these are its entries
+pub counted_one : (piece : JournalPiece) (room : List Entry) (before old new : ℕ)
+    → new ≡ saturated (before + commands_among room) → before ≡ old → room ≡ piece.entries
+    → new ≡ saturated (old + commands_among (entries_of (piece ∷ [])))
+counted_one piece room before old new counts same held =
+    counts ∙ ap (λ (n : ℕ). saturated (n + commands_among room)) same
+    ∙ ap (λ (entries : List Entry). saturated (old + commands_among entries)) (held ∙ sym (append-nil piece.entries))
 
 -- what was copied to empty room, of which there is as much as before
 pub one_gained : (plan : List DomainData) (number places : ℕ) (from to : Mark) (held room : ℕ) (old new : List Entry)

@@ -27,13 +27,7 @@ fn commands_of(entry: Entry) -> u64
     ensures most { result ≤ 1 }
 {
     match entry {
-        Entry::One { event, .. } => {
-            if is_command(event) {
-                1
-            } else {
-                0
-            }
-        }
+        Entry::One { event, .. } => { if is_command(event) { 1 } else { 0 } }
         Entry::Run { .. } => 0,
     }
 }

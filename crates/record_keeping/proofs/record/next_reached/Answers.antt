@@ -4,8 +4,8 @@ use Rattle.record_keeping.specs.Counts.{commands_among, IsCountBefore}
 use Rattle.record_keeping.proofs.Counting.{counted_on, count_within}
 use Rattle.record_keeping.proofs.record.next_reached.Goals as goal
 
-pub overflow_add-commands : goal.overflow_add-commands
-overflow_add-commands c =
+pub overflow_add-result : goal.overflow_add-result
+overflow_add-result c =
     let journal = c.args.journal.now.entries in
     let copied = c.copy_since-mark.ensures.copies.copied in
     let on =

@@ -1,4 +1,4 @@
-use Rattle.std.proofs.Common.{rules, sym, subst, Bool, true, false, ◌≤◌}
+use Rattle.std.proofs.Common.{rules, sym, subst, Bool, true, false}
 use Rattle.record_keeping.specs.declared.domain_record.DomainRecord.{DomainRecord}
 use Rattle.record_keeping.specs.KeptPieces.{KeepsPieces}
 use Rattle.record_keeping.proofs.Keeping.{both_kept, more_kept, nothing_kept, still_same}
@@ -11,14 +11,14 @@ loop-preserved g c =
     let whole = g.S.RecordStore.whole in
     let plan = c.args.service.now.plan in
     let old = c.args.self.now in
-    let new = c.keep_piece-more.new.self in
+    let new = c.keep_piece.new.self in
     record {
       kept =
           both_kept c.journals_add_up.ensures.law whole plan c.args.domain true old c.loop.self new
           c.loop.invariant.same.places
           c.loop.invariant.kept
           (more_kept whole plan c.args.domain c.in_ok-more.more c.loop.self new c.in_ok-more.ensures.kept);
-      same = still_same old c.loop.self new c.loop.invariant.same c.keep_piece-more.ensures.same;
+      same = still_same old c.loop.self new c.loop.invariant.same c.keep_piece.ensures.same;
       ready = search rules;
       failed = search rules;
       owes = search rules;
@@ -34,7 +34,7 @@ returns-clause-kept g c = elim c.match-next.branch [
       let whole = g.S.RecordStore.whole in
       let plan = c.args.service.now.plan in
       let old = c.args.self.now in
-      let new = w.keep_piece-more.new.self in
+      let new = w.keep_piece.new.self in
       subst (λ (kept : DomainRecord g.row.S.Denot g.S.RecordStore). KeepsPieces whole plan c.args.domain false old kept)
       (sym w.self-is)
       (both_kept c.journals_add_up.ensures.law whole plan c.args.domain false old c.loop.self new
@@ -43,19 +43,11 @@ returns-clause-kept g c = elim c.match-next.branch [
       (w.has_all.ensures w.if-has_all.true).0 w.in_ok-more.ensures.kept))
 ]
 
-pub returns-clause-has_all : goal.returns-clause-has_all
-returns-clause-has_all g c = elim c.match-next.branch [
-  | in-None w ↦ search rules
-  | in-Some+in_ok-more+then-has_all w ↦
-      subst (λ (kept : DomainRecord g.row.S.Denot g.S.RecordStore). c.args.asked ≤ kept.commands) (sym w.self-is)
-      (w.has_all.ensures w.if-has_all.true).1
-]
-
 pub returns-in_err-more-clause-err : goal.returns-in_err-more-clause-err
 returns-in_err-more-clause-err g c =
     let whole = g.S.RecordStore.whole in
     let plan = c.args.service.now.plan in
-    let new = c.keep_piece-more.new.self in
+    let new = c.keep_piece.new.self in
     let kept : KeepsPieces whole plan c.args.domain true c.args.self.now new =
     both_kept c.journals_add_up.ensures.law whole plan c.args.domain true c.args.self.now c.loop.self new
     c.loop.invariant.same.places

@@ -1,10 +1,8 @@
-use Rattle.std.proofs.Common.{rules, ◌≡◌, ◌∙◌, ◌+◌, ◌<◌, ap, subst, List, [], ◌∷◌, ℕ, length, vec_capacity}
+use Rattle.std.proofs.Common.{rules, ◌≡◌, ◌<◌, subst, List, [], ◌∷◌, ℕ, length, vec_capacity}
 use Rattle.std.specs.Io.KnownBytes.{Appends}
-use Rattle.domain_core.specs.declared.journal.Entry.{Entry}
-use Rattle.record_keeping.specs.Counts.{commands_among, saturated}
 use Rattle.record_keeping.specs.Pieces.{JournalPiece}
 use Rattle.record_keeping.specs.Writing.{stored_text}
-use Rattle.record_keeping.proofs.Pieces.{one_gained, text_of_one, commands_of_one}
+use Rattle.record_keeping.proofs.Pieces.{one_gained, text_of_one, counted_one}
 use Rattle.record_keeping.proofs.domain_record.DomainRecord.keep_piece.Goals as goal
 
 pub returns-clause-kept : goal.returns-clause-kept
@@ -29,9 +27,6 @@ returns-clause-kept g c =
           subst (λ (text : List ℕ). Appends (stored_text whole old.store) (stored_text whole written.store) text)
           (text_of_one piece) c.in_ok-write_room.ensures.text;
       commands =
-          let held : c.as_slice.result.now ≡ piece.entries = search rules in
-          c.count_with.ensures
-          ∙ ap (λ (n : ℕ). saturated (n + commands_among c.as_slice.result.now)) c.in_ok-write_room.ensures.rest.5
-          ∙ ap (λ (entries : List Entry). saturated (old.commands + commands_among entries)) held
-          ∙ ap (λ (n : ℕ). saturated (old.commands + n)) (commands_of_one piece);
+          counted_one piece c.as_slice.result.now written.commands old.commands c.count_with-self.result
+          c.count_with-self.ensures c.in_ok-write_room.ensures.rest.5 (search rules);
     }
