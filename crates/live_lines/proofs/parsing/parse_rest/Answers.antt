@@ -2,7 +2,7 @@ use Rattle.std.proofs.Common.{◌≡◌, ◌∷◌, rules}
 use Rattle.script_lines.specs.declared.fault.LineFault.{LineFault}
 use Rattle.script_lines.specs.declared.fault.Unread.TheVariants.{Faulty}
 use Rattle.live_lines.specs.LiveLines.{IsLiveRestFault}
-use Rattle.live_lines.proofs.Grammar.{not_of_domain, not_of_help, live_refused, help_refused}
+use Rattle.live_lines.proofs.Grammar.{not_of_domain, not_of_help, live_refused}
 use Rattle.live_lines.proofs.parsing.parse_rest.Goals as goal
 
 pub returns-in_err-parse_request-clause-fault : goal.returns-in_err-parse_request-clause-fault
