@@ -129,12 +129,13 @@ unfolding accumulated
 steps-by rests true byte bytes f k s ls m later on means there behind runs rest =
     let joined = bit_or s.operand (byte % 16) in
     let t = after_prefix byte s in
+    let sum : suc (length bytes) ≡ 1 + length bytes = omega arith in
     let first : nth_step 1 s ls m ≡ Some (Gave (true, t) ls m) =
     step-there rests s ls m byte (Gave t ls m) rest runs there
     (prefix-row (function_of (byte / 16)) joined (fetched s) ls m on) in
     let those : nth_step (length bytes) t ls m ≡ Some (stepped (direct f k (past_bytes (length bytes) t) ls m)) =
     later t (sym (goes-on s.operand byte bytes on) ∙ means) behind runs in
-    steps-add 1 (length bytes) s t ls ls m m first ∙ those
+    ap (λ (n : ℕ). nth_step n s ls m) sum ∙ steps-add 1 (length bytes) s t ls ls m m first ∙ those
     ∙ ap (λ (u : Cpu). Some (stepped (direct f k u ls m)))
     (past-more (length bytes) (shifted (function_of (byte / 16)) joined) s)
 steps-by rests false byte bytes f k s ls m later on means there behind runs rest =
