@@ -52,7 +52,11 @@ impl NodeLoop {
         ensures some { 0 < result }
         ensures within { result ≤ left }
     {
-        if self.period > 0 { left } else { done.min(left) }
+        if self.period > 0 {
+            left
+        } else {
+            done.min(left)
+        }
     }
 
     /// Does the first of `times` Steps of a ticket that has done none: a period if one is known, and it is forgotten if the node
