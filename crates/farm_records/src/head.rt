@@ -1,5 +1,6 @@
 //! The head of a domain's record.
 ghost use Rattle.std.specs.Prelude.{◌<◌, ◌≡◌, ◌↔◌, length, IfOk, IfSome, IsTrue, string_bytes, slice_get};
+ghost use Rattle.script_text.specs.Lines.{IsDivided, plan_end};
 ghost use Rattle.farm_records.specs.Heads.{AreNamedAlike, IsOnlyDomain, IsHead, ReadsAs};
 
 use crate::fault::HeadFault;
@@ -108,15 +109,23 @@ impl From<PlanFault> for HeadFault {
     }
 }
 
+// What a text has before its first line `---`, and after it.
+fn parts_of(text: &[u8]) -> (&[u8], &[u8])
+    ensures { IsDivided text.now plan_end result.0.now result.1.now }
+{
+    let divided = divide_at_plan_end(text);
+    (divided.plan, divided.rest)
+}
+
 // The plan before the line `---` of a text. `Unlike` if anything follows that line.
 fn plan_of_head(alloc: Global, text: &[u8]) -> Result<AcceptedPlan, HeadFault>
     ensures { IfOk result (ReadsAs text.now) }
 {
-    let divided = divide_at_plan_end(text);
-    if !divided.rest.is_empty() {
+    let (before, behind) = parts_of(text);
+    if !behind.is_empty() {
         return Err(HeadFault::Unlike);
     }
-    Ok(check(alloc, read_plan(alloc, divided.plan)?)?)
+    Ok(check(alloc, read_plan(alloc, before)?)?)
 }
 
 // Whether the users of a plan's only domain have the names of those of this domain.
