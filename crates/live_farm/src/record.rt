@@ -82,7 +82,7 @@ pub trait SharedRecord {
 }
 
 impl<S: RecordStore> SharedRecord for Mutex<DomainRecord<S>> {
-    ghost has_kept = { λ lock plan number asked. HasKept S.whole lock plan number asked };
+    ghost has_kept = { λ _ plan number asked. HasKept S.RecordStore S.whole plan number asked };
 
     fn keep<R: Wait>(
         &self,

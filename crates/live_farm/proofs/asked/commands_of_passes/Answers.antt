@@ -10,4 +10,4 @@ loop-pass-preserved c =
     let pass = c.pass-item.result in
     let more = sum_by_more (commands_of_pass c.args.domain) passes i pass c.loop-pass-test.true in
     let item = ap (commands_of_pass c.args.domain) (sym c.pass-item.is) in
-    omega (arith, more, item, c.commands_of_pass.ensures, c.loop-pass.invariant, c.saturating_add.ensures)
+    omega (arith, more, item, c.commands_of_pass.ensures, c.loop-pass.invariant, c.saturating_add-commands.ensures)
