@@ -7,6 +7,7 @@ import time
 
 from serving import folder as folders
 from serving.connections import opened
+from serving.kept import class_in, place_of
 from serving.ports import ports_of
 
 from .dialogue import AT_ONCE, Dialogue
@@ -20,26 +21,37 @@ PIECE = 1 << 16
 
 
 class Farm:
-    """The farm in a folder, as `serve PLAN DIR` or `class` has it."""
+    """The farm in a folder, as `serve PLAN DIR` has it; or the farms of a class, by the folder of the class."""
 
     def __init__(self, folder):
         self.folder = os.fspath(folder)
 
     def users(self):
-        """The names of those who have sockets in the folder, sorted, without the operator."""
+        """The names of those who have sockets in the folder, sorted, without the operator; of a class, the names of all students."""
         try:
+            if os.path.isfile(os.path.join(self.folder, folders.CLASS)):
+                return sorted(name for names in class_in(self.folder).farms.values() for name in names)
             return folders.users_of(self.folder)
+        except folders.Refused as refused:
+            raise NoFarm(f"{refused}") from None
         except OSError as error:
             raise NoFarm(f"{self.folder}: {error.strerror}") from None
+
+    def place(self, name):
+        """The folder of the farm in which a user is, and the user's name there."""
+        try:
+            return place_of(self.folder, name)
+        except folders.Refused as refused:
+            raise NoFarm(f"{refused}") from None
 
     def user(self, name, noted=None, seconds=SECONDS):
         """A connection as this user, to be used in `with`. `noted` is called with each note that comes, and `seconds` is how long
         an answer is waited for."""
-        return User(self.folder, name, noted, seconds)
+        return User(*self.place(name), noted, seconds)
 
     def async_user(self, name, noted=None, seconds=SECONDS):
         """The same for asyncio, to be used in `async with`."""
-        return AsyncUser(self.folder, name, noted, seconds)
+        return AsyncUser(*self.place(name), noted, seconds)
 
 
 def connected(folder, name):

@@ -12,7 +12,8 @@ from tree import TOP
 OVERVIEW = "OVERVIEW.md"
 LINK = re.compile(r"(!?)\[([^\]]*)\]\(([^)#\s]*)(#[^)\s]*)?\)")
 NOTE = "*Installed below {prefix}: type `farm`, `lab`, `live`, `serve`, `connect` and `class` where a page has `./farm` and so " \
-       "on. The examples are in {prefix}/lib/nadzsumek/examples.*"
+       "on. Nothing is proved or built here, and no toolchain is needed. Where commands name `examples`, make them available in your " \
+       "folder first: `ln -s {prefix}/lib/nadzsumek/examples examples`. For `PYTHONPATH=.` type `PYTHONPATH={prefix}/lib/nadzsumek`.*"
 
 
 def pages():
@@ -45,6 +46,8 @@ def linked(text, page, prefix, places):
         place = place_of(os.path.normpath(os.path.join(os.path.dirname(page), path)), prefix, places)
         if place is None:
             return words
+        if os.path.basename(place) == OVERVIEW:
+            words = words.replace("README.md", OVERVIEW)
         return f"{mark}[{words}]({os.path.relpath(place, os.path.dirname(places[page]))}{heading or ''})"
 
     lines, is_block = [], False
