@@ -11,11 +11,20 @@ use Rattle.domain_core.specs.declared.journal.Entry.TheVariants.{One, Run}
 use Rattle.domain_core.specs.Journal.{AnsweredCall, answered_step}
 use Rattle.event_text.specs.Events.{user_text, event_text}
 use Rattle.answer_text.specs.Replies.{reply_text}
+use Rattle.domain_core.specs.declared.event.Reply.{Reply}
+use Rattle.farm_records.specs.declared.line.RecordedCall.{RecordedCall}
 
 -- a call that was made `times` times, one after another, and answered alike each time
 pub record RecordLine : Type 0 where
   pub times : ℕ
   pub answered : AnsweredCall
+
+-- the line of a call with this answer
+abbrev pub line_of_call : RecordedCall → Reply → RecordLine
+line_of_call call reply = record {
+  times = call.times;
+  answered = record { call = record { by = call.by; event = call.event }; reply = reply };
+}
 
 -- this text if the number is more than one, else nothing
 abbrev pub if_several : ℕ → List ℕ → List ℕ

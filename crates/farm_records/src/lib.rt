@@ -3,6 +3,7 @@
 
 mod fault;
 mod head;
+mod known_lines;
 pub mod laws;
 mod line;
 mod node_loop;

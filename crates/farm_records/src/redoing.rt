@@ -3,10 +3,11 @@ ghost use Rattle.std.specs.Prelude.{◌≡◌, ◌≤◌, ◌∷◌, [], replica
 ghost use Rattle.t414_step.specs.declared.stepping.Stepped.TheVariants.{Ran};
 ghost use Rattle.domain_core.specs.declared.event.By.TheVariants.{Farm};
 ghost use Rattle.domain_core.specs.Journal.{answered_step};
-ghost use Rattle.farm_records.specs.RecordText.{line_history};
+ghost use Rattle.farm_records.specs.RecordText.{line_history, line_of_call};
 ghost use Rattle.farm_records.specs.Records.{GainsHistory, RedoesLine};
 
 use crate::fault::RedoFault;
+use crate::known_lines::{KnownLines, LineMeaning};
 use crate::line::{CallLine, RecordedCall, read_call};
 use crate::node_loop::NodeLoop;
 use crate::writing::write_line;
@@ -19,11 +20,13 @@ use t414_step::Stepped;
 /// The most nodes of a domain.
 const MOST_NODES: usize = 8;
 
-/// What serves one line after another: a ticket for Steps, the loops in which nodes are, and a text to compare with.
+/// What serves one line after another: a ticket for Steps, the loops in which nodes are, the lines that may come again, and a text
+/// to compare with.
 pub struct Redoing {
     alloc: Global,
     ticket: Option<Ticket>,
     loops: [NodeLoop; MOST_NODES],
+    known: KnownLines,
     text: String,
 }
 
@@ -34,6 +37,7 @@ impl Drop for Redoing {
             alloc: _,
             ticket: _,
             loops: _,
+            known: _,
             text: _,
         } = self;
     }
@@ -46,6 +50,7 @@ impl Redoing {
             alloc,
             ticket: None,
             loops: [NodeLoop::none(); MOST_NODES],
+            known: KnownLines::new(alloc),
             text: String::new(alloc),
         }
     }
@@ -190,8 +195,50 @@ fn redo_call<O: Outputs + Drop>(
     }
 }
 
+// Does again what a line says that is kept.
+fn redo_known<O: Outputs + Drop>(
+    redoing: &mut Redoing,
+    domain: &mut Domain<O>,
+    meaning: LineMeaning,
+) -> Result<(), RedoFault>
+    ensures gains { OnOk result (GainsHistory (line_history (line_of_call meaning.call meaning.reply)) domain.old domain.new) }
+    ensures some { OnOk result (1 ≤ meaning.call.times) }
+{
+    let alloc = redoing.alloc;
+    let LineMeaning { call, reply } = meaning;
+    if redo_call(alloc, domain, &mut redoing.ticket, &mut redoing.loops, call)? == reply {
+        Ok(())
+    } else {
+        Err(RedoFault::Differs)
+    }
+}
+
+// Does again what a line says that isn't kept yet, and keeps it.
+fn redo_new<O: Outputs + Drop>(
+    redoing: &mut Redoing,
+    domain: &mut Domain<O>,
+    line: &[u8],
+) -> Result<(), RedoFault>
+    ensures { OnOk result (RedoesLine line.now domain.old domain.new) }
+{
+    let alloc = redoing.alloc;
+    let call = call_of(alloc, line)?;
+    let reply = redo_call(alloc, domain, &mut redoing.ticket, &mut redoing.loops, call)?;
+    let text = &mut redoing.text;
+    text.clear();
+    write_line(text, call.times, call.by, call.event, reply)?;
+    if text.as_bytes() != line {
+        return Err(RedoFault::Differs);
+    }
+    redoing
+        .known
+        .keep(alloc, redoing.text.as_str(), LineMeaning { call, reply })?;
+    Ok(())
+}
+
 /// Does again what a line says, with its line feed, and compares what the domain answers. The Steps of one line are done in
-/// bursts, in which the periods of an endless loop are counted and not done.
+/// bursts, in which the periods of an endless loop are counted and not done. Of the farm's own lines the last few are kept: what
+/// such a line says needs no reading when it comes again, and its answer is compared as a value and not as a text.
 ///
 /// # Errors
 ///
@@ -205,15 +252,11 @@ pub fn redo_line<O: Outputs + Drop>(
 ) -> Result<(), RedoFault>
     ensures { OnOk result (RedoesLine line.now domain.old domain.new) }
 {
-    let alloc = redoing.alloc;
-    let call = call_of(alloc, line)?;
-    let reply = redo_call(alloc, domain, &mut redoing.ticket, &mut redoing.loops, call)?;
-    let text = &mut redoing.text;
-    text.clear();
-    write_line(text, call.times, call.by, call.event, reply)?;
-    if text.as_bytes() == line {
-        Ok(())
-    } else {
-        Err(RedoFault::Differs)
+    match redoing.known.find(line) {
+        Some(meaning) => {
+            redo_known(redoing, domain, meaning)?;
+            Ok(())
+        }
+        None => redo_new(redoing, domain, line),
     }
 }

@@ -1,14 +1,10 @@
 use Rattle.std.proofs.Common.{rules, ◌≡◌}
-use Rattle.farm_records.specs.RecordText.{RecordLine, record_line_text}
+use Rattle.farm_records.specs.RecordText.{line_of_call, record_line_text}
 use Rattle.farm_records.proofs.redoing.redo_line.Goals as goal
 
-pub returns-then-eq : goal.returns-then-eq
-returns-then-eq g c =
-    let call = c.in_ok-call.call in
-    let line : RecordLine =
-    record {
-      times = call.times;
-      answered = record { call = record { by = call.by; event = call.event }; reply = c.in_ok-reply.reply };
-    } in
+pub returns-in_ok-redo_known-in-Some : goal.returns-in_ok-redo_known-in-Some
+returns-in_ok-redo_known-in-Some g c =
+    let line = line_of_call c.in-Some.meaning.call c.in-Some.meaning.reply in
     let text : record_line_text line ≡ c.args.line.now = search rules in
-    record { line = line; some = c.in_ok-reply.ensures.some; text = text; gains = c.in_ok-reply.ensures.gains }
+    let redone = c.in_ok-redo_known-in-Some.ensures in
+    record { line = line; some = redone.some; text = text; gains = redone.gains }
