@@ -1,0 +1,6 @@
+mod Patch
+pub mod Stepping
+pub mod Workspace
+pub mod Operations
+pub mod Values
+pub mod Running

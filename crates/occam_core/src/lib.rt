@@ -1,0 +1,8 @@
+//! The core of occam: what is left of a program once names and types are gone, and what it means.
+#![tactic(auto)]
+
+mod expression;
+mod process;
+
+pub use expression::{CoreArray, ElementKind, Expression, OneOperation, TwoOperation};
+pub use process::{CoreProcess, LinkChannel, MessageKind};
