@@ -1,0 +1,24 @@
+//! Reads a text in occam: its lines, their words, and the tree that they make; or what is wrong first.
+#![tactic(auto)]
+
+mod declarations;
+mod expressions;
+mod hints;
+mod keywords;
+mod lines;
+mod mistakes;
+mod omissions;
+mod procedures;
+mod processes;
+mod reading;
+mod signs;
+mod statements;
+mod strings;
+mod tree_reader;
+mod values;
+mod words;
+
+pub use hints::GrammarHint;
+pub use mistakes::{ExpectedPart, GrammarMistake, MetPart, OccamTextFault};
+pub use omissions::OmittedPart;
+pub use reading::read_occam;

@@ -1,0 +1,56 @@
+//! Reads a whole text.
+ghost use Rattle.std.specs.Prelude.{◌≤◌, IfOk, length};
+
+use crate::lines::words_of;
+use crate::mistakes::{ExpectedPart, GrammarMistake, MetPart, OccamTextFault};
+use crate::tree_reader::{MOST_NESTING, TreeReader};
+use occam_tree::{SourceProcess, TextPlace};
+use script_text::numbered_lines;
+use std::alloc::Global;
+
+// How many bytes a text has at most.
+const MOST_BYTES: usize = 1_000_000;
+
+// How many lines a text has at most.
+const MOST_LINES: usize = 65_535;
+
+/// The tree of a text in occam: one process, which begins without blanks, and nothing after it.
+///
+/// Source: occam 2 reference manual, as far as it is kept here.
+///
+/// # Errors
+/// The first mistake of the text, with fault 1 to 15, 38 or 44; or that there is no memory for the tree.
+pub fn read_occam<'a>(
+    alloc: Global,
+    text: &'a [u8],
+) -> Result<SourceProcess<'a>, OccamTextFault<'a>>
+    ensures short { IfOk result (λ _. length text.now ≤ 1_000_000) }
+{
+    if text.len() > MOST_BYTES {
+        return Err(too_long(1));
+    }
+    let lines = numbered_lines(alloc, text)?;
+    if lines.len() > MOST_LINES {
+        return Err(too_long(65_536));
+    }
+    let words = words_of(alloc, lines.as_slice())?;
+    let mut reader = TreeReader::new(alloc, lines.as_slice(), &words);
+    if !reader.is_at_component(0, None)? {
+        return Err(reader.wrong(ExpectedPart::Process));
+    }
+    let process = reader.take_process(0, None, MOST_NESTING)?;
+    if reader.is_at_component(0, None)? {
+        return Err(reader.second_process());
+    }
+    Ok(process)
+}
+
+// The mistake that a text is too long, at the beginning of this line.
+fn too_long<'a>(line: u32) -> OccamTextFault<'a> {
+    OccamTextFault::Wrong(GrammarMistake {
+        place: TextPlace { line, column: 1 },
+        expected: ExpectedPart::Size,
+        met: MetPart::Nothing,
+        hint: None,
+    })
+}
