@@ -11,6 +11,7 @@ _nadzsumek_options() {
     lab\ trace) echo '--boot --program --plan --domain --steps --until --input -h --help' ;;
     lab\ assemble) echo '--listing --pokes -h --help' ;;
     lab\ disassemble) echo '-h --help' ;;
+    lab\ occam) echo '--code --listing --pokes --memory -h --help' ;;
     lab\ rows) echo '--steps -h --help' ;;
     lab\ why) echo '--at --steps -h --help' ;;
     lab\ film) echo '--from --count --program --steps -h --help' ;;
@@ -43,6 +44,7 @@ _nadzsumek_values() {
     lab\ draw) echo '--domain --steps' ;;
     lab\ trace) echo '--boot --program --plan --domain --steps --until --input' ;;
     lab\ assemble) echo '--pokes' ;;
+    lab\ occam) echo '--pokes --memory' ;;
     lab\ rows) echo '--steps' ;;
     lab\ why) echo '--at --steps' ;;
     lab\ film) echo '--from --count --program --steps' ;;
@@ -61,7 +63,7 @@ _nadzsumek_values() {
 
 _nadzsumek_words() {
   case $1 in
-    lab) echo 'replay plan draw trace assemble disassemble rows why film expand run debug' ;;
+    lab) echo 'replay plan draw trace assemble disassemble occam rows why film expand run debug' ;;
     class) echo 'start serve stop status add remove change rename finish verify check wall' ;;
   esac
 }

@@ -3,8 +3,8 @@ users."""
 import os
 import readline
 
-from .folder import EXAMPLES, OPERATOR, users_of
-from .orders import table_of
+from .folder import OPERATOR, users_of
+from .orders import examples, table_of
 
 
 def files(text):
@@ -12,8 +12,8 @@ def files(text):
     folder, start = os.path.split(text)
     place = os.path.expanduser(folder) or "."
     there = [it + "/" if os.path.isdir(os.path.join(place, it)) else it for it in os.listdir(place) if it.startswith(start)]
-    if not folder and os.path.isdir(EXAMPLES):
-        there += [it for it in os.listdir(EXAMPLES) if it.startswith(start) and it.endswith(".s")]
+    if not folder:
+        there += [it for it in examples() if it.startswith(start)]
     return sorted({os.path.join(folder, it) for it in there if start or not it.startswith(".")})
 
 

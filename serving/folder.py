@@ -15,7 +15,8 @@ import time
 import tomllib
 
 TOP = os.path.dirname(os.path.dirname(os.path.abspath(__file__)))
-EXAMPLES = os.path.join(TOP, "examples", "programs")
+# The folders of examples that can be loaded, each with the ending of their names.
+EXAMPLES = {".s": os.path.join(TOP, "examples", "programs"), ".occ": os.path.join(TOP, "examples", "occam")}
 OPERATOR = "operator"
 # The plan of the farm, which is copied at the first start.
 PLAN = "plan"

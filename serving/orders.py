@@ -8,6 +8,9 @@ from .hints import meant
 from .texts import in_quotes
 from .verbs import ALIASES, ALL, FILE, OPERATORS, SENTENCE, TEXT, USERS, Wrong, check, find, with_ports
 
+# How the name of a file ends that has a program in occam.
+OCCAM = ".occ"
+
 
 def table_of(name, ports=None):
     """The verbs of a user, with examples for his ports if they are known, or of the operator."""
@@ -44,22 +47,31 @@ def lines_of(name, line, ports=None):
     return [" ".join(([f"!{first}"] if name == OPERATOR else [first]) + words)]
 
 
+def examples():
+    """The names of the examples that can be loaded, each with its path."""
+    return {name: os.path.join(folder, name) for ending, folder in EXAMPLES.items() if os.path.isdir(folder)
+            for name in os.listdir(folder) if name.endswith(ending)}
+
+
 def found(file):
-    """The path of a program's file: as it is said, with quotes round it or without, or one of the examples."""
+    """The path of a program's file: as it is said, with quotes round it or without, or one of the examples, whose ending may be
+    left out."""
     name = file[1:-1] if len(file) > 2 and file[0] in "'\"" and file[-1] == file[0] else file
-    for path in (os.path.expanduser(name), os.path.join(EXAMPLES, name), os.path.join(EXAMPLES, f"{name}.s")):
+    there = examples()
+    for path in (os.path.expanduser(name), *(there.get(name + ending, "") for ending in ("", *EXAMPLES))):
         if os.path.isfile(path):
             return path
     if os.path.isdir(os.path.expanduser(name)):
         raise Wrong(f"{name} is a folder, and load wants a file. Try: load 0 hello.s")
-    there = [it for it in os.listdir(EXAMPLES) if it.endswith(".s")] if os.path.isdir(EXAMPLES) else []
     raise Wrong(f"there is no file {name} in {os.getcwd()}" + (f". Examples are {', '.join(sorted(there))}" if there else ""))
 
 
-def assembled(path, *words):
-    """The lines that `lab assemble` prints of a program, or what it says is wrong."""
+def translated(path, *words):
+    """The lines that `lab` prints of a program, which is in occam if its file's name says so: its code, or what the words ask
+    for. Or what `lab` says is wrong."""
+    call = ["occam", os.path.abspath(path), *(words or ["--code"])] if path.endswith(OCCAM) else ["assemble", *words]
     with open(path, "rb") as file:
-        done = subprocess.run([program("lab"), "assemble", *words], stdin=file, capture_output=True, check=False)
+        done = subprocess.run([program("lab"), *call], stdin=file, capture_output=True, check=False)
     told = done.stderr.decode(errors="replace").strip()
     return done.stdout.decode().splitlines() if done.returncode == 0 else None, told
 
@@ -69,12 +81,12 @@ def loading(name, host, file):
     path = found(file)
     try:
         build("lab")
-        code, told = assembled(path)
+        code, told = translated(path)
         if code:
             return [f"boot {host} {code[0]}"]
-        lines, told = assembled(path, "--pokes", host, name)
+        lines, told = translated(path, "--pokes", host, name)
     except (OSError, Refused) as error:
-        raise Wrong(f"{file} can't be assembled: {error}") from None
+        raise Wrong(f"{file} can't be {'compiled' if path.endswith(OCCAM) else 'assembled'}: {error}") from None
     if not lines:
-        raise Wrong(f"{file}: {told or 'lab assemble was broken off'}")
+        raise Wrong(f"{file}: {told or 'lab was broken off'}")
     return [line.removeprefix(f"{name} ") for line in lines]

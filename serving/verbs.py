@@ -37,7 +37,8 @@ class Verb(NamedTuple):
     more: tuple = ()
 
 
-LOADING = ("the file is looked for in the folder where this terminal was opened, then among the examples",
+LOADING = ("a file whose name ends with .occ has a program in occam, which is compiled instead",
+           "the file is looked for in the folder where this terminal was opened, then among the examples",
            "a node that has booted takes no other boot until it is reset (reset 0): if the bytes would boot nothing it says so,",
            "and asks what to do")
 ROOMS = ("then rests if the machine rests, the bytes of its room that are used and that there are, and the same of its records",)

@@ -1,9 +1,10 @@
 //! Plans in files, each with what the checker is to answer.
 
+use crate::blocks::{HEADING, lines_as_text, lines_below, number_of, read_lines};
 use line_mistakes::{Wanted, WordForm, WordMistake, WordRole, WrongLine};
-use line_words::{Answered, NumberedLineFault, Question, line_as_str};
+use line_words::{Answered, NumberedLineFault, Question};
 use plan_faults::{PlanRefusal, plan_or_reason};
-use script_text::{NumberedLine, TextWriter, numbered_lines};
+use script_text::TextWriter;
 use std::alloc::{AllocError, Global};
 
 /// What comes before a text that is replaced.
@@ -34,43 +35,12 @@ pub fn try_plans(alloc: Global, text: &[u8]) -> Result<Vec<Answered<'_>>, Number
         answers: Vec::new(alloc),
     };
     for (index, line) in lines.iter().enumerate() {
-        if let Some(heading) = line.strip_prefix("=== ") {
+        if let Some(heading) = line.strip_prefix(HEADING) {
             let below = lines_below(lines.as_slice(), index);
             trials.try_block(alloc, number_of(index), heading, below)?;
         }
     }
     Ok(trials.answers)
-}
-
-fn read_lines(alloc: Global, text: &[u8]) -> Result<Vec<&str>, NumberedLineFault> {
-    let numbered = numbered_lines(alloc, text)?;
-    let mut lines = Vec::new(alloc);
-    for line in &numbered {
-        add_line(&mut lines, *line)?;
-    }
-    Ok(lines)
-}
-
-fn add_line<'a>(lines: &mut Vec<&'a str>, line: NumberedLine<'a>) -> Result<(), NumberedLineFault> {
-    let text = line_as_str(line)?;
-    lines.push(text)?;
-    Ok(())
-}
-
-// The number of the line of this index.
-fn number_of(index: usize) -> u64 {
-    (index as u64).saturating_add(1)
-}
-
-// The lines below the heading of this index, up to the next heading.
-fn lines_below<'a>(lines: &'a [&'a str], index: usize) -> &'a [&'a str] {
-    let Some(below) = lines.get(index.saturating_add(1)..) else {
-        return &[];
-    };
-    match below.iter().position(|line| line.starts_with("=== ")) {
-        Some(count) => &below[..count],
-        None => below,
-    }
 }
 
 // What the plans so far were answered, and the plan that the next may change.
@@ -142,15 +112,6 @@ fn plan_of(
         Some(line) if line.starts_with(REPLACE) => changed_plan(alloc, base, number, lines),
         _ => Ok(lines_as_text(alloc, lines)?),
     }
-}
-
-fn lines_as_text(alloc: Global, lines: &[&str]) -> Result<String, AllocError> {
-    let mut text = TextWriter::new(alloc);
-    for line in lines {
-        text.push(line);
-        text.push("\n");
-    }
-    text.finish()
 }
 
 // What a change replaces, and the number of the line that says it.

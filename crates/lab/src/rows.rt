@@ -3,6 +3,7 @@
 use crate::assembly::answer_row;
 use crate::failure::wrong_replay;
 use crate::mistakes::tell_mistake;
+use crate::occam_texts::compile_rows;
 use crate::plans::try_plans;
 use crate::replays::replay_with_files;
 use crate::scripts::folder_of;
@@ -91,6 +92,8 @@ fn answer_lines<'a>(
 ) -> Result<Vec<Answered<'a>>, TraceFault> {
     if file.ends_with(".plans") {
         Ok(try_plans(alloc, text)?)
+    } else if file.ends_with(".occam") {
+        Ok(compile_rows(alloc, text)?)
     } else if file.ends_with(".assembly") {
         Ok(answer_each(alloc, RowKind::Program, text)?)
     } else if file.ends_with(".mistakes") {

@@ -50,6 +50,9 @@ pub(crate) enum Argument {
     Program,
     Listing,
     Pokes,
+    Occam,
+    Code,
+    Memory,
 }
 
 // How an argument is written, and what the help says of it.
@@ -123,7 +126,7 @@ impl Argument {
                 "file",
                 "FILE",
                 Form::Several,
-                "Files of rows: plans if the name ends with .plans, programs if it ends with .assembly, wrong lines if it ends with .mistakes, for replay if it ends with .replay, and else for trace",
+                "Files of rows: plans if the name ends with .plans, programs if it ends with .assembly or .occam, wrong lines if it ends with .mistakes, for replay if it ends with .replay, and else for trace",
             ),
             Argument::Record => argument_words(
                 "record",
@@ -178,6 +181,24 @@ impl Argument {
                 "HOST USER",
                 Form::Pairs,
                 "Prints the lines of a script by which this user loads the code at this host",
+            ),
+            Argument::Occam => argument_words(
+                "file",
+                "FILE",
+                Form::Required,
+                "The text of the program",
+            ),
+            Argument::Code => argument_words(
+                "code",
+                "",
+                Form::Flag,
+                "Prints the code in hexadecimal digits, as a boot takes it",
+            ),
+            Argument::Memory => argument_words(
+                "memory",
+                "N",
+                Form::Number,
+                "How many bytes of memory the node has, 65536 unless given; a program that needs more is refused",
             ),
         }
     }

@@ -4,11 +4,12 @@ use crate::arguments::arg_of;
 use crate::failure::{ArgumentFault, LabFailure, WRONG_WORDS};
 use crate::request::{
     AssemblyOptions, BootOptions, BootedCode, Debugging, Drawing, Explaining, LabRequest,
-    NodeRequest, RowFiles, ScriptUse, Showing, TracedScript,
+    NodeRequest, OccamForm, OccamRequest, RowFiles, ScriptUse, Showing, TracedScript,
 };
 use crate::subcommand::{SUBCOMMANDS, Subcommand};
 use clap::error::ErrorKind;
 use clap::{ArgMatches, Command};
+use node_memory::is_memory_size;
 use std::alloc::{Alloc, AllocError, Global};
 use std::env::{self, Env};
 use std::io;
@@ -192,6 +193,7 @@ fn read_subcommand<'a>(
         Subcommand::Trace => read_trace(alloc, matches),
         Subcommand::Assemble => Ok(LabRequest::Node(NodeRequest::Assemble(read_options(matches)))),
         Subcommand::Disassemble => Ok(LabRequest::Node(NodeRequest::Disassemble)),
+        Subcommand::Occam => read_occam_request(matches),
         Subcommand::Rows => read_rows(alloc, matches),
         Subcommand::Why => read_why(matches),
         Subcommand::Film => read_film(alloc, matches),
@@ -236,6 +238,43 @@ fn read_options<'a>(matches: &ArgMatches<'a>) -> AssemblyOptions<'a> {
         pokes: match matches.get_strs("pokes") {
             Some([host, user, ..]) => Some((*host, *user)),
             _ => None,
+        },
+    }
+}
+
+fn read_occam_request<'a>(matches: &ArgMatches<'a>) -> Result<LabRequest<'a>, ArgumentFault> {
+    let Some(file) = matches.get_str("file") else {
+        return Err(ArgumentFault::Subcommand);
+    };
+    Ok(LabRequest::Occam(OccamRequest {
+        file,
+        form: occam_form(matches)?,
+        memory: memory_of(matches)?,
+    }))
+}
+
+// As what a compiled program is printed: in one form alone.
+fn occam_form<'a>(matches: &ArgMatches<'a>) -> Result<OccamForm<'a>, ArgumentFault> {
+    let pokes = matches.get_strs("pokes");
+    match (matches.get_flag("code"), matches.get_flag("listing"), pokes) {
+        (false, false, None) => Ok(OccamForm::Text),
+        (true, false, None) => Ok(OccamForm::Code),
+        (false, true, None) => Ok(OccamForm::Listing),
+        (false, false, Some([host, user, ..])) => Ok(OccamForm::Pokes {
+            host: *host,
+            user: *user,
+        }),
+        _ => Err(ArgumentFault::OccamForms),
+    }
+}
+
+// How many bytes of memory the node has, if the words say it.
+fn memory_of(matches: &ArgMatches) -> Result<Option<u32>, ArgumentFault> {
+    match matches.get_one::<u64>("memory") {
+        None => Ok(None),
+        Some(size) => match u32::try_from(size) {
+            Ok(size) if is_memory_size(size as usize) => Ok(Some(size)),
+            _ => Err(ArgumentFault::MemorySize),
         },
     }
 }

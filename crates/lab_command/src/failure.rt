@@ -46,6 +46,12 @@ pub enum ArgumentFault {
     /// Options of `trace` are given that don't go with what is traced.
     #[error("--until and --input go with --boot or --program, and --domain with --plan")]
     TraceOptions,
+    /// More than one form is asked for.
+    #[error("--code, --listing and --pokes each say how a program is printed: write one of them")]
+    OccamForms,
+    /// `--memory` is no size that a node may have.
+    #[error("--memory takes the bytes of a node's memory, a multiple of 4 from 2048 to 65536: --memory 4096")]
+    MemorySize,
     /// `--until` is no address, and no label of a program.
     #[error("--until takes an address, one to eight hexadecimal digits, or a label of --program: --until 8000004c")]
     Address,

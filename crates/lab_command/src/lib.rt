@@ -19,5 +19,5 @@ pub use meter::TerminalMeter;
 pub use report::{Report, end_with, print_answers};
 pub use request::{
     AssemblyOptions, BootOptions, BootedCode, Debugging, Drawing, Explaining, LabRequest,
-    NodeRequest, RowFiles, ScriptUse, Showing, TracedScript,
+    NodeRequest, OccamForm, OccamRequest, RowFiles, ScriptUse, Showing, TracedScript,
 };

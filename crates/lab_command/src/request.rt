@@ -5,6 +5,8 @@
 pub enum LabRequest<'a> {
     /// About a node by itself, or a program.
     Node(NodeRequest<'a>),
+    /// To compile the occam text in a file.
+    Occam(OccamRequest<'a>),
     /// To show the plan on standard input.
     Plan,
     /// To replay standard input on farms, if that takes no more Steps than these.
@@ -67,6 +69,29 @@ pub struct AssemblyOptions<'a> {
     pub listing: bool,
     /// As lines of a script, for this host and this user.
     pub pokes: Option<(&'a str, &'a str)>,
+}
+
+/// What is asked of an occam text.
+#[derive(Clone, Copy)]
+pub struct OccamRequest<'a> {
+    /// The file that it is in.
+    pub file: &'a str,
+    pub form: OccamForm<'a>,
+    /// How many bytes of memory the node has, or as many as the largest may have.
+    pub memory: Option<u32>,
+}
+
+/// As what a compiled program is printed.
+#[derive(Clone, Copy)]
+pub enum OccamForm<'a> {
+    /// As a text for the assembler.
+    Text,
+    /// The same beside addresses and bytes.
+    Listing,
+    /// As the digits that a boot takes.
+    Code,
+    /// As lines of a script.
+    Pokes { host: &'a str, user: &'a str },
 }
 
 /// What is drawn of a farm.

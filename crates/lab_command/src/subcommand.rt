@@ -11,6 +11,7 @@ pub(crate) enum Subcommand {
     Trace,
     Assemble,
     Disassemble,
+    Occam,
     Rows,
     Why,
     Film,
@@ -38,6 +39,7 @@ impl Subcommand {
             Subcommand::Trace => "trace",
             Subcommand::Assemble => "assemble",
             Subcommand::Disassemble => "disassemble",
+            Subcommand::Occam => "occam",
             Subcommand::Rows => "rows",
             Subcommand::Why => "why",
             Subcommand::Film => "film",
@@ -51,7 +53,8 @@ impl Subcommand {
     pub(crate) fn reads_input(self) -> bool {
         !matches!(
             self,
-            Subcommand::Rows
+            Subcommand::Occam
+                | Subcommand::Rows
                 | Subcommand::Why
                 | Subcommand::Film
                 | Subcommand::Expand
@@ -75,6 +78,13 @@ impl Subcommand {
                 Argument::Input,
             ],
             Subcommand::Assemble => &[Argument::Listing, Argument::Pokes],
+            Subcommand::Occam => &[
+                Argument::Occam,
+                Argument::Code,
+                Argument::Listing,
+                Argument::Pokes,
+                Argument::Memory,
+            ],
             Subcommand::Rows => &[Argument::Files, Argument::Steps],
             Subcommand::Why => &[Argument::Record, Argument::At, Argument::Steps],
             Subcommand::Film => &[
@@ -112,6 +122,9 @@ impl Subcommand {
             Subcommand::Disassemble => {
                 "Prints code as text: reads hexadecimal digits, and prints an instruction a line"
             }
+            Subcommand::Occam => {
+                "Compiles a program of occam: prints it as a text for assemble, or as code"
+            }
             Subcommand::Rows => {
                 "Compares the answers of worked rows with those that their files expect"
             }
@@ -135,13 +148,14 @@ impl Subcommand {
 }
 
 /// All of them, in the order of the help.
-pub(crate) const SUBCOMMANDS: [Subcommand; 12] = [
+pub(crate) const SUBCOMMANDS: [Subcommand; 13] = [
     Subcommand::Replay,
     Subcommand::Plan,
     Subcommand::Draw,
     Subcommand::Trace,
     Subcommand::Assemble,
     Subcommand::Disassemble,
+    Subcommand::Occam,
     Subcommand::Rows,
     Subcommand::Why,
     Subcommand::Film,

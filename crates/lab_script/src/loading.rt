@@ -2,6 +2,7 @@
 ghost use Rattle.std.specs.Prelude.{◌≤◌};
 
 use bootstrap::BootFault;
+use occam::{LARGEST_MEMORY, OccamFault, OccamProgram, bytes_at, compile};
 use script_text::TextWriter;
 use std::alloc::{AllocError, Global};
 use std::fmt;
@@ -14,6 +15,8 @@ use t414_assembly::{
 pub enum LoadFault {
     /// Its text is wrong.
     Text(TextFault),
+    /// Its occam text is wrong: the first mistake.
+    Occam(String),
     /// Its code has this number of bytes, and can't be loaded.
     Length(usize),
     Memory,
@@ -23,6 +26,7 @@ impl fmt::Display for LoadFault {
     fn fmt<W: fmt::Write>(&self, f: &mut fmt::Formatter<W>) -> fmt::Result {
         match self {
             LoadFault::Text(fault) => write!(f, "{fault}"),
+            LoadFault::Occam(mistake) => f.write_str(mistake.as_str()),
             LoadFault::Length(count) => {
                 write!(
                     f,
@@ -55,32 +59,86 @@ impl From<AllocError> for LoadFault {
     }
 }
 
-/// The lines by which a user loads a program through a host: a boot with its code, or pokes and a boot that jumps to them
-/// if the code is too long for one.
+// The end of the name of a file that has an occam text.
+const OCCAM: &str = ".occ";
+
+/// The lines by which a user loads the program of a file through a host: a boot with its code, or pokes and a boot that jumps
+/// to them if the code is too long for one. A file whose name ends with `.occ` has an occam text, and any other one a text
+/// for the assembler.
 pub fn loading_lines(
     alloc: Global,
     user: &str,
     host: &str,
-    program: &[u8],
+    name: &str,
+    text: &[u8],
 ) -> Result<String, LoadFault> {
-    let code = code_at(alloc, BOOTED, program)?;
+    let code = code_at(alloc, BOOTED, name, text)?;
     match BootFault::of_length(code.len()) {
         None => Ok(boot_line(alloc, user, host, code.as_slice())?),
         Some(BootFault::TooShort) => Err(LoadFault::Length(code.len())),
-        Some(_) => poking_lines(alloc, user, host, program),
+        Some(_) => poking_lines(alloc, user, host, name, text),
     }
 }
 
-fn code_at(alloc: Global, origin: u32, program: &[u8]) -> Result<Vec<u8>, LoadFault>
+// The code of the program of a file, whose first byte has this address.
+fn code_at(alloc: Global, origin: u32, name: &str, text: &[u8]) -> Result<Vec<u8>, LoadFault>
+    requires { origin ≤ 0xffff_0000 }
+{
+    if name.ends_with(OCCAM) {
+        compiled_code(alloc, origin, text)
+    } else {
+        assembled_code(alloc, origin, text)
+    }
+}
+
+fn assembled_code(alloc: Global, origin: u32, text: &[u8]) -> Result<Vec<u8>, LoadFault>
     requires { origin ≤ 0xffff_0000 }
 {
     let Assembly {
         statements: _,
         lines: _,
         image,
-    } = assemble(alloc, origin, program)?;
+    } = assemble(alloc, origin, text)?;
     let Image { bytes, starts: _ } = image;
     Ok(bytes)
+}
+
+fn compiled_code(alloc: Global, origin: u32, text: &[u8]) -> Result<Vec<u8>, LoadFault>
+    requires { origin ≤ 0xffff_0000 }
+{
+    match compile(alloc, text) {
+        Ok(program) => program_code(alloc, origin, &program),
+        Err(fault) => Err(occam_fault(alloc, &fault)),
+    }
+}
+
+fn program_code(alloc: Global, origin: u32, program: &OccamProgram) -> Result<Vec<u8>, LoadFault>
+    requires { origin ≤ 0xffff_0000 }
+{
+    match bytes_at(alloc, origin, program, LARGEST_MEMORY) {
+        Ok(code) => Ok(code),
+        Err(fault) => Err(occam_fault(alloc, &fault)),
+    }
+}
+
+// The first mistake of an occam text.
+fn occam_fault(alloc: Global, fault: &OccamFault<'_>) -> LoadFault {
+    match fault {
+        OccamFault::NoMemory => LoadFault::Memory,
+        fault => match first_line(alloc, fault) {
+            Ok(mistake) => LoadFault::Occam(mistake),
+            Err(_) => LoadFault::Memory,
+        },
+    }
+}
+
+fn first_line(alloc: Global, fault: &OccamFault<'_>) -> Result<String, AllocError> {
+    let mistakes = format!(in alloc; "{fault}")?;
+    let (first, _) = mistakes
+        .as_str()
+        .split_once("\n")
+        .unwrap_or((mistakes.as_str(), ""));
+    String::from_str(alloc, first)
 }
 
 fn boot_line(alloc: Global, user: &str, host: &str, code: &[u8]) -> Result<String, AllocError> {
@@ -98,9 +156,10 @@ fn poking_lines(
     alloc: Global,
     user: &str,
     host: &str,
-    program: &[u8],
+    name: &str,
+    text: &[u8],
 ) -> Result<String, LoadFault> {
-    let code = code_at(alloc, LOADED, program)?;
+    let code = code_at(alloc, LOADED, name, text)?;
     if code.len() > (MOST_CODE - (LOADED - BOOTED)) as usize {
         return Err(LoadFault::Length(code.len()));
     }

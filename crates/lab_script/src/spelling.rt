@@ -63,7 +63,7 @@ fn spell_load(
 
 fn spell_program(alloc: Global, expansion: &mut Expansion, line: HelpLine<'_>, program: &[u8]) {
     let (host, name) = line.halves();
-    match loading_lines(alloc, line.user, host, program) {
+    match loading_lines(alloc, line.user, host, name, program) {
         Ok(lines) => expansion.text.push(lines.as_str()),
         Err(fault) => {
             line.write_head(&mut expansion.wrong);

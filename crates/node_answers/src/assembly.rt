@@ -40,8 +40,12 @@ fn print_listing(
     Ok(listing(alloc, origin, made, text)?)
 }
 
-// Code as a line of digits, or as lines of a script.
-fn print_code(alloc: Global, options: AssemblyOptions, code: &[u8]) -> Result<String, LabFailure> {
+/// Code as a line of digits, or as lines of a script. The failure says that it can't be loaded so.
+pub fn print_code(
+    alloc: Global,
+    options: AssemblyOptions,
+    code: &[u8],
+) -> Result<String, LabFailure> {
     match options.pokes {
         Some((host, user)) => print_pokes(alloc, host, user, code),
         None => print_boot(alloc, code),

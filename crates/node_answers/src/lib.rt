@@ -9,5 +9,5 @@ mod inputs;
 mod tracing;
 
 pub use answering::answer_of_node;
-pub use assembly::disassembly_of;
+pub use assembly::{disassembly_of, print_assembled, print_code};
 pub use failure::wrong_trace;

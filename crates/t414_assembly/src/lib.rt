@@ -32,7 +32,7 @@ pub use faults::{FaultList, MOST_FAULTS, ProgramFault};
 pub use laws::reassembled_code_is_the_same;
 pub use layout::{Image, LayoutFault, lay_out};
 pub use loading::{BOOTED, LOADED, loader};
-pub use mnemonics::{Mnemonic, mnemonic_named, nearest_instruction};
+pub use mnemonics::{Mnemonic, function_name, mnemonic_named, nearest_instruction};
 pub use printing::{hexadecimal, instructions_as_text, listing, pokes, write_instruction};
 pub use shortest::spell;
 pub use spelling::Spelling;

@@ -1,0 +1,144 @@
+//! From a text to a program, and from a program to its bytes.
+ghost use Rattle.std.specs.Prelude.{◌≡◌, ◌≤◌, IfOk, length};
+ghost use Rattle.t414_assembly.specs.Program.{IsImage};
+
+use crate::fault::OccamFault;
+use crate::prelude::PRELUDE;
+use node_memory::MEMORY_START;
+use occam_code::{Emission, LineMark, emit_program, words_of};
+use occam_names::core_of;
+use occam_text::read_occam;
+use occam_tree::{SourceDeclaration, SourceProcess};
+use std::alloc::Global;
+use t414_assembly::{Image, LayoutFault, lay_out};
+
+/// How many bytes of memory the largest node has.
+///
+/// Source: that a node has at most 64 KB is our choice.
+pub const LARGEST_MEMORY: u32 = 65_536;
+
+// How many words below its workspace the processor uses for a process.
+const WORDS_BELOW: u32 = 3;
+
+/// A program as statements of the assembler.
+#[derive(Drop)]
+pub struct OccamProgram {
+    /// The statements, and at which of them each line of the text begins.
+    pub emission: Emission,
+    /// How many words after its code it uses.
+    pub words: u32,
+}
+
+/// How many bytes of memory a program takes.
+#[derive(Clone, Copy)]
+pub struct CodeSize {
+    /// Before the code: the words of the processor, and what boots code that was poked.
+    pub before: u32,
+    pub code: u32,
+    /// After the code.
+    pub variables: u32,
+}
+
+impl CodeSize {
+    /// All bytes from the first address on.
+    pub fn whole(self) -> u32 {
+        self.before
+            .saturating_add(self.code)
+            .saturating_add(self.variables)
+    }
+}
+
+/// Compiles a text.
+///
+/// # Errors
+///
+/// `Text` has the first place at which the text isn't written as occam, and `Names` what is wrong with the names and types
+/// of a text that is.
+pub fn compile<'a>(alloc: Global, text: &'a [u8]) -> Result<OccamProgram, OccamFault<'a>> {
+    let prelude = read_occam(alloc, PRELUDE.as_bytes())?;
+    let tree = read_occam(alloc, text)?;
+    let core = core_of(alloc, declarations_of(&prelude), &tree)?;
+    let variables = u32::try_from(core.variables.len()).unwrap_or(u32::MAX);
+    let emission = emit_program(alloc, &core.process, variables, core.tables.as_slice())?;
+    let words = words_after(words_of(&core.process, variables), core.tables.len());
+    Ok(OccamProgram { emission, words })
+}
+
+// The declarations that a process begins with.
+fn declarations_of<'b, 'a>(process: &'b SourceProcess<'a>) -> &'b [SourceDeclaration<'a>] {
+    match process {
+        SourceProcess::Declared(declarations, _) => declarations.as_slice(),
+        _ => &[],
+    }
+}
+
+// How many words after its code a program uses that uses so many words from word 0 up, if its tables have this number of
+// words: they are at the end of the code, and all words below them are there too.
+fn words_after(words: u32, table_words: usize) -> u32 {
+    match u32::try_from(table_words) {
+        Ok(0) => words.saturating_add(WORDS_BELOW),
+        Ok(count) => words.saturating_sub(count.saturating_add(1)),
+        Err(_) => u32::MAX,
+    }
+}
+
+/// The bytes of a program whose first byte has the address `origin`, and where its places are.
+///
+/// # Errors
+///
+/// `Code` if it has more bytes than the largest memory can take, with the line at which it is too long.
+pub fn image_at(
+    alloc: Global,
+    origin: u32,
+    program: &OccamProgram,
+) -> Result<Image, OccamFault<'static>>
+    requires { origin ≤ 0xffff_0000 }
+    ensures image { let statements = program.now.emission.statements.items in IfOk result
+        (λ image. IsImage origin statements image.starts.items (length statements) image.bytes.items) }
+{
+    match lay_out(alloc, origin, program.emission.statements.as_slice()) {
+        Ok(image) => Ok(image),
+        Err(LayoutFault::TooLong(place)) => Err(OccamFault::Code(line_at(
+            program.emission.marks.as_slice(),
+            place,
+        ))),
+        Err(LayoutFault::NoMemory) => Err(OccamFault::NoMemory),
+    }
+}
+
+/// The bytes alone, if a node with `memory` bytes has room for the program.
+///
+/// # Errors
+///
+/// As [`image_at`]; and `Memory` if the node has less memory than the program takes.
+pub fn bytes_at(
+    alloc: Global,
+    origin: u32,
+    program: &OccamProgram,
+    memory: u32,
+) -> Result<Vec<u8>, OccamFault<'static>>
+    requires { origin ≤ 0xffff_0000 }
+{
+    let Image { bytes, starts: _ } = image_at(alloc, origin, program)?;
+    let code = u32::try_from(bytes.len()).unwrap_or(u32::MAX);
+    let size = CodeSize {
+        before: origin.saturating_sub(MEMORY_START),
+        code: code.saturating_add(3) / 4 * 4,
+        variables: program.words.saturating_mul(4),
+    };
+    if size.whole() > memory {
+        return Err(OccamFault::Memory { size, memory });
+    }
+    Ok(bytes)
+}
+
+// The line of the last mark at a place or before it.
+fn line_at(marks: &[LineMark], place: usize) -> u32 {
+    let mut line = 1;
+    for mark in marks {
+        if mark.place <= place {
+            line = mark.line;
+        }
+    }
+    line
+}

@@ -1,0 +1,11 @@
+//! A compiler of occam: from a text to the code of a node, or to what is wrong with the text.
+#![tactic(auto)]
+
+mod compiling;
+mod fault;
+mod prelude;
+mod printing;
+
+pub use compiling::{CodeSize, LARGEST_MEMORY, OccamProgram, bytes_at, compile, image_at};
+pub use fault::OccamFault;
+pub use printing::assembler_text;
