@@ -19,7 +19,7 @@ def keys_do_what_they_say(live, _):
     with Served(live, PLAN) as it:
         with terminal(it, "ann", it.room.name) as ann:
             ann.line("jo\t0 7", ["config -"])
-            ann.line("load 0 hel\t", ["boot 0 17"])
+            ann.line("load 0 hel\ts", ["boot 0 17"])
             wanted("load 0 hello.s" in ann.shown, True)
             ann.line("coll\t0", ['collect 0 68656c6c6f0a  "hello\\n"'])
             ann.line(UP, ["collect 0 -", "  (no byte has come: is the host joined with a node (join), and what does the node do "

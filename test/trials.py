@@ -11,6 +11,8 @@ from tree import TOP, built
 
 EXAMPLES = f"{TOP}/examples"
 PROGRAMS = f"{EXAMPLES}/programs"
+# The folders of examples whose loads are spelled out by `lab expand`: programs in assembly, and in occam.
+HELPED = ("programs", "occam")
 STORED = f"{TOP}/crates/farm"
 # By how many workers each text is run.
 WORKERS = (1, 2, 8)
@@ -35,19 +37,19 @@ def examples():
 
 
 def programs(lab):
-    """The same of each example of programs/, as `lab expand` spells out its lines."""
-    for name in names_in(PROGRAMS):
-        status, text, errors = run([lab, "expand", f"{PROGRAMS}/{name}.farm"])
+    """The same of each example of programs/ and occam/, as `lab expand` spells out its lines."""
+    for name in (f"{folder}/{it}" for folder in HELPED for it in names_in(f"{EXAMPLES}/{folder}")):
+        status, text, errors = run([lab, "expand", f"{EXAMPLES}/{name}.farm"])
         if status != 0:
             sys.exit(f"lab expand {name}.farm: status {status}, {errors.decode()}")
-        yield f"programs/{name}", text, contents(f"{PROGRAMS}/{name}.out")
+        yield name, text, contents(f"{EXAMPLES}/{name}.out")
 
 
 def scripts():
-    """Each text of examples/ and of programs/: its name, its path, and what is printed."""
-    for folder, before in ((EXAMPLES, ""), (PROGRAMS, "programs/")):
-        for name in names_in(folder):
-            yield before + name, f"{folder}/{name}.farm", contents(f"{folder}/{name}.out")
+    """Each text of examples/, of programs/ and of occam/: its name, its path, and what is printed."""
+    for before in ("", *(f"{it}/" for it in HELPED)):
+        for name in names_in(f"{EXAMPLES}/{before}"):
+            yield before + name, f"{EXAMPLES}/{before}{name}.farm", contents(f"{EXAMPLES}/{before}{name}.out")
 
 
 def library(name, folder):
