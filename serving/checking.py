@@ -10,7 +10,7 @@ from typing import NamedTuple
 
 from .coming import person_of
 from .escapes import escaped
-from .exercises import MOST_STEPS, OWN, OWN_FOLDER, exercise_in
+from .exercises import LANGUAGES, MOST_STEPS, OWN_FOLDER, exercise_in, is_own
 from .folder import Refused, build, program
 from .kept import class_in
 from .marks import as_csv, as_page, as_table
@@ -23,7 +23,7 @@ USER, SCRIPT = "student", "test.farm"
 SECONDS, MOST_BYTES = 60, 1 << 20
 # The status of `lab` that had to do more Steps than it may.
 TOO_MANY = 7
-ENDING, LINE_END = ".s", "\n"
+OCCAM, LINE_END = ".occ", "\n"
 OK, WRONG, LONG, NONE = "ok", "wrong", "too long", "-"
 # How many lines of `lab why` are kept.
 MOST_WHY = 12
@@ -68,9 +68,9 @@ def programs_in(folder, users):
         raise Refused(f"the folder of programs {folder} can't be read: {error.strerror}") from None
     for entry in entries:
         path = os.path.join(folder, entry)
-        stem = entry if os.path.isdir(path) else entry.removesuffix(ENDING)
+        stem, ending = (entry, "") if os.path.isdir(path) else os.path.splitext(entry)
         user = user_name(stem)[0]
-        if user in users and (os.path.isdir(path) or entry.endswith(ENDING)):
+        if user in users and (os.path.isdir(path) or ending in LANGUAGES):
             found.setdefault(user, []).append(path)
         elif not entry.startswith("."):
             others.append(entry)
@@ -87,41 +87,63 @@ def copied(source, target):
     shutil.copyfile(source, target)
 
 
+def in_folder(folder, name):
+    """The file of a program in a student's folder. If its name has no ending, it is in the language that the student chose."""
+    if os.path.splitext(name)[1]:
+        return os.path.join(folder, name)
+    there = [it for it in (name + ending for ending in LANGUAGES) if os.path.exists(os.path.join(folder, it))]
+    if len(there) > 1:
+        raise Refused(f"there are {' and '.join(there)}, and one of them is wanted")
+    if not there:
+        raise Refused(f"there is no file {' or '.join(name + ending for ending in LANGUAGES)}")
+    return os.path.join(folder, there[0])
+
+
 def gathered(exercise, paths, room):
-    """Copies the programs of an exercise and of a student into a folder; those of the student."""
-    own = []
+    """Copies the programs of an exercise and of a student into a folder; the names of those of the student, and of their files."""
+    own = {}
     file = next((it for it in paths if not os.path.isdir(it)), None)
     folder = next((it for it in paths if os.path.isdir(it)), None)
     if len(paths) > (file is not None) + (folder is not None):
         raise Refused(f"there are {' and '.join(os.path.basename(it) for it in paths)}, and one of them is wanted")
     for name in exercise.files():
-        if name == OWN:
-            source = file or os.path.join(folder or "", OWN)
-        elif name.startswith(OWN_FOLDER):
-            source = os.path.join(folder or room, name.removeprefix(OWN_FOLDER))
-        else:
+        if not is_own(name):
             copied(os.path.join(exercise.folder, name), os.path.join(room, name))
             continue
-        copied(source, os.path.join(room, name))
-        own.append(name)
+        source = file if file and not name.startswith(OWN_FOLDER) else in_folder(folder or room, name.removeprefix(OWN_FOLDER))
+        stem, wanted = os.path.splitext(name)
+        ending = os.path.splitext(source)[1]
+        if wanted not in ("", ending):
+            raise Refused(f"{os.path.basename(source)} is a program in {LANGUAGES[ending]}, and {LANGUAGES[wanted]} is wanted")
+        copied(source, os.path.join(room, stem + ending))
+        own[name] = stem + ending
     return own
 
 
 def check_programs(own, room):
-    """Refuses programs that can't be assembled."""
-    for name in own:
-        with open(os.path.join(room, name), "rb") as it:
-            status, _, told = lab(room, "assemble", "--listing", text=it.read())
+    """Refuses programs that can't be compiled or assembled."""
+    for file in own.values():
+        if file.endswith(OCCAM):
+            status, _, told = lab(room, "occam", file, "--listing")
+        else:
+            with open(os.path.join(room, file), "rb") as it:
+                status, _, told = lab(room, "assemble", "--listing", text=it.read())
         if status != 0:
-            where = f"{name.removeprefix(OWN_FOLDER)}: " if name != OWN else ""
+            where = f"{file.removeprefix(OWN_FOLDER)}: " if file.startswith(OWN_FOLDER) else ""
             raise Refused(f"{where}{told.partition(LINE_END)[0] or 'it can not be assembled'}")
 
 
-def script_of(exercise, test):
+def line_of(sent, own):
+    """A line as it is done: a program of the student is loaded from its file."""
+    load, _, name = sent.rpartition(" ")
+    return f"{load} {own[name]}" if sent.startswith("load ") and name in own else sent
+
+
+def script_of(exercise, test, own):
     """The plan and the lines of a test."""
     machine = exercise.machine
     plan = VERSION + machine.domain(USER, [[0, machine.ports() - 1]])
-    return plan + "---\n" + "".join(f"{USER} {line.sent}\n" for line in test.lines)
+    return plan + "---\n" + "".join(f"{USER} {line_of(line.sent, own)}\n" for line in test.lines)
 
 
 def shown(content):
@@ -156,10 +178,10 @@ def steps_in(record):
     return sum(int(times or 1) for times in re.findall(r"^(?:(\d+) times )?0 step \d+ @farm\b", record, re.MULTILINE))
 
 
-def tried(exercise, test, room):
-    """What comes of a test of the programs in a folder."""
+def tried(exercise, test, room, own):
+    """What comes of a test of the programs in a folder, among which those of the student have these files."""
     with open(os.path.join(room, SCRIPT), "w", encoding="utf-8") as it:
-        it.write(script_of(exercise, test))
+        it.write(script_of(exercise, test, own))
     # whether a node has one Step more to do is asked with one Step more
     bound = ["--steps", f"{test.steps + 1}"]
     status, printed, told = lab(room, "run", SCRIPT, *bound)
@@ -191,10 +213,11 @@ def row_of(exercise, user, person, paths):
     name = " ".join(os.path.basename(it) for it in paths)
     with tempfile.TemporaryDirectory() as room:
         try:
-            check_programs(gathered(exercise, paths, room), room)
+            own = gathered(exercise, paths, room)
+            check_programs(own, room)
         except (Refused, OSError) as error:
             return Row(user, person, name, none, 0, f"{error}")
-        outcomes = tuple(tried(exercise, it, room) for it in exercise.tests)
+        outcomes = tuple(tried(exercise, it, room, own) for it in exercise.tests)
     points = sum(test.points for test, it in zip(exercise.tests, outcomes) if it.result == OK)
     remark = next((f"{test.name}: {it.remark}" for test, it in zip(exercise.tests, outcomes) if it.remark), "")
     return Row(user, person, name, outcomes, points, remark)
@@ -216,7 +239,7 @@ def check(words):
     it.add_argument("--html", metavar="FILE", help="writes a page for a browser too, with what came and why")
     it.add_argument("DIR", help="the folder of the class")
     it.add_argument("EXERCISE", help="the file of the exercise, or a folder with a file exercise.txt")
-    it.add_argument("PROGRAMS", help="the folder of the programs: NAME.s for each student, or a folder NAME")
+    it.add_argument("PROGRAMS", help="the folder of the programs: NAME.occ or NAME.s for each student, or a folder NAME")
     it = it.parse_args(words)
     kept, exercise = class_in(it.DIR), exercise_in(it.EXERCISE)
     users = [name for names in kept.farms.values() for name in names]

@@ -11,8 +11,9 @@ from .verbs import Wrong
 
 # The file of an exercise that is a folder, and how many bytes it may have.
 FILE, MOST_BYTES = "exercise.txt", 1 << 20
-# The student's program as it is loaded: by itself, or one of several in the student's folder.
-OWN, OWN_FOLDER = "student.s", "student/"
+# The student's program as it is loaded: by itself, or one of several in the student's folder. Its name ends as one of the
+# languages wants it, occam or assembly, or without an ending, if the student may choose.
+OWN, OWN_FOLDER, LANGUAGES = "student", "student/", {".occ": "occam", ".s": "assembly"}
 # How many Steps a test may have, and has unless it says so.
 MOST_STEPS, STEPS = 10_000_000, 100_000
 MOST_POINTS = 100
@@ -27,6 +28,11 @@ STATES = ("booting", "running", "idle", "halted")
 NUMBERS = {"byte": (range(-128, 256), 1), "word": (range(-(1 << 31), 1 << 32), 4)}
 VALUES = 'values are "text", byte 1 2, word 1 -2 or hex 0a0b'
 PIECE = re.compile(r'"(?:[^"\\]|\\.)*"|\S+')
+
+
+def is_own(name):
+    """Whether a program is the student's."""
+    return name.startswith(OWN_FOLDER) or os.path.splitext(name)[0] == OWN and os.path.splitext(name)[1] in ("", *LANGUAGES)
 
 
 class Line(NamedTuple):
@@ -205,8 +211,8 @@ class Reader:
     def file(self, name):
         """The name of a program. It must be the student's, or there beside the exercise."""
         if os.path.isabs(name) or ".." in name.split("/") or "/" in name.removeprefix(OWN_FOLDER):
-            raise Unfit(f"{name} is in another folder: programs are beside the exercise, or {OWN} or {OWN_FOLDER}NAME.s")
-        if name != OWN and not name.startswith(OWN_FOLDER) and not os.path.isfile(os.path.join(os.path.dirname(self.path), name)):
+            raise Unfit(f"{name} is in another folder: programs are beside the exercise, or {OWN} or {OWN_FOLDER}NAME")
+        if not is_own(name) and not os.path.isfile(os.path.join(os.path.dirname(self.path), name)):
             raise Unfit(f"there is no file {name} beside the exercise. The student's program is {OWN}")
         return name
 

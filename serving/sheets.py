@@ -19,15 +19,19 @@ This opens your terminal:
 Your first three lines join host 0 with node 0, load a program that sends a greeting, and collect it:
 
     join {port} {host}
-    load 0 hello.s
+    load 0 hello.occ
     collect 0
 
 To the last you are answered: collect 0 68656c6c6f0a  "hello\\n"
+
+hello.occ is a program in occam, the language that these processors were made for. hello.s is the same in their assembly, and
+load takes it as well: in the second line, or after reset 0.
 {others}
 A node that has booted takes no other boot before it is reset: reset 0 for node 0. If load would boot nothing it says so, and
 asks what to do.
 
-load looks for its file in the folder where you opened the terminal, and then among the examples, of which hello.s is one.
+load looks for its file in the folder where you opened the terminal, and then among the examples, of which hello.occ and hello.s
+are two.
 
 If nothing comes: why. If a program never ends: reset 0. To begin with a fresh machine: restart. All verbs with examples: help.
 
@@ -35,6 +39,8 @@ Your machine has a room for its record, and each packet and each command takes s
 rests: its nodes do nothing more, and your lines are answered as long as a reserve lasts. restart gives the room back.
 
 The user's guide: {guide}
+Occam from its beginning: {occam}
+Assembly from its beginning: {assembly}
 """
 # The same for another node: what is said, and the lines.
 OTHER = """
@@ -52,11 +58,11 @@ From another machine this opens it. There load looks for files on the farm's mac
 
 
 class Ways(NamedTuple):
-    """What a sheet names: the command `connect`, the user's guide, and the machine to which students come by `ssh`, or
+    """What a sheet names: the command `connect`, the folder of the guides, and the machine to which students come by `ssh`, or
     none."""
 
     connect: str
-    guide: str
+    guides: str
     host: str | None
 
 
@@ -70,7 +76,7 @@ def ways_of(mode):
     """How students of this machine come in, if their sockets have this mode. Over a network they come as accounts of their own,
     so these must have a right to the sockets."""
     return Ways(installed("bin", "connect") or os.path.join(TOP, "connect"),
-                installed("share", "doc", "nadzsumek", "guides", "USER.md") or os.path.join(TOP, "docs", "guides", "USER.md"),
+                installed("share", "doc", "nadzsumek", "guides") or os.path.join(TOP, "docs", "guides"),
                 socket.gethostname() if mode & OTHERS else None)
 
 
@@ -89,7 +95,7 @@ def others(machine):
     for node in range(1, machine.nodes):
         host, before = node % machine.hosts, node - machine.hosts
         port = machine.link_port(node)
-        lines = [f"join {port} {machine.host_port(host)}", f"load {host} hello.s", f"collect {host}"]
+        lines = [f"join {port} {machine.host_port(host)}", f"load {host} hello.occ", f"collect {host}"]
         how = f", by host {host}" if machine.hosts > 1 else ""
         if before >= 0:
             lines = [f"config 05{machine.link_port(before):02x}", *lines]
@@ -107,4 +113,6 @@ def sheet(person, name, machine, folder, ways):
     # the words of ssh are read by two shells
     network = NETWORK.format(host=ways.host, connect=shlex.join(shlex.quote(it) for it in call)) if ways.host else ""
     return SHEET.format(person=person, name=name, what=what, ports=ports, connect=shlex.join(call), network=network,
-                        port=machine.link_port(0), host=machine.host_port(0), others=others(machine), guide=ways.guide)
+                        port=machine.link_port(0), host=machine.host_port(0), others=others(machine), guide=os.path.join(ways.guides, "USER.md"),
+                        occam=os.path.join(ways.guides, "LEARNING_OCCAM.md"),
+                        assembly=os.path.join(ways.guides, "PROGRAMMING.md"))

@@ -172,7 +172,7 @@ def exercises_are_marked(live, _):
 
 def steps_are_bounded(live, _):
     """The Steps that are shown are just as many as are wanted: with one less the test takes too long."""
-    text = "{head}before\njoin 0 1\nload 0 student.s\ntest one\nsend 0 word 41\nexpect 0 word 42\n"
+    text = "{head}before\njoin 0 1\nload 0 student\ntest one\nsend 0 word 41\nexpect 0 word 42\n"
     with Checked(live, ["Ada"]) as it:
         shutil.copy(f"{PROGRAMS}/successor.s", f"{it.programs}/ada.s")
         steps = int(it.results(it.exercise(text.format(head="")))[0]["ada"][1])
@@ -187,8 +187,45 @@ def steps_are_bounded(live, _):
                "state 0 idle\nstate 1 halted 1\n"
         wanted(it.results(it.exercise(both))[0]["ada"][2:], (["ok"], ""))
         wanted(it.results(it.exercise(both.replace("halted 1", "idle")))[0]["ada"][2], ["wrong"])
-        wanted(it.results(it.exercise(text.format(head="")))[0]["ada"][3], "there is no file student.s")
+        wanted(it.results(it.exercise(text.format(head="")))[0]["ada"][3], "there is no file student.occ or student.s")
     return f"{steps} Steps, and {steps - 1}"
+
+
+# A program in occam that adds one to each word.
+SUCCESSOR = """CHAN OF INT from, to:
+PLACE from AT link0.in:
+PLACE to AT link0.out:
+INT word:
+WHILE TRUE
+  SEQ
+    from ? word
+    to ! word + 1
+"""
+
+
+def students_choose_the_language(live, _):
+    """A student's program is in occam or in assembly; an exercise may want one of them. What the compiler says of a wrong text is
+    the remark."""
+    text = "before\njoin 0 1\nload 0 {file}\ntest one\nsend 0 word 41\nexpect 0 word 42\n"
+    with Checked(live, ["Ada", "Bob", "Eve", "Zoe"]) as it:
+        it.write("ada.occ", SUCCESSOR)
+        shutil.copy(f"{PROGRAMS}/successor.s", f"{it.programs}/bob.s")
+        it.write("eve/student.occ", SUCCESSOR.replace("+ 1", "+ 2"))
+        it.write("zoe.occ", SUCCESSOR.replace("word:", "wort:"))
+        got = it.results(it.exercise(text.format(file="student")))[0]
+        wanted([got[name][2] for name in ("ada", "bob", "eve", "zoe")], [["ok"], ["ok"], ["wrong"], ["-"]])
+        wanted(got["zoe"][3], 'line 7, column 12: fault 16: expected a name that is declared, not "word". Is it wort (line 4)?')
+        got = it.results(it.exercise(text.format(file="student.s")))[0]
+        wanted((got["ada"][2:], got["bob"][2]), ((["-"], "ada.occ is a program in occam, and assembly is wanted"), ["ok"]))
+        got = it.results(it.exercise(text.format(file="student.occ")))[0]
+        wanted((got["ada"][2], got["bob"][3]), (["ok"], "bob.s is a program in assembly, and occam is wanted"))
+        it.write("eve/student.s", "        stopp\n")
+        shutil.copy(f"{PROGRAMS}/successor.s", f"{it.programs}/ada.s")
+        got = it.results(it.exercise(text.format(file="student")))[0]
+        wanted([got[name][3] for name in ("ada", "eve")],
+               ["there are ada.occ and ada.s, and one of them is wanted",
+                "there are student.occ and student.s, and one of them is wanted"])
+    return "two languages"
 
 
 # Texts of exercises that are refused, each with what is said; P is the path.
@@ -199,7 +236,7 @@ UNFIT = [
     ("test\n", "P, line 1: a test wants a name after it, such as: test one word"),
     (GOOD + "exepct 0 word 1\nsend 0 wrod 1\nload 0 other.s\n",
      "P, line 4: no line begins with 'exepct': is it expect?\nP, line 5: 'wrod' is no value: values are \"text\", byte 1 2, word 1 "
-     "-2 or hex 0a0b\nP, line 6: there is no file other.s beside the exercise. The student's program is student.s"),
+     "-2 or hex 0a0b\nP, line 6: there is no file other.s beside the exercise. The student's program is student"),
     ("send 0 word 1\n" + GOOD, "P, line 1: send belongs below a line test or before"),
     (GOOD + "nodes 2\n", "P, line 4: nodes belongs to the head of the exercise, above all tests"),
     (GOOD + GOOD, "P, line 4: there is a test one already"),
@@ -216,8 +253,8 @@ UNFIT = [
     (GOOD + "send 0 byte\n", "P, line 4: byte wants numbers after it, such as byte 1 2"),
     (GOOD + "send 0 hex 0a0\n", "P, line 4: hex wants an even number of hexadecimal digits after it, such as hex 0a0b"),
     (GOOD + "state 0 asleep\n", "P, line 4: a state is booting, running, idle, halted, and a fault may be after halted"),
-    (GOOD + "load 0 ../other.s\n", "P, line 4: ../other.s is in another folder: programs are beside the exercise, or student.s or "
-     "student/NAME.s"),
+    (GOOD + "load 0 ../other.s\n", "P, line 4: ../other.s is in another folder: programs are beside the exercise, or student or "
+     "student/NAME"),
     (GOOD + "\udcff\n", "P, line 4: the byte ff isn't UTF-8"),
 ]
 
@@ -324,4 +361,5 @@ def the_wall_is_no_event(live, _):
     return "three students"
 
 
-TRIALS = (exercises_are_marked, steps_are_bounded, unfit_exercises_are_refused, tables_are_safe, the_wall_is_no_event)
+TRIALS = (exercises_are_marked, steps_are_bounded, students_choose_the_language, unfit_exercises_are_refused, tables_are_safe,
+          the_wall_is_no_event)
