@@ -4,11 +4,13 @@ ghost use Rattle.t414_assembly.specs.Program.{IsImage};
 
 use crate::fault::OccamFault;
 use crate::prelude::PRELUDE;
+use crate::uses::UseMistake;
 use node_memory::MEMORY_START;
-use occam_code::{Emission, LineMark, emit_program, words_of};
+use occam_code::{Emission, LineMark, emit_program, processes_below, words_of};
 use occam_names::core_of;
 use occam_text::read_occam;
 use occam_tree::{SourceDeclaration, SourceProcess};
+use occam_uses::find_clash;
 use std::alloc::Global;
 use t414_assembly::{Image, LayoutFault, lay_out};
 
@@ -19,6 +21,9 @@ pub const LARGEST_MEMORY: u32 = 65_536;
 
 // How many words below its workspace the processor uses for a process.
 const WORDS_BELOW: u32 = 3;
+
+// How many words of its own a process of a PAR has.
+const WORDS_EACH: u32 = 4;
 
 /// A program as statements of the assembler.
 #[derive(Drop)]
@@ -52,15 +57,23 @@ impl CodeSize {
 ///
 /// # Errors
 ///
-/// `Text` has the first place at which the text isn't written as occam, and `Names` what is wrong with the names and types
-/// of a text that is.
+/// `Text` has the first place at which the text isn't written as occam, `Names` what is wrong with the names and types of a
+/// text that is, and `Uses` what processes of a PAR use together in a text in which nothing else is wrong.
 pub fn compile<'a>(alloc: Global, text: &'a [u8]) -> Result<OccamProgram, OccamFault<'a>> {
     let prelude = read_occam(alloc, PRELUDE.as_bytes())?;
     let tree = read_occam(alloc, text)?;
     let core = core_of(alloc, declarations_of(&prelude), &tree)?;
+    if let Some(clash) = find_clash(alloc, &core.process)? {
+        return Err(OccamFault::Uses(UseMistake::of(clash, &core)));
+    }
     let variables = u32::try_from(core.variables.len()).unwrap_or(u32::MAX);
     let emission = emit_program(alloc, &core.process, variables, core.tables.as_slice())?;
-    let words = words_after(words_of(&core.process, variables), core.tables.len());
+    let below = processes_below(&core.process).saturating_mul(WORDS_EACH);
+    let words = words_after(
+        words_of(&core.process, variables),
+        below.saturating_add(WORDS_BELOW),
+        core.tables.len(),
+    );
     Ok(OccamProgram { emission, words })
 }
 
@@ -72,11 +85,11 @@ fn declarations_of<'b, 'a>(process: &'b SourceProcess<'a>) -> &'b [SourceDeclara
     }
 }
 
-// How many words after its code a program uses that uses so many words from word 0 up, if its tables have this number of
-// words: they are at the end of the code, and all words below them are there too.
-fn words_after(words: u32, table_words: usize) -> u32 {
+// How many words after its code a program uses that uses this number of words from word 0 up, and of words below it, if its
+// tables have this number of words: they are at the end of the code, and all words below them are there too.
+fn words_after(words: u32, below: u32, table_words: usize) -> u32 {
     match u32::try_from(table_words) {
-        Ok(0) => words.saturating_add(WORDS_BELOW),
+        Ok(0) => words.saturating_add(below),
         Ok(count) => words.saturating_sub(count.saturating_add(1)),
         Err(_) => u32::MAX,
     }

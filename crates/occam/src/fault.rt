@@ -1,6 +1,7 @@
 //! Why a text is no program.
 
 use crate::compiling::CodeSize;
+use crate::uses::UseMistake;
 use occam_names::{NameMistakes, OccamNamesFault};
 use occam_text::{GrammarMistake, OccamTextFault};
 use std::alloc::AllocError;
@@ -13,6 +14,8 @@ pub enum OccamFault<'a> {
     Text(GrammarMistake<'a>),
     /// Names or types are wrong.
     Names(NameMistakes<'a>),
+    /// Processes of a PAR use something together.
+    Uses(UseMistake<'a>),
     /// Up to this line the code has more bytes than any memory.
     Code(u32),
     /// The node has less memory than the program takes, in bytes.
@@ -50,6 +53,7 @@ impl<'a> fmt::Display for OccamFault<'a> {
         match self {
             OccamFault::Text(mistake) => fmt::Display::fmt(mistake, f),
             OccamFault::Names(mistakes) => write_mistakes(f, mistakes),
+            OccamFault::Uses(mistake) => fmt::Display::fmt(mistake, f),
             OccamFault::Code(line) => write!(
                 f,
                 "line {line}: fault 39: expected code of at most 65464 bytes, not more"
@@ -81,17 +85,4 @@ fn write_mistakes<W: fmt::Write>(
         f.write_str("\nMore is wrong")?;
     }
     Ok(())
-}
-
-impl<'a> OccamFault<'a> {
-    /// Writes the first mistake alone.
-    pub fn write_first<W: fmt::Write>(&self, f: &mut fmt::Formatter<W>) -> fmt::Result {
-        match self {
-            OccamFault::Names(mistakes) => match mistakes.first.first() {
-                Some(mistake) => fmt::Display::fmt(mistake, f),
-                None => Ok(()),
-            },
-            fault => fmt::Display::fmt(fault, f),
-        }
-    }
 }

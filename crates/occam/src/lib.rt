@@ -5,7 +5,9 @@ mod compiling;
 mod fault;
 mod prelude;
 mod printing;
+mod uses;
 
 pub use compiling::{CodeSize, LARGEST_MEMORY, OccamProgram, bytes_at, compile, image_at};
 pub use fault::OccamFault;
 pub use printing::assembler_text;
+pub use uses::UseMistake;

@@ -1,4 +1,6 @@
 mod Patch
+mod Fill
+mod Apart
 pub mod Stepping
 pub mod Workspace
 pub mod Operations

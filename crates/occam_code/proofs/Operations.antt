@@ -28,7 +28,7 @@ use Rattle.occam_core.specs.declared.expression.TwoOperation.{TwoOperation}
 use Rattle.occam_core.specs.declared.expression.TwoOperation.TheVariants as two
 use Rattle.occam_core.specs.Values.{unless, truth, result_of, result_of_one, below, divides_past_an_int}
 use Rattle.occam_code.specs.Instructions as asm
-use Rattle.occam_code.specs.Code.{one_code, two_code, shift_code}
+use Rattle.occam_code.specs.Expressions.{one_code, two_code, shift_code}
 use Rattle.occam_code.specs.Machine.{done_at}
 use Rattle.occam_code.specs.Evaluates.{Holds, KeepsOthers, Comes}
 use Rattle.occam_code.proofs.Stepping.{HasAt, Goes, goes_on, falls_on, step, fall}
@@ -61,10 +61,10 @@ inside_if : (b : Bool) (effect : ℕ → CpuEffect) (x v : ℕ)
 inside_if true effect x v = refl
 inside_if false effect x v = refl
 
-module _ (address : ℕ → ℕ) (program : List Statement) (ls : FourLinks) (size count : ℕ) (store : List ℕ) where
+module _ (address : ℕ → ℕ) (program : List Statement) (ls : FourLinks) (base size count : ℕ) (store : List ℕ) where
   -- what comes of a code, in the workspace of this module
   abbrev pub Ends : ℕ → ℕ → Cpu → List ℕ → Option ℕ → Type 0
-  Ends last first s m outcome = Comes address program ls last first size count store s m outcome
+  Ends last first s m outcome = Comes address program ls last first base size count store s m outcome
 
   -- a run, in the program of this module
   abbrev pub Moves : Cpu → List ℕ → Cpu → List ℕ → Type 0
@@ -96,7 +96,7 @@ module _ (address : ℕ → ℕ) (program : List Statement) (ls : FourLinks) (si
       later outcome last first i a b c s m m moves (kept_same s.workspace first size m) reaches
 
   -- a value at the end of a run
-  pub arrives : (last first x b c : ℕ) (s : Cpu) (m : List ℕ) → Holds s.workspace size count store m
+  pub arrives : (last first x b c : ℕ) (s : Cpu) (m : List ℕ) → Holds s.workspace base size count store m
       → Moves s m (at s (address last) x b c) m → Ends last first s m (Some x)
   arrives last first x b c s m holds moves =
       record {
@@ -112,7 +112,7 @@ module _ (address : ℕ → ℕ) (program : List Statement) (ls : FourLinks) (si
   -- an instruction that may be an error
   pub checks : (bad : Bool) (k first x b c : ℕ) (f : Function) (o : Operand) (s : Cpu) (m : List ℕ)
       → slice_get program k ≡ Some (Instruction f o) → s.instruction ≡ address k
-      → Holds s.workspace size count store m
+      → Holds s.workspace base size count store m
       → done_at address k f o s ls m ≡ error_if bad (at s (address (k + 1)) x b c) ls m
       → Ends (k + 1) first s m (unless bad x)
   checks true k first x b c f o s m is here holds does =
@@ -208,7 +208,7 @@ module _ (address : ℕ → ℕ) (program : List Statement) (ls : FourLinks) (si
 
   -- an operation that may be an error
   plain_checks : (bad : Bool) (k first n x a b c b' c' : ℕ) (operation : PlainOperation) (s : Cpu) (m : List ℕ)
-      → slice_get program k ≡ Some (asm.operation n) → Holds s.workspace size count store m
+      → slice_get program k ≡ Some (asm.operation n) → Holds s.workspace base size count store m
       → operation_of n ≡ Some (Plain operation)
       → row operation (at s (address (k + 1)) a b c) ls m ≡ error_if bad (at s (address (k + 1)) x b' c') ls m
       → Ends (k + 1) first (at s (address k) a b c) m (unless bad x)
@@ -218,7 +218,7 @@ module _ (address : ℕ → ℕ) (program : List Statement) (ls : FourLinks) (si
 
   -- ldc bound; csub0
   pub bounded : (k first bound a b c : ℕ) (s : Cpu) (m : List ℕ)
-      → HasAt program k (asm.ldc bound ∷ asm.csub0 ∷ []) → Holds s.workspace size count store m
+      → HasAt program k (asm.ldc bound ∷ asm.csub0 ∷ []) → Holds s.workspace base size count store m
       → Ends (k + 2) first (at s (address k) a b c) m (below bound a)
   unfolding row operation_of
   bounded k first bound a b c s m has holds =
@@ -237,7 +237,7 @@ module _ (address : ℕ → ℕ) (program : List Statement) (ls : FourLinks) (si
 
   -- an operation without errors
   gives : (k first n x a b c b' c' : ℕ) (operation : PlainOperation) (s : Cpu) (m : List ℕ)
-      → slice_get program k ≡ Some (asm.operation n) → Holds s.workspace size count store m
+      → slice_get program k ≡ Some (asm.operation n) → Holds s.workspace base size count store m
       → operation_of n ≡ Some (Plain operation)
       → row operation (at s (address (k + 1)) a b c) ls m ≡ Gave (at s (address (k + 1)) x b' c') ls m
       → Ends (k + 1) first (at s (address k) a b c) m (Some x)
@@ -246,7 +246,7 @@ module _ (address : ℕ → ℕ) (program : List Statement) (ls : FourLinks) (si
 
   -- an error, or a value
   if_checks : (bad : Bool) (k first n x other a b c b' c' : ℕ) (operation : PlainOperation) (s : Cpu) (m : List ℕ)
-      → slice_get program k ≡ Some (asm.operation n) → Holds s.workspace size count store m
+      → slice_get program k ≡ Some (asm.operation n) → Holds s.workspace base size count store m
       → operation_of n ≡ Some (Plain operation)
       → row operation (at s (address (k + 1)) a b c) ls m
       ≡ (if bad then error_if true (at s (address (k + 1)) other b' c') ls m
@@ -259,7 +259,7 @@ module _ (address : ℕ → ℕ) (program : List Statement) (ls : FourLinks) (si
 
   -- eqc 0 at the end
   pub last_equals : (k first a b c : ℕ) (s : Cpu) (m : List ℕ) → slice_get program k ≡ Some (asm.eqc 0)
-      → Holds s.workspace size count store m
+      → Holds s.workspace base size count store m
       → Ends (k + 1) first (at s (address k) a b c) m (Some (bit (a == 0)))
   last_equals k first a b c s m is holds =
       arrives (k + 1) first (bit (a == 0)) b c (at s (address k) a b c) m holds (equals k 0 a b c s m is)
@@ -267,7 +267,7 @@ module _ (address : ℕ → ℕ) (program : List Statement) (ls : FourLinks) (si
   -- the code of an operation on A
   pub one_run : (operation : OneOperation) (k first x b c : ℕ) (s : Cpu) (m : List ℕ)
       → HasAt program k (one_code operation)
-      → Holds s.workspace size count store m
+      → Holds s.workspace base size count store m
       → Ends (k + length (one_code operation)) first (at s (address k) x b c) m (result_of_one operation x)
   unfolding row operation_of
   one_run one.Negate k first x b c s m has holds =
@@ -293,7 +293,7 @@ module _ (address : ℕ → ℕ) (program : List Statement) (ls : FourLinks) (si
   shift_checks : (bad : Bool) (n : ℕ) (operation : PlainOperation) (shifted : ℕ
       → ℕ) (k first y x : ℕ) (s : Cpu) (m : List ℕ)
       → slice_get program k ≡ Some asm.csub0 → slice_get program (k + 1) ≡ Some (asm.operation n)
-      → Holds s.workspace size count store m → operation_of n ≡ Some (Plain operation)
+      → Holds s.workspace base size count store m → operation_of n ≡ Some (Plain operation)
       → ((z i d : ℕ) → row operation (at s i z x d) ls m ≡ Gave (at s i (shifted z) d d) ls m) → nat_le 33 y ≡ bad
       → Ends (k + 1 + 1) first (at s (address k) 33 y x) m (unless bad (shifted y))
   unfolding row operation_of
@@ -308,7 +308,8 @@ module _ (address : ℕ → ℕ) (program : List Statement) (ls : FourLinks) (si
 
   -- ldc 33; csub0, and a shift
   shift_run : (n : ℕ) (operation : PlainOperation) (shifted : ℕ → ℕ) (k first y x c : ℕ) (s : Cpu) (m : List ℕ)
-      → HasAt program k (shift_code n) → Holds s.workspace size count store m → operation_of n ≡ Some (Plain operation)
+      → HasAt program k (shift_code n) → Holds s.workspace base size count store m → operation_of n ≡ Some (Plain
+      operation)
       → ((z i d : ℕ) → row operation (at s i z x d) ls m ≡ Gave (at s i (shifted z) d d) ls m)
       → Ends (k + 3) first (at s (address k) y x c) m (unless (nat_lt 32 y) (shifted y))
   shift_run n operation shifted k first y x c s m has holds named does =
@@ -322,7 +323,7 @@ module _ (address : ℕ → ℕ) (program : List Statement) (ls : FourLinks) (si
   -- the code of an operation on B and A
   pub two_run : (operation : TwoOperation) (k first y x c : ℕ) (s : Cpu) (m : List ℕ)
       → HasAt program k (two_code operation)
-      → Holds s.workspace size count store m
+      → Holds s.workspace base size count store m
       → Ends (k + length (two_code operation)) first (at s (address k) y x c) m (result_of operation x y)
   unfolding row operation_of
   two_run two.Add k first y x c s m has holds =

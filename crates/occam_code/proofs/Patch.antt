@@ -8,10 +8,11 @@ use Rattle.t414_assembly.specs.declared.statement.Operand.TheVariants.{Differenc
 use Rattle.t414_assembly.specs.declared.statement.Statement.{Statement}
 use Rattle.t414_assembly.specs.declared.statement.Statement.TheVariants.{Instruction}
 use Rattle.occam_code.specs.Instructions as asm
-use Rattle.occam_code.specs.Code.{and_code, or_code, choice_code, loop_code, count_code, loop_end_code, repeat_code}
+use Rattle.occam_code.specs.Expressions.{and_code, or_code}
+use Rattle.occam_code.specs.Code.{choice_code, loop_code, count_code, loop_end_code, repeat_code}
 
 -- one statement is written over
-written : (whole pre post : List Statement) (blank blank' : Statement) (n : ℕ) → whole ≡ pre ++ blank ∷ post
+pub written : (whole pre post : List Statement) (blank blank' : Statement) (n : ℕ) → whole ≡ pre ++ blank ∷ post
     → n ≡ length pre
     → slice_set whole n blank' ≡ pre ++ blank' ∷ post
 written whole pre post blank blank' n same place =
@@ -19,7 +20,7 @@ written whole pre post blank blank' n same place =
     ∙ set-append_seam pre blank post blank'
 
 -- the length of a code behind another
-longer : (whole base more : List Statement) → whole ≡ base ++ more → length whole ≡ length base + length more
+pub longer : (whole base more : List Statement) → whole ≡ base ++ more → length whole ≡ length base + length more
 longer whole base more same = ap length same ∙ length-append base more
 
 -- one more statement and a code that begins behind it

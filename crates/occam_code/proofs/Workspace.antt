@@ -23,10 +23,10 @@ is_inside w j size m least aligned most below =
     grind (arith, nat_tests)
 
 -- a word of the workspace is read
-pub word_is : (w size count j : ℕ) (store m : List ℕ) → Holds w size count store m → j < size
+pub word_is : (w base size count j : ℕ) (store m : List ℕ) → Holds w base size count store m → j < size
     → word_at m (w ⊕ 4 ⊗ j) ≡ Ok (word_in w m j)
 unfolding word_at
-word_is w size count j store m holds below =
+word_is w base size count j store m holds below =
     let a = w + 4 * j in
     let e = word_address w j size (length m) holds.least holds.most holds.memory.most below in
     let inside = is_inside w j size m holds.least holds.aligned holds.most below in
@@ -39,10 +39,10 @@ abbrev pub with_word_in : ℕ → List ℕ → ℕ → ℕ → List ℕ
 with_word_in w m j x = with_word_from m (w - first_address + 4 * j) x
 
 -- a word of the workspace is written
-pub word_put : (w size count j x : ℕ) (store m : List ℕ) → Holds w size count store m → j < size
+pub word_put : (w base size count j x : ℕ) (store m : List ℕ) → Holds w base size count store m → j < size
     → with_word m (w ⊕ 4 ⊗ j) x ≡ Ok (with_word_in w m j x)
 unfolding with_word
-word_put w size count j x store m holds below =
+word_put w base size count j x store m holds below =
     let a = w + 4 * j in
     let e = word_address w j size (length m) holds.least holds.most holds.memory.most below in
     let inside = is_inside w j size m holds.least holds.aligned holds.most below in
@@ -123,15 +123,17 @@ kept_store w j size x m below =
     }
 
 -- a word is read after it was written
-pub stored_word : (w size count j x : ℕ) (store m : List ℕ) → Holds w size count store m → j < size → x < 2 ^ 32
+pub stored_word : (w base size count j x : ℕ) (store m : List ℕ) → Holds w base size count store m → j < size → x < 2
+    ^ 32
     → word_in w (with_word_in w m j x) j ≡ x
-stored_word w size count j x store m holds below fits =
+stored_word w base size count j x store m holds below fits =
     read_back m (w - first_address + 4 * j) x fits (omega (arith, holds.most, below))
 
 -- a workspace holds its variables as long as they are kept
-pub holds_kept : (w size count first : ℕ) (store m u : List ℕ) → Holds w size count store m → count + 1 ≤ first
-    → KeepsOthers w first size m u → ((i : ℕ) → slice_index u i < 2 ^ 8) → Holds w size count store u
-holds_kept w size count first store m u holds free kept bytes =
+pub holds_kept : (w base size count first : ℕ) (store m u : List ℕ) → Holds w base size count store m → count + base
+    ≤ first
+    → KeepsOthers w first size m u → ((i : ℕ) → slice_index u i < 2 ^ 8) → Holds w base size count store u
+holds_kept w base size count first store m u holds free kept bytes =
     record {
       memory = rw kept.long holds.memory;
       bytes = bytes;
@@ -139,14 +141,15 @@ holds_kept w size count first store m u holds free kept bytes =
       least = holds.least;
       most = rw kept.long holds.most;
       variables = λ v below.
-          word_kept w first size (v + 1) m u kept (omega (arith, free, below)) ∙ holds.variables v below;
+          word_kept w first size (v + base) m u kept (omega (arith, free, below)) ∙ holds.variables v below;
     }
 
 -- a temporary is written, and the variables stay
-pub holds_store : (w size count j x : ℕ) (store m : List ℕ) → Holds w size count store m → count + 1 ≤ j → j < size
-    → Holds w size count store (with_word_in w m j x)
-holds_store w size count j x store m holds free below =
-    holds_kept w size count j store m (with_word_in w m j x) holds free (kept_store w j size x m below)
+pub holds_store : (w base size count j x : ℕ) (store m : List ℕ) → Holds w base size count store m → count + base ≤ j
+    → j < size
+    → Holds w base size count store (with_word_in w m j x)
+holds_store w base size count j x store m holds free below =
+    holds_kept w base size count j store m (with_word_in w m j x) holds free (kept_store w j size x m below)
     (bytes_with m (w - first_address + 4 * j) x holds.bytes)
 
 -- a byte of a word
@@ -160,48 +163,50 @@ byte_from m i (suc (suc zero)) bytes below = omega (arith, bytes i, bytes (i + 1
 byte_from m i (suc (suc (suc zero))) bytes below = omega (arith, bytes i, bytes (i + 1), bytes (i + 2), bytes (i + 3))
 byte_from m i (suc (suc (suc (suc k)))) bytes below = absurd (omega arith)
 
-byte_inside : (w v i size : ℕ) (m : List ℕ) → first_address ≤ w → w - first_address + 4 * size ≤ length m
-    → v + i / 4 + 1 < size → has_byte m (w + 4 * (v + 1) + i) ≡ true
-byte_inside w v i size m least most below =
-    let within : w + 4 * (v + 1) + i - first_address < length m = omega (arith, most, below, least) in
+byte_inside : (w base v i size : ℕ) (m : List ℕ) → first_address ≤ w → w - first_address + 4 * size ≤ length m
+    → v + i / 4 + base < size → has_byte m (w + 4 * (v + base) + i) ≡ true
+byte_inside w base v i size m least most below =
+    let within : w + 4 * (v + base) + i - first_address < length m = omega (arith, most, below, least) in
     grind (arith, nat_tests)
 
--- a byte of an array that begins at the word after a variable's number is read
-pub byte_is : (w size count v i : ℕ) (store m : List ℕ) → Holds w size count store m → v + i / 4 + 1 < size
-    → byte_at m (w + 4 * (v + 1) + i) ≡ Ok (word_in w m (v + i / 4 + 1) / 2 ^ (8 * (i % 4)) % 2 ^ 8)
+-- a byte of an array is read, that begins at a variable
+pub byte_is : (w base size count v i : ℕ) (store m : List ℕ) → Holds w base size count store m → v + i / 4 + base < size
+    → byte_at m (w + 4 * (v + base) + i) ≡ Ok (word_in w m (v + i / 4 + base) / 2 ^ (8 * (i % 4)) % 2 ^ 8)
 unfolding byte_at
-byte_is w size count v i store m holds below =
-    let a = w + 4 * (v + 1) + i in
-    let o = w - first_address + 4 * (v + i / 4 + 1) in
-    let inside = byte_inside w v i size m holds.least holds.most below in
+byte_is w base size count v i store m holds below =
+    let a = w + 4 * (v + base) + i in
+    let o = w - first_address + 4 * (v + i / 4 + base) in
+    let inside = byte_inside w base v i size m holds.least holds.most below in
     let place : a - first_address ≡ o + i % 4 = omega (arith, holds.least) in
     ap (λ b. cond b (Ok (slice_index m (a - first_address))) (Err OutsideMemory)) inside
     ∙ ap (λ j. Ok (slice_index m j)) place
     ∙ ap Ok (byte_from m o (i % 4) holds.bytes (omega arith))
 
 -- the address of an array
-array_address : (w v size long : ℕ) → first_address ≤ w → w - first_address + 4 * size ≤ long → long ≤ 65536
-    → v + 1 < size → w ⊕ 4 ⊗ (v ⊕ 1) ≡ w + 4 * (v + 1)
-array_address w v size long least most bound below =
-    let next : v ⊕ 1 ≡ v + 1 = omega arith in
-    ap (λ j. w ⊕ 4 ⊗ j) next ∙ word_address w (v + 1) size long least most bound below
+array_address : (w base v size long : ℕ) → first_address ≤ w → w - first_address + 4 * size ≤ long → long ≤ 65536
+    → v + base < size → w ⊕ 4 ⊗ (v ⊕ base) ≡ w + 4 * (v + base)
+array_address w base v size long least most bound below =
+    let next : v ⊕ base ≡ v + base = omega arith in
+    ap (λ j. w ⊕ 4 ⊗ j) next ∙ word_address w (v + base) size long least most bound below
 
 -- the address of an element that is a byte
-pub byte_address : (w v i size count : ℕ) (store m : List ℕ) → Holds w size count store m → v + i / 4 + 1 < size
-    → w ⊕ 4 ⊗ (v ⊕ 1) ⊕ i ≡ w + 4 * (v + 1) + i
-byte_address w v i size count store m holds below =
+pub byte_address : (w v i base size count : ℕ) (store m : List ℕ) → Holds w base size count store m → v + i / 4 +
+    base < size
+    → w ⊕ 4 ⊗ (v ⊕ base) ⊕ i ≡ w + 4 * (v + base) + i
+byte_address w v i base size count store m holds below =
     ap (λ a. a ⊕ i)
-    (array_address w v size (length m) holds.least holds.most holds.memory.most (omega (arith, below)))
+    (array_address w base v size (length m) holds.least holds.most holds.memory.most (omega (arith, below)))
     ∙ omega (arith, holds.least, holds.most, holds.memory.most, below)
 
 -- the address of an element that is a word
-pub element_address : (w v i size count : ℕ) (store m : List ℕ) → Holds w size count store m → v + i + 1 < size
-    → w ⊕ 4 ⊗ (v ⊕ 1) ⊕ 4 ⊗ i ⊕ 4 ⊗ 0 ≡ w ⊕ 4 ⊗ (v + i + 1)
-element_address w v i size count store m holds below =
+pub element_address : (w v i base size count : ℕ) (store m : List ℕ) → Holds w base size count store m → v + i + base
+    < size
+    → w ⊕ 4 ⊗ (v ⊕ base) ⊕ 4 ⊗ i ⊕ 4 ⊗ 0 ≡ w ⊕ 4 ⊗ (v + i + base)
+element_address w v i base size count store m holds below =
     let long = length m in
-    let same : w + 4 * (v + 1) ⊕ 4 ⊗ i ⊕ 4 ⊗ 0 ≡ w + 4 * (v + i + 1) =
+    let same : w + 4 * (v + base) ⊕ 4 ⊗ i ⊕ 4 ⊗ 0 ≡ w + 4 * (v + i + base) =
     omega (arith, holds.least, holds.most, holds.memory.most, below) in
     ap (λ a. a ⊕ 4 ⊗ i ⊕ 4 ⊗ 0)
-    (array_address w v size long holds.least holds.most holds.memory.most (omega (arith, below)))
+    (array_address w base v size long holds.least holds.most holds.memory.most (omega (arith, below)))
     ∙ same
-    ∙ sym (word_address w (v + i + 1) size long holds.least holds.most holds.memory.most below)
+    ∙ sym (word_address w (v + i + base) size long holds.least holds.most holds.memory.most below)

@@ -9,6 +9,7 @@ use Rattle.occam_core.specs.declared.expression.ElementKind.TheVariants as kind
 use Rattle.occam_core.specs.declared.expression.Expression.{Expression}
 use Rattle.occam_core.specs.declared.expression.Expression.TheVariants.{Number, Variable, Element', One', Two', And', Or', Below'}
 use Rattle.occam_core.specs.Values.{value}
+use Rattle.occam_code.specs.declared.frame.FrameWords.{FrameWords}
 use Rattle.occam_code.specs.Words.{temporaries_of}
 use Rattle.occam_code.specs.Machine.{Leads, Falls}
 
@@ -44,14 +45,16 @@ HasWords (Below' bound p a) = HasWords a
 abbrev pub word_in : ℕ → List ℕ → ℕ → ℕ
 word_in w m k = word_from m (w - first_address + 4 * k)
 
--- the workspace w has this number of words in memory, and the first variables are those of a store: v in word v + 1
-pub record Holds (w size count : ℕ) (store m : List ℕ) : Type 0 where
+-- the workspace w has this number of words in memory, and the first variables are those of a store: v in word v of
+-- those
+-- from `base` on
+pub record Holds (w base size count : ℕ) (store m : List ℕ) : Type 0 where
   pub memory : IsMemorySize (length m)
   pub bytes : (i : ℕ) → slice_index m i < 2 ^ 8
   pub aligned : w % 4 ≡ 0
   pub least : first_address ≤ w
   pub most : w - first_address + 4 * size ≤ length m
-  pub variables : (v : ℕ) → v < count → word_in w m (v + 1) ≡ slice_index store v
+  pub variables : (v : ℕ) → v < count → word_in w m (v + base) ≡ slice_index store v
 
 -- memory has changed in no other byte than those of a workspace's words from one on, up to its size
 pub record KeepsOthers (w first size : ℕ) (m u : List ℕ) : Type 0 where
@@ -61,7 +64,7 @@ pub record KeepsOthers (w first size : ℕ) (m u : List ℕ) : Type 0 where
 
 -- some instructions lead to a place with the value in A: B and C have any values, all other registers and the links
 -- are as they were, and memory has changed in no other words than the temporaries
-pub record Gives (address : ℕ → ℕ) (code : List Statement) (ls : FourLinks) (last first size count : ℕ)
+pub record Gives (address : ℕ → ℕ) (code : List Statement) (ls : FourLinks) (last first base size count : ℕ)
     (store : List ℕ) (s : Cpu) (m : List ℕ) (x : ℕ) : Type 0 where
   pub number : ℕ
   pub b : ℕ
@@ -69,31 +72,32 @@ pub record Gives (address : ℕ → ℕ) (code : List Statement) (ls : FourLinks
   pub memory : List ℕ
   pub leads : Leads address code ls number s m (record s { instruction = address last; a = x; b = b; c = c }) memory
   pub kept : KeepsOthers s.workspace first size m memory
-  pub holds : Holds s.workspace size count store memory
+  pub holds : Holds s.workspace base size count store memory
 
 -- a run is at the place of an expression's code, and its workspace has room for what the code keeps
-pub record IsReady (address : ℕ → ℕ) (place temporary size count : ℕ) (store : List ℕ) (e : Expression) (s : Cpu)
-    (m : List ℕ) : Type 0 where
+pub record IsReady (address : ℕ → ℕ) (place : ℕ) (words : FrameWords) (size count : ℕ) (store : List ℕ)
+    (e : Expression) (s : Cpu) (m : List ℕ) : Type 0 where
   pub addresses : (k : ℕ) → address k < 2 ^ 32
   pub here : s.instruction ≡ address place
-  pub holds : Holds s.workspace size count store m
+  pub holds : Holds s.workspace words.base size count store m
   pub names : NamesBelow count e
-  pub free : count + 1 ≤ temporary
-  pub room : temporary + temporaries_of e ≤ size
+  pub free : count + words.base ≤ words.temporary
+  pub room : words.temporary + temporaries_of e ≤ size
 
 -- what comes of an expression's code: its value, or, if it has none and errors halt the node, a halt
-abbrev pub Comes : (ℕ → ℕ) → List Statement → FourLinks → ℕ → ℕ → ℕ → ℕ → List ℕ → Cpu → List ℕ → Option ℕ → Type 0
-Comes address code ls last first size count store s m (Some x) =
-    Gives address code ls last first size count store s m x
-Comes address code ls last first size count store s m None = s.halt_on_error ≡ true → Falls address code ls s m
+abbrev pub Comes : (ℕ → ℕ) → List Statement → FourLinks → ℕ → ℕ → ℕ → ℕ → ℕ → List ℕ → Cpu → List ℕ → Option ℕ → Type 0
+Comes address code ls last first base size count store s m (Some x) =
+    Gives address code ls last first base size count store s m x
+Comes address code ls last first base size count store s m None =
+    s.halt_on_error ≡ true → Falls address code ls s m
 
 -- the statements from a place to another are an expression's code: in every program that has them there, at whatever
 -- addresses, a run that is ready goes on to the second place with the value that the expression has in its store, and
 -- is halted if the expression has none
-abbrev pub GivesValue : ℕ → ℕ → List Statement → ℕ → Expression → Type 0
-GivesValue first last code temporary e =
+abbrev pub GivesValue : ℕ → ℕ → List Statement → FrameWords → Expression → Type 0
+GivesValue first last code words e =
     (program : List Statement)
     → ((k : ℕ) → first ≤ k → k < last → slice_get program k ≡ slice_get code k)
     → (address : ℕ → ℕ) (ls : FourLinks) (size count : ℕ) (store : List ℕ) (s : Cpu) (m : List ℕ)
-    → IsReady address first temporary size count store e s m
-    → Comes address program ls last temporary size count store s m (value e store)
+    → IsReady address first words size count store e s m
+    → Comes address program ls last words.temporary words.base size count store s m (value e store)

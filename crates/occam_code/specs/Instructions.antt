@@ -2,8 +2,8 @@
 -- Transputer instruction set handbook, direct functions and operations.
 use Rattle.std.specs.Prelude.{ℕ}
 use Rattle.t414_decode.specs.declared.instruction.Function.{Function}
-use Rattle.t414_decode.specs.declared.instruction.Function.TheVariants.{LoadConstant, LoadLocal, StoreLocal, LoadLocalPointer, LoadNonLocal, StoreNonLocal, EqualsConstant, ConditionalJump, Jump, Operate}
-use Rattle.t414_assembly.specs.declared.statement.Operand.TheVariants.{Number, Label}
+use Rattle.t414_decode.specs.declared.instruction.Function.TheVariants.{LoadConstant, LoadLocal, StoreLocal, LoadLocalPointer, LoadNonLocal, LoadNonLocalPointer, StoreNonLocal, EqualsConstant, ConditionalJump, Jump, AdjustWorkspace, Operate}
+use Rattle.t414_assembly.specs.declared.statement.Operand.TheVariants.{Number, Label, Difference}
 use Rattle.t414_assembly.specs.declared.statement.Statement.{Statement}
 use Rattle.t414_assembly.specs.declared.statement.Statement.TheVariants.{Instruction}
 
@@ -22,6 +22,10 @@ operation n = instruction Operate n
 abbrev pub ldc : ℕ → Statement
 ldc n = instruction LoadConstant n
 
+-- how far a place is from another, in bytes
+abbrev pub ldc_distance : ℕ → ℕ → Statement
+ldc_distance place from = Instruction LoadConstant (Difference place from 0)
+
 abbrev pub ldl : ℕ → Statement
 ldl word = instruction LoadLocal word
 
@@ -34,8 +38,14 @@ ldlp word = instruction LoadLocalPointer word
 abbrev pub ldnl : ℕ → Statement
 ldnl word = instruction LoadNonLocal word
 
+abbrev pub ldnlp : ℕ → Statement
+ldnlp word = instruction LoadNonLocalPointer word
+
 abbrev pub stnl : ℕ → Statement
 stnl word = instruction StoreNonLocal word
+
+abbrev pub ajw : ℕ → Statement
+ajw words = instruction AdjustWorkspace words
 
 abbrev pub eqc : ℕ → Statement
 eqc n = instruction EqualsConstant n
@@ -54,6 +64,9 @@ lb = operation 0x01
 
 abbrev pub bsub : Statement
 bsub = operation 0x02
+
+abbrev pub endp : Statement
+endp = operation 0x03
 
 abbrev pub diff : Statement
 diff = operation 0x04
@@ -76,6 +89,9 @@ wsub = operation 0x0A
 abbrev pub sub : Statement
 sub = operation 0x0C
 
+abbrev pub startp : Statement
+startp = operation 0x0D
+
 abbrev pub outbyte : Statement
 outbyte = operation 0x0E
 
@@ -91,6 +107,9 @@ csub0 = operation 0x13
 abbrev pub stopp : Statement
 stopp = operation 0x15
 
+abbrev pub ldpi : Statement
+ldpi = operation 0x1B
+
 abbrev pub rem : Statement
 rem = operation 0x1F
 
@@ -99,6 +118,12 @@ lend = operation 0x21
 
 abbrev pub div : Statement
 div = operation 0x2C
+
+abbrev pub disc : Statement
+disc = operation 0x2F
+
+abbrev pub diss : Statement
+diss = operation 0x30
 
 abbrev pub «not» : Statement
 «not» = operation 0x32
@@ -118,8 +143,23 @@ shl = 0x41
 abbrev pub mint : Statement
 mint = operation 0x42
 
+abbrev pub alt : Statement
+alt = operation 0x43
+
+abbrev pub altwt : Statement
+altwt = operation 0x44
+
+abbrev pub altend : Statement
+altend = operation 0x45
+
 abbrev pub «and» : Statement
 «and» = operation 0x46
+
+abbrev pub enbc : Statement
+enbc = operation 0x48
+
+abbrev pub enbs : Statement
+enbs = operation 0x49
 
 abbrev pub move : Statement
 move = operation 0x4A

@@ -3,8 +3,9 @@ ghost use Rattle.std.specs.Prelude.{◌≡◌, [], ◌∷◌, ◌++◌, OnOk, le
 ghost use Rattle.occam_code.specs.Instructions as asm;
 ghost use Rattle.occam_code.specs.Words.{is_leaf};
 ghost use Rattle.occam_code.specs.Evaluates.{HasWords, GivesValue};
-ghost use Rattle.occam_code.specs.Code.{one_code, shift_code, two_code, subscript_code, address_code, load_code, expression_code};
+ghost use Rattle.occam_code.specs.Expressions.{one_code, shift_code, two_code, subscript_code, address_code, load_code, expression_code};
 
+use crate::frame::{FrameWords, after_one};
 use crate::instructions::*;
 use occam_core::{CoreArray, ElementKind, Expression, OneOperation, TwoOperation};
 use std::alloc::AllocError;
@@ -19,77 +20,76 @@ pub(crate) fn is_leaf(e: &Expression) -> bool
 }
 
 /// Appends the code of an expression, which leaves its value in register A. Labels are places, from the start of `code`.
-/// The variable of a number is in the word after it of the workspace, and values that are needed later are kept in the
-/// words from `temporary` up. An error sets the flag Error.
+/// Values that are needed later are kept in the words that are free. An error sets the flag Error.
 ///
 /// # Errors
 ///
 /// If the statements can't be kept. Some of them may have been appended then.
 pub fn emit_expression(
     code: &mut Vec<Statement>,
-    temporary: u32,
+    words: FrameWords,
     e: &Expression,
 ) -> Result<(), AllocError>
-    ensures code { OnOk result (code.new.items ≡ code.old.items ++ expression_code (length code.old.items) temporary e.now) }
-    ensures gives { OnOk result (GivesValue (length code.old.items) (length code.new.items) code.new.items temporary e.now) }
+    ensures code { OnOk result (code.new.items ≡ code.old.items ++ expression_code (length code.old.items) words e.now) }
+    ensures gives { OnOk result (GivesValue (length code.old.items) (length code.new.items) code.new.items words e.now) }
 {
-    put_expression(code, temporary, e)
+    put_expression(code, words, e)
 }
 
 // The same, part by part.
 fn put_expression(
     code: &mut Vec<Statement>,
-    temporary: u32,
+    words: FrameWords,
     e: &Expression,
 ) -> Result<(), AllocError>
-    ensures code { OnOk result (code.new.items ≡ code.old.items ++ expression_code (length code.old.items) temporary e.now) }
+    ensures code { OnOk result (code.new.items ≡ code.old.items ++ expression_code (length code.old.items) words e.now) }
     ensures words { OnOk result (HasWords e.now) }
 {
     match e {
         Expression::Number(n) => put(code, Function::LoadConstant, *n),
-        Expression::Variable(v) => put(code, Function::LoadLocal, v.wrapping_add(1)),
+        Expression::Variable(v) => put(code, Function::LoadLocal, v.wrapping_add(words.base)),
         Expression::Element(array, i) => {
-            put_expression(code, temporary, i)?;
-            emit_address(code, *array)?;
+            put_expression(code, words, i)?;
+            emit_address(code, words.base, *array)?;
             emit_load(code, array.kind)
         }
         Expression::One(operation, x) => {
-            put_expression(code, temporary, x)?;
+            put_expression(code, words, x)?;
             emit_one(code, *operation)
         }
         Expression::Two(operation, a, b) => {
             if is_leaf(b) {
-                put_expression(code, temporary, a)?;
-                put_expression(code, temporary, b)?;
+                put_expression(code, words, a)?;
+                put_expression(code, words, b)?;
                 emit_two(code, *operation)
             } else {
-                put_expression(code, temporary, b)?;
-                put(code, Function::StoreLocal, temporary)?;
-                put_expression(code, temporary.wrapping_add(1), a)?;
-                put(code, Function::LoadLocal, temporary)?;
+                put_expression(code, words, b)?;
+                put(code, Function::StoreLocal, words.temporary)?;
+                put_expression(code, after_one(words), a)?;
+                put(code, Function::LoadLocal, words.temporary)?;
                 emit_two(code, *operation)
             }
         }
         Expression::And(a, b) => {
-            put_expression(code, temporary, a)?;
+            put_expression(code, words, a)?;
             let skip = code.len();
             jump_to(code, Function::ConditionalJump, 0)?;
-            put_expression(code, temporary, b)?;
+            put_expression(code, words, b)?;
             land(code, skip, Function::ConditionalJump);
             Ok(())
         }
         Expression::Or(a, b) => {
-            put_expression(code, temporary, a)?;
+            put_expression(code, words, a)?;
             put(code, Function::EqualsConstant, 0)?;
             let choice = code.len();
             jump_to(code, Function::ConditionalJump, 0)?;
-            put_expression(code, temporary, b)?;
+            put_expression(code, words, b)?;
             put(code, Function::EqualsConstant, 0)?;
             land(code, choice, Function::ConditionalJump);
             put(code, Function::EqualsConstant, 0)
         }
         Expression::Below(bound, x) => {
-            put_expression(code, temporary, x)?;
+            put_expression(code, words, x)?;
             put(code, Function::LoadConstant, *bound)?;
             operate(code, CHECK_SUBSCRIPT)
         }
@@ -97,15 +97,19 @@ fn put_expression(
 }
 
 // The address of an array's element, whose subscript is in A. It is an error if the array has no such element.
-pub(crate) fn emit_address(code: &mut Vec<Statement>, array: CoreArray) -> Result<(), AllocError>
-    ensures { OnOk result (code.new.items ≡ code.old.items ++ address_code array) }
+pub(crate) fn emit_address(
+    code: &mut Vec<Statement>,
+    base: u32,
+    array: CoreArray,
+) -> Result<(), AllocError>
+    ensures { OnOk result (code.new.items ≡ code.old.items ++ address_code base array) }
 {
     put(code, Function::LoadConstant, array.length)?;
     operate(code, CHECK_SUBSCRIPT)?;
     put(
         code,
         Function::LoadLocalPointer,
-        array.first.wrapping_add(1),
+        array.first.wrapping_add(base),
     )?;
     emit_subscript(code, array.kind)
 }

@@ -1,7 +1,7 @@
 //! Single instructions at the end of a list of statements.
 ghost use Rattle.std.specs.Prelude.{◌≡◌, ◌<◌, ◌+◌, [], ◌∷◌, ◌++◌, OnOk, length, slice_set};
 ghost use Rattle.t414_decode.specs.declared.instruction.Function.TheVariants.{LoadConstant, LoadLocal, StoreLocal, ConditionalJump, EqualsConstant};
-ghost use Rattle.occam_code.specs.Instructions.{instruction, operation, to_place};
+ghost use Rattle.occam_code.specs.Instructions.{instruction, operation, to_place, ldc_distance};
 
 use std::alloc::AllocError;
 use t414_assembly::{Operand, Statement};
@@ -13,6 +13,8 @@ pub(crate) const REVERSE: u32 = 0x00;
 pub(crate) const LOAD_BYTE: u32 = 0x01;
 
 pub(crate) const BYTE_SUBSCRIPT: u32 = 0x02;
+
+pub(crate) const END_PROCESS: u32 = 0x03;
 
 pub(crate) const DIFFERENCE: u32 = 0x04;
 
@@ -30,6 +32,8 @@ pub(crate) const OUTPUT_MESSAGE: u32 = 0x0b;
 
 pub(crate) const SUBTRACT: u32 = 0x0c;
 
+pub(crate) const START_PROCESS: u32 = 0x0d;
+
 pub(crate) const OUTPUT_BYTE: u32 = 0x0e;
 
 pub(crate) const OUTPUT_WORD: u32 = 0x0f;
@@ -40,11 +44,17 @@ pub(crate) const CHECK_SUBSCRIPT: u32 = 0x13;
 
 pub(crate) const STOP_PROCESS: u32 = 0x15;
 
+pub(crate) const LOAD_POINTER_TO_INSTRUCTION: u32 = 0x1b;
+
 pub(crate) const REMAINDER: u32 = 0x1f;
 
 pub(crate) const LOOP_END: u32 = 0x21;
 
 pub(crate) const DIVIDE: u32 = 0x2c;
+
+pub(crate) const DISABLE_CHANNEL: u32 = 0x2f;
+
+pub(crate) const DISABLE_SKIP: u32 = 0x30;
 
 pub(crate) const NOT: u32 = 0x32;
 
@@ -58,7 +68,17 @@ pub(crate) const SHIFT_LEFT: u32 = 0x41;
 
 pub(crate) const MINIMUM_INTEGER: u32 = 0x42;
 
+pub(crate) const ALT_START: u32 = 0x43;
+
+pub(crate) const ALT_WAIT: u32 = 0x44;
+
+pub(crate) const ALT_END: u32 = 0x45;
+
 pub(crate) const AND: u32 = 0x46;
+
+pub(crate) const ENABLE_CHANNEL: u32 = 0x48;
+
+pub(crate) const ENABLE_SKIP: u32 = 0x49;
 
 pub(crate) const MOVE_MESSAGE: u32 = 0x4a;
 
@@ -107,4 +127,15 @@ pub(crate) fn land(code: &mut Vec<Statement>, place: usize, function: Function)
     ensures { code.new.items ≡ slice_set code.old.items place (to_place function (length code.old.items)) }
 {
     code[place] = Statement::Instruction(function, Operand::Label(code.len(), 0));
+}
+
+// The statement at this place loads how far the end of the code is from another place.
+pub(crate) fn land_from(code: &mut Vec<Statement>, place: usize, from: usize)
+    requires { place < length code.old.items }
+    ensures { code.new.items ≡ slice_set code.old.items place (ldc_distance (length code.old.items) from) }
+{
+    code[place] = Statement::Instruction(
+        Function::LoadConstant,
+        Operand::Difference(code.len(), from, 0),
+    );
 }

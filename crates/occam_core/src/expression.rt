@@ -70,7 +70,6 @@ pub struct CoreArray {
 /// An expression of the core. Its value is a word of 32 bits: an INT in two's complement, a BYTE, or 0 or 1 for a BOOL.
 ///
 /// Source: occam 2 reference manual, expressions.
-#[derive(Drop)]
 pub enum Expression {
     /// A constant.
     Number(u32),
@@ -87,4 +86,15 @@ pub enum Expression {
     Or(Box<Expression>, Box<Expression>),
     /// The value, which is an error unless it is below this bound.
     Below(u32, Box<Expression>),
+}
+
+// Dropped by hand, since a derived `Drop` makes callers prove the drop of each part.
+impl Drop for Expression {
+    fn drop(self) {
+        match self {
+            Expression::Number(_) | Expression::Variable(_) => {}
+            Expression::Element(_, _) | Expression::One(_, _) | Expression::Below(_, _) => {}
+            Expression::Two(_, _, _) | Expression::And(_, _) | Expression::Or(_, _) => {}
+        }
+    }
 }

@@ -1,41 +1,71 @@
-//! Channels, and the links at which they are.
+//! Channels where they are used.
 
 use crate::expected::ExpectedMeaning;
+use crate::expressions::number_of;
 use crate::fault::MeaningHint;
-use crate::meaning::{Access, MessageType};
-use crate::met::{MetMeaning, NameKind};
-use crate::namer::{FoundName, Namer};
-use crate::scope::Meaning;
-use occam_core::Expression;
-use occam_tree::{DataType, SourceExpression, SourceName};
-use std::alloc::AllocError;
+use crate::meaning::{Access, ChannelMeaning, ChannelPart, MessageType};
+use crate::met::MetMeaning;
+use crate::namer::Namer;
+use crate::notes::Notes;
+use crate::scope::{FoundName, Meaning};
+use occam_core::{CoreArray, CoreChannel, ElementKind, Expression};
+use occam_tree::{SourceElement, SourceExpression, SourceName, TextPlace};
 
-/// Where a channel is.
+/// Where a channel is, or the first of an array.
 #[derive(Clone, Copy)]
 pub enum ChannelPlace {
-    /// At no link yet.
-    Nowhere,
+    /// It isn't known yet, since its block of declarations goes on.
+    Open,
     /// At the link's channel of this number.
-    At(u8),
-    /// At that of an instance: it is a parameter of a procedure whose body is only checked.
+    Link(u8),
+    /// Within the node: it is the variable of this number.
+    Inside(u32),
+    /// Where that of an instance is: it is a parameter of a procedure whose body is only checked.
     Parameter,
-    /// At none, and that was said.
+    /// Its declaration is wrong, and that was said.
     Wrong,
 }
 
-/// A channel that is declared.
+/// Whether one channel is declared, or an array of them.
+#[derive(Clone, Copy)]
+pub enum ChannelForm {
+    One,
+    /// An array of this many. That of a parameter `[]CHAN OF TYPE` has a length in an instance alone.
+    Array(Option<u32>),
+}
+
+impl ChannelForm {
+    /// How many channels it is, if that is known.
+    pub fn length(self) -> Option<u32> {
+        match self {
+            ChannelForm::One => Some(1),
+            ChannelForm::Array(length) => length,
+        }
+    }
+}
+
+/// A channel or an array of channels that is declared.
 #[derive(Clone, Copy)]
 pub struct DeclaredChannel<'a> {
     pub name: SourceName<'a>,
     pub message: MessageType,
+    pub form: ChannelForm,
     pub place: ChannelPlace,
 }
 
-/// A channel at a link.
-#[derive(Clone, Copy)]
-pub struct PlacedChannel {
-    /// The number of the link's channel.
-    pub number: u8,
+/// A channel where it is written.
+#[derive(Drop)]
+pub struct NamedChannel {
+    /// The index of what was declared.
+    pub index: usize,
+    /// The subscript, if it is an element of an array.
+    pub subscript: Option<Expression>,
+}
+
+/// A channel of the core, and what it carries.
+#[derive(Drop)]
+pub struct TypedChannel {
+    pub channel: CoreChannel,
     pub message: MessageType,
 }
 
@@ -63,14 +93,6 @@ impl ChannelUse {
         }
     }
 
-    // How a channel is placed for this.
-    fn placing(self, name: &str) -> MeaningHint<'_> {
-        match self {
-            ChannelUse::Send => MeaningHint::PlaceAtOutput(name),
-            ChannelUse::Receive => MeaningHint::PlaceAtInput(name),
-        }
-    }
-
     // What the link's channels are called with which this is done.
     fn link(self) -> MeaningHint<'static> {
         match self {
@@ -80,193 +102,160 @@ impl ChannelUse {
     }
 }
 
+// A channel that has a name of its own.
+fn channel_of_name(channel: ChannelMeaning) -> NamedChannel {
+    let subscript = match channel.part {
+        ChannelPart::Whole => None,
+        ChannelPart::Element(subscript) => Some(Expression::Number(subscript)),
+        ChannelPart::Chosen(number) => Some(Expression::Variable(number)),
+    };
+    NamedChannel {
+        index: channel.index,
+        subscript,
+    }
+}
+
+// What a channel within the node is in the core, whose variables begin at the first.
+fn inside_channel(first: u32, form: ChannelForm, subscript: Option<Expression>) -> CoreChannel {
+    let Some(subscript) = subscript else {
+        return CoreChannel::Inside(first);
+    };
+    let length = form.length().unwrap_or(1);
+    match number_of(&subscript) {
+        Some(number) if number < length => CoreChannel::Inside(first.saturating_add(number)),
+        _ => {
+            let kind = ElementKind::Word;
+            let array = CoreArray {
+                first,
+                length,
+                kind,
+            };
+            CoreChannel::Element(array, subscript)
+        }
+    }
+}
+
+impl<'a> Notes<'a> {
+    // A channel of the core, if something may be done with it.
+    fn channel_of(
+        &mut self,
+        place: TextPlace,
+        declared: DeclaredChannel<'a>,
+        subscript: Option<Expression>,
+        channel_use: ChannelUse,
+    ) -> Option<CoreChannel> {
+        match declared.place {
+            ChannelPlace::Wrong => None,
+            ChannelPlace::Open | ChannelPlace::Parameter => Some(CoreChannel::Link(0)),
+            ChannelPlace::Inside(first) => Some(inside_channel(first, declared.form, subscript)),
+            ChannelPlace::Link(number) => {
+                if self.may_use_link(place, declared.name, number, channel_use) {
+                    Some(CoreChannel::Link(number))
+                } else {
+                    None
+                }
+            }
+        }
+    }
+
+    // Whether something may be done with the link's channel of a number, which has this name. If not, that is noted.
+    fn may_use_link(
+        &mut self,
+        place: TextPlace,
+        name: SourceName<'a>,
+        number: u8,
+        channel_use: ChannelUse,
+    ) -> bool {
+        if channel_use.is_at(number) {
+            return true;
+        }
+        let met = MetMeaning::AtLink(name.text, name.place.line, number);
+        self.tell(place, channel_use.expected(), met, Some(channel_use.link()));
+        false
+    }
+}
+
 impl<'a, 'b> Namer<'a, 'b> {
-    /// The channel of a name with which something is done. What is wrong with it is noted.
-    pub fn link_channel(
+    /// A channel with which something is done. What is wrong with it is noted.
+    pub fn used_channel(
         &mut self,
-        name: SourceName<'a>,
-        subscript: Option<&SourceExpression<'a>>,
+        element: &SourceElement<'a>,
         channel_use: ChannelUse,
-    ) -> Result<Option<PlacedChannel>, AllocError> {
-        let hint = MeaningHint::Assignment(name.text);
-        let Some(index) = self.channel_of(name, subscript, Some(hint))? else {
-            return Ok(None);
-        };
-        let Some(channel) = self.channels.get(index).copied() else {
-            return Ok(None);
-        };
-        let message = channel.message;
-        match channel.place {
-            ChannelPlace::Wrong => Ok(None),
-            ChannelPlace::Nowhere => {
-                self.tell_unplaced(name, index, channel, channel_use)?;
-                Ok(None)
-            }
-            ChannelPlace::Parameter => Ok(Some(PlacedChannel { number: 0, message })),
-            ChannelPlace::At(number) if channel_use.is_at(number) => {
-                Ok(Some(PlacedChannel { number, message }))
-            }
-            ChannelPlace::At(number) => {
-                let SourceName { text, place } = channel.name;
-                let met = MetMeaning::AtLink(text, place.line, number);
-                let expected = channel_use.expected();
-                self.tell(name.place, expected, met, Some(channel_use.link()))?;
-                Ok(None)
-            }
-        }
+    ) -> Option<TypedChannel> {
+        let name = element.name;
+        let hint = Some(MeaningHint::Assignment(name.text));
+        let channel = self.named_channel(name, element.subscript.as_ref(), hint)?;
+        let declared = self.channels.get(channel.index).copied()?;
+        let subscript = channel.subscript;
+        let channel = self
+            .notes
+            .channel_of(name.place, declared, subscript, channel_use)?;
+        let message = declared.message;
+        Some(TypedChannel { channel, message })
     }
 
-    /// Which channel a name means that has no subscript. If it is a variable, this helps.
-    pub fn channel_of(
+    /// Which channel is named. What is wrong is noted. If the name is a variable, this helps.
+    pub fn named_channel(
         &mut self,
         name: SourceName<'a>,
         subscript: Option<&SourceExpression<'a>>,
         hint: Option<MeaningHint<'a>>,
-    ) -> Result<Option<usize>, AllocError> {
-        let index = self.channel_named(name, hint)?;
-        match (index, subscript) {
-            (Some(_), Some(_)) => {
-                let found = self.find(name);
-                self.tell_found(name, found, ExpectedMeaning::NoSubscript, None)?;
-                Ok(None)
-            }
-            _ => Ok(index),
-        }
-    }
-
-    // Which channel a name means. If it is a variable, this helps.
-    fn channel_named(
-        &mut self,
-        name: SourceName<'a>,
-        hint: Option<MeaningHint<'a>>,
-    ) -> Result<Option<usize>, AllocError> {
-        let found = self.find(name);
-        let hint = match found {
-            FoundName::Constant(_) => Some(MeaningHint::PlaceAtName(name.text)),
-            FoundName::Known(known) => match known.meaning {
-                Meaning::Channel(index) => return Ok(Some(index)),
-                Meaning::Variable(_, _, Access::Changing) => hint,
-                _ => None,
-            },
-            FoundName::Nothing => None,
-        };
-        self.tell_found(name, found, ExpectedMeaning::Channel, hint)?;
-        Ok(None)
-    }
-
-    // Says that a channel isn't placed, and lets no more be said of it.
-    fn tell_unplaced(
-        &mut self,
-        name: SourceName<'a>,
-        index: usize,
-        channel: DeclaredChannel<'a>,
-        channel_use: ChannelUse,
-    ) -> Result<(), AllocError> {
-        self.put_channel(index, ChannelPlace::Wrong);
-        let SourceName { text, place } = channel.name;
-        let met = MetMeaning::Known(text, NameKind::Channel, place.line);
-        let hint = channel_use.placing(text);
-        self.tell(name.place, ExpectedMeaning::PlacedChannel, met, Some(hint))
-    }
-
-    // Puts a channel somewhere.
-    fn put_channel(&mut self, index: usize, place: ChannelPlace) {
-        if let Some(channel) = self.channels.get_mut(index) {
-            channel.place = place;
-        }
-    }
-
-    /// What `PLACE name AT expression:` does.
-    pub fn place_channel(
-        &mut self,
-        name: SourceName<'a>,
-        expression: &SourceExpression<'a>,
-        is_outermost: bool,
-    ) -> Result<(), AllocError> {
-        if !is_outermost {
-            self.excuse(name);
-            let expected = ExpectedMeaning::OuterPlace;
-            return self.tell(name.place, expected, MetMeaning::Inside, None);
-        }
-        let channel = self.channel_to_place(name)?;
-        let number = self.link_number(expression)?;
-        if let Some(index) = channel {
-            let place = match number {
-                Some(number) => ChannelPlace::At(number),
-                None => ChannelPlace::Wrong,
-            };
-            self.put_channel(index, place);
-        }
-        Ok(())
-    }
-
-    // Lets nothing be said of a channel that isn't placed.
-    fn excuse(&mut self, name: SourceName<'a>) {
-        if let FoundName::Known(known) = self.find(name)
-            && let Meaning::Channel(index) = known.meaning
-            && let Some(channel) = self.channels.get_mut(index)
-            && let ChannelPlace::Nowhere = channel.place
-        {
-            channel.place = ChannelPlace::Wrong;
-        }
-    }
-
-    // Which channel a name means that isn't placed yet.
-    fn channel_to_place(&mut self, name: SourceName<'a>) -> Result<Option<usize>, AllocError> {
-        let Some(index) = self.channel_named(name, None)? else {
-            return Ok(None);
-        };
-        let Some(channel) = self.channels.get(index).copied() else {
-            return Ok(None);
-        };
-        if let ChannelPlace::At(number) = channel.place {
-            let met = MetMeaning::AtLink(name.text, channel.name.place.line, number);
-            self.tell(name.place, ExpectedMeaning::UnplacedChannel, met, None)?;
-            return Ok(None);
-        }
-        Ok(Some(index))
-    }
-
-    // The number of a link's channel at which no channel is yet.
-    fn link_number(&mut self, expression: &SourceExpression<'a>) -> Result<Option<u8>, AllocError> {
-        let Some(typed) = self.value_of_type(expression, DataType::Int)? else {
-            return Ok(None);
-        };
-        if let Some(name) = typed.varies {
-            self.tell(name.place, ExpectedMeaning::Constant, name.met, None)?;
-            return Ok(None);
-        }
-        let Expression::Number(number) = typed.expression else {
-            return Ok(None);
-        };
-        if number >= 8 {
-            let hint = if number == 8 {
-                MeaningHint::EventChannel
-            } else {
-                MeaningHint::LinkNames
-            };
-            let met = MetMeaning::Number(number.cast_signed());
-            self.tell(typed.place, ExpectedMeaning::LinkNumber, met, Some(hint))?;
-            return Ok(None);
-        }
-        let number = number as u8;
-        if let Some(name) = self.channel_at(number) {
-            let met = MetMeaning::Taken(number, name.text, name.place.line);
-            self.tell(typed.place, ExpectedMeaning::FreeLinkNumber, met, None)?;
-            return Ok(None);
-        }
-        Ok(Some(number))
-    }
-
-    // The name of the channel at a link's channel.
-    fn channel_at(&self, number: u8) -> Option<SourceName<'a>> {
-        for channel in &self.channels {
-            if let ChannelPlace::At(taken) = channel.place
-                && taken == number
-            {
-                return Some(channel.name);
+    ) -> Option<NamedChannel> {
+        let found = self.scope.find(name);
+        if let FoundName::Known(known) = found {
+            match (known.meaning, subscript) {
+                (Meaning::Channel(channel), None) => return Some(channel_of_name(channel)),
+                (Meaning::ChannelArray(index), Some(subscript)) => {
+                    return self.channel_element(index, subscript);
+                }
+                _ => {}
             }
         }
+        self.tell_channel(name, found, hint);
         None
+    }
+
+    // Says that a name isn't that of a channel as it is used. If it is a variable, this helps.
+    fn tell_channel(
+        &mut self,
+        name: SourceName<'a>,
+        found: FoundName<'a>,
+        hint: Option<MeaningHint<'a>>,
+    ) {
+        let (expected, hint) = match found {
+            FoundName::Constant(_) => (
+                ExpectedMeaning::Channel,
+                Some(MeaningHint::PlaceAtName(name.text)),
+            ),
+            FoundName::Known(known) => match known.meaning {
+                Meaning::Channel(_) => (ExpectedMeaning::NoSubscript, None),
+                Meaning::ChannelArray(_) => (
+                    ExpectedMeaning::Subscript,
+                    Some(MeaningHint::Element(name.text)),
+                ),
+                Meaning::Variable(_, _, Access::Changing) => (ExpectedMeaning::Channel, hint),
+                _ => (ExpectedMeaning::Channel, None),
+            },
+            FoundName::Nothing => (ExpectedMeaning::Channel, None),
+        };
+        self.tell_found(name, found, expected, hint);
+    }
+
+    // The element of a subscript of an array of channels.
+    fn channel_element(
+        &mut self,
+        index: usize,
+        subscript: &SourceExpression<'a>,
+    ) -> Option<NamedChannel> {
+        let length = self.channel_count(index);
+        let typed = self.expression(subscript)?;
+        let subscript = Some(self.notes.subscript(typed, length)?);
+        Some(NamedChannel { index, subscript })
+    }
+
+    /// How many channels a declared channel or array is, if that is known.
+    pub fn channel_count(&self, index: usize) -> Option<u32> {
+        let declared = self.channels.get(index)?;
+        declared.form.length()
     }
 }

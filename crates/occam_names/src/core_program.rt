@@ -3,22 +3,43 @@ ghost use Rattle.std.specs.Prelude.{IfErr};
 ghost use Rattle.occam_names.specs.Mistakes.{HasMistakes};
 
 use crate::mistakes::OccamNamesFault;
-use crate::namer::{MOST_VARIABLES, Namer};
+use crate::namer::Namer;
 use crate::tables::Tables;
+use crate::variables::MOST_VARIABLES;
 use occam_core::CoreProcess;
 use occam_tree::{DataType, SourceDeclaration, SourceProcess};
 use std::alloc::Global;
+
+/// What is in the word of a variable.
+#[derive(Clone, Copy)]
+pub enum VariableKind {
+    /// A value of this type, or as much of an array of them as a word has.
+    Data(DataType),
+    /// A channel within the node.
+    Channel,
+}
 
 /// A variable of the core, which is a word.
 #[derive(Clone, Copy)]
 pub struct CoreVariable<'a> {
     /// Its name in the text. What only the core has, as the count of a replicator, and the words of tables have no name.
     pub name: Option<&'a str>,
-    pub data_type: DataType,
+    pub kind: VariableKind,
     /// The line that declares it.
     pub line: u32,
     /// The subscript of the first element of an array that is in it, if it is a part of an array.
     pub element: Option<u32>,
+}
+
+/// A channel that is placed at a link.
+#[derive(Clone, Copy)]
+pub struct LinkChannelName<'a> {
+    /// The number of the link's channel: 0 to 3 are the outputs of links 0 to 3, and 4 to 7 their inputs.
+    pub number: u8,
+    /// Its name in the text.
+    pub name: &'a str,
+    /// The line that declares it.
+    pub line: u32,
 }
 
 /// The core of a program, and its variables.
@@ -27,6 +48,8 @@ pub struct CoreProgram<'a> {
     pub process: CoreProcess,
     /// The variables by their numbers in the core.
     pub variables: Vec<CoreVariable<'a>>,
+    /// The channels at links. No two have one number.
+    pub links: Vec<LinkChannelName<'a>>,
     /// The words of constant tables. They are the first of the variables, have these values from the start, and never change.
     pub tables: Vec<u32>,
 }
@@ -51,10 +74,8 @@ pub fn core_of<'a>(
         return Ok(counting);
     }
     let mut namer = Namer::new(alloc, Tables::new(alloc, 0));
-    match namer.reserve_tables(words) {
-        Ok(()) => core_with(namer, prelude, program),
-        Err(_) => Err(OccamNamesFault::NoMemory),
-    }
+    namer.reserve_tables(words);
+    core_with(namer, prelude, program)
 }
 
 // The core of a program whose names are found with this.
@@ -65,17 +86,17 @@ fn core_with<'a, 'b>(
 ) -> Result<CoreProgram<'a>, OccamNamesFault<'a>>
     ensures mistakes { IfErr result HasMistakes }
 {
-    let process = match namer.program(prelude, program) {
-        Ok(process) => process,
-        Err(_) => return Err(OccamNamesFault::NoMemory),
-    };
-    if namer.mistakes.is_empty() {
+    let process = namer.program(prelude, program);
+    if namer.notes.lacks_memory {
+        Err(OccamNamesFault::NoMemory)
+    } else if namer.notes.mistakes.is_empty() {
         Ok(CoreProgram {
             process,
             variables: namer.variables,
+            links: namer.links,
             tables: namer.tables.into_words(),
         })
     } else {
-        Err(OccamNamesFault::Wrong(namer.mistakes))
+        Err(OccamNamesFault::Wrong(namer.notes.mistakes))
     }
 }

@@ -1,26 +1,16 @@
 //! Variables and elements of arrays where they are used.
 
 use crate::expected::ExpectedMeaning;
-use crate::expressions::TypedExpression;
+use crate::expressions::{TypedExpression, number_of};
 use crate::fault::MeaningHint;
 use crate::marks::Region;
 use crate::meaning::{Access, ArrayMeaning, Cell};
 use crate::met::MetMeaning;
-use crate::namer::{FoundName, Namer};
-use crate::scope::{KnownName, Meaning};
+use crate::namer::Namer;
+use crate::notes::Notes;
+use crate::scope::{FoundName, KnownName, Meaning};
 use occam_core::{CoreArray, ElementKind, Expression};
-use occam_tree::{DataType, SourceExpression, SourceName};
-use std::alloc::AllocError;
-
-/// What is between brackets after a name.
-#[derive(Drop)]
-pub enum SubscriptValue<'a> {
-    /// There are no brackets.
-    Missing,
-    /// It is wrong, and that was said.
-    Wrong,
-    Is(TypedExpression<'a>),
-}
+use occam_tree::{DataType, SourceElement, SourceExpression, SourceName};
 
 /// A variable or an element in the core.
 #[derive(Drop)]
@@ -56,59 +46,132 @@ fn known_element(array: CoreArray, subscript: u32) -> CoreElement {
     }
 }
 
-impl<'a, 'b> Namer<'a, 'b> {
-    /// What is between brackets.
+// The element of a subscript in an array.
+fn element_of_array(
+    known: KnownName<'_>,
+    array: ArrayMeaning,
+    subscript: Expression,
+) -> TypedElement<'_> {
+    let (element, region) = match (number_of(&subscript), array.length()) {
+        (Some(number), Some(length)) if number < length => (
+            known_element(array.array, number),
+            Region::of_element(array.array, number),
+        ),
+        _ => (
+            CoreElement::Element(array.array, subscript),
+            Region::of_array(array.array),
+        ),
+    };
+    TypedElement {
+        known,
+        data_type: array.data_type,
+        element,
+        access: array.access,
+        region,
+    }
+}
+
+impl<'a> Notes<'a> {
+    /// The subscript of an array of a length. What is wrong with it is noted. If it is a constant that the array hasn't, it is
+    /// an error when the program runs, in a body that is put in place.
     pub fn subscript(
         &mut self,
-        subscript: Option<&SourceExpression<'a>>,
-    ) -> Result<SubscriptValue<'a>, AllocError> {
-        let Some(subscript) = subscript else {
-            return Ok(SubscriptValue::Missing);
-        };
-        Ok(match self.expression(subscript)? {
-            Some(typed) => SubscriptValue::Is(typed),
-            None => SubscriptValue::Wrong,
-        })
+        subscript: TypedExpression<'a>,
+        length: Option<u32>,
+    ) -> Option<Expression> {
+        let subscript = self.folded(subscript)?;
+        if self.is_subscript(&subscript, length) {
+            Some(subscript.expression)
+        } else {
+            None
+        }
     }
 
-    /// The variable or the element that is named, or else this was expected. What is wrong is noted.
+    // Whether an expression is a subscript of an array of a length. If not, that is noted.
+    fn is_subscript(&mut self, subscript: &TypedExpression<'a>, length: Option<u32>) -> bool {
+        if subscript.data_type != DataType::Int {
+            let expected = ExpectedMeaning::OfType(DataType::Int);
+            let met = MetMeaning::Typed(subscript.data_type);
+            let hint = Some(MeaningHint::Convert(DataType::Int));
+            self.tell(subscript.place, expected, met, hint);
+            return false;
+        }
+        let (Some(number), Some(length)) = (number_of(&subscript.expression), length) else {
+            return true;
+        };
+        if number < length || self.around.is_in_place() {
+            return true;
+        }
+        let expected = ExpectedMeaning::SubscriptBelow(length);
+        let met = MetMeaning::Number(number.cast_signed());
+        self.tell(subscript.place, expected, met, None);
+        false
+    }
+}
+
+impl<'a, 'b> Namer<'a, 'b> {
+    /// The variable or the element that is written, or else this was expected. What is wrong is noted. If it is a channel, this
+    /// helps.
     pub fn element(
         &mut self,
         name: SourceName<'a>,
-        subscript: SubscriptValue<'a>,
+        subscript: Option<&SourceExpression<'a>>,
         expected: ExpectedMeaning,
         hint: Option<MeaningHint<'a>>,
-    ) -> Result<Option<TypedElement<'a>>, AllocError> {
-        let found = self.find(name);
-        let FoundName::Known(known) = found else {
-            self.tell_found(name, found, expected, None)?;
-            return Ok(None);
+    ) -> Option<TypedElement<'a>> {
+        match subscript {
+            Some(subscript) => {
+                let subscript = self.expression(subscript);
+                self.array_element(name, subscript, expected)
+            }
+            None => self.variable(name, expected, hint),
+        }
+    }
+
+    /// The variable of a name, or else this was expected. What is wrong is noted. If it is a channel, this helps.
+    pub fn variable(
+        &mut self,
+        name: SourceName<'a>,
+        expected: ExpectedMeaning,
+        hint: Option<MeaningHint<'a>>,
+    ) -> Option<TypedElement<'a>> {
+        let found = self.scope.find(name);
+        if let FoundName::Known(known) = found
+            && let Meaning::Variable(data_type, cell, access) = known.meaning
+        {
+            let element = TypedElement {
+                known,
+                data_type,
+                element: element_of_cell(cell),
+                access,
+                region: Region::of_cell(cell),
+            };
+            return self.allowed(name, element);
+        }
+        self.tell_no_variable(name, found, expected, hint);
+        None
+    }
+
+    // Says that a name is no variable.
+    fn tell_no_variable(
+        &mut self,
+        name: SourceName<'a>,
+        found: FoundName<'a>,
+        expected: ExpectedMeaning,
+        hint: Option<MeaningHint<'a>>,
+    ) {
+        let (expected, hint) = match found {
+            FoundName::Known(known) => match known.meaning {
+                Meaning::Array(_) => (
+                    ExpectedMeaning::Subscript,
+                    Some(MeaningHint::Element(name.text)),
+                ),
+                Meaning::Channel(_) => (expected, hint),
+                _ => (expected, None),
+            },
+            _ => (expected, None),
         };
-        let (expected, hint) = match (known.meaning, subscript) {
-            (Meaning::Variable(data_type, cell, access), SubscriptValue::Missing) => {
-                let element = TypedElement {
-                    known,
-                    data_type,
-                    element: element_of_cell(cell),
-                    access,
-                    region: Region::of_cell(cell),
-                };
-                return self.allowed(name, element);
-            }
-            (Meaning::Array(array), SubscriptValue::Is(subscript)) => {
-                return self.array_element(name, known, array, subscript);
-            }
-            (Meaning::Array(_), SubscriptValue::Wrong) => return Ok(None),
-            (Meaning::Array(_), SubscriptValue::Missing) => {
-                let hint = MeaningHint::Element(name.text);
-                (ExpectedMeaning::Subscript, Some(hint))
-            }
-            (Meaning::Channel(_), SubscriptValue::Missing) => (expected, hint),
-            (_, SubscriptValue::Missing) => (expected, None),
-            _ => (ExpectedMeaning::NoSubscript, None),
-        };
-        self.tell_found(name, found, expected, hint)?;
-        Ok(None)
+        self.tell_found(name, found, expected, hint);
     }
 
     // An element unless it may not be named so.
@@ -116,91 +179,71 @@ impl<'a, 'b> Namer<'a, 'b> {
         &mut self,
         name: SourceName<'a>,
         element: TypedElement<'a>,
-    ) -> Result<Option<TypedElement<'a>>, AllocError> {
-        if self.may_name(name, element.known, element.access, element.region)? {
-            Ok(Some(element))
+    ) -> Option<TypedElement<'a>> {
+        if self.may_name(name, element.known, element.access, element.region) {
+            Some(element)
         } else {
-            Ok(None)
+            None
         }
     }
 
-    // The element of a subscript.
-    fn array_element(
+    /// The element of a subscript, if that is right, or else this was expected. What is wrong is noted.
+    pub fn array_element(
         &mut self,
         name: SourceName<'a>,
-        known: KnownName<'a>,
-        array: ArrayMeaning,
-        subscript: TypedExpression<'a>,
-    ) -> Result<Option<TypedElement<'a>>, AllocError> {
-        let Some(subscript) = self.folded(subscript)? else {
-            return Ok(None);
+        subscript: Option<TypedExpression<'a>>,
+        expected: ExpectedMeaning,
+    ) -> Option<TypedElement<'a>> {
+        let Some((known, array)) = self.scope.array_named(name) else {
+            self.tell_no_array(name, expected);
+            return None;
         };
-        if subscript.data_type != DataType::Int {
-            let expected = ExpectedMeaning::OfType(DataType::Int);
-            let met = MetMeaning::Typed(subscript.data_type);
-            let hint = Some(MeaningHint::Convert(DataType::Int));
-            self.tell(subscript.place, expected, met, hint)?;
-            return Ok(None);
-        }
-        let whole = Region::of_array(array.array);
-        let (element, region) = match (subscript.expression, array.length()) {
-            (Expression::Number(number), Some(length)) if number < length => (
-                known_element(array.array, number),
-                Region::of_element(array.array, number),
-            ),
-            (Expression::Number(number), Some(length)) if !self.around.is_in_place() => {
-                let expected = ExpectedMeaning::SubscriptBelow(length);
-                let met = MetMeaning::Number(number.cast_signed());
-                self.tell(subscript.place, expected, met, None)?;
-                return Ok(None);
-            }
-            (expression, _) => (CoreElement::Element(array.array, expression), whole),
+        let subscript = self.notes.subscript(subscript?, array.length())?;
+        self.allowed(name, element_of_array(known, array, subscript))
+    }
+
+    // Says that a name with a subscript is no array.
+    fn tell_no_array(&mut self, name: SourceName<'a>, expected: ExpectedMeaning) {
+        let found = self.scope.find(name);
+        let expected = match found {
+            FoundName::Known(known) => match known.meaning {
+                Meaning::ChannelArray(_) => expected,
+                _ => ExpectedMeaning::NoSubscript,
+            },
+            _ => expected,
         };
-        let element = TypedElement {
-            known,
-            data_type: array.data_type,
-            element,
-            access: array.access,
-            region,
-        };
-        self.allowed(name, element)
+        self.tell_found(name, found, expected, None);
     }
 
     /// The variable or the element that is changed. If it is a channel, this helps.
     pub fn target(
         &mut self,
-        name: SourceName<'a>,
-        subscript: Option<&SourceExpression<'a>>,
+        element: &SourceElement<'a>,
         hint: Option<MeaningHint<'a>>,
-    ) -> Result<Option<TypedElement<'a>>, AllocError> {
-        let subscript = self.subscript(subscript)?;
-        let expected = match self.find(name) {
+    ) -> Option<TypedElement<'a>> {
+        let name = element.name;
+        let expected = match self.scope.find(name) {
             FoundName::Known(known) => match known.meaning {
                 Meaning::Constant(_, _) => ExpectedMeaning::ChangingVariable,
                 _ => ExpectedMeaning::Variable,
             },
             _ => ExpectedMeaning::Variable,
         };
-        let Some(element) = self.element(name, subscript, expected, hint)? else {
-            return Ok(None);
-        };
-        if !self.is_changing(name, &element)? || !self.may_change(name, element.region)? {
-            return Ok(None);
+        let target = self.element(name, element.subscript.as_ref(), expected, hint)?;
+        if self.is_changing(name, &target) && self.may_change(name, target.region) {
+            Some(target)
+        } else {
+            None
         }
-        Ok(Some(element))
     }
 
     /// Whether an element is a variable. If not, that is noted.
-    pub fn is_changing(
-        &mut self,
-        name: SourceName<'a>,
-        element: &TypedElement<'a>,
-    ) -> Result<bool, AllocError> {
+    pub fn is_changing(&mut self, name: SourceName<'a>, element: &TypedElement<'a>) -> bool {
         if element.access == Access::Changing {
-            return Ok(true);
+            return true;
         }
-        let expected = ExpectedMeaning::ChangingVariable;
-        self.tell_found(name, FoundName::Known(element.known), expected, None)?;
-        Ok(false)
+        let found = FoundName::Known(element.known);
+        self.tell_found(name, found, ExpectedMeaning::ChangingVariable, None);
+        false
     }
 }

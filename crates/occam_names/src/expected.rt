@@ -1,7 +1,9 @@
 //! What was expected instead of what is in a text.
 
 use crate::meaning::{MessageType, TypeMeaning};
-use crate::met::{word_of_type, write_array_type, write_channel_type, write_type};
+use crate::met::{
+    word_of_type, write_array_type, write_channel_array_type, write_channel_type, write_type,
+};
 use occam_tree::DataType;
 use std::fmt;
 
@@ -44,21 +46,29 @@ pub enum ExpectedMeaning {
     LinkNumber,
     /// The same, and no other channel is there.
     FreeLinkNumber,
-    PlacedChannel,
     OutputChannel,
     InputChannel,
     FewVariables,
     FewParts,
     FewChoices,
     FewLevels,
+    /// Of a `PAR`.
+    FewComponents,
+    /// Of an `ALT`.
+    FewAlternatives,
+    /// In an array of channels.
+    FewChannels,
     /// Each name once among the parameters of a procedure.
     OtherParameter,
     Array,
+    ChannelArray,
     Procedure,
     /// An array of this length, or of any, and of this type.
     OfArray(Option<u32>, DataType),
     /// The number of elements of an array.
     ArraySize,
+    /// The number of channels in an array of them.
+    ChannelArraySize,
     /// A subscript of an array of this length.
     SubscriptBelow(u32),
     /// A subscript after an array.
@@ -72,6 +82,8 @@ pub enum ExpectedMeaning {
     MessageArray(Option<u32>, DataType),
     /// A channel of such messages.
     ChannelOf(MessageType),
+    /// An array of this many channels, or of any number of them, of such messages.
+    ChannelArrayOf(Option<u32>, MessageType),
     /// This many actual parameters.
     Actuals(u32),
     /// An actual parameter of this type, which isn't a `VAL`.
@@ -107,20 +119,24 @@ impl ExpectedMeaning {
             | ExpectedMeaning::ByteValue
             | ExpectedMeaning::BoolValue
             | ExpectedMeaning::CountValue
-            | ExpectedMeaning::ArraySize => 23,
+            | ExpectedMeaning::ArraySize
+            | ExpectedMeaning::ChannelArraySize => 23,
             ExpectedMeaning::Message(_)
             | ExpectedMeaning::MessageArray(_, _)
             | ExpectedMeaning::ChannelOf(_)
+            | ExpectedMeaning::ChannelArrayOf(_, _)
             | ExpectedMeaning::MessageType => 29,
             ExpectedMeaning::OuterPlace
             | ExpectedMeaning::UnplacedChannel
             | ExpectedMeaning::LinkNumber
-            | ExpectedMeaning::FreeLinkNumber
-            | ExpectedMeaning::PlacedChannel => 30,
+            | ExpectedMeaning::FreeLinkNumber => 30,
             ExpectedMeaning::FewVariables
             | ExpectedMeaning::FewParts
             | ExpectedMeaning::FewChoices
-            | ExpectedMeaning::FewLevels => 38,
+            | ExpectedMeaning::FewLevels
+            | ExpectedMeaning::FewComponents
+            | ExpectedMeaning::FewAlternatives
+            | ExpectedMeaning::FewChannels => 38,
             _ => 18,
         }
     }
@@ -134,6 +150,7 @@ impl ExpectedMeaning {
             ExpectedMeaning::Variable => "a variable",
             ExpectedMeaning::Channel => "a channel",
             ExpectedMeaning::Array => "an array",
+            ExpectedMeaning::ChannelArray => "an array of channels",
             ExpectedMeaning::Procedure => "a PROC",
             ExpectedMeaning::Value => "a variable or a constant",
             ExpectedMeaning::Truth => "BOOL",
@@ -144,6 +161,7 @@ impl ExpectedMeaning {
             ExpectedMeaning::BoolValue => "a constant that is 0 or 1",
             ExpectedMeaning::CountValue => "a count from 0 on",
             ExpectedMeaning::ArraySize => "an array of 1 to 16000 elements",
+            ExpectedMeaning::ChannelArraySize => "an array of 1 to 256 channels",
             ExpectedMeaning::Subscript => "a subscript after an array",
             ExpectedMeaning::NoSubscript => "a subscript after an array alone",
             ExpectedMeaning::ChangingVariable => "a variable that may be changed",
@@ -165,13 +183,15 @@ impl ExpectedMeaning {
             ExpectedMeaning::UnplacedChannel => "a channel that isn't placed yet",
             ExpectedMeaning::LinkNumber => "a number from 0 to 7",
             ExpectedMeaning::FreeLinkNumber => "a number at which no channel is placed yet",
-            ExpectedMeaning::PlacedChannel => "a channel that is placed at a link",
             ExpectedMeaning::OutputChannel => "a channel at the output of a link",
             ExpectedMeaning::InputChannel => "a channel at the input of a link",
             ExpectedMeaning::FewVariables => "at most 16000 variables",
             ExpectedMeaning::FewParts => "a program of at most 100000 parts",
             ExpectedMeaning::FewChoices => "an IF of at most 1000 choices",
             ExpectedMeaning::FewLevels => "processes at most 250 deep in one another",
+            ExpectedMeaning::FewComponents => "at most 256 components of PAR",
+            ExpectedMeaning::FewAlternatives => "at most 256 alternatives of ALT",
+            ExpectedMeaning::FewChannels => "an array of at most 256 channels",
             ExpectedMeaning::ActualOf(TypeMeaning::Data(_) | TypeMeaning::Array(_, _)) => {
                 "a variable of type "
             }
@@ -194,6 +214,9 @@ impl fmt::Display for ExpectedMeaning {
                 write_array_type(f, length, data_type)
             }
             ExpectedMeaning::ChannelOf(message) => write_channel_type(f, message),
+            ExpectedMeaning::ChannelArrayOf(length, message) => {
+                write_channel_array_type(f, length, message)
+            }
             ExpectedMeaning::ActualOf(formal_type) => write_type(f, formal_type),
             ExpectedMeaning::SubscriptBelow(length) => {
                 write!(f, "a subscript from 0 to {}", length.saturating_sub(1))

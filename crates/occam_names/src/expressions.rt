@@ -1,23 +1,22 @@
 //! Types and values of expressions.
 
 use crate::constants::{constant_value, error_in};
-use crate::elements::{CoreElement, SubscriptValue, TypedElement};
+use crate::elements::{CoreElement, TypedElement};
 use crate::expected::ExpectedMeaning;
 use crate::fault::MeaningHint;
-use crate::meaning::Access;
 use crate::met::MetMeaning;
-use crate::namer::{FoundName, Namer, met_of};
-use crate::scope::Meaning;
-use occam_core::Expression;
+use crate::namer::Namer;
+use crate::notes::Notes;
+use crate::scope::{FoundName, KnownName, Meaning, met_of};
+use occam_core::{CoreArray, Expression};
 use occam_tree::{DataType, SourceExpression, SourceName, TextPlace};
-use std::alloc::AllocError;
 
 /// A name whose value isn't known from the text.
 #[derive(Clone, Copy)]
 pub struct VaryingName<'a> {
     pub place: TextPlace,
     pub met: MetMeaning<'a>,
-    /// Whether it may be a constant in an instance of the procedure in whose body it is.
+    /// Whether it may be a constant where the body is put in place in which it is.
     pub rests_on_parameters: bool,
 }
 
@@ -26,10 +25,10 @@ pub fn first_varying<'a>(
     left: Option<VaryingName<'a>>,
     right: Option<VaryingName<'a>>,
 ) -> Option<VaryingName<'a>> {
-    match (left, right) {
-        (Some(left), Some(right)) if left.rests_on_parameters => Some(right),
-        (Some(left), _) => Some(left),
-        (None, right) => right,
+    match left {
+        Some(name) if name.rests_on_parameters => right.or(left),
+        Some(_) => left,
+        None => right,
     }
 }
 
@@ -56,140 +55,151 @@ impl<'a> TypedExpression<'a> {
     }
 }
 
-impl<'a, 'b> Namer<'a, 'b> {
-    /// An expression of the core. What is wrong with it is noted, and then there is none.
-    pub fn expression(
-        &mut self,
-        expression: &SourceExpression<'a>,
-    ) -> Result<Option<TypedExpression<'a>>, AllocError> {
-        match expression {
-            SourceExpression::Name(name) => self.named_value(*name, SubscriptValue::Missing),
-            SourceExpression::Element(name, subscript) => {
-                let subscript = match self.expression(subscript)? {
-                    Some(typed) => SubscriptValue::Is(typed),
-                    None => SubscriptValue::Wrong,
-                };
-                self.named_value(*name, subscript)
-            }
-            SourceExpression::Size(place, name) => self.size_value(*place, *name),
-            SourceExpression::Monadic(sign, place, operand) => {
-                self.count_part(*place)?;
-                match self.expression(operand)? {
-                    Some(operand) => self.monadic(*sign, *place, operand),
-                    None => Ok(None),
-                }
-            }
-            SourceExpression::Converted(conversion, place, operand) => {
-                self.count_part(*place)?;
-                match self.expression(operand)? {
-                    Some(operand) => self.converted(*conversion, *place, operand),
-                    None => Ok(None),
-                }
-            }
-            SourceExpression::Dyadic(sign, place, left, right) => {
-                self.count_part(*place)?;
-                let left = self.expression(left)?;
-                match (left, self.expression(right)?) {
-                    (Some(left), Some(right)) => self.dyadic(*sign, *place, left, right),
-                    _ => Ok(None),
-                }
-            }
-            _ => self.literal(expression),
-        }
+/// The number that an expression is.
+pub fn number_of(expression: &Expression) -> Option<u32> {
+    match expression {
+        Expression::Number(number) => Some(*number),
+        _ => None,
     }
+}
 
+// A name whose value isn't known.
+fn varying_name(
+    place: TextPlace,
+    known: KnownName<'_>,
+    rests_on_parameters: bool,
+) -> Option<VaryingName<'_>> {
+    let met = met_of(known)?;
+    Some(VaryingName {
+        place,
+        met,
+        rests_on_parameters,
+    })
+}
+
+// The constant that a name means.
+fn constant_of(found: FoundName<'_>) -> Option<(DataType, u32)> {
+    match found {
+        FoundName::Constant(value) => Some((DataType::Int, value)),
+        FoundName::Known(known) => match known.meaning {
+            Meaning::Constant(data_type, value) => Some((data_type, value)),
+            _ => None,
+        },
+        FoundName::Nothing => None,
+    }
+}
+
+impl<'a> Notes<'a> {
     // A number, a character or a truth as it is written.
-    fn literal(
-        &mut self,
-        expression: &SourceExpression<'a>,
-    ) -> Result<Option<TypedExpression<'a>>, AllocError> {
-        match expression {
-            SourceExpression::Number(value, place) => self.constant(*place, DataType::Int, *value),
+    fn literal(&mut self, expression: &SourceExpression<'a>) -> Option<TypedExpression<'a>> {
+        let (place, data_type, value) = match expression {
+            SourceExpression::Number(value, place) => (*place, DataType::Int, *value),
             SourceExpression::Character(byte, place) => {
-                self.constant(*place, DataType::Byte, u32::from(*byte))
+                (*place, DataType::Byte, u32::from(*byte))
             }
-            SourceExpression::Truth(truth, place) => {
-                self.constant(*place, DataType::Bool, u32::from(*truth))
-            }
-            _ => Ok(None),
-        }
-    }
-
-    // A literal.
-    fn constant(
-        &mut self,
-        place: TextPlace,
-        data_type: DataType,
-        value: u32,
-    ) -> Result<Option<TypedExpression<'a>>, AllocError> {
-        self.count_part(place)?;
-        Ok(Some(TypedExpression::constant(place, data_type, value)))
-    }
-
-    // The value of a name, or of an element of an array.
-    fn named_value(
-        &mut self,
-        name: SourceName<'a>,
-        subscript: SubscriptValue<'a>,
-    ) -> Result<Option<TypedExpression<'a>>, AllocError> {
-        self.count_part(name.place)?;
-        if let (Some((data_type, value)), SubscriptValue::Missing) = (
-            self.constant_named(name),
-            &subscript,
-        ) {
-            return Ok(Some(TypedExpression::constant(name.place, data_type, value)));
-        }
-        let hint = MeaningHint::Input(name.text);
-        match self.element(name, subscript, ExpectedMeaning::Value, Some(hint))? {
-            Some(element) => Ok(Some(self.element_value(name, element)?)),
-            None => Ok(None),
-        }
-    }
-
-    // The constant that a name means.
-    fn constant_named(&self, name: SourceName<'a>) -> Option<(DataType, u32)> {
-        match self.find(name) {
-            FoundName::Constant(value) => Some((DataType::Int, value)),
-            FoundName::Known(known) => match known.meaning {
-                Meaning::Constant(data_type, value) => Some((data_type, value)),
-                _ => None,
-            },
-            FoundName::Nothing => None,
-        }
+            SourceExpression::Truth(truth, place) => (*place, DataType::Bool, u32::from(*truth)),
+            _ => return None,
+        };
+        self.count_part(place);
+        Some(TypedExpression::constant(place, data_type, value))
     }
 
     // The value of a variable or an element.
     fn element_value(
-        &self,
-        name: SourceName<'a>,
+        &mut self,
+        place: TextPlace,
         element: TypedElement<'a>,
-    ) -> Result<TypedExpression<'a>, AllocError> {
-        let TypedElement {
-            known,
-            data_type,
-            element,
-            access,
-            region: _,
-        } = element;
-        let place = name.place;
-        let rests_on_parameters = access == Access::Parameter;
-        let varies = met_of(known).map(|met| VaryingName {
-            place,
-            met,
-            rests_on_parameters,
-        });
-        let expression = match element {
+    ) -> TypedExpression<'a> {
+        let varies = varying_name(place, element.known, element.access.rests_on_parameters());
+        let data_type = element.data_type;
+        let expression = match element.element {
             CoreElement::Variable(number) => Expression::Variable(number),
-            CoreElement::Element(array, subscript) => {
-                Expression::Element(array, Box::new(self.alloc, subscript)?)
-            }
+            CoreElement::Element(array, subscript) => self.element_expression(array, subscript),
         };
-        Ok(TypedExpression {
+        TypedExpression {
             place,
             data_type,
             expression,
             varies,
-        })
+        }
+    }
+
+    // The element of a subscript.
+    fn element_expression(&mut self, array: CoreArray, subscript: Expression) -> Expression {
+        match Box::new(self.alloc, subscript) {
+            Ok(subscript) => Expression::Element(array, subscript),
+            Err(_) => self.no_expression(),
+        }
+    }
+
+    /// A whole expression: a number, if it is a constant, and else as it is written. If its value is an error, that is noted;
+    /// but in a body that is put in place it is an error when the program runs.
+    pub fn folded(&mut self, typed: TypedExpression<'a>) -> Option<TypedExpression<'a>> {
+        if typed.varies.is_some() {
+            return Some(typed);
+        }
+        match constant_value(&typed.expression) {
+            Some(value) => Some(TypedExpression::constant(typed.place, typed.data_type, value)),
+            None if self.around.is_in_place() => Some(typed),
+            None => {
+                let (expected, met) = error_in(&typed.expression);
+                self.tell(typed.place, expected, met, None);
+                None
+            }
+        }
+    }
+}
+
+impl<'a, 'b> Namer<'a, 'b> {
+    /// An expression of the core. What is wrong with it is noted, and then there is none.
+    pub fn expression(&mut self, expression: &SourceExpression<'a>) -> Option<TypedExpression<'a>> {
+        match expression {
+            SourceExpression::Name(name) => self.named_value(*name),
+            SourceExpression::Element(name, subscript) => {
+                let subscript = self.expression(subscript);
+                self.indexed_value(*name, subscript)
+            }
+            SourceExpression::Size(place, name) => self.size_value(*place, *name),
+            SourceExpression::Monadic(sign, place, operand) => {
+                self.notes.count_part(*place);
+                let operand = self.expression(operand)?;
+                self.notes.monadic(*sign, *place, operand)
+            }
+            SourceExpression::Converted(conversion, place, operand) => {
+                self.notes.count_part(*place);
+                let operand = self.expression(operand)?;
+                Some(self.notes.converted(*conversion, *place, operand))
+            }
+            SourceExpression::Dyadic(sign, place, left, right) => {
+                self.notes.count_part(*place);
+                let left = self.expression(left);
+                let right = self.expression(right);
+                self.notes.dyadic(*sign, *place, left, right)
+            }
+            _ => self.notes.literal(expression),
+        }
+    }
+
+    // The value of a name.
+    fn named_value(&mut self, name: SourceName<'a>) -> Option<TypedExpression<'a>> {
+        self.notes.count_part(name.place);
+        if let Some((data_type, value)) = constant_of(self.scope.find(name)) {
+            return Some(TypedExpression::constant(name.place, data_type, value));
+        }
+        let hint = Some(MeaningHint::Input(name.text));
+        let element = self.variable(name, ExpectedMeaning::Value, hint)?;
+        Some(self.notes.element_value(name.place, element))
+    }
+
+    // The value of an element of an array.
+    fn indexed_value(
+        &mut self,
+        name: SourceName<'a>,
+        subscript: Option<TypedExpression<'a>>,
+    ) -> Option<TypedExpression<'a>> {
+        self.notes.count_part(name.place);
+        let element = self.array_element(name, subscript, ExpectedMeaning::Value)?;
+        Some(self.notes.element_value(name.place, element))
     }
 
     // `SIZE name`
@@ -197,59 +207,38 @@ impl<'a, 'b> Namer<'a, 'b> {
         &mut self,
         place: TextPlace,
         name: SourceName<'a>,
-    ) -> Result<Option<TypedExpression<'a>>, AllocError> {
-        self.count_part(place)?;
-        let Some((known, array)) = self.array_named(name) else {
-            let found = self.find(name);
-            self.tell_found(name, found, ExpectedMeaning::Array, None)?;
-            return Ok(None);
+    ) -> Option<TypedExpression<'a>> {
+        self.notes.count_part(place);
+        let found = self.scope.find(name);
+        let Some((known, length)) = self.length_of(found) else {
+            self.tell_found(name, found, ExpectedMeaning::Array, None);
+            return None;
         };
-        let data_type = DataType::Int;
-        let varies = met_of(known).map(|met| VaryingName {
-            place,
-            met,
-            rests_on_parameters: true,
-        });
-        Ok(Some(match array.length() {
-            Some(length) => TypedExpression::constant(place, data_type, length),
-            None => TypedExpression {
-                place,
-                data_type,
-                expression: Expression::Variable(array.array.first),
-                varies,
-            },
-        }))
+        Some(match length {
+            Some(length) => TypedExpression::constant(place, DataType::Int, length),
+            None => open_length(place, known),
+        })
     }
 
-    /// A whole expression: a number, if it is a constant, and else as it is written.
+    // The name of an array, also of channels, and how many elements it has, if that is known.
+    fn length_of(&self, found: FoundName<'a>) -> Option<(KnownName<'a>, Option<u32>)> {
+        let FoundName::Known(known) = found else {
+            return None;
+        };
+        match known.meaning {
+            Meaning::Array(array) => Some((known, array.length())),
+            Meaning::ChannelArray(index) => Some((known, self.channel_count(index))),
+            _ => None,
+        }
+    }
+
+    /// A whole expression.
     pub fn whole_expression(
         &mut self,
         expression: &SourceExpression<'a>,
-    ) -> Result<Option<TypedExpression<'a>>, AllocError> {
-        match self.expression(expression)? {
-            Some(typed) => self.folded(typed),
-            None => Ok(None),
-        }
-    }
-
-    /// The same of an expression that has a type. If its value is an error, that is noted; but in a body that is put in place
-    /// it is an error when the program runs.
-    pub fn folded(
-        &mut self,
-        typed: TypedExpression<'a>,
-    ) -> Result<Option<TypedExpression<'a>>, AllocError> {
-        if typed.varies.is_some() {
-            return Ok(Some(typed));
-        }
-        match constant_value(&typed.expression) {
-            Some(value) => Ok(Some(TypedExpression::constant(typed.place, typed.data_type, value))),
-            None if self.around.is_in_place() => Ok(Some(typed)),
-            None => {
-                let (expected, met) = error_in(&typed.expression);
-                self.tell(typed.place, expected, met, None)?;
-                Ok(None)
-            }
-        }
+    ) -> Option<TypedExpression<'a>> {
+        let typed = self.expression(expression)?;
+        self.notes.folded(typed)
     }
 
     /// A whole expression of a type.
@@ -257,7 +246,7 @@ impl<'a, 'b> Namer<'a, 'b> {
         &mut self,
         expression: &SourceExpression<'a>,
         data_type: DataType,
-    ) -> Result<Option<TypedExpression<'a>>, AllocError> {
+    ) -> Option<TypedExpression<'a>> {
         let hint = MeaningHint::Convert(data_type);
         self.value_for(
             expression,
@@ -272,7 +261,7 @@ impl<'a, 'b> Namer<'a, 'b> {
         &mut self,
         expression: &SourceExpression<'a>,
         data_type: DataType,
-    ) -> Result<Option<TypedExpression<'a>>, AllocError> {
+    ) -> Option<TypedExpression<'a>> {
         let hint = MeaningHint::Convert(data_type);
         self.value_for(
             expression,
@@ -283,16 +272,9 @@ impl<'a, 'b> Namer<'a, 'b> {
     }
 
     /// A whole expression that is a condition.
-    pub fn condition(
-        &mut self,
-        expression: &SourceExpression<'a>,
-    ) -> Result<Option<TypedExpression<'a>>, AllocError> {
-        self.value_for(
-            expression,
-            DataType::Bool,
-            ExpectedMeaning::Truth,
-            MeaningHint::Compare,
-        )
+    pub fn condition(&mut self, expression: &SourceExpression<'a>) -> Option<TypedExpression<'a>> {
+        let hint = MeaningHint::Compare;
+        self.value_for(expression, DataType::Bool, ExpectedMeaning::Truth, hint)
     }
 
     // A whole expression of a type, or else this was expected.
@@ -302,15 +284,23 @@ impl<'a, 'b> Namer<'a, 'b> {
         data_type: DataType,
         expected: ExpectedMeaning,
         hint: MeaningHint<'a>,
-    ) -> Result<Option<TypedExpression<'a>>, AllocError> {
-        let Some(typed) = self.whole_expression(expression)? else {
-            return Ok(None);
-        };
+    ) -> Option<TypedExpression<'a>> {
+        let typed = self.whole_expression(expression)?;
         if typed.data_type == data_type {
-            return Ok(Some(typed));
+            return Some(typed);
         }
         let met = MetMeaning::Typed(typed.data_type);
-        self.tell(typed.place, expected, met, Some(hint))?;
-        Ok(None)
+        self.notes.tell(typed.place, expected, met, Some(hint));
+        None
+    }
+}
+
+// The length of an array in a body that is only checked, where it isn't known.
+fn open_length(place: TextPlace, known: KnownName<'_>) -> TypedExpression<'_> {
+    TypedExpression {
+        place,
+        data_type: DataType::Int,
+        expression: Expression::Variable(0),
+        varies: varying_name(place, known, true),
     }
 }

@@ -28,10 +28,6 @@ pub enum MeaningHint<'a> {
     /// The channel of events can't be used.
     EventChannel,
     LinkNames,
-    /// The channel of this name can be placed at an output.
-    PlaceAtOutput(&'a str),
-    /// The channel of this name can be placed at an input.
-    PlaceAtInput(&'a str),
     /// A channel can be placed at the link's channel of this name.
     PlaceAtName(&'a str),
     /// Outputs and inputs have other numbers.
@@ -81,28 +77,11 @@ impl fmt::Display for MeaningHint<'_> {
             MeaningHint::OneByOne => f.write_str(
                 "SEQ i = 0 FOR SIZE a sends its elements one after another",
             ),
-            placing => write_placing(f, *placing),
-        }
-    }
-}
-
-// How the channel of a name is placed.
-fn write_placing<W: fmt::Write>(f: &mut fmt::Formatter<W>, hint: MeaningHint) -> fmt::Result {
-    match hint {
-        MeaningHint::PlaceAtOutput(name) => {
-            write!(
+            MeaningHint::PlaceAtName(name) => write!(
                 f,
-                "PLACE {name} AT link0.out: makes it the output of link 0"
-            )
+                "CHAN OF BYTE c: and PLACE c AT {name}: declare a channel that is there"
+            ),
         }
-        MeaningHint::PlaceAtInput(name) => {
-            write!(f, "PLACE {name} AT link0.in: makes it the input of link 0")
-        }
-        MeaningHint::PlaceAtName(name) => write!(
-            f,
-            "CHAN OF BYTE c: and PLACE c AT {name}: declare a channel that is there"
-        ),
-        _ => Ok(()),
     }
 }
 

@@ -2,13 +2,15 @@
 
 use crate::expected::ExpectedMeaning;
 use crate::met::MetMeaning;
-use crate::namer::{FoundName, Namer, Surroundings};
+use crate::namer::Namer;
+use crate::notes::Surroundings;
 use crate::procedures::Formal;
 use crate::rows::in_sequence;
-use crate::scope::Meaning;
+use crate::scope::{FoundName, Meaning};
 use occam_core::CoreProcess;
-use occam_tree::{SourceExpression, SourceName, SourceTable, SourceValue, TextPlace};
-use std::alloc::AllocError;
+use occam_tree::{
+    SourceExpression, SourceName, SourceProcess, SourceTable, SourceValue, TextPlace,
+};
 
 // What a parameter means in an instance.
 #[derive(Clone, Copy)]
@@ -18,11 +20,37 @@ struct BoundName<'a> {
     rank: usize,
 }
 
+// The body of a procedure, and what is known in it.
+#[derive(Clone, Copy)]
+struct ProcedureBody<'a, 'b> {
+    process: &'b SourceProcess<'a>,
+    known: usize,
+    hidden: Option<usize>,
+    is_before: bool,
+}
+
 // Where an actual parameter begins, if it is no operator's.
 fn place_of_table(table: &SourceTable<'_>) -> TextPlace {
     match table {
         SourceTable::Text(place, _) | SourceTable::Values(place, _) => *place,
     }
+}
+
+// Where a process is that is in the body of a procedure which is put in place for an instance at this place.
+fn inside_instance(
+    around: Surroundings<'_>,
+    place: TextPlace,
+    is_before: bool,
+) -> Surroundings<'_> {
+    let mut inside = around;
+    if around.prelude.is_none() {
+        if is_before {
+            inside.prelude = Some(place);
+        } else {
+            inside.instance = Some(place.line);
+        }
+    }
+    inside
 }
 
 impl<'a, 'b> Namer<'a, 'b> {
@@ -33,21 +61,22 @@ impl<'a, 'b> Namer<'a, 'b> {
         name: SourceName<'a>,
         actuals: &[SourceValue<'a>],
         depth: u8,
-    ) -> Result<CoreProcess, AllocError> {
-        let Some(index) = self.procedure_named(name)? else {
-            return Ok(CoreProcess::Skip);
+    ) -> CoreProcess {
+        let Some(index) = self.procedure_named(name) else {
+            return CoreProcess::Skip;
         };
         let marks = self.marks.len();
-        let mut row = Vec::new(self.alloc);
-        let mut parameters = Vec::new(self.alloc);
-        let is_right = self.bind_actuals(name, index, actuals, &mut row, &mut parameters)?;
-        if is_right && self.around.checked.is_none() && self.has_room() {
-            let body = self.put_in_place(name, index, parameters.as_slice(), depth)?;
-            row.push(body)?;
+        let mut row = Vec::new(self.notes.alloc);
+        let mut parameters = Vec::new(self.notes.alloc);
+        let is_right = self.bind_actuals(name, index, actuals, &mut row, &mut parameters);
+        if is_right && !self.notes.around.is_checked && self.notes.has_room() {
+            let body = self.put_in_place(name, index, parameters.as_slice(), depth);
+            self.notes.add(&mut row, body);
         }
         self.marks.truncate(marks);
-        let process = in_sequence(self.alloc, row)?;
-        self.lined(name.place, process)
+        let made = in_sequence(self.notes.alloc, row);
+        let process = self.notes.made_process(made);
+        self.notes.lined(name.place, process)
     }
 
     // The body of a procedure with these parameters.
@@ -58,56 +87,52 @@ impl<'a, 'b> Namer<'a, 'b> {
         index: usize,
         parameters: &[BoundName<'a>],
         depth: u8,
-    ) -> Result<CoreProcess, AllocError> {
-        let Some(procedure) = self.procedures.get(index) else {
-            return Ok(CoreProcess::Skip);
+    ) -> CoreProcess {
+        let Some(body) = self.body_of(index) else {
+            return CoreProcess::Skip;
         };
-        let process = procedure.process;
-        let known = procedure.known;
-        let hidden = procedure.hidden;
-        let inside = self.inside_instance(name.place, procedure.is_before);
-        let around = self.around;
-        self.around = inside;
+        let around = self.notes.around;
+        self.notes.around = inside_instance(around, name.place, body.is_before);
         let count = self.scope.len();
-        let before = self.scope.hide_since(known, hidden)?;
-        for parameter in parameters {
-            self.scope
-                .declare(parameter.name, parameter.meaning, parameter.rank)?;
-        }
-        let body = self.process(process, false, depth)?;
-        self.scope.leave(count)?;
+        let before = self.scope.hidden_names();
+        self.bind(body, parameters);
+        let process = self.process(body.process, false, depth);
+        self.leave(count);
         self.scope.show_again(before);
-        self.around = around;
-        Ok(body)
+        self.notes.around = around;
+        process
     }
 
-    // Where a process is that is in the body of the procedure of this instance.
-    fn inside_instance(&self, place: TextPlace, is_before: bool) -> Surroundings<'a> {
-        if self.around.prelude.is_some() {
-            return self.around;
-        }
-        if is_before {
-            return Surroundings {
-                prelude: Some(place),
-                ..self.around
-            };
-        }
-        Surroundings {
-            instance: Some(place.line),
-            ..self.around
+    // The body of the procedure of an index.
+    fn body_of(&self, index: usize) -> Option<ProcedureBody<'a, 'b>> {
+        let procedure = self.procedures.get(index)?;
+        Some(ProcedureBody {
+            process: procedure.process,
+            known: procedure.known,
+            hidden: procedure.hidden,
+            is_before: procedure.is_before,
+        })
+    }
+
+    // Makes known what is known in a body.
+    fn bind(&mut self, body: ProcedureBody<'a, 'b>, parameters: &[BoundName<'a>]) {
+        let is_hidden = self.scope.hide_since(body.known, body.hidden).is_ok();
+        self.notes.note_memory(is_hidden);
+        for parameter in parameters {
+            self.know_at(parameter.name, parameter.meaning, parameter.rank);
         }
     }
 
     // The index of the procedure of a name.
-    fn procedure_named(&mut self, name: SourceName<'a>) -> Result<Option<usize>, AllocError> {
-        let found = self.find(name);
+    fn procedure_named(&mut self, name: SourceName<'a>) -> Option<usize> {
+        let found = self.scope.find(name);
         if let FoundName::Known(known) = found
             && let Meaning::Procedure(index) = known.meaning
         {
-            return Ok(Some(index));
+            return Some(index);
         }
-        self.tell_found(name, found, ExpectedMeaning::Procedure, None)?;
-        Ok(None)
+        self.tell_found(name, found, ExpectedMeaning::Procedure, None);
+        None
     }
 
     // Finds what the parameters of a procedure mean in an instance. Their evaluation is added to a row. Whether they are right.
@@ -118,46 +143,69 @@ impl<'a, 'b> Namer<'a, 'b> {
         actuals: &[SourceValue<'a>],
         row: &mut Vec<CoreProcess>,
         parameters: &mut Vec<BoundName<'a>>,
-    ) -> Result<bool, AllocError> {
+    ) -> bool {
+        if !self.has_actuals(name, index, actuals.len()) {
+            return false;
+        }
+        let mut is_right = true;
+        for (number, actual) in actuals.iter().enumerate() {
+            if let Some(formal) = self.formal_at(index, number, name.place) {
+                if !self.bind_actual(formal, actual, row, parameters) {
+                    is_right = false;
+                }
+            }
+        }
+        is_right
+    }
+
+    // Whether a procedure has this many parameters. If not, that is noted.
+    fn has_actuals(&mut self, name: SourceName<'a>, index: usize, actuals: usize) -> bool {
         let count = match self.procedures.get(index) {
             Some(procedure) => procedure.formals.len(),
             None => 0,
         };
-        if count != actuals.len() {
-            let expected = ExpectedMeaning::Actuals(u32::try_from(count).unwrap_or(u32::MAX));
-            let met = MetMeaning::Count(u32::try_from(actuals.len()).unwrap_or(u32::MAX));
-            self.tell(name.place, expected, met, None)?;
-            return Ok(false);
+        if count == actuals {
+            return true;
         }
-        let mut is_right = true;
-        for (number, actual) in actuals.iter().enumerate() {
-            let Some(formal) = self.formal_at(index, number, name.place) else {
-                return Ok(false);
-            };
-            match self.bound_meaning(formal, actual, row)? {
-                Some(meaning) => parameters.push(BoundName {
-                    name: formal.name,
-                    meaning,
-                    rank: self.marks.len(),
-                })?,
-                None => is_right = false,
-            }
-        }
-        Ok(is_right)
+        let expected = ExpectedMeaning::Actuals(u32::try_from(count).unwrap_or(u32::MAX));
+        let met = MetMeaning::Count(u32::try_from(actuals).unwrap_or(u32::MAX));
+        self.notes.tell(name.place, expected, met, None);
+        false
+    }
+
+    // Finds what a parameter means in an instance. Whether it is right.
+    fn bind_actual(
+        &mut self,
+        formal: Formal<'a>,
+        actual: &SourceValue<'a>,
+        row: &mut Vec<CoreProcess>,
+        parameters: &mut Vec<BoundName<'a>>,
+    ) -> bool {
+        let Some(meaning) = self.bound_meaning(formal, actual, row) else {
+            return false;
+        };
+        let name = formal.name;
+        let rank = self.marks.len();
+        let is_added = parameters
+            .push(BoundName {
+                name,
+                meaning,
+                rank,
+            })
+            .is_ok();
+        self.notes.note_memory(is_added);
+        true
     }
 
     // A parameter of a procedure. If it is in no text of the user, it counts as declared at this place.
     fn formal_at(&self, index: usize, number: usize, place: TextPlace) -> Option<Formal<'a>> {
         let procedure = self.procedures.get(index)?;
-        let formal = procedure.formals.get(number).copied()?;
-        if !procedure.is_before {
-            return Some(formal);
+        let mut formal = procedure.formals.get(number).copied()?;
+        if procedure.is_before {
+            let text = formal.name.text;
+            formal.name = SourceName { text, place };
         }
-        let name = SourceName {
-            text: formal.name.text,
-            place,
-        };
-        Some(Formal { name, ..formal })
+        Some(formal)
     }
 
     // What a parameter means that is this.
@@ -166,11 +214,9 @@ impl<'a, 'b> Namer<'a, 'b> {
         formal: Formal<'a>,
         actual: &SourceValue<'a>,
         row: &mut Vec<CoreProcess>,
-    ) -> Result<Option<Meaning>, AllocError> {
+    ) -> Option<Meaning> {
         let name = formal.name;
-        let Some(formal_type) = formal.formal_type else {
-            return Ok(None);
-        };
+        let formal_type = formal.formal_type?;
         if formal.is_value {
             return self.value_meaning(name, Some(formal_type), actual, row);
         }
@@ -181,17 +227,26 @@ impl<'a, 'b> Namer<'a, 'b> {
             SourceValue::Expression(SourceExpression::Element(original, subscript)) => {
                 self.renamed_meaning(name, formal_type, *original, Some(subscript), row)
             }
+            _ => {
+                let expected = ExpectedMeaning::ActualOf(formal_type);
+                self.tell_no_name(actual, expected);
+                None
+            }
+        }
+    }
+
+    // Says that an actual parameter, if it is right, is no name, which was expected.
+    fn tell_no_name(&mut self, actual: &SourceValue<'a>, expected: ExpectedMeaning) {
+        match actual {
             SourceValue::Expression(expression) => {
-                if let Some(typed) = self.whole_expression(expression)? {
-                    let expected = ExpectedMeaning::ActualOf(formal_type);
-                    self.tell(typed.place, expected, MetMeaning::Expression, None)?;
+                if let Some(typed) = self.whole_expression(expression) {
+                    self.notes
+                        .tell(typed.place, expected, MetMeaning::Expression, None);
                 }
-                Ok(None)
             }
             SourceValue::Table(table) => {
-                let expected = ExpectedMeaning::ActualOf(formal_type);
-                self.tell(place_of_table(table), expected, MetMeaning::Table, None)?;
-                Ok(None)
+                self.notes
+                    .tell(place_of_table(table), expected, MetMeaning::Table, None);
             }
         }
     }

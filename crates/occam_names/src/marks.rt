@@ -7,7 +7,7 @@ use crate::namer::Namer;
 use crate::scope::KnownName;
 use occam_core::{CoreArray, ElementKind};
 use occam_tree::SourceName;
-use std::alloc::AllocError;
+use std::alloc::Global;
 
 /// Some of the bytes of the variables. Each variable has four.
 #[derive(Clone, Copy)]
@@ -91,40 +91,36 @@ pub struct RegionMark<'a> {
     pub name: SourceName<'a>,
 }
 
-impl<'a, 'b> Namer<'a, 'b> {
-    /// Notes that a name is used for a region, and whether it may be.
-    pub fn may_name(
-        &mut self,
-        name: SourceName<'a>,
-        known: KnownName<'a>,
-        access: Access,
-        region: Region,
-    ) -> Result<bool, AllocError> {
-        self.named.push(region)?;
-        if access != Access::Changing {
-            return Ok(true);
+/// On what the abbreviations in scope rest, the innermost last.
+#[derive(Drop)]
+pub struct RegionMarks<'a> {
+    list: Vec<RegionMark<'a>>,
+    // The regions that an expression names.
+    regions: Vec<Region>,
+}
+
+impl<'a> RegionMarks<'a> {
+    /// None.
+    pub fn new(alloc: Global) -> RegionMarks<'a> {
+        RegionMarks {
+            list: Vec::new(alloc),
+            regions: Vec::new(alloc),
         }
-        let Some(mark) = self.mark_on(region, MarkKind::Renamed, known.rank) else {
-            return Ok(true);
-        };
-        let met = MetMeaning::Renamed(name.text, mark.name.text, mark.name.place.line);
-        self.tell(name.place, ExpectedMeaning::Abbreviation, met, None)?;
-        Ok(false)
     }
 
-    /// Whether a region may change that is used by this name. If not, that is noted.
-    pub fn may_change(&mut self, name: SourceName<'a>, region: Region) -> Result<bool, AllocError> {
-        let Some(mark) = self.mark_on(region, MarkKind::Frozen, 0) else {
-            return Ok(true);
-        };
-        let met = MetMeaning::Frozen(name.text, mark.name.text, mark.name.place.line);
-        self.tell(name.place, ExpectedMeaning::UnfrozenVariable, met, None)?;
-        Ok(false)
+    /// How many there are.
+    pub fn len(&self) -> usize {
+        self.list.len()
+    }
+
+    /// Forgets all but the first `count`.
+    pub fn truncate(&mut self, count: usize) {
+        self.list.truncate(count);
     }
 
     // A mark of a kind on a region, after the first `rank`.
     fn mark_on(&self, region: Region, kind: MarkKind, rank: usize) -> Option<RegionMark<'a>> {
-        for mark in self.marks.iter().skip(rank) {
+        for mark in self.list.iter().skip(rank) {
             if mark.kind == kind && mark.region.meets(region) {
                 return Some(*mark);
             }
@@ -133,30 +129,78 @@ impl<'a, 'b> Namer<'a, 'b> {
     }
 
     /// Begins to note which regions are named.
-    pub fn forget_named(&mut self) {
-        self.named.truncate(0);
+    pub fn forget_regions(&mut self) {
+        self.regions.truncate(0);
     }
 
-    /// Marks a region.
-    pub fn mark(
+    // Notes that a region is named. Whether there was enough memory.
+    fn add_region(&mut self, region: Region) -> bool {
+        self.regions.push(region).is_ok()
+    }
+
+    // RegionMarks a region for the abbreviation of a name. Whether there was enough memory.
+    fn add(&mut self, name: SourceName<'a>, kind: MarkKind, region: Region) -> bool {
+        self.list.push(RegionMark { region, kind, name }).is_ok()
+    }
+
+    // Lets the regions that were named not change, since the abbreviation of a name rests on them. Whether there was enough
+    // memory.
+    fn freeze_regions(&mut self, name: SourceName<'a>) -> bool {
+        let kind = MarkKind::Frozen;
+        let mut was_enough = true;
+        for region in &self.regions {
+            let region = *region;
+            if self.list.push(RegionMark { region, kind, name }).is_err() {
+                was_enough = false;
+            }
+        }
+        was_enough
+    }
+}
+
+impl<'a, 'b> Namer<'a, 'b> {
+    /// Notes that a name is used for a region, and whether it may be.
+    pub fn may_name(
         &mut self,
         name: SourceName<'a>,
-        kind: MarkKind,
+        known: KnownName<'a>,
+        access: Access,
         region: Region,
-    ) -> Result<(), AllocError> {
-        self.marks.push(RegionMark { region, kind, name })?;
-        Ok(())
+    ) -> bool {
+        let was_enough = self.marks.add_region(region);
+        self.notes.note_memory(was_enough);
+        if access != Access::Changing {
+            return true;
+        }
+        let Some(mark) = self.marks.mark_on(region, MarkKind::Renamed, known.rank) else {
+            return true;
+        };
+        let met = MetMeaning::Renamed(name.text, mark.name.text, mark.name.place.line);
+        self.notes
+            .tell(name.place, ExpectedMeaning::Abbreviation, met, None);
+        false
+    }
+
+    /// Whether a region may change that is used by this name. If not, that is noted.
+    pub fn may_change(&mut self, name: SourceName<'a>, region: Region) -> bool {
+        let Some(mark) = self.marks.mark_on(region, MarkKind::Frozen, 0) else {
+            return true;
+        };
+        let met = MetMeaning::Frozen(name.text, mark.name.text, mark.name.place.line);
+        self.notes
+            .tell(name.place, ExpectedMeaning::UnfrozenVariable, met, None);
+        false
+    }
+
+    /// RegionMarks a region.
+    pub fn mark(&mut self, name: SourceName<'a>, kind: MarkKind, region: Region) {
+        let was_enough = self.marks.add(name, kind, region);
+        self.notes.note_memory(was_enough);
     }
 
     /// Lets the regions that were named not change, since this abbreviation rests on them.
-    pub fn freeze_named(&mut self, name: SourceName<'a>) -> Result<(), AllocError> {
-        for region in &self.named {
-            self.marks.push(RegionMark {
-                region: *region,
-                kind: MarkKind::Frozen,
-                name,
-            })?;
-        }
-        Ok(())
+    pub fn freeze_regions(&mut self, name: SourceName<'a>) {
+        let was_enough = self.marks.freeze_regions(name);
+        self.notes.note_memory(was_enough);
     }
 }

@@ -23,8 +23,17 @@ pub enum Access {
     Index,
     /// It is a `VAL`.
     Value,
-    /// It rests on `VAL` parameters, and may be a constant in an instance of the procedure.
+    /// It rests on `VAL` parameters, or on an index as the next, and may be a constant where the body is put in place.
     Parameter,
+    /// It is the index of a replicated `PAR` or `ALT`, which is a constant where the body is put in place.
+    ConstantIndex,
+}
+
+impl Access {
+    /// Whether it may be a constant where the body is put in place.
+    pub fn rests_on_parameters(self) -> bool {
+        self == Access::Parameter || self == Access::ConstantIndex
+    }
 }
 
 /// An array that has a name, or a table.
@@ -63,6 +72,27 @@ pub enum TypeMeaning {
     /// An array of this length, or of any.
     Array(Option<u32>, DataType),
     Channel(MessageType),
+    /// An array of this many channels, or of any number of them.
+    ChannelArray(Option<u32>, MessageType),
+}
+
+/// Which channel of what was declared is meant.
+#[derive(Clone, Copy)]
+pub enum ChannelPart {
+    /// What was declared is one channel.
+    Whole,
+    /// The element of this subscript.
+    Element(u32),
+    /// The element whose subscript is the value of the variable of this number.
+    Chosen(u32),
+}
+
+/// A channel that has a name.
+#[derive(Clone, Copy)]
+pub struct ChannelMeaning {
+    /// The index of what was declared, among what declares channels.
+    pub index: usize,
+    pub part: ChannelPart,
 }
 
 /// How the elements of an array of this type are kept.

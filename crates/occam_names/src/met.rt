@@ -19,6 +19,9 @@ pub enum NameKind {
     Array,
     /// An array that is a `VAL`.
     ValueArray,
+    ChannelArray,
+    /// A channel that is an element of an array.
+    ChannelElement,
     Procedure,
 }
 
@@ -32,6 +35,8 @@ impl fmt::Display for NameKind {
             NameKind::Value => "a VAL",
             NameKind::Array => "an array",
             NameKind::ValueArray => "a VAL array",
+            NameKind::ChannelArray => "an array of channels",
+            NameKind::ChannelElement => "an element of an array of channels",
             NameKind::Procedure => "a PROC",
         })
     }
@@ -52,11 +57,26 @@ pub fn write_array_type<W: fmt::Write>(
     length: Option<u32>,
     data_type: DataType,
 ) -> fmt::Result {
-    match length {
-        Some(length) => write!(f, "[{length}]")?,
-        None => f.write_str("[]")?,
-    }
+    write_length(f, length)?;
     f.write_str(word_of_type(data_type))
+}
+
+// Writes how many elements an array has, if that is known.
+fn write_length<W: fmt::Write>(f: &mut fmt::Formatter<W>, length: Option<u32>) -> fmt::Result {
+    match length {
+        Some(length) => write!(f, "[{length}]"),
+        None => f.write_str("[]"),
+    }
+}
+
+/// Writes the type of an array of channels.
+pub fn write_channel_array_type<W: fmt::Write>(
+    f: &mut fmt::Formatter<W>,
+    length: Option<u32>,
+    message: MessageType,
+) -> fmt::Result {
+    write_length(f, length)?;
+    write_channel_type(f, message)
 }
 
 /// Writes the type of a channel.
@@ -80,6 +100,7 @@ pub fn write_type<W: fmt::Write>(
         TypeMeaning::Data(data_type) => f.write_str(word_of_type(data_type)),
         TypeMeaning::Array(length, data_type) => write_array_type(f, length, data_type),
         TypeMeaning::Channel(message) => write_channel_type(f, message),
+        TypeMeaning::ChannelArray(length, message) => write_channel_array_type(f, length, message),
     }
 }
 
@@ -119,6 +140,8 @@ pub enum MetMeaning<'a> {
     TypedArray(Option<u32>, DataType),
     /// A channel of such messages.
     ChannelOf(MessageType),
+    /// An array of this many channels, if that is known, of such messages.
+    ChannelArrayOf(Option<u32>, MessageType),
     /// This many.
     Count(u32),
     /// An expression that is no name.
@@ -156,6 +179,9 @@ impl fmt::Display for MetMeaning<'_> {
             MetMeaning::Frozen(_, _, _) | MetMeaning::Renamed(_, _, _) => write_marked(f, *self),
             MetMeaning::TypedArray(length, data_type) => write_array_type(f, *length, *data_type),
             MetMeaning::ChannelOf(message) => write_channel_type(f, *message),
+            MetMeaning::ChannelArrayOf(length, message) => {
+                write_channel_array_type(f, *length, *message)
+            }
             MetMeaning::Count(count) => write!(f, "{count}"),
             MetMeaning::Expression => f.write_str("an expression"),
             MetMeaning::Table => f.write_str("a table"),

@@ -4,7 +4,7 @@ use crate::expected::ExpectedMeaning;
 use crate::expressions::{TypedExpression, first_varying};
 use crate::fault::MeaningHint;
 use crate::met::MetMeaning;
-use crate::namer::Namer;
+use crate::notes::Notes;
 use occam_core::{Expression, OneOperation, TwoOperation};
 use occam_tree::{Conversion, DataType, DyadicSign, MonadicSign, TextPlace};
 use std::alloc::{AllocError, Global};
@@ -154,36 +154,56 @@ fn converted_expression(
     Ok(Expression::Below(bound, Box::new(alloc, operand)?))
 }
 
-impl<'a, 'b> Namer<'a, 'b> {
+// Two operands under an operator.
+fn joined<'a>(
+    alloc: Global,
+    sign: DyadicSign,
+    left: TypedExpression<'a>,
+    right: TypedExpression<'a>,
+) -> Result<TypedExpression<'a>, AllocError> {
+    let place = left.place;
+    let varies = first_varying(left.varies, right.varies);
+    let expression = dyadic_expression(alloc, sign, left.expression, right.expression)?;
+    Ok(TypedExpression {
+        place,
+        data_type: result_type(sign),
+        expression,
+        varies,
+    })
+}
+
+impl<'a> Notes<'a> {
     /// An operator with one operand.
     pub fn monadic(
         &mut self,
         sign: MonadicSign,
         place: TextPlace,
         operand: TypedExpression<'a>,
-    ) -> Result<Option<TypedExpression<'a>>, AllocError> {
-        let TypedExpression {
-            place: operand_place,
-            data_type,
-            expression,
-            varies,
-        } = operand;
-        let is_right = match sign {
-            MonadicSign::Not => self.is_truth(operand_place, data_type)?,
-            _ => {
-                let word = word_of_monadic(sign);
-                data_type == DataType::Int || self.tell_operator(place, data_type, word)?
-            }
-        };
-        if !is_right {
-            return Ok(None);
+    ) -> Option<TypedExpression<'a>> {
+        if !self.is_operand(sign, place, &operand) {
+            return None;
         }
-        Ok(Some(TypedExpression {
+        let made = monadic_expression(self.alloc, sign, operand.expression);
+        Some(TypedExpression {
             place,
-            data_type,
-            expression: monadic_expression(self.alloc, sign, expression)?,
-            varies,
-        }))
+            data_type: operand.data_type,
+            expression: self.made_expression(made),
+            varies: operand.varies,
+        })
+    }
+
+    // Whether an operator takes this operand. If not, that is noted.
+    fn is_operand(
+        &mut self,
+        sign: MonadicSign,
+        place: TextPlace,
+        operand: &TypedExpression<'a>,
+    ) -> bool {
+        match (sign, operand.data_type) {
+            (MonadicSign::Not, data_type) => self.is_truth(operand.place, data_type),
+            (_, DataType::Int) => true,
+            (_, data_type) => self.tell_operator(place, data_type, word_of_monadic(sign)),
+        }
     }
 
     /// A type before an operand.
@@ -192,47 +212,64 @@ impl<'a, 'b> Namer<'a, 'b> {
         conversion: Conversion,
         place: TextPlace,
         operand: TypedExpression<'a>,
-    ) -> Result<Option<TypedExpression<'a>>, AllocError> {
+    ) -> TypedExpression<'a> {
         let data_type = type_of_conversion(conversion);
-        let TypedExpression {
-            place: _,
-            data_type: from,
-            expression,
-            varies,
-        } = operand;
-        Ok(Some(TypedExpression {
+        let from = operand.data_type;
+        let made = converted_expression(self.alloc, from, data_type, operand.expression);
+        TypedExpression {
             place,
             data_type,
-            expression: converted_expression(self.alloc, from, data_type, expression)?,
-            varies,
-        }))
+            expression: self.made_expression(made),
+            varies: operand.varies,
+        }
     }
 
-    /// An operator between two operands.
+    /// An operator between two operands, if they are right.
     pub fn dyadic(
         &mut self,
         sign: DyadicSign,
         place: TextPlace,
+        left: Option<TypedExpression<'a>>,
+        right: Option<TypedExpression<'a>>,
+    ) -> Option<TypedExpression<'a>> {
+        let left = left?;
+        let right = right?;
+        if !self.are_operands(sign, place, &left, &right) {
+            return None;
+        }
+        let is_one_constant = left.varies.is_some() != right.varies.is_some();
+        let left = self.operand(left, is_one_constant)?;
+        let right = self.operand(right, is_one_constant)?;
+        self.both(sign, left, right)
+    }
+
+    // An operand, which is a number if it is the only one that is a constant.
+    fn operand(
+        &mut self,
+        operand: TypedExpression<'a>,
+        is_one_constant: bool,
+    ) -> Option<TypedExpression<'a>> {
+        if is_one_constant {
+            self.folded(operand)
+        } else {
+            Some(operand)
+        }
+    }
+
+    // Two operands under an operator, if there is enough memory.
+    fn both(
+        &mut self,
+        sign: DyadicSign,
         left: TypedExpression<'a>,
         right: TypedExpression<'a>,
-    ) -> Result<Option<TypedExpression<'a>>, AllocError> {
-        if !self.are_operands(sign, place, &left, &right)? {
-            return Ok(None);
-        }
-        let (left, right) = if left.varies.is_some() == right.varies.is_some() {
-            (left, right)
-        } else {
-            match (self.folded(left)?, self.folded(right)?) {
-                (Some(left), Some(right)) => (left, right),
-                _ => return Ok(None),
+    ) -> Option<TypedExpression<'a>> {
+        match joined(self.alloc, sign, left, right) {
+            Ok(typed) => Some(typed),
+            Err(_) => {
+                self.lacks_memory = true;
+                None
             }
-        };
-        Ok(Some(TypedExpression {
-            place: left.place,
-            data_type: result_type(sign),
-            expression: dyadic_expression(self.alloc, sign, left.expression, right.expression)?,
-            varies: first_varying(left.varies, right.varies),
-        }))
+        }
     }
 
     // Whether an operator takes these operands. If not, that is noted.
@@ -242,79 +279,73 @@ impl<'a, 'b> Namer<'a, 'b> {
         place: TextPlace,
         left: &TypedExpression<'a>,
         right: &TypedExpression<'a>,
-    ) -> Result<bool, AllocError> {
-        let word = word_of_dyadic(sign);
-        match (rule_of(sign), left.data_type, right.data_type) {
-            (OperandRule::Ints, DataType::Int, DataType::Int) => Ok(true),
-            (OperandRule::Ints, met, DataType::Int) => self.tell_type(
-                left.place,
-                DataType::Int,
-                met,
-            ),
-            (OperandRule::Ints, DataType::Int, met) => self.tell_type(
-                right.place,
-                DataType::Int,
-                met,
-            ),
-            (OperandRule::Ints, data_type, _) => self.tell_operator(place, data_type, word),
-            (OperandRule::Truths, left_type, right_type) => {
-                let is_left = self.is_truth(left.place, left_type)?;
-                Ok(self.is_truth(right.place, right_type)? && is_left)
+    ) -> bool {
+        match rule_of(sign) {
+            OperandRule::Ints => self.are_ints(sign, place, left, right),
+            OperandRule::Truths => {
+                let is_left = self.is_truth(left.place, left.data_type);
+                self.is_truth(right.place, right.data_type) && is_left
             }
-            (OperandRule::Ordered, DataType::Bool, DataType::Bool) => {
-                self.tell_operator(place, DataType::Bool, word)
-            }
-            (OperandRule::Alike | OperandRule::Ordered, expected, met) => {
-                if expected == met {
-                    Ok(true)
-                } else {
-                    self.tell_type(right.place, expected, met)
+            OperandRule::Alike => self.are_alike(left, right),
+            OperandRule::Ordered => match (left.data_type, right.data_type) {
+                (DataType::Bool, DataType::Bool) => {
+                    self.tell_operator(place, DataType::Bool, word_of_dyadic(sign))
                 }
-            }
+                _ => self.are_alike(left, right),
+            },
         }
+    }
+
+    // Whether two operands are of INT. If not, that is noted.
+    fn are_ints(
+        &mut self,
+        sign: DyadicSign,
+        place: TextPlace,
+        left: &TypedExpression<'a>,
+        right: &TypedExpression<'a>,
+    ) -> bool {
+        match (left.data_type, right.data_type) {
+            (DataType::Int, DataType::Int) => true,
+            (met, DataType::Int) => self.tell_type(left.place, DataType::Int, met),
+            (DataType::Int, met) => self.tell_type(right.place, DataType::Int, met),
+            (met, _) => self.tell_operator(place, met, word_of_dyadic(sign)),
+        }
+    }
+
+    // Whether two operands are of one type. If not, that is noted.
+    fn are_alike(&mut self, left: &TypedExpression<'a>, right: &TypedExpression<'a>) -> bool {
+        let expected = left.data_type;
+        let met = right.data_type;
+        expected == met || self.tell_type(right.place, expected, met)
     }
 
     // Whether an operand is a truth. If not, that is noted.
-    fn is_truth(&mut self, place: TextPlace, data_type: DataType) -> Result<bool, AllocError> {
-        if data_type != DataType::Bool {
-            let met = MetMeaning::Typed(data_type);
-            self.tell(
-                place,
-                ExpectedMeaning::Truth,
-                met,
-                Some(MeaningHint::Compare),
-            )?;
-            return Ok(false);
+    fn is_truth(&mut self, place: TextPlace, data_type: DataType) -> bool {
+        if data_type == DataType::Bool {
+            return true;
         }
-        Ok(true)
+        let met = MetMeaning::Typed(data_type);
+        let hint = Some(MeaningHint::Compare);
+        self.tell(place, ExpectedMeaning::Truth, met, hint);
+        false
     }
 
     // Says that an operand has another type than is expected: it isn't right.
-    fn tell_type(
-        &mut self,
-        place: TextPlace,
-        expected: DataType,
-        met: DataType,
-    ) -> Result<bool, AllocError> {
-        let hint = MeaningHint::Convert(expected);
+    fn tell_type(&mut self, place: TextPlace, expected: DataType, met: DataType) -> bool {
+        let hint = Some(MeaningHint::Convert(expected));
         let met = MetMeaning::Typed(met);
-        self.tell(place, ExpectedMeaning::OfType(expected), met, Some(hint))?;
-        Ok(false)
+        self.tell(place, ExpectedMeaning::OfType(expected), met, hint);
+        false
     }
 
     // Says that an operator isn't for this type: its operands aren't right.
-    fn tell_operator(
-        &mut self,
-        place: TextPlace,
-        data_type: DataType,
-        word: &'static str,
-    ) -> Result<bool, AllocError> {
+    fn tell_operator(&mut self, place: TextPlace, data_type: DataType, word: &'static str) -> bool {
         let hint = match data_type {
             DataType::Byte => Some(MeaningHint::ByteSum),
             _ => None,
         };
         let met = MetMeaning::Operator(word);
-        self.tell(place, ExpectedMeaning::OperatorFor(data_type), met, hint)?;
-        Ok(false)
+        self.tell(place, ExpectedMeaning::OperatorFor(data_type), met, hint);
+        false
     }
 }

@@ -1,21 +1,20 @@
 //! Processes of a text as processes of the core.
 
-use crate::arrays::{TypedArray, WholeArray};
-use crate::channels::{ChannelUse, PlacedChannel};
 use crate::elements::{CoreElement, TypedElement};
 use crate::expected::ExpectedMeaning;
+use crate::expressions::number_of;
 use crate::fault::MeaningHint;
-use crate::meaning::{Access, Cell, MessageType, carried_type};
+use crate::meaning::{Access, Cell};
 use crate::met::MetMeaning;
-use crate::namer::{Namer, hidden_variable, named_variable};
+use crate::namer::Namer;
 use crate::rows::{CoreChoice, chain_of, in_sequence};
 use crate::scope::Meaning;
-use occam_core::{CoreProcess, Expression, LinkChannel};
+use crate::variables::{hidden_variable, named_variable};
+use occam_core::{CoreProcess, Expression};
 use occam_tree::{
     DataType, Replicator, SourceChoice, SourceDeclaration, SourceElement, SourceExpression,
-    SourceName, SourceProcess, SourceValue, TextPlace,
+    SourceName, SourceProcess, TextPlace,
 };
-use std::alloc::AllocError;
 
 /// How many choices an `IF` has at most.
 const MOST_CHOICES: usize = 1_000;
@@ -30,6 +29,10 @@ fn place_of(process: &SourceProcess<'_>) -> TextPlace {
         | SourceProcess::Stop(place)
         | SourceProcess::Sequence(place, _)
         | SourceProcess::Repeated(place, _, _)
+        | SourceProcess::Parallel(place, _)
+        | SourceProcess::ReplicatedParallel(place, _, _)
+        | SourceProcess::Alternation(place, _)
+        | SourceProcess::ReplicatedAlternation(place, _, _)
         | SourceProcess::If(place, _)
         | SourceProcess::While(place, _, _) => *place,
         SourceProcess::Assignment(element, _)
@@ -40,21 +43,34 @@ fn place_of(process: &SourceProcess<'_>) -> TextPlace {
     }
 }
 
+// The assignment of a value to a variable or an element.
+fn assignment_of(element: CoreElement, value: Expression) -> CoreProcess {
+    match element {
+        CoreElement::Variable(number) => CoreProcess::Assign(number, value),
+        CoreElement::Element(array, subscript) => {
+            CoreProcess::AssignElement(array, subscript, value)
+        }
+    }
+}
+
 impl<'a, 'b> Namer<'a, 'b> {
     /// A program after declarations that are known everywhere in it.
     pub fn program(
         &mut self,
         prelude: &'b [SourceDeclaration<'a>],
         program: &'b SourceProcess<'a>,
-    ) -> Result<CoreProcess, AllocError> {
-        let mut row = Vec::new(self.alloc);
-        self.around.is_before = true;
+    ) -> CoreProcess {
+        let mut row = Vec::new(self.notes.alloc);
+        self.notes.begin_prelude();
         for declaration in prelude {
-            self.declare(declaration, false, MOST_LEVELS, &mut row)?;
+            self.declare(declaration, false, MOST_LEVELS, &mut row);
         }
-        self.around.is_before = false;
-        row.push(self.process(program, true, MOST_LEVELS)?)?;
-        in_sequence(self.alloc, row)
+        self.give_words(0, &mut row);
+        self.notes.end_prelude();
+        let process = self.process(program, true, MOST_LEVELS);
+        self.notes.add(&mut row, process);
+        let made = in_sequence(self.notes.alloc, row);
+        self.notes.made_process(made)
     }
 
     /// A process of the core, in which processes are at most `depth` deep in one another. What is wrong with the process is
@@ -65,16 +81,17 @@ impl<'a, 'b> Namer<'a, 'b> {
         process: &'b SourceProcess<'a>,
         is_outermost: bool,
         depth: u8,
-    ) -> Result<CoreProcess, AllocError> {
+    ) -> CoreProcess {
         let place = place_of(process);
         let Some(depth) = depth.checked_sub(1) else {
-            self.tell(place, ExpectedMeaning::FewLevels, MetMeaning::More, None)?;
-            return Ok(CoreProcess::Skip);
+            self.notes
+                .tell(place, ExpectedMeaning::FewLevels, MetMeaning::More, None);
+            return CoreProcess::Skip;
         };
-        self.count_part(place)?;
+        self.notes.count_part(place);
         match process {
-            SourceProcess::Skip(_) => Ok(CoreProcess::Skip),
-            SourceProcess::Stop(place) => self.lined(*place, CoreProcess::Stop),
+            SourceProcess::Skip(_) => CoreProcess::Skip,
+            SourceProcess::Stop(place) => self.notes.lined(*place, CoreProcess::Stop),
             SourceProcess::Assignment(target, value) => self.assignment(target, value),
             SourceProcess::Input(channel, target) => self.input(channel, target),
             SourceProcess::Output(channel, value) => self.output(channel, value),
@@ -85,15 +102,36 @@ impl<'a, 'b> Namer<'a, 'b> {
             SourceProcess::Repeated(place, replicator, process) => {
                 self.repeated(*place, replicator, process, depth)
             }
+            SourceProcess::Declared(declarations, process) => {
+                self.declared(declarations.as_slice(), process, is_outermost, depth)
+            }
+            _ => self.branching(process, depth),
+        }
+    }
+
+    // A process of several that are chosen from, or at the same time.
+    #[cycle(process)]
+    fn branching(&mut self, process: &'b SourceProcess<'a>, depth: u8) -> CoreProcess {
+        match process {
             SourceProcess::If(place, choices) => {
                 self.conditional(*place, choices.as_slice(), depth)
             }
             SourceProcess::While(place, condition, process) => {
                 self.conditional_loop(*place, process, condition, depth)
             }
-            SourceProcess::Declared(declarations, process) => {
-                self.declared(declarations.as_slice(), process, is_outermost, depth)
+            SourceProcess::Parallel(place, processes) => {
+                self.parallel(*place, processes.as_slice(), depth)
             }
+            SourceProcess::ReplicatedParallel(place, replicator, process) => {
+                self.replicated_parallel(*place, replicator, process, depth)
+            }
+            SourceProcess::Alternation(place, alternatives) => {
+                self.alternation(*place, alternatives.as_slice(), depth)
+            }
+            SourceProcess::ReplicatedAlternation(place, replicator, alternative) => {
+                self.replicated_alternation(*place, replicator, alternative, depth)
+            }
+            _ => CoreProcess::Skip,
         }
     }
 
@@ -105,33 +143,36 @@ impl<'a, 'b> Namer<'a, 'b> {
         process: &'b SourceProcess<'a>,
         is_outermost: bool,
         depth: u8,
-    ) -> Result<CoreProcess, AllocError> {
-        let count = self.scope.len();
+    ) -> CoreProcess {
+        let names = self.scope.len();
         let marks = self.marks.len();
+        let channels = self.channels.len();
         let procedures = self.procedures.len();
-        let mut row = Vec::new(self.alloc);
+        let mut row = Vec::new(self.notes.alloc);
         for declaration in declarations {
-            self.declare(declaration, is_outermost, depth, &mut row)?;
+            self.declare(declaration, is_outermost, depth, &mut row);
         }
-        row.push(self.process(process, is_outermost, depth)?)?;
-        self.scope.leave(count)?;
+        self.give_words(channels, &mut row);
+        let process = self.process(process, false, depth);
+        self.notes.add(&mut row, process);
+        self.leave(names);
         self.marks.truncate(marks);
+        self.channels.truncate(channels);
         self.procedures.truncate(procedures);
-        in_sequence(self.alloc, row)
+        let made = in_sequence(self.notes.alloc, row);
+        self.notes.made_process(made)
     }
 
     // `SEQ`
     #[cycle(process)]
-    fn sequence(
-        &mut self,
-        processes: &'b [SourceProcess<'a>],
-        depth: u8,
-    ) -> Result<CoreProcess, AllocError> {
-        let mut row = Vec::new(self.alloc);
+    fn sequence(&mut self, processes: &'b [SourceProcess<'a>], depth: u8) -> CoreProcess {
+        let mut row = Vec::new(self.notes.alloc);
         for process in processes {
-            row.push(self.process(process, false, depth)?)?;
+            let process = self.process(process, false, depth);
+            self.notes.add(&mut row, process);
         }
-        in_sequence(self.alloc, row)
+        let made = in_sequence(self.notes.alloc, row);
+        self.notes.made_process(made)
     }
 
     // `SEQ` with a replicator
@@ -142,29 +183,57 @@ impl<'a, 'b> Namer<'a, 'b> {
         replicator: &Replicator<'a>,
         process: &'b SourceProcess<'a>,
         depth: u8,
-    ) -> Result<CoreProcess, AllocError> {
-        let base = self.value_of_type(&replicator.base, DataType::Int)?;
-        let count = self.count_of(&replicator.count)?;
-        let index = self.new_index(replicator.index)?;
-        let known = self.scope.len();
+    ) -> CoreProcess {
+        let base = self.value_of_type(&replicator.base, DataType::Int);
+        let count = self.count_of(&replicator.count);
+        let index = self.new_index(replicator.index);
+        let names = self.scope.len();
+        self.know_index(replicator.index, index);
+        let process = self.process(process, false, depth);
+        self.leave(names);
+        let (Some(base), Some(count), Some(number)) = (base, count, index) else {
+            return CoreProcess::Skip;
+        };
+        match Box::new(self.notes.alloc, process) {
+            Ok(process) => {
+                let repeat = CoreProcess::Repeat(number, base.expression, count, process);
+                self.notes.lined(place, repeat)
+            }
+            Err(_) => self.notes.no_process(),
+        }
+    }
+
+    // Makes the index of a replicator known, which is the variable of this number.
+    fn know_index(&mut self, name: SourceName<'a>, index: Option<u32>) {
         let meaning = match index {
             Some(number) => {
                 Meaning::Variable(DataType::Int, Cell::Variable(number), Access::Index)
             }
             None => Meaning::Wrong,
         };
-        let rank = self.marks.len();
-        self.scope.declare(replicator.index, meaning, rank)?;
-        let process = self.process(process, false, depth)?;
-        self.scope.leave(known)?;
-        match (base, count, index) {
-            (Some(base), Some(count), Some(number)) => {
-                let process = Box::new(self.alloc, process)?;
-                let repeat = CoreProcess::Repeat(number, base.expression, count, process);
-                self.lined(place, repeat)
-            }
-            _ => Ok(CoreProcess::Skip),
+        self.know(name, meaning);
+    }
+
+    // The count of a replicator.
+    fn count_of(&mut self, count: &SourceExpression<'a>) -> Option<Expression> {
+        let count = self.value_of_type(count, DataType::Int)?;
+        let number = number_of(&count.expression).unwrap_or(0).cast_signed();
+        if number >= 0 || self.notes.around.is_in_place() {
+            return Some(count.expression);
         }
+        let met = MetMeaning::Number(number);
+        self.notes
+            .tell(count.place, ExpectedMeaning::CountValue, met, None);
+        None
+    }
+
+    // The number of the variable of an index. The next one counts the turns.
+    fn new_index(&mut self, index: SourceName<'a>) -> Option<u32> {
+        let variable = named_variable(index, DataType::Int);
+        let number = self.new_variable(index.place, variable);
+        let counter = hidden_variable(index.place, DataType::Int);
+        self.new_variable(index.place, counter)?;
+        number
     }
 
     // `IF`
@@ -174,24 +243,32 @@ impl<'a, 'b> Namer<'a, 'b> {
         place: TextPlace,
         choices: &'b [SourceChoice<'a>],
         depth: u8,
-    ) -> Result<CoreProcess, AllocError> {
+    ) -> CoreProcess {
         if choices.len() > MOST_CHOICES {
-            self.tell(place, ExpectedMeaning::FewChoices, MetMeaning::More, None)?;
+            self.notes
+                .tell(place, ExpectedMeaning::FewChoices, MetMeaning::More, None);
         }
-        let mut row = Vec::new(self.alloc);
+        let mut row = Vec::new(self.notes.alloc);
         for choice in choices {
-            let condition = self.condition(&choice.condition)?;
-            let process = self.process(&choice.process, false, depth)?;
-            if let Some(condition) = condition
-                && row.len() < MOST_CHOICES
-            {
-                row.push(CoreChoice {
-                    condition: condition.expression,
-                    process,
-                })?;
-            }
+            self.choice(choice, depth, &mut row);
         }
-        self.lined(place, chain_of(self.alloc, row)?)
+        let made = chain_of(self.notes.alloc, row);
+        let chain = self.notes.made_process(made);
+        self.notes.lined(place, chain)
+    }
+
+    // Adds a choice to a row, if that may have more.
+    #[cycle(process)]
+    fn choice(&mut self, choice: &'b SourceChoice<'a>, depth: u8, row: &mut Vec<CoreChoice>) {
+        let condition = self.condition(&choice.condition);
+        let process = self.process(&choice.process, false, depth);
+        if let Some(condition) = condition
+            && row.len() < MOST_CHOICES
+        {
+            let condition = condition.expression;
+            let is_added = row.push(CoreChoice { condition, process }).is_ok();
+            self.notes.note_memory(is_added);
+        }
     }
 
     // `WHILE`
@@ -202,14 +279,19 @@ impl<'a, 'b> Namer<'a, 'b> {
         process: &'b SourceProcess<'a>,
         condition: &SourceExpression<'a>,
         depth: u8,
-    ) -> Result<CoreProcess, AllocError> {
-        let condition = self.condition(condition)?;
-        let process = self.process(process, false, depth)?;
+    ) -> CoreProcess {
+        let condition = self.condition(condition);
+        let process = self.process(process, false, depth);
         let Some(condition) = condition else {
-            return Ok(CoreProcess::Skip);
+            return CoreProcess::Skip;
         };
-        let process = Box::new(self.alloc, process)?;
-        self.lined(place, CoreProcess::While(condition.expression, process))
+        match Box::new(self.notes.alloc, process) {
+            Ok(process) => {
+                let process = CoreProcess::While(condition.expression, process);
+                self.notes.lined(place, process)
+            }
+            Err(_) => self.notes.no_process(),
+        }
     }
 
     // `element := expression`
@@ -217,222 +299,34 @@ impl<'a, 'b> Namer<'a, 'b> {
         &mut self,
         target: &SourceElement<'a>,
         value: &SourceExpression<'a>,
-    ) -> Result<CoreProcess, AllocError> {
+    ) -> CoreProcess {
         let name = target.name;
-        let subscript = target.subscript.as_ref();
-        if let (Some((known, array)), None) = (self.array_named(name), subscript) {
+        if let (Some((known, array)), None) = (self.scope.array_named(name), &target.subscript) {
             return self.array_assignment(name, known, array, value);
         }
         let hint = Some(MeaningHint::Output(name.text));
-        let target = self.target(name, subscript, hint)?;
-        let value = match &target {
-            Some(target) => self.value_of_type(value, target.data_type)?,
-            None => self.whole_expression(value)?,
-        };
-        match (target, value) {
-            (Some(target), Some(value)) => {
-                let process = match target.element {
-                    CoreElement::Variable(number) => {
-                        CoreProcess::Assign(number, value.expression)
-                    }
-                    CoreElement::Element(array, subscript) => {
-                        CoreProcess::AssignElement(array, subscript, value.expression)
-                    }
-                };
-                self.lined(name.place, process)
+        match self.target(target, hint) {
+            Some(target) => self.element_assignment(name.place, target, value),
+            None => {
+                self.whole_expression(value);
+                CoreProcess::Skip
             }
-            _ => Ok(CoreProcess::Skip),
         }
     }
 
-    // `channel ? element`
-    fn input(
-        &mut self,
-        channel: &SourceElement<'a>,
-        target: &SourceElement<'a>,
-    ) -> Result<CoreProcess, AllocError> {
-        let place = channel.name.place;
-        let channel = self.link_channel(
-            channel.name,
-            channel.subscript.as_ref(),
-            ChannelUse::Receive,
-        )?;
-        if let Some(channel) = channel
-            && let MessageType::Array(length, data_type) = channel.message
-        {
-            return self.array_input(place, channel.number, target, length, data_type);
-        }
-        let subscript = target.subscript.as_ref();
-        let element = self.target(target.name, subscript, None)?;
-        let (Some(channel), Some(element)) = (channel, element) else {
-            return Ok(CoreProcess::Skip);
-        };
-        self.element_input(place, channel, target.name, element)
-    }
-
-    // The input of a message that is no array.
-    fn element_input(
+    // The assignment to a variable or an element.
+    fn element_assignment(
         &mut self,
         place: TextPlace,
-        channel: PlacedChannel,
-        name: SourceName<'a>,
-        element: TypedElement<'a>,
-    ) -> Result<CoreProcess, AllocError> {
-        let MessageType::One(message) = channel.message else {
-            return Ok(CoreProcess::Skip);
-        };
-        let expected = carried_type(message);
-        if expected != element.data_type {
-            let expected = ExpectedMeaning::Message(expected);
-            let met = MetMeaning::Typed(element.data_type);
-            self.tell(name.place, expected, met, None)?;
-            return Ok(CoreProcess::Skip);
-        }
-        let channel = LinkChannel {
-            number: channel.number,
-            message,
-        };
-        let process = match element.element {
-            CoreElement::Variable(number) => CoreProcess::Input(channel, number),
-            CoreElement::Element(array, subscript) => {
-                CoreProcess::InputElement(channel, array, subscript)
+        target: TypedElement<'a>,
+        value: &SourceExpression<'a>,
+    ) -> CoreProcess {
+        match self.value_of_type(value, target.data_type) {
+            Some(value) => {
+                let process = assignment_of(target.element, value.expression);
+                self.notes.lined(place, process)
             }
-        };
-        self.lined(place, process)
-    }
-
-    // The input of an array.
-    fn array_input(
-        &mut self,
-        place: TextPlace,
-        number: u8,
-        target: &SourceElement<'a>,
-        length: Option<u32>,
-        data_type: DataType,
-    ) -> Result<CoreProcess, AllocError> {
-        let name = target.name;
-        let expected = ExpectedMeaning::MessageArray(length, data_type);
-        let (Some((known, array)), None) = (self.array_named(name), &target.subscript) else {
-            if let Some(element) = self.target(name, target.subscript.as_ref(), None)? {
-                let met = MetMeaning::Typed(element.data_type);
-                self.tell(name.place, expected, met, None)?;
-            }
-            return Ok(CoreProcess::Skip);
-        };
-        let typed = TypedArray {
-            place: name.place,
-            array,
-        };
-        if !self.is_array_of(typed, length, data_type, expected)?
-            || !self.may_change_array(name, known, array)?
-        {
-            return Ok(CoreProcess::Skip);
-        }
-        self.lined(place, CoreProcess::InputArray(number, array.array))
-    }
-
-    // `channel ! value`
-    fn output(
-        &mut self,
-        channel: &SourceElement<'a>,
-        value: &SourceValue<'a>,
-    ) -> Result<CoreProcess, AllocError> {
-        let place = channel.name.place;
-        let channel = self.link_channel(
-            channel.name,
-            channel.subscript.as_ref(),
-            ChannelUse::Send,
-        )?;
-        match (channel, self.whole_array(value)?, value) {
-            (Some(channel), WholeArray::Is(array), _) => self.array_output(place, channel, array),
-            (Some(channel), WholeArray::Not, SourceValue::Expression(expression)) => {
-                self.element_output(place, channel, expression)
-            }
-            (None, WholeArray::Not, SourceValue::Expression(expression)) => {
-                self.whole_expression(expression)?;
-                Ok(CoreProcess::Skip)
-            }
-            _ => Ok(CoreProcess::Skip),
-        }
-    }
-
-    // The output of an array.
-    fn array_output(
-        &mut self,
-        place: TextPlace,
-        channel: PlacedChannel,
-        typed: TypedArray,
-    ) -> Result<CoreProcess, AllocError> {
-        match channel.message {
-            MessageType::Array(length, data_type) => {
-                let expected = ExpectedMeaning::MessageArray(length, data_type);
-                if !self.is_array_of(typed, length, data_type, expected)? {
-                    return Ok(CoreProcess::Skip);
-                }
-                let process = CoreProcess::OutputArray(channel.number, typed.array.array);
-                self.lined(place, process)
-            }
-            MessageType::One(message) => {
-                let expected = ExpectedMeaning::Message(carried_type(message));
-                let met = MetMeaning::TypedArray(typed.array.length(), typed.array.data_type);
-                self.tell(typed.place, expected, met, Some(MeaningHint::OneByOne))?;
-                Ok(CoreProcess::Skip)
-            }
-        }
-    }
-
-    // The output of a value that is no array.
-    fn element_output(
-        &mut self,
-        place: TextPlace,
-        channel: PlacedChannel,
-        expression: &SourceExpression<'a>,
-    ) -> Result<CoreProcess, AllocError> {
-        let number = channel.number;
-        match channel.message {
-            MessageType::One(message) => {
-                match self.message_value(expression, carried_type(message))? {
-                    Some(value) => {
-                        let channel = LinkChannel { number, message };
-                        self.lined(place, CoreProcess::Output(channel, value.expression))
-                    }
-                    None => Ok(CoreProcess::Skip),
-                }
-            }
-            MessageType::Array(length, data_type) => {
-                if let Some(typed) = self.whole_expression(expression)? {
-                    let expected = ExpectedMeaning::MessageArray(length, data_type);
-                    let met = MetMeaning::Typed(typed.data_type);
-                    self.tell(typed.place, expected, met, None)?;
-                }
-                Ok(CoreProcess::Skip)
-            }
-        }
-    }
-
-    // The count of a replicator.
-    fn count_of(&mut self, count: &SourceExpression<'a>) -> Result<Option<Expression>, AllocError> {
-        let Some(count) = self.value_of_type(count, DataType::Int)? else {
-            return Ok(None);
-        };
-        if let Expression::Number(number) = &count.expression
-            && number.cast_signed() < 0
-            && !self.around.is_in_place()
-        {
-            let met = MetMeaning::Number(number.cast_signed());
-            self.tell(count.place, ExpectedMeaning::CountValue, met, None)?;
-            return Ok(None);
-        }
-        Ok(Some(count.expression))
-    }
-
-    // The number of the variable of an index. The next one counts the turns.
-    fn new_index(&mut self, index: SourceName<'a>) -> Result<Option<u32>, AllocError> {
-        let number = self.new_variable(index.place, named_variable(index, DataType::Int))?;
-        let counter = hidden_variable(index.place, DataType::Int);
-        match self.new_variable(index.place, counter)? {
-            Some(_) => Ok(number),
-            None => Ok(None),
+            None => CoreProcess::Skip,
         }
     }
 }

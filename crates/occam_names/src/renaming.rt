@@ -1,17 +1,19 @@
-//! Names that are other names of variables, elements, arrays and channels.
+//! Names that are other names of variables, elements and arrays.
 
 use crate::arrays::TypedArray;
 use crate::elements::{CoreElement, TypedElement};
 use crate::expected::ExpectedMeaning;
+use crate::expressions::number_of;
 use crate::fault::MeaningHint;
 use crate::marks::{MarkKind, Region};
-use crate::meaning::{Access, ArrayMeaning, Cell, MessageType, TypeMeaning, is_same_message};
+use crate::meaning::{Cell, TypeMeaning};
 use crate::met::MetMeaning;
-use crate::namer::{FoundName, Namer, hidden_variable};
-use crate::scope::{KnownName, Meaning};
+use crate::namer::Namer;
+use crate::scope::{FoundName, Meaning};
+use crate::values::variable_of;
+use crate::variables::hidden_variable;
 use occam_core::{CoreArray, CoreProcess, Expression};
 use occam_tree::{DataType, SourceExpression, SourceName};
-use std::alloc::AllocError;
 
 impl<'a, 'b> Namer<'a, 'b> {
     /// What a name means that is another name of this, of this type. The evaluation of a subscript is added to a row. If it is
@@ -23,50 +25,66 @@ impl<'a, 'b> Namer<'a, 'b> {
         original: SourceName<'a>,
         subscript: Option<&SourceExpression<'a>>,
         row: &mut Vec<CoreProcess>,
-    ) -> Result<Option<Meaning>, AllocError> {
+    ) -> Option<Meaning> {
         match expected {
             TypeMeaning::Data(data_type) => {
-                self.renamed_element(name, data_type, original, subscript, row)
+                self.notes.count_part(original.place);
+                let element = self.renamed_element(name, data_type, original, subscript)?;
+                self.kept_element(name, element, row)
             }
             TypeMeaning::Array(length, data_type) => {
+                self.notes.count_part(original.place);
                 self.renamed_array(name, length, data_type, original, subscript)
             }
-            TypeMeaning::Channel(message) => self.renamed_channel(message, original, subscript),
+            TypeMeaning::Channel(message) => {
+                self.renamed_channel(name, message, original, subscript, row)
+            }
+            TypeMeaning::ChannelArray(length, message) => {
+                self.renamed_channel_array(length, message, original, subscript)
+            }
         }
     }
 
-    // `TYPE name IS original:` or `TYPE name IS original[subscript]:`
+    // The element of `TYPE name IS original:` or `TYPE name IS original[subscript]:`
     fn renamed_element(
         &mut self,
         name: SourceName<'a>,
         data_type: DataType,
         original: SourceName<'a>,
         subscript: Option<&SourceExpression<'a>>,
-        row: &mut Vec<CoreProcess>,
-    ) -> Result<Option<Meaning>, AllocError> {
-        self.count_part(original.place)?;
-        self.forget_named();
-        let subscript = self.subscript(subscript)?;
-        self.freeze_named(name)?;
-        let hint = MeaningHint::Input(original.text);
-        let expected = ExpectedMeaning::Variable;
-        let Some(element) = self.element(original, subscript, expected, Some(hint))? else {
-            return Ok(None);
-        };
-        if !self.is_changing(original, &element)? {
-            return Ok(None);
+    ) -> Option<TypedElement<'a>> {
+        let element = self.original_element(name, original, subscript)?;
+        if !self.is_changing(original, &element) {
+            return None;
         }
-        if element.data_type != data_type {
-            let met = MetMeaning::Typed(element.data_type);
-            self.tell(
-                original.place,
-                ExpectedMeaning::OfType(data_type),
-                met,
-                None,
-            )?;
-            return Ok(None);
+        if element.data_type == data_type {
+            return Some(element);
         }
-        self.kept_element(name, element, row)
+        let expected = ExpectedMeaning::OfType(data_type);
+        let met = MetMeaning::Typed(element.data_type);
+        self.notes.tell(original.place, expected, met, None);
+        None
+    }
+
+    // The element that gets another name. What its subscript names doesn't change from now on.
+    fn original_element(
+        &mut self,
+        name: SourceName<'a>,
+        original: SourceName<'a>,
+        subscript: Option<&SourceExpression<'a>>,
+    ) -> Option<TypedElement<'a>> {
+        match subscript {
+            Some(subscript) => {
+                self.marks.forget_regions();
+                let subscript = self.expression(subscript);
+                self.freeze_regions(name);
+                self.array_element(original, subscript, ExpectedMeaning::Variable)
+            }
+            None => {
+                let hint = Some(MeaningHint::Input(original.text));
+                self.variable(original, ExpectedMeaning::Variable, hint)
+            }
+        }
     }
 
     // What a name means that is an element. Its subscript is evaluated once.
@@ -75,47 +93,50 @@ impl<'a, 'b> Namer<'a, 'b> {
         name: SourceName<'a>,
         element: TypedElement<'a>,
         row: &mut Vec<CoreProcess>,
-    ) -> Result<Option<Meaning>, AllocError> {
-        let TypedElement {
-            known: _,
-            data_type,
-            element,
-            access,
-            region,
-        } = element;
-        self.mark(name, MarkKind::Renamed, region)?;
-        let cell = match element {
+    ) -> Option<Meaning> {
+        let data_type = element.data_type;
+        let access = element.access;
+        self.mark(name, MarkKind::Renamed, element.region);
+        let cell = match element.element {
             CoreElement::Variable(number) => Cell::Variable(number),
-            CoreElement::Element(array, Expression::Number(number)) if number < array.length => {
-                Cell::Element(array, number)
-            }
-            CoreElement::Element(array, Expression::Variable(number)) => {
-                Cell::Chosen(array, number)
-            }
-            CoreElement::Element(array, expression) => {
-                match self.kept_subscript(name, array, expression, row)? {
-                    Some(cell) => cell,
-                    None => return Ok(None),
-                }
+            CoreElement::Element(array, subscript) => {
+                self.kept_cell(name, array, subscript, row)?
             }
         };
-        Ok(Some(Meaning::Variable(data_type, cell, access)))
+        Some(Meaning::Variable(data_type, cell, access))
     }
 
-    // The element of a subscript that is evaluated into a variable of its own.
-    fn kept_subscript(
+    // The element of a subscript, which is evaluated once.
+    fn kept_cell(
         &mut self,
         name: SourceName<'a>,
         array: CoreArray,
         subscript: Expression,
         row: &mut Vec<CoreProcess>,
-    ) -> Result<Option<Cell>, AllocError> {
+    ) -> Option<Cell> {
+        if let Some(number) = number_of(&subscript)
+            && number < array.length
+        {
+            return Some(Cell::Element(array, number));
+        }
+        let number = self.kept_subscript(name, subscript, row)?;
+        Some(Cell::Chosen(array, number))
+    }
+
+    /// The number of the variable that has the value of a subscript. If it is no variable, it is evaluated into one of its own.
+    pub fn kept_subscript(
+        &mut self,
+        name: SourceName<'a>,
+        subscript: Expression,
+        row: &mut Vec<CoreProcess>,
+    ) -> Option<u32> {
+        if let Some(number) = variable_of(&subscript) {
+            return Some(number);
+        }
         let variable = hidden_variable(name.place, DataType::Int);
-        let Some(number) = self.new_variable(name.place, variable)? else {
-            return Ok(None);
-        };
-        row.push(CoreProcess::Assign(number, subscript))?;
-        Ok(Some(Cell::Chosen(array, number)))
+        let number = self.new_variable(name.place, variable)?;
+        self.notes.add(row, CoreProcess::Assign(number, subscript));
+        Some(number)
     }
 
     // `[]TYPE name IS original:`
@@ -126,24 +147,21 @@ impl<'a, 'b> Namer<'a, 'b> {
         data_type: DataType,
         original: SourceName<'a>,
         subscript: Option<&SourceExpression<'a>>,
-    ) -> Result<Option<Meaning>, AllocError> {
-        self.count_part(original.place)?;
+    ) -> Option<Meaning> {
         let expected = ExpectedMeaning::OfArray(length, data_type);
-        let (Some((known, array)), None) = (self.array_named(original), subscript) else {
-            self.tell_other_array(original, subscript, expected)?;
-            return Ok(None);
+        let place = original.place;
+        let (Some((known, array)), None) = (self.scope.array_named(original), subscript) else {
+            self.tell_other_array(original, subscript, expected);
+            return None;
         };
-        let typed = TypedArray {
-            place: original.place,
-            array,
-        };
-        if !self.is_array_of(typed, length, data_type, expected)?
-            || !self.may_rename_array(original, known, array)?
+        let typed = TypedArray { place, array };
+        if !self.notes.is_array_of(typed, length, data_type, expected)
+            || !self.is_changing_array(original, known, array)
         {
-            return Ok(None);
+            return None;
         }
-        self.mark(name, MarkKind::Renamed, Region::of_array(array.array))?;
-        Ok(Some(Meaning::Array(array)))
+        self.mark(name, MarkKind::Renamed, Region::of_array(array.array));
+        Some(Meaning::Array(array))
     }
 
     // Says that a name is no array.
@@ -152,58 +170,34 @@ impl<'a, 'b> Namer<'a, 'b> {
         original: SourceName<'a>,
         subscript: Option<&SourceExpression<'a>>,
         expected: ExpectedMeaning,
-    ) -> Result<(), AllocError> {
+    ) {
         match subscript {
             Some(_) => {
-                let subscript = self.subscript(subscript)?;
                 let variable = ExpectedMeaning::Variable;
-                if let Some(element) = self.element(original, subscript, variable, None)? {
+                if let Some(element) = self.element(original, subscript, variable, None) {
                     let met = MetMeaning::Typed(element.data_type);
-                    self.tell(original.place, expected, met, None)?;
+                    self.notes.tell(original.place, expected, met, None);
                 }
-                Ok(())
             }
             None => {
-                let found = self.find(original);
-                self.tell_found(original, found, ExpectedMeaning::Array, None)
+                let found = self.scope.find(original);
+                match self.channel_array_met(found) {
+                    Some(met) => self.notes.tell(original.place, expected, met, None),
+                    None => self.tell_found(original, found, ExpectedMeaning::Array, None),
+                }
             }
         }
     }
 
-    // `CHAN OF TYPE name IS original:`
-    fn renamed_channel(
-        &mut self,
-        message: MessageType,
-        original: SourceName<'a>,
-        subscript: Option<&SourceExpression<'a>>,
-    ) -> Result<Option<Meaning>, AllocError> {
-        let Some(index) = self.channel_of(original, subscript, None)? else {
-            return Ok(None);
+    // An array of channels as it is met.
+    fn channel_array_met(&self, found: FoundName<'a>) -> Option<MetMeaning<'static>> {
+        let FoundName::Known(known) = found else {
+            return None;
         };
-        let Some(channel) = self.channels.get(index).copied() else {
-            return Ok(None);
+        let Meaning::ChannelArray(index) = known.meaning else {
+            return None;
         };
-        if !is_same_message(message, channel.message) {
-            let expected = ExpectedMeaning::ChannelOf(message);
-            let met = MetMeaning::ChannelOf(channel.message);
-            self.tell(original.place, expected, met, None)?;
-            return Ok(None);
-        }
-        Ok(Some(Meaning::Channel(index)))
-    }
-
-    // Whether another name may be given to an array. If not, that is noted.
-    fn may_rename_array(
-        &mut self,
-        original: SourceName<'a>,
-        known: KnownName<'a>,
-        array: ArrayMeaning,
-    ) -> Result<bool, AllocError> {
-        if array.access != Access::Changing {
-            let found = FoundName::Known(known);
-            self.tell_found(original, found, ExpectedMeaning::ChangingVariable, None)?;
-            return Ok(false);
-        }
-        self.may_name(original, known, array.access, Region::of_array(array.array))
+        let declared = self.channels.get(index)?;
+        Some(MetMeaning::ChannelArrayOf(declared.form.length(), declared.message))
     }
 }

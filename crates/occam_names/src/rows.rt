@@ -1,6 +1,6 @@
 //! Rows of processes of the core.
 
-use occam_core::{CoreProcess, Expression};
+use occam_core::{CoreGuard, CoreProcess, Expression};
 use std::alloc::{AllocError, Global};
 use std::vec::IntoIter;
 
@@ -8,6 +8,13 @@ use std::vec::IntoIter;
 #[derive(Drop)]
 pub struct CoreChoice {
     pub condition: Expression,
+    pub process: CoreProcess,
+}
+
+/// An alternative of an `ALT`.
+#[derive(Drop)]
+pub struct CoreAlternative {
+    pub guard: CoreGuard,
     pub process: CoreProcess,
 }
 
@@ -43,4 +50,28 @@ pub fn chain_of(alloc: Global, row: Vec<CoreChoice>) -> Result<CoreProcess, Allo
         chain = CoreProcess::If(condition, process, Box::new(alloc, chain)?);
     }
     Ok(chain)
+}
+
+/// All processes at the same time.
+pub fn in_parallel(alloc: Global, row: Vec<CoreProcess>) -> Result<CoreProcess, AllocError> {
+    let mut components = row.into_iter().rev();
+    let Some(mut last) = components.next() else {
+        return Ok(CoreProcess::Skip);
+    };
+    for process in components {
+        let process = Box::new(alloc, process)?;
+        last = CoreProcess::Parallel(process, Box::new(alloc, last)?);
+    }
+    Ok(last)
+}
+
+/// The process of the first alternative whose guard is ready, and an error if none is open.
+pub fn choice_of(alloc: Global, row: Vec<CoreAlternative>) -> Result<CoreProcess, AllocError> {
+    let mut choice = CoreProcess::Stop;
+    for alternative in row.into_iter().rev() {
+        let CoreAlternative { guard, process } = alternative;
+        let process = Box::new(alloc, process)?;
+        choice = CoreProcess::Choose(guard, process, Box::new(alloc, choice)?);
+    }
+    Ok(choice)
 }

@@ -1,7 +1,10 @@
 //! The names that are known at a place of a text.
 
-use crate::meaning::{Access, ArrayMeaning, Cell};
+use crate::fault::MeaningHint;
+use crate::meaning::{Access, ArrayMeaning, Cell, ChannelMeaning, ChannelPart};
+use crate::met::{LINK_NAMES, MetMeaning, NameKind};
 use occam_tree::{DataType, SourceName};
+use script_text::{is_near, value_named};
 use std::alloc::{AllocError, Global};
 use std::collections::HashMap;
 
@@ -13,8 +16,9 @@ pub enum Meaning {
     /// A value of this type, where it is kept, and what may be done with it.
     Variable(DataType, Cell, Access),
     Array(ArrayMeaning),
-    /// The channel of this index among those of the program.
-    Channel(usize),
+    Channel(ChannelMeaning),
+    /// The array of channels of this index among what declares channels.
+    ChannelArray(usize),
     /// The procedure of this index among those that are known.
     Procedure(usize),
     /// Its declaration is wrong, and nothing more is said of it.
@@ -30,6 +34,15 @@ pub struct KnownName<'a> {
     pub rank: usize,
     // Which name it hides.
     hidden: Option<usize>,
+}
+
+/// What a name means where it is used.
+#[derive(Clone, Copy)]
+pub enum FoundName<'a> {
+    Known(KnownName<'a>),
+    /// A number that has the name without a declaration.
+    Constant(u32),
+    Nothing,
 }
 
 // Names that aren't seen in an instance of a procedure: those that were declared between the procedure and the instance.
@@ -73,8 +86,28 @@ impl<'a> Scope<'a> {
         self.meant.get(&text).copied().flatten()
     }
 
-    /// What a text means as a name.
-    pub fn find(&self, text: &'a str) -> Option<KnownName<'a>> {
+    /// What a name means.
+    pub fn find(&self, name: SourceName<'a>) -> FoundName<'a> {
+        if let Some(known) = self.known(name.text) {
+            return FoundName::Known(known);
+        }
+        match value_named(&LINK_NAMES, name.text) {
+            Some(number) => FoundName::Constant(number),
+            None => FoundName::Nothing,
+        }
+    }
+
+    /// The array that a name means.
+    pub fn array_named(&self, name: SourceName<'a>) -> Option<(KnownName<'a>, ArrayMeaning)> {
+        let known = self.known(name.text)?;
+        match known.meaning {
+            Meaning::Array(array) => Some((known, array)),
+            _ => None,
+        }
+    }
+
+    // The declared name that a text means.
+    fn known(&self, text: &'a str) -> Option<KnownName<'a>> {
         let mut index = self.index_of(text)?;
         for _ in 0..self.names.len() {
             let known = self.names.get(index).copied()?;
@@ -105,19 +138,13 @@ impl<'a> Scope<'a> {
         self.intervals.get(place?).copied()
     }
 
-    /// Which names aren't seen, for `hide_since`.
+    /// Which names aren't seen, for `hide_since` and `show_again`.
     pub fn hidden_names(&self) -> Option<usize> {
         self.current
     }
 
-    /// Hides the names after the first `known`, and those that were hidden when there were only these. It gives what was
-    /// hidden before.
-    pub fn hide_since(
-        &mut self,
-        known: usize,
-        outer: Option<usize>,
-    ) -> Result<Option<usize>, AllocError> {
-        let before = self.current;
+    /// Hides the names after the first `known`, and those that were hidden when there were only these.
+    pub fn hide_since(&mut self, known: usize, outer: Option<usize>) -> Result<(), AllocError> {
         let place = self.intervals.len();
         self.intervals.push(HiddenNames {
             from: known,
@@ -125,10 +152,10 @@ impl<'a> Scope<'a> {
             outer,
         })?;
         self.current = Some(place);
-        Ok(before)
+        Ok(())
     }
 
-    /// Undoes the last `hide_since`, which gave this.
+    /// Undoes the last `hide_since`, before which these names weren't seen.
     pub fn show_again(&mut self, before: Option<usize>) {
         self.intervals.pop();
         self.current = before;
@@ -170,8 +197,65 @@ impl<'a> Scope<'a> {
         Ok(())
     }
 
-    /// The names that are known.
-    pub fn names(&self) -> &[KnownName<'a>] {
-        self.names.as_slice()
+    /// The name that a mistyped one most likely is.
+    pub fn nearest(&self, text: &str) -> Option<MeaningHint<'a>> {
+        let names = self.names.as_slice();
+        nearest_within(names, text, 0)
+            .or(nearest_within(names, text, 1))
+            .or(nearest_within(names, text, 2))
     }
+}
+
+// The innermost name that differs from a text by at most this many slips; by none, if only small and capital letters differ.
+fn nearest_within<'a>(names: &[KnownName<'a>], text: &str, slips: u8) -> Option<MeaningHint<'a>> {
+    for known in names.iter().rev() {
+        let name = known.name;
+        if name.text.eq_ignore_ascii_case(text) || is_near(text, name.text, slips) {
+            return Some(MeaningHint::Nearest(name.text, name.place.line));
+        }
+    }
+    match constant_within(text, slips) {
+        Some(name) => Some(MeaningHint::NearestConstant(name)),
+        None => None,
+    }
+}
+
+// The same of the names that have a number without a declaration.
+fn constant_within(text: &str, slips: u8) -> Option<&'static str> {
+    for entry in &LINK_NAMES {
+        if entry.0.eq_ignore_ascii_case(text) || is_near(text, entry.0, slips) {
+            return Some(entry.0);
+        }
+    }
+    None
+}
+
+// What a name means that has a meaning.
+fn kind_of_meaning(meaning: Meaning) -> Option<NameKind> {
+    Some(match meaning {
+        Meaning::Constant(_, _) => NameKind::Constant,
+        Meaning::Variable(_, _, access) => match access {
+            Access::Changing => NameKind::Variable,
+            Access::Index | Access::ConstantIndex => NameKind::Index,
+            Access::Value | Access::Parameter => NameKind::Value,
+        },
+        Meaning::Array(array) => match array.access {
+            Access::Changing => NameKind::Array,
+            _ => NameKind::ValueArray,
+        },
+        Meaning::Channel(channel) => match channel.part {
+            ChannelPart::Whole => NameKind::Channel,
+            _ => NameKind::ChannelElement,
+        },
+        Meaning::ChannelArray(_) => NameKind::ChannelArray,
+        Meaning::Procedure(_) => NameKind::Procedure,
+        Meaning::Wrong => return None,
+    })
+}
+
+/// A name as it is met, unless its declaration is wrong.
+pub fn met_of(known: KnownName<'_>) -> Option<MetMeaning<'_>> {
+    let SourceName { text, place } = known.name;
+    let kind = kind_of_meaning(known.meaning)?;
+    Some(MetMeaning::Known(text, kind, place.line))
 }

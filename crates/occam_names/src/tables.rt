@@ -2,10 +2,13 @@
 
 use crate::arrays::TypedArray;
 use crate::expected::ExpectedMeaning;
+use crate::expressions::{TypedExpression, number_of};
 use crate::fault::MeaningHint;
 use crate::meaning::{Access, ArrayMeaning, kind_of};
-use crate::namer::{MOST_VARIABLES, Namer, hidden_variable};
-use occam_core::{CoreArray, ElementKind, Expression};
+use crate::namer::Namer;
+use crate::notes::Notes;
+use crate::variables::MOST_VARIABLES;
+use occam_core::{CoreArray, ElementKind};
 use occam_tree::{DataType, SourceExpression, SourceTable, TextPlace};
 use std::alloc::{AllocError, Global};
 use std::collections::HashMap;
@@ -86,33 +89,51 @@ fn push_bytes(words: &mut Vec<u32>, bytes: &[u32]) -> Result<(), AllocError> {
     Ok(())
 }
 
-impl<'a, 'b> Namer<'a, 'b> {
-    /// Takes this many variables for the words of tables, before all others.
-    pub fn reserve_tables(&mut self, words: usize) -> Result<(), AllocError> {
-        let place = TextPlace { line: 0, column: 0 };
-        for _ in 0..words {
-            self.variables.push(hidden_variable(place, DataType::Int))?;
-        }
-        Ok(())
+// The bytes of a string as values.
+fn values_of(alloc: Global, bytes: &[u8]) -> Result<Vec<u32>, AllocError> {
+    let mut values = Vec::new(alloc);
+    for byte in bytes {
+        values.push(u32::from(*byte))?;
     }
+    Ok(values)
+}
 
+impl<'a> Notes<'a> {
+    // The type and the value of a constant. If it is none, that is noted.
+    fn table_constant(&mut self, typed: &TypedExpression<'a>) -> Option<(DataType, u32)> {
+        if let Some(name) = typed.varies {
+            let hint = Some(MeaningHint::TableOfConstants);
+            self.tell(name.place, ExpectedMeaning::Constant, name.met, hint);
+            return None;
+        }
+        let value = number_of(&typed.expression)?;
+        Some((typed.data_type, value))
+    }
+}
+
+impl<'a, 'b> Namer<'a, 'b> {
     /// A table. What is wrong with it is noted, and then there is none.
-    pub fn table(&mut self, table: &SourceTable<'a>) -> Result<Option<TypedArray>, AllocError> {
+    pub fn table(&mut self, table: &SourceTable<'a>) -> Option<TypedArray> {
         match table {
             SourceTable::Text(place, bytes) => {
-                self.count_part(*place)?;
-                let mut values = Vec::new(self.alloc);
-                for byte in bytes {
-                    values.push(u32::from(*byte))?;
-                }
-                self.typed_table(*place, DataType::Byte, values.as_slice())
+                self.notes.count_part(*place);
+                self.text_table(*place, bytes.as_slice())
             }
             SourceTable::Values(place, expressions) => {
-                let mut values = Vec::new(self.alloc);
-                match self.table_values(expressions.as_slice(), &mut values)? {
-                    Some(data_type) => self.typed_table(*place, data_type, values.as_slice()),
-                    None => Ok(None),
-                }
+                let mut values = Vec::new(self.notes.alloc);
+                let data_type = self.table_values(expressions.as_slice(), &mut values)?;
+                self.typed_table(*place, data_type, values.as_slice())
+            }
+        }
+    }
+
+    // A string.
+    fn text_table(&mut self, place: TextPlace, bytes: &[u8]) -> Option<TypedArray> {
+        match values_of(self.notes.alloc, bytes) {
+            Ok(values) => self.typed_table(place, DataType::Byte, values.as_slice()),
+            Err(_) => {
+                self.notes.note_memory(false);
+                None
             }
         }
     }
@@ -122,19 +143,20 @@ impl<'a, 'b> Namer<'a, 'b> {
         &mut self,
         expressions: &[SourceExpression<'a>],
         values: &mut Vec<u32>,
-    ) -> Result<Option<DataType>, AllocError> {
+    ) -> Option<DataType> {
         let mut data_type = None;
         let mut is_right = true;
         for expression in expressions {
-            match self.table_value(expression, data_type)? {
+            match self.table_value(expression, data_type) {
                 Some((value_type, value)) => {
                     data_type = Some(value_type);
-                    values.push(value)?;
+                    let is_added = values.push(value).is_ok();
+                    self.notes.note_memory(is_added);
                 }
                 None => is_right = false,
             }
         }
-        Ok(if is_right { data_type } else { None })
+        if is_right { data_type } else { None }
     }
 
     // A value of a table, of this type if it isn't the first.
@@ -142,23 +164,12 @@ impl<'a, 'b> Namer<'a, 'b> {
         &mut self,
         expression: &SourceExpression<'a>,
         data_type: Option<DataType>,
-    ) -> Result<Option<(DataType, u32)>, AllocError> {
+    ) -> Option<(DataType, u32)> {
         let typed = match data_type {
-            Some(data_type) => self.value_of_type(expression, data_type)?,
-            None => self.whole_expression(expression)?,
+            Some(data_type) => self.value_of_type(expression, data_type),
+            None => self.whole_expression(expression),
         };
-        let Some(typed) = typed else {
-            return Ok(None);
-        };
-        if let Some(name) = typed.varies {
-            let hint = Some(MeaningHint::TableOfConstants);
-            self.tell(name.place, ExpectedMeaning::Constant, name.met, hint)?;
-            return Ok(None);
-        }
-        match typed.expression {
-            Expression::Number(value) => Ok(Some((typed.data_type, value))),
-            _ => Ok(None),
-        }
+        self.notes.table_constant(&typed?)
     }
 
     // A table of these values. It has a place among the words unless it is in a body that is only checked.
@@ -167,28 +178,38 @@ impl<'a, 'b> Namer<'a, 'b> {
         place: TextPlace,
         data_type: DataType,
         values: &[u32],
-    ) -> Result<Option<TypedArray>, AllocError> {
-        let kind = kind_of(data_type);
-        let array = if self.around.checked.is_some() {
-            CoreArray {
-                first: u32::try_from(MOST_VARIABLES).unwrap_or(u32::MAX),
-                length: u32::try_from(values.len()).unwrap_or(u32::MAX),
-                kind,
-            }
-        } else {
-            self.tables.table_at(place, kind, values)?
-        };
+    ) -> Option<TypedArray> {
+        let array = self.array_of_table(place, kind_of(data_type), values)?;
         if self.tables.words.len() > MOST_VARIABLES {
-            self.tell_many(place)?;
+            self.notes.tell_many(place);
         }
-        Ok(Some(TypedArray {
-            place,
-            array: ArrayMeaning {
-                data_type,
-                array,
-                access: Access::Value,
-                is_sized: true,
-            },
-        }))
+        let array = ArrayMeaning {
+            data_type,
+            array,
+            access: Access::Value,
+            is_sized: true,
+        };
+        Some(TypedArray { place, array })
+    }
+
+    // The array that a table is.
+    fn array_of_table(
+        &mut self,
+        place: TextPlace,
+        kind: ElementKind,
+        values: &[u32],
+    ) -> Option<CoreArray> {
+        if self.notes.around.is_checked {
+            let first = u32::try_from(MOST_VARIABLES).unwrap_or(u32::MAX);
+            let length = u32::try_from(values.len()).unwrap_or(u32::MAX);
+            return Some(CoreArray {
+                first,
+                length,
+                kind,
+            });
+        }
+        let array = self.tables.table_at(place, kind, values).ok();
+        self.notes.note_memory(array.is_some());
+        array
     }
 }

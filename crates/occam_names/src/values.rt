@@ -1,16 +1,52 @@
-//! `VAL` abbreviations and `VAL` parameters.
+//! The meanings of `VAL` abbreviations and `VAL` parameters.
 
 use crate::arrays::{TypedArray, WholeArray};
 use crate::expected::ExpectedMeaning;
-use crate::expressions::TypedExpression;
+use crate::expressions::{TypedExpression, number_of};
 use crate::marks::{MarkKind, Region};
 use crate::meaning::{Access, ArrayMeaning, Cell, TypeMeaning};
 use crate::met::MetMeaning;
-use crate::namer::{Namer, named_variable};
+use crate::namer::Namer;
+use crate::notes::Notes;
 use crate::scope::Meaning;
+use crate::variables::named_variable;
 use occam_core::{CoreProcess, Expression};
 use occam_tree::{SourceExpression, SourceName, SourceValue};
-use std::alloc::AllocError;
+
+// What may be done with a value.
+fn access_of(typed: &TypedExpression<'_>) -> Access {
+    match typed.varies {
+        Some(name) if name.rests_on_parameters => Access::Parameter,
+        _ => Access::Value,
+    }
+}
+
+/// The variable that an expression is.
+pub fn variable_of(expression: &Expression) -> Option<u32> {
+    match expression {
+        Expression::Variable(number) => Some(*number),
+        _ => None,
+    }
+}
+
+impl<'a> Notes<'a> {
+    // Whether an array has a type, if one is given. If not, that is noted.
+    fn is_array_value(&mut self, expected: Option<TypeMeaning>, typed: TypedArray) -> bool {
+        match expected {
+            Some(TypeMeaning::Array(length, data_type)) => {
+                let expected = ExpectedMeaning::OfArray(length, data_type);
+                self.is_array_of(typed, length, data_type, expected)
+            }
+            Some(TypeMeaning::Data(data_type)) => {
+                let met = MetMeaning::TypedArray(typed.array.length(), typed.array.data_type);
+                self.tell(typed.place, ExpectedMeaning::OfType(data_type), met, None);
+                false
+            }
+            Some(TypeMeaning::Channel(_) | TypeMeaning::ChannelArray(_, _)) => false,
+            None => true,
+        }
+    }
+}
 
 impl<'a, 'b> Namer<'a, 'b> {
     /// What a name means that is the value, of this type if one is given. Its evaluation is added to a row. If it is wrong,
@@ -21,17 +57,29 @@ impl<'a, 'b> Namer<'a, 'b> {
         expected: Option<TypeMeaning>,
         value: &SourceValue<'a>,
         row: &mut Vec<CoreProcess>,
-    ) -> Result<Option<Meaning>, AllocError> {
-        self.forget_named();
-        match (self.whole_array(value)?, value) {
-            (WholeArray::Is(array), _) => self.array_as_value(name, expected, array),
-            (WholeArray::Not, SourceValue::Expression(expression)) => {
-                match self.expected_value(expected, expression)? {
-                    Some(typed) => self.kept_value(name, typed, row),
-                    None => Ok(None),
-                }
+    ) -> Option<Meaning> {
+        self.marks.forget_regions();
+        match self.whole_array(value) {
+            WholeArray::Is(array) => self.array_as_value(name, expected, array),
+            WholeArray::Wrong => None,
+            WholeArray::Not => self.expression_as_value(name, expected, value, row),
+        }
+    }
+
+    // What a name means that is the value of an expression, if it isn't a table.
+    fn expression_as_value(
+        &mut self,
+        name: SourceName<'a>,
+        expected: Option<TypeMeaning>,
+        value: &SourceValue<'a>,
+        row: &mut Vec<CoreProcess>,
+    ) -> Option<Meaning> {
+        match value {
+            SourceValue::Expression(expression) => {
+                let typed = self.expected_value(expected, expression)?;
+                self.kept_value(name, typed, row)
             }
-            _ => Ok(None),
+            SourceValue::Table(_) => None,
         }
     }
 
@@ -41,28 +89,23 @@ impl<'a, 'b> Namer<'a, 'b> {
         name: SourceName<'a>,
         expected: Option<TypeMeaning>,
         typed: TypedArray,
-    ) -> Result<Option<Meaning>, AllocError> {
-        let is_right = match expected {
-            Some(TypeMeaning::Array(length, data_type)) => {
-                let expected = ExpectedMeaning::OfArray(length, data_type);
-                self.is_array_of(typed, length, data_type, expected)?
-            }
-            Some(TypeMeaning::Data(data_type)) => {
-                let met = MetMeaning::TypedArray(typed.array.length(), typed.array.data_type);
-                self.tell(typed.place, ExpectedMeaning::OfType(data_type), met, None)?;
-                false
-            }
-            Some(TypeMeaning::Channel(_)) => false,
-            None => true,
-        };
-        if !is_right {
-            return Ok(None);
+    ) -> Option<Meaning> {
+        if !self.notes.is_array_value(expected, typed) {
+            return None;
         }
-        self.mark(name, MarkKind::Frozen, Region::of_array(typed.array.array))?;
-        Ok(Some(Meaning::Array(ArrayMeaning {
+        let ArrayMeaning {
+            data_type,
+            array,
+            access: _,
+            is_sized,
+        } = typed.array;
+        self.mark(name, MarkKind::Frozen, Region::of_array(array));
+        Some(Meaning::Array(ArrayMeaning {
+            data_type,
+            array,
             access: Access::Value,
-            ..typed.array
-        })))
+            is_sized,
+        }))
     }
 
     // An expression of a type, if one is given.
@@ -70,22 +113,15 @@ impl<'a, 'b> Namer<'a, 'b> {
         &mut self,
         expected: Option<TypeMeaning>,
         expression: &SourceExpression<'a>,
-    ) -> Result<Option<TypedExpression<'a>>, AllocError> {
+    ) -> Option<TypedExpression<'a>> {
         match expected {
             Some(TypeMeaning::Data(data_type)) => self.value_of_type(expression, data_type),
             Some(TypeMeaning::Array(length, data_type)) => {
-                if let Some(typed) = self.whole_expression(expression)? {
-                    let expected = ExpectedMeaning::OfArray(length, data_type);
-                    self.tell(
-                        typed.place,
-                        expected,
-                        MetMeaning::Typed(typed.data_type),
-                        None,
-                    )?;
-                }
-                Ok(None)
+                let expected = ExpectedMeaning::OfArray(length, data_type);
+                self.tell_no_array_value(expression, expected, None);
+                None
             }
-            Some(TypeMeaning::Channel(_)) => Ok(None),
+            Some(TypeMeaning::Channel(_) | TypeMeaning::ChannelArray(_, _)) => None,
             None => self.whole_expression(expression),
         }
     }
@@ -96,30 +132,23 @@ impl<'a, 'b> Namer<'a, 'b> {
         name: SourceName<'a>,
         typed: TypedExpression<'a>,
         row: &mut Vec<CoreProcess>,
-    ) -> Result<Option<Meaning>, AllocError> {
-        let TypedExpression {
-            place: _,
-            data_type,
-            expression,
-            varies,
-        } = typed;
-        let access = match varies {
-            Some(name) if name.rests_on_parameters => Access::Parameter,
-            _ => Access::Value,
-        };
-        self.freeze_named(name)?;
-        let number = match expression {
-            Expression::Number(number) => return Ok(Some(Meaning::Constant(data_type, number))),
-            Expression::Variable(number) => number,
-            expression => {
+    ) -> Option<Meaning> {
+        let access = access_of(&typed);
+        let data_type = typed.data_type;
+        self.freeze_regions(name);
+        if let Some(number) = number_of(&typed.expression) {
+            return Some(Meaning::Constant(data_type, number));
+        }
+        let number = match variable_of(&typed.expression) {
+            Some(number) => number,
+            None => {
                 let variable = named_variable(name, data_type);
-                let Some(number) = self.new_variable(name.place, variable)? else {
-                    return Ok(None);
-                };
-                row.push(CoreProcess::Assign(number, expression))?;
+                let number = self.new_variable(name.place, variable)?;
+                self.notes
+                    .add(row, CoreProcess::Assign(number, typed.expression));
                 number
             }
         };
-        Ok(Some(Meaning::Variable(data_type, Cell::Variable(number), access)))
+        Some(Meaning::Variable(data_type, Cell::Variable(number), access))
     }
 }

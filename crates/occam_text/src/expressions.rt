@@ -5,42 +5,45 @@
 use crate::hints::{
     COMPARED_TWICE, FILLED_SUBSCRIPT, GrammarHint, NO_OPERATOR_BINDS, SIZE_OF_ARRAY,
 };
-use crate::mistakes::{ExpectedPart, MetPart, OccamTextFault};
-use crate::omissions::{CALL, SLICE};
+use crate::mistakes::{ExpectedPart, MetPart, ReadStop};
+use crate::omissions::OmittedPart;
+use crate::rows::{RowOperand, halved};
 use crate::tree_reader::{MOST_NESTING, TreeReader};
-use crate::words::{OccamToken, TokenKind};
+use crate::words::TokenKind;
 use occam_tree::{
     Conversion, DataType, DyadicSign, MonadicSign, SourceExpression, SourceName, TextPlace,
 };
-use std::alloc::Global;
 
 // How many characters of an operation a hint shows at most.
 const MOST_SHOWN: usize = 40;
-
-// An operand, and where the operator before it is. The first operand of a row has none before it.
-#[derive(Drop)]
-struct RowOperand<'a> {
-    operator: TextPlace,
-    operand: SourceExpression<'a>,
-}
 
 impl<'a, 'b> TreeReader<'a, 'b> {
     /// The expression that is here.
     ///
     /// # Errors
     /// Faults 6, 7, 10 and 38, and those of its words.
-    pub fn take_expression(&mut self) -> Result<SourceExpression<'a>, OccamTextFault<'a>> {
+    pub fn take_expression(&mut self) -> Result<SourceExpression<'a>, ReadStop> {
         self.take_single_expression(ExpectedPart::OneOperator)
     }
 
-    /// The same. Of a second operator it is said that it is one too much by `single`.
+    /// The expression that is here, and the end of its line.
+    ///
+    /// # Errors
+    /// The same, and fault 11.
+    pub fn take_expression_line(&mut self) -> Result<SourceExpression<'a>, ReadStop> {
+        let expression = self.take_expression()?;
+        self.take_line_end(ExpectedPart::LineEndOrOperator)?;
+        Ok(expression)
+    }
+
+    /// The expression that is here. Of a second operator it is said that it is one too much by `single`.
     ///
     /// # Errors
     /// Faults 5, 6, 7, 10 and 38, and those of its words.
     pub fn take_single_expression(
         &mut self,
         single: ExpectedPart,
-    ) -> Result<SourceExpression<'a>, OccamTextFault<'a>> {
+    ) -> Result<SourceExpression<'a>, ReadStop> {
         self.take_nested_expression(MOST_NESTING, single)
     }
 
@@ -50,12 +53,13 @@ impl<'a, 'b> TreeReader<'a, 'b> {
         &mut self,
         depth: u8,
         single: ExpectedPart,
-    ) -> Result<SourceExpression<'a>, OccamTextFault<'a>> {
-        let first = self.first();
-        let expression = self.take_operation(first, depth)?;
-        match self.first().kind {
+    ) -> Result<SourceExpression<'a>, ReadStop> {
+        let start = self.place();
+        let expression = self.take_operation(depth)?;
+        match self.kind() {
             TokenKind::Operator(sign) => {
-                Err(self.second_operator(first, &expression, sign, single))
+                let before = tightness_of(&expression);
+                Err(self.second_operator(start, before, sign, single))
             }
             _ => Ok(expression),
         }
@@ -63,41 +67,80 @@ impl<'a, 'b> TreeReader<'a, 'b> {
 
     // An expression up to its end or its second operator.
     #[cycle(expression)]
-    fn take_operation(
+    fn take_operation(&mut self, depth: u8) -> Result<SourceExpression<'a>, ReadStop> {
+        match self.kind() {
+            TokenKind::Type(data_type) => self.take_converted(conversion_to(data_type), depth),
+            TokenKind::Size => self.take_array_size(),
+            kind => match monadic_sign(kind) {
+                Some(sign) => self.take_monadic(sign, depth),
+                None => self.take_operands(depth),
+            },
+        }
+    }
+
+    // This operator, which is here, and its operand.
+    #[cycle(expression)]
+    fn take_monadic(
         &mut self,
-        first: OccamToken<'a>,
+        sign: MonadicSign,
         depth: u8,
-    ) -> Result<SourceExpression<'a>, OccamTextFault<'a>> {
-        if let Some(sign) = monadic_sign(first.kind) {
-            self.take();
-            let operand = Box::new(self.alloc, self.take_operand(depth)?)?;
-            return Ok(SourceExpression::Monadic(sign, first.place, operand));
-        }
-        if let TokenKind::Type(data_type) = first.kind {
-            self.take();
-            let operand = Box::new(self.alloc, self.take_operand(depth)?)?;
-            let conversion = conversion_to(data_type);
-            return Ok(SourceExpression::Converted(conversion, first.place, operand));
-        }
-        if let TokenKind::Size = first.kind {
-            self.take();
-            let name = self.take_name(ExpectedPart::SizedName)?;
-            if let TokenKind::OpenBracket = self.first().kind {
-                return Err(self.wrong_with(ExpectedPart::LineEndOrOperator, Some(SIZE_OF_ARRAY)));
+    ) -> Result<SourceExpression<'a>, ReadStop> {
+        let place = self.place();
+        self.take();
+        let operand = self.take_boxed_operand(depth)?;
+        Ok(SourceExpression::Monadic(sign, place, operand))
+    }
+
+    // The type of this conversion, which is here, and what is converted.
+    #[cycle(expression)]
+    fn take_converted(
+        &mut self,
+        conversion: Conversion,
+        depth: u8,
+    ) -> Result<SourceExpression<'a>, ReadStop> {
+        let place = self.place();
+        self.take();
+        let operand = self.take_boxed_operand(depth)?;
+        Ok(SourceExpression::Converted(conversion, place, operand))
+    }
+
+    // `SIZE name`
+    fn take_array_size(&mut self) -> Result<SourceExpression<'a>, ReadStop> {
+        let place = self.place();
+        self.take();
+        let name = self.take_name(ExpectedPart::SizedName)?;
+        match self.kind() {
+            TokenKind::OpenBracket => {
+                Err(self.wrong_with(ExpectedPart::LineEndOrOperator, SIZE_OF_ARRAY))
             }
-            return Ok(SourceExpression::Size(first.place, name));
+            _ => Ok(SourceExpression::Size(place, name)),
         }
+    }
+
+    // An operand, or operands with an operator between them.
+    #[cycle(expression)]
+    fn take_operands(&mut self, depth: u8) -> Result<SourceExpression<'a>, ReadStop> {
         let left = self.take_operand(depth)?;
-        match self.first().kind {
+        match self.kind() {
             TokenKind::Operator(sign) if is_chained(sign, sign) => self.take_row(left, sign, depth),
-            TokenKind::Operator(sign) => {
-                let place = self.take().place;
-                let left = Box::new(self.alloc, left)?;
-                let right = Box::new(self.alloc, self.take_operand(depth)?)?;
-                Ok(SourceExpression::Dyadic(sign, place, left, right))
-            }
+            TokenKind::Operator(sign) => self.take_dyadic(left, sign, depth),
             _ => Ok(left),
         }
+    }
+
+    // This operator, which is here after its left operand, and its right one.
+    #[cycle(expression)]
+    fn take_dyadic(
+        &mut self,
+        left: SourceExpression<'a>,
+        sign: DyadicSign,
+        depth: u8,
+    ) -> Result<SourceExpression<'a>, ReadStop> {
+        let place = self.place();
+        self.take();
+        let left = Box::new(self.alloc, left)?;
+        let right = self.take_boxed_operand(depth)?;
+        Ok(SourceExpression::Dyadic(sign, place, left, right))
     }
 
     // Operands with AND between them, or with OR, after the first one.
@@ -107,18 +150,18 @@ impl<'a, 'b> TreeReader<'a, 'b> {
         left: SourceExpression<'a>,
         sign: DyadicSign,
         depth: u8,
-    ) -> Result<SourceExpression<'a>, OccamTextFault<'a>> {
+    ) -> Result<SourceExpression<'a>, ReadStop> {
         let mut row = Vec::new(self.alloc);
-        row.push(RowOperand {
-            operator: self.first().place,
+        let first = RowOperand {
+            operator: self.place(),
             operand: left,
-        })?;
+        };
+        row.push(first)?;
         for _ in 0..=self.left() {
-            match self.first().kind {
+            match self.kind() {
                 TokenKind::Operator(next) if is_chained(sign, next) => {
-                    let operator = self.take().place;
-                    let operand = self.take_operand(depth)?;
-                    row.push(RowOperand { operator, operand })?;
+                    let operand = self.take_row_operand(depth)?;
+                    row.push(operand)?;
                 }
                 _ => break,
             }
@@ -126,134 +169,157 @@ impl<'a, 'b> TreeReader<'a, 'b> {
         halved(self.alloc, row, sign)
     }
 
+    // The operator that is here, and the operand after it.
+    #[cycle(expression)]
+    fn take_row_operand(&mut self, depth: u8) -> Result<RowOperand<'a>, ReadStop> {
+        let operator = self.place();
+        self.take();
+        let operand = self.take_operand(depth)?;
+        Ok(RowOperand { operator, operand })
+    }
+
+    // An operand in memory of its own.
+    #[cycle(expression)]
+    fn take_boxed_operand(&mut self, depth: u8) -> Result<Box<SourceExpression<'a>>, ReadStop> {
+        let operand = self.take_operand(depth)?;
+        Ok(Box::new(self.alloc, operand)?)
+    }
+
     // An operand: a name, an element, a literal, or an expression between parentheses.
     #[cycle(expression)]
-    fn take_operand(&mut self, depth: u8) -> Result<SourceExpression<'a>, OccamTextFault<'a>> {
-        let token = self.first();
-        match token.kind {
-            TokenKind::Open => {
-                let Some(inner) = depth.checked_sub(1) else {
-                    return Err(self.too_deep(token.place));
-                };
+    fn take_operand(&mut self, depth: u8) -> Result<SourceExpression<'a>, ReadStop> {
+        let position = self.position();
+        let operand = match (self.kind(), self.second_kind()) {
+            (TokenKind::Open, _) => self.take_parentheses(depth)?,
+            (TokenKind::Name, TokenKind::OpenBracket) => self.take_array_element(depth)?,
+            _ => self.take_simple_operand()?,
+        };
+        self.keep_operand(position);
+        Ok(operand)
+    }
+
+    // An expression between parentheses.
+    #[cycle(expression)]
+    fn take_parentheses(&mut self, depth: u8) -> Result<SourceExpression<'a>, ReadStop> {
+        let Some(inner) = depth.checked_sub(1) else {
+            return Err(self.too_deep());
+        };
+        self.take();
+        let expression = self.take_nested_expression(inner, ExpectedPart::OneOperatorInside)?;
+        match self.kind() {
+            TokenKind::Close => {
                 self.take();
-                let expression = self.take_nested_expression(
-                    inner,
-                    ExpectedPart::OneOperatorInside,
-                )?;
-                self.take_close()?;
-                self.keep_operand(token);
                 Ok(expression)
             }
-            TokenKind::Name if matches!(self.second().kind, TokenKind::OpenBracket) => {
-                let name = self.take_name(ExpectedPart::Operand)?;
-                let subscript = Box::new(self.alloc, self.take_subscript(depth)?)?;
-                self.find_one_dimension()?;
-                self.keep_operand(token);
-                Ok(SourceExpression::Element(name, subscript))
-            }
-            _ => {
-                let operand = self.take_simple_operand()?;
-                self.keep_operand(token);
-                Ok(operand)
-            }
+            _ => Err(self.wrong(ExpectedPart::ClosingParenthesis)),
         }
     }
 
-    /// `[expression]`, within which `depth` parentheses and brackets may begin, with its own.
+    // An element of an array.
+    #[cycle(expression)]
+    fn take_array_element(&mut self, depth: u8) -> Result<SourceExpression<'a>, ReadStop> {
+        let name = self.take_name(ExpectedPart::Operand)?;
+        let subscript = self.take_subscript(depth)?;
+        Ok(SourceExpression::Element(name, Box::new(self.alloc, subscript)?))
+    }
+
+    /// `[expression]`, with no subscript after it. Within it `depth` parentheses and brackets may begin, with its own.
     ///
     /// # Errors
     /// Those of an expression.
     #[cycle(expression)]
-    pub fn take_subscript(
-        &mut self,
-        depth: u8,
-    ) -> Result<SourceExpression<'a>, OccamTextFault<'a>> {
+    pub fn take_subscript(&mut self, depth: u8) -> Result<SourceExpression<'a>, ReadStop> {
         let Some(inner) = depth.checked_sub(1) else {
-            return Err(self.too_deep(self.first().place));
+            return Err(self.too_deep());
         };
         self.take();
-        if let TokenKind::CloseBracket = self.first().kind {
-            return Err(self.wrong_with(ExpectedPart::Operand, Some(FILLED_SUBSCRIPT)));
+        if let TokenKind::CloseBracket = self.kind() {
+            return Err(self.wrong_with(ExpectedPart::Operand, FILLED_SUBSCRIPT));
         }
         let subscript = self.take_nested_expression(inner, ExpectedPart::OneOperatorInBrackets)?;
-        match self.first().kind {
+        self.take_subscript_end()?;
+        Ok(subscript)
+    }
+
+    // `]`, with no subscript after it.
+    fn take_subscript_end(&mut self) -> Result<(), ReadStop> {
+        match self.kind() {
             TokenKind::CloseBracket => {
                 self.take();
-                Ok(subscript)
+                self.find_one_dimension()
             }
             _ => Err(self.wrong(ExpectedPart::ClosingBracket)),
         }
     }
 
     // A name or a literal.
-    fn take_simple_operand(&mut self) -> Result<SourceExpression<'a>, OccamTextFault<'a>> {
+    fn take_simple_operand(&mut self) -> Result<SourceExpression<'a>, ReadStop> {
         let token = self.first();
         let place = token.place;
-        let operand = match token.kind {
-            TokenKind::Name => {
-                if let TokenKind::Open = self.second().kind {
-                    return Err(self.left_out(CALL));
-                }
-                SourceExpression::Name(SourceName {
-                    text: token.text,
-                    place,
-                })
-            }
-            TokenKind::Number(number) => SourceExpression::Number(number, place),
-            TokenKind::Character(character) => SourceExpression::Character(character, place),
-            TokenKind::Truth(truth) => SourceExpression::Truth(truth, place),
-            TokenKind::Most(number) => {
-                self.take();
-                match self.first().kind {
-                    TokenKind::Type(DataType::Int) => SourceExpression::Number(number, place),
-                    _ => return Err(self.wrong(ExpectedPart::IntegerType)),
-                }
-            }
-            TokenKind::OpenBracket if self.has_slice() => return Err(self.left_out(SLICE)),
-            _ => return Err(self.wrong(ExpectedPart::Operand)),
+        let operand = match (token.kind, self.second_kind()) {
+            (TokenKind::Name, TokenKind::Open) => return Err(self.left_out(OmittedPart::Call)),
+            (TokenKind::Name, _) => SourceExpression::Name(SourceName {
+                text: token.text,
+                place,
+            }),
+            (TokenKind::Number(number), _) => SourceExpression::Number(number, place),
+            (TokenKind::Character(character), _) => SourceExpression::Character(character, place),
+            (TokenKind::Truth(truth), _) => SourceExpression::Truth(truth, place),
+            (TokenKind::Most(number), _) => return self.take_most(number),
+            _ => return Err(self.wrong_operand()),
         };
         self.take();
         Ok(operand)
     }
 
-    fn take_close(&mut self) -> Result<(), OccamTextFault<'a>> {
-        match self.first().kind {
-            TokenKind::Close => {
+    // `MOSTPOS INT` or `MOSTNEG INT`, which is this number.
+    fn take_most(&mut self, number: u32) -> Result<SourceExpression<'a>, ReadStop> {
+        let place = self.place();
+        self.take();
+        match self.kind() {
+            TokenKind::Type(DataType::Int) => {
                 self.take();
-                Ok(())
+                Ok(SourceExpression::Number(number, place))
             }
-            _ => Err(self.wrong(ExpectedPart::ClosingParenthesis)),
+            _ => Err(self.wrong(ExpectedPart::IntegerType)),
         }
     }
 
-    /// The mistake that something is nested too deep at this place.
-    pub fn too_deep(&self, place: TextPlace) -> OccamTextFault<'a> {
-        self.mistake_at(place, ExpectedPart::Nesting, MetPart::Nothing, None)
+    // The mistake that no operand is here.
+    fn wrong_operand(&mut self) -> ReadStop {
+        if self.has_slice() {
+            return self.left_out(OmittedPart::Slice);
+        }
+        self.wrong(ExpectedPart::Operand)
     }
 
-    // The mistake that another operator is after an expression that begins with this word.
+    /// The mistake that something is nested too deep here.
+    pub fn too_deep(&mut self) -> ReadStop {
+        self.wrong_here(ExpectedPart::Nesting, MetPart::Nothing, None)
+    }
+
+    // The mistake that another operator is after an expression that begins at this place, whose operator binds as tight
+    // as `before` elsewhere.
     fn second_operator(
-        &self,
-        first: OccamToken<'a>,
-        expression: &SourceExpression<'a>,
+        &mut self,
+        start: TextPlace,
+        before: u8,
         sign: DyadicSign,
         single: ExpectedPart,
-    ) -> OccamTextFault<'a> {
-        let before = tightness_of(expression);
+    ) -> ReadStop {
         let hint = if before == COMPARISON && tightness(sign) == COMPARISON {
             GrammarHint::Sentence(COMPARED_TWICE)
         } else if tightness(sign) > before {
-            self.hint_of_right_operation(first)
+            self.hint_of_right_operation(start)
         } else {
-            self.hint_of_left_operation(first)
+            self.hint_of_left_operation(start)
         };
-        let met = MetPart::Said("a second one");
-        self.mistake_at(self.first().place, single, met, Some(hint))
+        self.wrong_here(single, MetPart::Second, Some(hint))
     }
 
     // That the operation that was read is in parentheses.
-    fn hint_of_left_operation(&self, first: OccamToken<'a>) -> GrammarHint<'a> {
-        match self.text_from(first) {
+    fn hint_of_left_operation(&self, start: TextPlace) -> GrammarHint<'a> {
+        match self.text_from(start) {
             Some(text) if text.len() <= MOST_SHOWN => {
                 GrammarHint::LeftParentheses(text, self.first().text, self.shown_operand())
             }
@@ -262,9 +328,9 @@ impl<'a, 'b> TreeReader<'a, 'b> {
     }
 
     // That the operation of the operand that was read last is in parentheses.
-    fn hint_of_right_operation(&self, first: OccamToken<'a>) -> GrammarHint<'a> {
+    fn hint_of_right_operation(&self, start: TextPlace) -> GrammarHint<'a> {
         let operand = self.last_operand();
-        match (self.text_between(first, operand), self.text_from(operand)) {
+        match (self.text_at(start, operand, 0), self.text_from(operand)) {
             (Some(before), Some(text)) if before.len() <= MOST_SHOWN && text.len() <= MOST_SHOWN =>
                 {
                     GrammarHint::RightParentheses(
@@ -281,69 +347,14 @@ impl<'a, 'b> TreeReader<'a, 'b> {
     // What a hint shows of the operand after an operator.
     fn shown_operand(&self) -> &'a str {
         let token = self.second();
-        match token.kind {
-            TokenKind::Name if self.has_subscript_behind() => "(..)",
-            TokenKind::Name | TokenKind::Number(_) | TokenKind::Truth(_)
+        match (token.kind, self.third_kind()) {
+            (TokenKind::Name, TokenKind::OpenBracket) => "(..)",
+            (TokenKind::Name | TokenKind::Number(_) | TokenKind::Truth(_), _)
                 if token.text.len() <= MOST_SHOWN => token.text,
-            TokenKind::Character(_) => token.text,
+            (TokenKind::Character(_), _) => token.text,
             _ => "(..)",
         }
     }
-}
-
-// One expression of a row of operands: pairs of neighbours, and pairs of these, until there is one.
-fn halved<'a>(
-    alloc: Global,
-    mut row: Vec<RowOperand<'a>>,
-    sign: DyadicSign,
-) -> Result<SourceExpression<'a>, OccamTextFault<'a>> {
-    for _ in 0..usize::BITS {
-        if row.len() <= 1 {
-            break;
-        }
-        row = paired(alloc, row, sign)?;
-    }
-    match row.pop() {
-        Some(
-            RowOperand {
-                operator: _,
-                operand,
-            },
-        ) => Ok(operand),
-        None => Err(OccamTextFault::NoMemory),
-    }
-}
-
-// A row of half as many operands: each but perhaps the last has two neighbours of this one.
-fn paired<'a>(
-    alloc: Global,
-    row: Vec<RowOperand<'a>>,
-    sign: DyadicSign,
-) -> Result<Vec<RowOperand<'a>>, OccamTextFault<'a>> {
-    let mut pairs = Vec::new(alloc);
-    let mut waiting: Option<RowOperand<'a>> = None;
-    for right in row {
-        waiting = match waiting {
-            None => Some(right),
-            Some(left) => {
-                let operand = SourceExpression::Dyadic(
-                    sign,
-                    right.operator,
-                    Box::new(alloc, left.operand)?,
-                    Box::new(alloc, right.operand)?,
-                );
-                pairs.push(RowOperand {
-                    operator: left.operator,
-                    operand,
-                })?;
-                None
-            }
-        };
-    }
-    if let Some(last) = waiting {
-        pairs.push(last)?;
-    }
-    Ok(pairs)
 }
 
 // The operator that has one operand, if this is one.

@@ -1,5 +1,6 @@
 //! What helps to mend a mistake.
 
+use crate::constructs::Construct;
 use crate::keywords::{keyword_in_small_letters, nearest_first_keyword};
 use script_text::value_named;
 use std::fmt;
@@ -7,8 +8,8 @@ use std::fmt;
 /// What helps to mend a mistake.
 #[derive(Clone, Copy)]
 pub enum GrammarHint<'a> {
-    /// A component belongs to this construct, in the line of this number.
-    Component(&'static str, u32),
+    /// Where the components of this construct are.
+    Component(Construct),
     /// A colon ends this procedure, which begins in the line of this number.
     EndsProcedure(&'a str, u32),
     /// The line continues the statement that begins in the line of this number.
@@ -30,11 +31,7 @@ pub enum GrammarHint<'a> {
 impl<'a> fmt::Display for GrammarHint<'a> {
     fn fmt<W: fmt::Write>(&self, f: &mut fmt::Formatter<W>) -> fmt::Result {
         match self {
-            GrammarHint::Component(construct, line) => write!(
-                f,
-                "A component is 2 blanks further in than {} in line {}",
-                *construct, *line
-            ),
+            GrammarHint::Component(construct) => fmt::Display::fmt(construct, f),
             GrammarHint::EndsProcedure(name, line) => write!(
                 f,
                 "It ends PROC {} of line {}, and is below its P",
@@ -157,6 +154,36 @@ pub const TYPED_FORMALS: &str = "A type is before the first parameter: PROC p (V
 pub const PROCESS_THAT_DOES_NOTHING: &str = "A PROC that does nothing has SKIP";
 
 pub const LINES_BELOW: &str = "Its processes are in the lines below it";
+
+pub const GUARDS_BELOW: &str = "Its guards are in the lines below it";
+
+pub const GUARD_IS_INPUT: &str =
+    "A guard is c ? x, and its process is below it, 2 blanks further in";
+
+pub const CONDITION_BEFORE_INPUT: &str =
+    "A condition is before its input, with & between them: ready & c ? x";
+
+pub const INPUT_ALONE: &str = "A guard without a condition is an input alone: c ? x";
+
+pub const ONE_CONDITION: &str = "A guard has one condition: (a AND b) & c ? x";
+
+pub const READY_GUARD: &str = "TRUE & SKIP is always ready";
+
+pub const OUTPUT_BELOW_GUARD: &str = "ALT waits for inputs alone: an output is below a guard";
+
+pub const ONE_GUARD: &str =
+    "ALT with a replicator has one guard, which is there for each value of its index";
+
+pub const GUARD_BELOW_ALT: &str = "A condition with & is in a guard, below ALT";
+
+pub const DECLARED_BEFORE_ALT: &str = "A declaration is before the whole ALT";
+
+pub const HOW_MANY_CHANNELS: &str = "It says how many channels there are: [4]CHAN OF INT c:";
+
+pub const SIZE_BEFORE_CHANNEL: &str = "The size is before CHAN: [4]CHAN OF INT c:";
+
+pub const ONE_CHANNEL_AT_LINK: &str =
+    "An array of channels isn't at links: each channel at a link has a name of its own";
 
 pub const NO_SEMICOLON: &str = "No semicolon ends a line";
 

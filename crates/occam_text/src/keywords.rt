@@ -7,10 +7,13 @@ use script_text::{nearest_name, value_named};
 // The keywords that have a meaning here.
 //
 // Source: occam 2 reference manual, keywords.
-const KEYWORDS: [(&str, TokenKind); 29] = [
+const KEYWORDS: [(&str, TokenKind); 32] = [
     ("SKIP", TokenKind::Skip),
     ("STOP", TokenKind::Stop),
     ("SEQ", TokenKind::Seq),
+    ("PAR", TokenKind::Par),
+    ("ALT", TokenKind::Alt),
+    ("PRI", TokenKind::Pri),
     ("IF", TokenKind::If),
     ("WHILE", TokenKind::While),
     ("INT", TokenKind::Type(DataType::Int)),
@@ -54,9 +57,23 @@ pub fn keyword_in_small_letters(word: &str) -> Option<&'static str> {
     None
 }
 
+// The constructs that have parentheses after their keywords in other languages.
+const CONSTRUCTS: [&str; 3] = ["SEQ", "IF", "WHILE"];
+
+/// The keyword of a construct that a word before a parenthesis is, but for small letters.
+pub fn construct_in_small_letters(word: &str) -> Option<&'static str> {
+    for keyword in &CONSTRUCTS {
+        if keyword.eq_ignore_ascii_case(word) {
+            return Some(*keyword);
+        }
+    }
+    None
+}
+
 // The keywords that begin a process or a declaration.
-const FIRST_KEYWORDS: [&str; 12] = [
-    "SKIP", "STOP", "SEQ", "IF", "WHILE", "INT", "BYTE", "BOOL", "CHAN", "PLACE", "VAL", "PROC",
+const FIRST_KEYWORDS: [&str; 15] = [
+    "SKIP", "STOP", "SEQ", "PAR", "ALT", "PRI", "IF", "WHILE", "INT", "BYTE", "BOOL", "CHAN",
+    "PLACE", "VAL", "PROC",
 ];
 
 /// The keyword that a word at the beginning of a process is most likely mistyped for.

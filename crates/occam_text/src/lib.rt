@@ -1,6 +1,8 @@
 //! Reads a text in occam: its lines, their words, and the tree that they make; or what is wrong first.
 #![tactic(auto)]
 
+mod alternatives;
+mod constructs;
 mod declarations;
 mod expressions;
 mod hints;
@@ -11,6 +13,7 @@ mod omissions;
 mod procedures;
 mod processes;
 mod reading;
+mod rows;
 mod signs;
 mod statements;
 mod strings;
@@ -18,6 +21,7 @@ mod tree_reader;
 mod values;
 mod words;
 
+pub use constructs::{Construct, ConstructKind};
 pub use hints::GrammarHint;
 pub use mistakes::{ExpectedPart, GrammarMistake, MetPart, OccamTextFault};
 pub use omissions::OmittedPart;

@@ -1,17 +1,26 @@
 //! The lines of a text as words: which of them begin statements, and which continue one.
 
 use crate::hints::GrammarHint;
-use crate::mistakes::{ExpectedPart, GrammarMistake, MetPart, OccamTextFault};
-use crate::words::{LineRest, OccamToken, TokenKind};
+use crate::mistakes::{ExpectedPart, GrammarMistake, MetPart};
+use crate::words::{LineRest, OccamToken, TokenKind, token_at};
 use occam_tree::TextPlace;
 use script_text::NumberedLine;
 use std::alloc::{AllocError, Global};
 
 /// The words of a text, up to its end or its first mistake in them, and that mistake.
-#[derive(Drop)]
 pub struct TextWords<'a> {
     pub tokens: Vec<OccamToken<'a>>,
     pub mistake: Option<GrammarMistake<'a>>,
+}
+
+// Dropped by hand, since a derived `Drop` makes callers prove the drop of each field.
+impl<'a> Drop for TextWords<'a> {
+    fn drop(self) {
+        let TextWords {
+            tokens: _,
+            mistake: _,
+        } = self;
+    }
 }
 
 // Where a statement begins and ends.
@@ -32,80 +41,110 @@ pub fn words_of<'a>(
     alloc: Global,
     lines: &[NumberedLine<'a>],
 ) -> Result<TextWords<'a>, AllocError> {
-    let mut tokens = Vec::new(alloc);
-    let mut statement = None;
-    for line in lines {
-        match read_line(&mut tokens, statement, LineRest::of(*line)) {
-            Ok(span) => statement = span,
-            Err(OccamTextFault::NoMemory) => return Err(AllocError),
-            Err(OccamTextFault::Wrong(mistake)) => {
-                tokens.push(token_at(TokenKind::Wrong, mistake.place))?;
-                return Ok(TextWords {
-                    tokens,
-                    mistake: Some(mistake),
-                });
-            }
-        }
-    }
-    let end = match statement {
-        Some(span) => span.end,
-        None => TextPlace { line: 1, column: 1 },
-    };
-    if statement.is_some() {
-        tokens.push(token_at(TokenKind::LineEnd, end))?;
-    }
-    tokens.push(token_at(TokenKind::TextEnd, end))?;
-    Ok(TextWords {
-        tokens,
+    let mut words = TextWords {
+        tokens: Vec::new(alloc),
         mistake: None,
-    })
-}
-
-/// A token that isn't written.
-pub fn token_at<'a>(kind: TokenKind, place: TextPlace) -> OccamToken<'a> {
-    OccamToken {
-        kind,
-        text: "",
-        place,
-    }
-}
-
-// Reads a line after a statement, or the first one. The answer is the statement that it begins or continues, or what it
-// was after if there is nothing in it.
-fn read_line<'a>(
-    tokens: &mut Vec<OccamToken<'a>>,
-    before: Option<StatementSpan>,
-    mut line: LineRest<'a>,
-) -> Result<Option<StatementSpan>, OccamTextFault<'a>> {
-    let blanks = line.take_blanks();
-    if is_at_end(&mut line)? {
-        return Ok(before);
-    }
-    if let Some(mistake) = line.tab() {
-        return Err(OccamTextFault::Wrong(mistake));
-    }
-    let start = line.place();
-    let mut span = StatementSpan {
-        indentation: blanks,
-        first_line: start.line,
-        end: start,
-        goes_on: false,
     };
-    match before {
-        Some(statement) if statement.goes_on => {
-            if blanks < statement.indentation {
-                return Err(OccamTextFault::Wrong(too_far_left(start, blanks, statement)));
+    words.read_lines(lines)?;
+    Ok(words)
+}
+
+impl<'a> TextWords<'a> {
+    // Reads these lines, up to the end or the first mistake.
+    fn read_lines(&mut self, lines: &[NumberedLine<'a>]) -> Result<(), AllocError> {
+        let mut statement = None;
+        for line in lines {
+            statement = self.read_line(statement, LineRest::of(*line))?;
+            if self.mistake.is_some() {
+                return Ok(());
             }
-            span.indentation = statement.indentation;
-            span.first_line = statement.first_line;
         }
-        Some(statement) => {
-            tokens.push(token_at(TokenKind::LineEnd, statement.end))?;
-            tokens.push(token_at(TokenKind::LineStart(blanks), start))?;
-        }
-        None => tokens.push(token_at(TokenKind::LineStart(blanks), start))?,
+        let end = match statement {
+            Some(span) => {
+                self.push(TokenKind::LineEnd, span.end)?;
+                span.end
+            }
+            None => TextPlace { line: 1, column: 1 },
+        };
+        self.push(TokenKind::TextEnd, end)
     }
-    read_words(tokens, span, &mut line)
+
+    // Reads a line after a statement, or the first one. The answer is the statement that it begins or continues, or
+    // what it was after if there is nothing in it.
+    fn read_line(
+        &mut self,
+        before: Option<StatementSpan>,
+        mut line: LineRest<'a>,
+    ) -> Result<Option<StatementSpan>, AllocError> {
+        let blanks = line.take_blanks();
+        if line.is_at_end() {
+            return Ok(before);
+        }
+        let start = line.place();
+        let span = match before {
+            Some(statement) if statement.goes_on => statement,
+            _ => StatementSpan {
+                indentation: blanks,
+                first_line: start.line,
+                end: start,
+                goes_on: false,
+            },
+        };
+        if !line.is_at_comment() && !line.is_at_tab() {
+            if blanks < span.indentation {
+                self.mistake = Some(too_far_left(start, blanks, span));
+                self.push(TokenKind::Wrong, start)?;
+                return Ok(before);
+            }
+            self.push_start(before, start, blanks)?;
+        }
+        self.read_words(span, line)
+    }
+
+    // Ends the statement before a line which begins at this place, after as many blanks, and begins the next one, unless
+    // the line continues it.
+    fn push_start(
+        &mut self,
+        before: Option<StatementSpan>,
+        start: TextPlace,
+        blanks: u32,
+    ) -> Result<(), AllocError> {
+        if let Some(statement) = before {
+            if statement.goes_on {
+                return Ok(());
+            }
+            self.push(TokenKind::LineEnd, statement.end)?;
+        }
+        self.push(TokenKind::LineStart(blanks), start)
+    }
+
+    // Reads the words of a line up to its end, or the first mistake.
+    fn read_words(
+        &mut self,
+        mut span: StatementSpan,
+        mut line: LineRest<'a>,
+    ) -> Result<Option<StatementSpan>, AllocError> {
+        for _ in 0..=line.left() {
+            if line.is_at_end() {
+                break;
+            }
+            let token = line.take_word();
+            self.tokens.push(token)?;
+            if let TokenKind::Wrong = token.kind {
+                self.mistake = line.mistake();
+                break;
+            }
+            span.end = line.place();
+            span.goes_on = token.kind.goes_on();
+        }
+        Ok(Some(span))
+    }
+
+    // Adds a word that isn't written.
+    fn push(&mut self, kind: TokenKind, place: TextPlace) -> Result<(), AllocError> {
+        self.tokens.push(token_at(kind, place))?;
+        Ok(())
+    }
 }
 
 // The mistake of a line that continues a statement, and begins before it.
@@ -115,33 +154,5 @@ fn too_far_left<'a>(place: TextPlace, blanks: u32, statement: StatementSpan) -> 
         expected: ExpectedPart::ContinuedIndentation(statement.indentation),
         met: MetPart::Blanks(blanks),
         hint: Some(GrammarHint::Continued(statement.first_line)),
-    }
-}
-
-// Reads the words of a line up to its end.
-fn read_words<'a>(
-    tokens: &mut Vec<OccamToken<'a>>,
-    mut span: StatementSpan,
-    line: &mut LineRest<'a>,
-) -> Result<Option<StatementSpan>, OccamTextFault<'a>> {
-    for _ in 0..=line.left() {
-        if is_at_end(line)? {
-            break;
-        }
-        let token = match line.take_word() {
-            Ok(token) => token,
-            Err(mistake) => return Err(OccamTextFault::Wrong(mistake)),
-        };
-        tokens.push(token)?;
-        span.end = line.place();
-        span.goes_on = token.kind.goes_on();
-    }
-    Ok(Some(span))
-}
-
-fn is_at_end<'a>(line: &mut LineRest<'a>) -> Result<bool, OccamTextFault<'a>> {
-    match line.is_at_end() {
-        Ok(is_end) => Ok(is_end),
-        Err(mistake) => Err(OccamTextFault::Wrong(mistake)),
     }
 }

@@ -36,6 +36,8 @@ pub enum ExpectedPart {
     NamedElement,
     /// No second operator in an expression.
     OneOperator,
+    /// No second operator in the condition of a guard.
+    OneOperatorInGuard,
     /// No second operator between parentheses.
     OneOperatorInside,
     /// No second operator between brackets.
@@ -63,7 +65,7 @@ pub enum ExpectedPart {
     LineEnd,
     /// The end of a line after an expression.
     LineEndOrOperator,
-    /// The end of a line, or a replicator, after `SEQ`.
+    /// The end of a line, or a replicator, after `SEQ`, `PAR` or `ALT`.
     LineEndOrReplicator,
     /// What makes a process of a name.
     Action,
@@ -82,10 +84,14 @@ pub enum ExpectedPart {
     MessageType,
     /// `AT` after the name of a channel.
     PlaceAt,
+    /// `ALT` after `PRI`.
+    AltAfterPri,
     /// The size of an array in its type.
     ArraySize,
     /// The type of an array's elements.
     ElementType,
+    /// The same where they may be channels.
+    DeclaredElementType,
     /// A type of values after `VAL`.
     ValueType,
     /// `IS` after the name of a value.
@@ -102,6 +108,18 @@ pub enum ExpectedPart {
     ProcessBehind,
     /// No second process where there is one.
     OneProcess,
+    /// No second alternative where there is one.
+    OneAlternative,
+    /// An input where a guard begins.
+    InputGuard,
+    /// `?` after the channel of a guard.
+    GuardInput,
+    /// A condition before `SKIP` as a guard.
+    SkipCondition,
+    /// `&` after the condition of a guard.
+    ConditionEnd,
+    /// What a guard with a condition waits for.
+    ConditionedGuard,
     Nesting,
     Size,
 }
@@ -139,21 +157,28 @@ impl ExpectedPart {
         }
     }
 
-    // The same of a part of arrays, tables, values or procedures.
+    // The same of a part of arrays, tables, values, procedures or guards.
     fn number_in_data(self) -> u8 {
         match self {
             ExpectedPart::SizedName | ExpectedPart::NamedElement => 6,
             ExpectedPart::OneOperatorInBrackets
             | ExpectedPart::OneOperatorInTable
             | ExpectedPart::OneOperatorInInstance
+            | ExpectedPart::OneOperatorInGuard
             | ExpectedPart::OneOperatorInDeclaration => 7,
             ExpectedPart::FilledString => 9,
             ExpectedPart::ClosingBracket
             | ExpectedPart::TableEnd
             | ExpectedPart::InstanceEnd
             | ExpectedPart::FormalsEnd => 10,
-            ExpectedPart::ElementAction => 12,
+            ExpectedPart::ElementAction | ExpectedPart::AltAfterPri => 12,
             ExpectedPart::ProcedureEnd | ExpectedPart::ProcedureEndIndentation(_) => 14,
+            ExpectedPart::OneAlternative => 15,
+            ExpectedPart::InputGuard
+            | ExpectedPart::GuardInput
+            | ExpectedPart::SkipCondition
+            | ExpectedPart::ConditionEnd
+            | ExpectedPart::ConditionedGuard => 34,
             _ => 13,
         }
     }
@@ -167,7 +192,10 @@ impl ExpectedPart {
             ExpectedPart::ContinuedIndentation(_) => "an indentation of at least ",
             ExpectedPart::Blanks => "blanks",
             ExpectedPart::Process => "a process",
-            ExpectedPart::LeftIn(omission) => omission.subject,
+            ExpectedPart::LeftIn(omission) => {
+                let (subject, _) = omission.texts();
+                subject
+            }
             ExpectedPart::Operand => "an operand",
             ExpectedPart::Condition => "a condition",
             ExpectedPart::Variable => "a variable after ?",
@@ -209,6 +237,7 @@ impl ExpectedPart {
             ExpectedPart::OneOperatorInTable => "a comma, a closing bracket or one operator",
             ExpectedPart::OneOperatorInInstance => "a comma, a closing parenthesis or one operator",
             ExpectedPart::OneOperatorInDeclaration => ": or one operator",
+            ExpectedPart::OneOperatorInGuard => "& or one operator",
             ExpectedPart::FilledString => "a string of at least one character",
             ExpectedPart::ClosingBracket => "a closing bracket or an operator",
             ExpectedPart::TableEnd => "a comma, a closing bracket or an operator",
@@ -217,12 +246,28 @@ impl ExpectedPart {
             ExpectedPart::ElementAction => ":=, ? or ! after the element",
             ExpectedPart::ArraySize => "a size between the brackets",
             ExpectedPart::ElementType => "INT, BYTE or BOOL after the size of an array",
+            ExpectedPart::DeclaredElementType =>
+                "INT, BYTE, BOOL or CHAN OF after the size of an array",
             ExpectedPart::ValueType => "INT, BYTE, BOOL or an array of them after VAL",
             ExpectedPart::ValueIs => "IS and a value",
             ExpectedPart::Formals => "( and ) after the name of a PROC",
             ExpectedPart::Formal => "a parameter with its type",
             ExpectedPart::ProcedureEnd => ": alone in a line",
-            _ => ": with an indentation of ",
+            ExpectedPart::ProcedureEndIndentation(_) => ": with an indentation of ",
+            part => part.text_in_choice(),
+        }
+    }
+
+    // The same of a part of `ALT`.
+    fn text_in_choice(self) -> &'static str {
+        match self {
+            ExpectedPart::AltAfterPri => "ALT after PRI",
+            ExpectedPart::OneAlternative => "one guard",
+            ExpectedPart::InputGuard => "an input as a guard",
+            ExpectedPart::GuardInput => "? after the channel of a guard",
+            ExpectedPart::SkipCondition => "a condition and & before SKIP",
+            ExpectedPart::ConditionEnd => "& or an operator after the condition of a guard",
+            _ => "an input or SKIP after &",
         }
     }
 }
@@ -255,8 +300,31 @@ pub enum MetPart {
     Byte(u8),
     /// As many blanks at the beginning of a line.
     Blanks(u32),
-    /// What is called this.
-    Said(&'static str),
+    Tab,
+    LineEnd,
+    TextEnd,
+    /// A string.
+    Text,
+    EmptyString,
+    /// A second operator, process or guard.
+    Second,
+    /// A declaration after a process.
+    Declaration,
+}
+
+impl MetPart {
+    // What it is called, if that is always the same.
+    fn text(self) -> &'static str {
+        match self {
+            MetPart::Tab => "a tab",
+            MetPart::LineEnd => "the end of the line",
+            MetPart::TextEnd => "the end of the text",
+            MetPart::Text => "a string",
+            MetPart::EmptyString => "an empty one",
+            MetPart::Declaration => "a declaration too",
+            _ => "a second one",
+        }
+    }
 }
 
 impl fmt::Display for MetPart {
@@ -266,7 +334,7 @@ impl fmt::Display for MetPart {
             MetPart::Word(word) => write!(f, ", not {word}"),
             MetPart::Byte(byte) => write!(f, ", not the byte {byte:02x}"),
             MetPart::Blanks(blanks) => write!(f, ", not {blanks}"),
-            MetPart::Said(text) => write!(f, ", not {text}"),
+            met => write!(f, ", not {}", met.text()),
         }
     }
 }
@@ -321,9 +389,19 @@ impl<'a> From<AllocError> for OccamTextFault<'a> {
     }
 }
 
-impl<'a, T: Drop> From<AllocFailed<T>> for OccamTextFault<'a> {
-    fn from(_error: AllocFailed<T>) -> OccamTextFault<'a> {
-        OccamTextFault::NoMemory
+/// Reading stops here: its reader keeps what is wrong, or nothing if there is no memory.
+#[derive(Clone, Copy)]
+pub struct ReadStop;
+
+impl From<AllocError> for ReadStop {
+    fn from(_error: AllocError) -> ReadStop {
+        ReadStop
+    }
+}
+
+impl<T: Drop> From<AllocFailed<T>> for ReadStop {
+    fn from(_error: AllocFailed<T>) -> ReadStop {
+        ReadStop
     }
 }
 

@@ -1,6 +1,5 @@
 //! What is said of the parts of occam that are left out.
 
-// What a keyword that is left out is replaced by.
 const NO_TIMERS: &str = "The farm's processors have no timers";
 
 const NO_FLOATING_POINT: &str = "There is no floating point, and INT has 32 bits";
@@ -17,13 +16,12 @@ const NO_FUNCTIONS: &str =
 
 const NO_CASES: &str = "Write IF, a choice with = for each value, and TRUE as the last choice";
 
+const NO_ASSEMBLY: &str = "Write the whole program for lab assemble instead";
+
 // The keywords that are left out, and what helps instead.
 //
 // Source: occam 2 reference manual, keywords.
-const LEFT_OUT: [(&str, &str); 29] = [
-    ("PAR", "Processes are done one after another, below SEQ"),
-    ("ALT", "A node waits for one channel at a time: c ? x"),
-    ("PRI", "There is one priority"),
+const LEFT_OUT: [(&str, &str); 26] = [
     ("PLACED", ONE_FILE_A_NODE),
     ("PROCESSOR", ONE_FILE_A_NODE),
     ("TIMER", NO_TIMERS),
@@ -48,8 +46,8 @@ const LEFT_OUT: [(&str, &str); 29] = [
         "INLINE",
         "Write PROC alone: its process is put in at each instance",
     ),
-    ("GUY", "Write the whole program for lab assemble instead"),
-    ("ASM", "Write the whole program for lab assemble instead"),
+    ("GUY", NO_ASSEMBLY),
+    ("ASM", NO_ASSEMBLY),
     ("BITAND", "Write /\\"),
     ("BITOR", "Write \\/"),
     ("BITNOT", "Write ~"),
@@ -57,96 +55,92 @@ const LEFT_OUT: [(&str, &str); 29] = [
 
 /// A part of occam that is left out here.
 #[derive(Clone, Copy)]
-pub struct OmittedPart {
-    /// What it is called.
-    pub subject: &'static str,
-    /// What helps instead.
-    pub advice: &'static str,
+pub enum OmittedPart {
+    /// A keyword, and what helps instead.
+    Keyword(&'static str, &'static str),
+    /// `[` after `]`
+    Dimensions,
+    /// `[a FROM b FOR c]`
+    Slice,
+    /// `#USE` and the like
+    Directive,
+    /// `::`
+    CountedArray,
+    /// `;` in a message
+    MessageParts,
+    /// A name after `CHAN OF`
+    NamedProtocol,
+    /// `CHAN OF BOOL`
+    TruthChannel,
+    /// Several names before `:=`
+    Assignments,
+    /// A name and `(` in an expression
+    Call,
+    /// A name and `IS` where a process begins
+    UntypedAbbreviation,
+    /// `IF` and a replicator
+    ReplicatedIf,
+    /// `IF` below `IF`
+    NestedIf,
+    /// `ALT` below `ALT`
+    NestedAlt,
+    /// `PRI PAR`
+    Priorities,
 }
 
-/// `[` after `]`.
-pub const DIMENSIONS: OmittedPart = OmittedPart {
-    subject: "an array of arrays",
-    advice: "One dimension serves too: [6]INT a, and a[(3 * i) + j]",
-};
+impl OmittedPart {
+    /// What it is called, and what helps instead.
+    pub fn texts(self) -> (&'static str, &'static str) {
+        match self {
+            OmittedPart::Keyword(keyword, advice) => (keyword, advice),
+            OmittedPart::Dimensions => (
+                "an array of arrays",
+                "One dimension serves too: [6]INT a, and a[(3 * i) + j]",
+            ),
+            OmittedPart::Slice => (
+                "a part of an array by FROM",
+                "Count with a replicator: SEQ i = 0 FOR n",
+            ),
+            OmittedPart::Directive => ("a directive", "The whole program is in one file"),
+            OmittedPart::CountedArray => ("a counted array", ONE_VALUE_A_MESSAGE),
+            OmittedPart::MessageParts => ("a message of several parts", ONE_VALUE_A_MESSAGE),
+            OmittedPart::NamedProtocol => ("a protocol", ONE_VALUE_A_MESSAGE),
+            OmittedPart::TruthChannel => (
+                "CHAN OF BOOL",
+                "Send INT b over CHAN OF INT, and convert what comes by BOOL x",
+            ),
+            OmittedPart::Call => ("a call of a FUNCTION", NO_FUNCTIONS),
+            part => part.texts_in_process(),
+        }
+    }
 
-/// `[size]CHAN`.
-pub const CHANNEL_ARRAY: OmittedPart = OmittedPart {
-    subject: "an array of channels",
-    advice: "Give each channel a name: CHAN OF INT c, d:",
-};
-
-/// `[a FROM b FOR c]`.
-pub const SLICE: OmittedPart = OmittedPart {
-    subject: "a part of an array by FROM",
-    advice: "Count with a replicator: SEQ i = 0 FOR n",
-};
-
-/// `#USE` and the like.
-pub const DIRECTIVE: OmittedPart = OmittedPart {
-    subject: "a directive",
-    advice: "The whole program is in one file",
-};
-
-/// `::`.
-pub const COUNTED: OmittedPart = OmittedPart {
-    subject: "a counted array",
-    advice: ONE_VALUE_A_MESSAGE,
-};
-
-/// `;` in a message.
-pub const MESSAGE_PARTS: OmittedPart = OmittedPart {
-    subject: "a message of several parts",
-    advice: ONE_VALUE_A_MESSAGE,
-};
-
-/// A name after `CHAN OF`.
-pub const NAMED_PROTOCOL: OmittedPart = OmittedPart {
-    subject: "a protocol",
-    advice: ONE_VALUE_A_MESSAGE,
-};
-
-/// `CHAN OF BOOL`.
-pub const BOOL_CHANNEL: OmittedPart = OmittedPart {
-    subject: "CHAN OF BOOL",
-    advice: "Send INT b over CHAN OF INT, and convert what comes by BOOL x",
-};
-
-/// Several names before `:=`.
-pub const ASSIGNMENTS: OmittedPart = OmittedPart {
-    subject: "an assignment to several variables",
-    advice: "Write two assignments and a third variable",
-};
-
-/// A name and `(` in an expression.
-pub const CALL: OmittedPart = OmittedPart {
-    subject: "a call of a FUNCTION",
-    advice: NO_FUNCTIONS,
-};
-
-/// A name and `IS` where a process begins.
-pub const UNTYPED_ABBREVIATION: OmittedPart = OmittedPart {
-    subject: "IS without a type",
-    advice: "Write the type before it, as in INT x IS y: or VAL before a value, as in VAL n IS 5:",
-};
-
-/// `IF` and a replicator.
-pub const REPLICATED_IF: OmittedPart = OmittedPart {
-    subject: "IF with a replicator",
-    advice: "Write WHILE and a counter",
-};
-
-/// `IF` below `IF`.
-pub const NESTED_IF: OmittedPart = OmittedPart {
-    subject: "IF as a choice of IF",
-    advice: "Write its choices in the outer IF",
-};
+    // The same of a part of processes.
+    fn texts_in_process(self) -> (&'static str, &'static str) {
+        match self {
+            OmittedPart::Assignments => (
+                "an assignment to several variables",
+                "Write two assignments and a third variable",
+            ),
+            OmittedPart::UntypedAbbreviation => (
+                "IS without a type",
+                "Write the type before it, as in INT x IS y: or VAL before a value, as in VAL n IS 5:",
+            ),
+            OmittedPart::ReplicatedIf => ("IF with a replicator", "Write WHILE and a counter"),
+            OmittedPart::NestedIf => ("IF as a choice of IF", "Write its choices in the outer IF"),
+            OmittedPart::NestedAlt => (
+                "ALT as a guard of ALT",
+                "Write its guards in the outer ALT",
+            ),
+            _ => ("PRI PAR", "There is one priority"),
+        }
+    }
+}
 
 /// What is said of a keyword that is left out.
 pub fn omission_named(word: &str) -> Option<OmittedPart> {
-    for (subject, advice) in &LEFT_OUT {
-        if *subject == word {
-            return Some(OmittedPart { subject, advice });
+    for (keyword, advice) in &LEFT_OUT {
+        if *keyword == word {
+            return Some(OmittedPart::Keyword(*keyword, *advice));
         }
     }
     None

@@ -1,11 +1,13 @@
 //! Reads processes.
 
-use crate::hints::COLON_ENDS_PROCEDURE;
-use crate::mistakes::{ExpectedPart, OccamTextFault};
+use crate::constructs::{Construct, ConstructKind};
+use crate::hints::{COLON_ENDS_PROCEDURE, GUARDS_BELOW, LINES_BELOW};
+use crate::mistakes::{ExpectedPart, ReadStop};
+use crate::omissions::OmittedPart;
 use crate::statements::is_declaration;
-use crate::tree_reader::{Construct, TreeReader};
+use crate::tree_reader::TreeReader;
 use crate::words::TokenKind;
-use occam_tree::{SourceChoice, SourceProcess};
+use occam_tree::{SourceChoice, SourceProcess, TextPlace};
 
 /// How far a component is further in than its construct.
 pub const STEP: u32 = 2;
@@ -19,100 +21,182 @@ impl<'a, 'b> TreeReader<'a, 'b> {
         blanks: u32,
         construct: Option<Construct>,
         depth: u8,
-    ) -> Result<SourceProcess<'a>, OccamTextFault<'a>> {
-        if !is_declaration(self.second().kind) {
+    ) -> Result<SourceProcess<'a>, ReadStop> {
+        if !is_declaration(self.second_kind()) {
             return self.take_statement(blanks, depth);
         }
         let declarations = self.take_declarations(blanks, construct, depth)?;
-        let process = Box::new(self.alloc, self.take_statement(blanks, depth)?)?;
+        let process = self.take_boxed_statement(blanks, depth)?;
         Ok(SourceProcess::Declared(declarations, process))
+    }
+
+    // A process without declarations, in memory of its own.
+    #[cycle(process)]
+    fn take_boxed_statement(
+        &mut self,
+        blanks: u32,
+        depth: u8,
+    ) -> Result<Box<SourceProcess<'a>>, ReadStop> {
+        let process = self.take_statement(blanks, depth)?;
+        Ok(Box::new(self.alloc, process)?)
     }
 
     // A process without declarations.
     #[cycle(process)]
-    fn take_statement(
-        &mut self,
-        blanks: u32,
-        depth: u8,
-    ) -> Result<SourceProcess<'a>, OccamTextFault<'a>> {
+    fn take_statement(&mut self, blanks: u32, depth: u8) -> Result<SourceProcess<'a>, ReadStop> {
         self.take();
-        let first = self.first();
-        match first.kind {
+        let place = self.place();
+        match self.kind() {
             TokenKind::Skip => {
                 self.take();
                 self.take_line_end(ExpectedPart::LineEnd)?;
-                Ok(SourceProcess::Skip(first.place))
+                Ok(SourceProcess::Skip(place))
             }
             TokenKind::Stop => {
                 self.take();
                 self.take_line_end(ExpectedPart::LineEnd)?;
-                Ok(SourceProcess::Stop(first.place))
+                Ok(SourceProcess::Stop(place))
             }
             TokenKind::Name => self.take_action(),
-            TokenKind::Seq | TokenKind::If | TokenKind::While => match depth.checked_sub(1) {
+            TokenKind::Seq
+            | TokenKind::Par
+            | TokenKind::Alt
+            | TokenKind::Pri
+            | TokenKind::If
+            | TokenKind::While => match depth.checked_sub(1) {
                 Some(inner) => self.take_construct(blanks, inner),
-                None => Err(self.too_deep(first.place)),
+                None => Err(self.too_deep()),
             },
-            TokenKind::Colon => {
-                Err(self.wrong_with(ExpectedPart::Process, Some(COLON_ENDS_PROCEDURE)))
-            }
+            TokenKind::Colon => Err(self.wrong_with(ExpectedPart::Process, COLON_ENDS_PROCEDURE)),
             _ => Err(self.wrong(ExpectedPart::Process)),
         }
     }
 
     // A construct and its components, in which `depth` constructs may be in one another.
     #[cycle(process)]
-    fn take_construct(
-        &mut self,
-        blanks: u32,
-        depth: u8,
-    ) -> Result<SourceProcess<'a>, OccamTextFault<'a>> {
-        let first = self.take();
-        let construct = Construct {
-            keyword: keyword_of(first.kind),
-            line: first.place.line,
-        };
+    fn take_construct(&mut self, blanks: u32, depth: u8) -> Result<SourceProcess<'a>, ReadStop> {
+        let first = self.first();
+        self.take();
         let below = blanks.saturating_add(STEP);
-        match (first.kind, self.first().kind) {
-            (TokenKind::Seq, TokenKind::Name) => {
-                self.find_replicator()?;
-                let replicator = self.take_replicator()?;
-                let process = Box::new(self.alloc, self.take_body(below, construct, depth)?)?;
-                Ok(SourceProcess::Repeated(first.place, replicator, process))
-            }
-            (TokenKind::Seq, _) => {
-                self.take_line_end(ExpectedPart::LineEndOrReplicator)?;
-                let components = self.take_components(below, construct, depth)?;
-                Ok(SourceProcess::Sequence(first.place, components))
-            }
-            (TokenKind::If, _) => {
-                self.take_if_end()?;
-                let choices = self.take_choices(below, construct, depth)?;
-                Ok(SourceProcess::If(first.place, choices))
-            }
-            _ => {
-                let condition = self.take_expression()?;
-                self.take_line_end(ExpectedPart::LineEndOrOperator)?;
-                let process = Box::new(self.alloc, self.take_body(below, construct, depth)?)?;
-                Ok(SourceProcess::While(first.place, condition, process))
-            }
+        match first.kind {
+            TokenKind::Seq => self.take_sequence(below, first.place, depth),
+            TokenKind::Par => self.take_parallel(below, first.place, depth),
+            TokenKind::If => self.take_if(below, first.place, depth),
+            TokenKind::While => self.take_while(below, first.place, depth),
+            TokenKind::Alt => self.take_alternation(below, first.place, depth),
+            _ => match self.kind() {
+                TokenKind::Alt => {
+                    self.take();
+                    self.take_alternation(below, first.place, depth)
+                }
+                TokenKind::Par => Err(self.left_out_from(first.place, OmittedPart::Priorities)),
+                _ => Err(self.wrong(ExpectedPart::AltAfterPri)),
+            },
         }
     }
 
-    // The processes below `SEQ`.
+    // What is after `SEQ`, which is at this place. Its components begin with as many blanks.
+    #[cycle(process)]
+    fn take_sequence(
+        &mut self,
+        blanks: u32,
+        place: TextPlace,
+        depth: u8,
+    ) -> Result<SourceProcess<'a>, ReadStop> {
+        let construct = construct_at(ConstructKind::Sequence, place);
+        if let TokenKind::Name = self.kind() {
+            self.find_replicator(LINES_BELOW)?;
+            let replicator = self.take_replicator()?;
+            let process = self.take_boxed_body(blanks, construct, depth)?;
+            return Ok(SourceProcess::Repeated(place, replicator, process));
+        }
+        self.take_line_end(ExpectedPart::LineEndOrReplicator)?;
+        let components = self.take_components(blanks, construct, depth)?;
+        Ok(SourceProcess::Sequence(place, components))
+    }
+
+    // The same of `PAR`.
+    #[cycle(process)]
+    fn take_parallel(
+        &mut self,
+        blanks: u32,
+        place: TextPlace,
+        depth: u8,
+    ) -> Result<SourceProcess<'a>, ReadStop> {
+        let construct = construct_at(ConstructKind::Parallel, place);
+        if let TokenKind::Name = self.kind() {
+            self.find_replicator(LINES_BELOW)?;
+            let replicator = self.take_replicator()?;
+            let process = self.take_boxed_body(blanks, construct, depth)?;
+            return Ok(SourceProcess::ReplicatedParallel(place, replicator, process));
+        }
+        self.take_line_end(ExpectedPart::LineEndOrReplicator)?;
+        let components = self.take_components(blanks, construct, depth)?;
+        Ok(SourceProcess::Parallel(place, components))
+    }
+
+    // The same of `ALT` or `PRI ALT`.
+    #[cycle(process)]
+    fn take_alternation(
+        &mut self,
+        blanks: u32,
+        place: TextPlace,
+        depth: u8,
+    ) -> Result<SourceProcess<'a>, ReadStop> {
+        let construct = construct_at(ConstructKind::Alternation, place);
+        if let TokenKind::Name = self.kind() {
+            self.find_replicator(GUARDS_BELOW)?;
+            let replicator = self.take_replicator()?;
+            let alternative = self.take_single_alternative(blanks, construct, depth)?;
+            return Ok(SourceProcess::ReplicatedAlternation(place, replicator, alternative));
+        }
+        self.take_line_end(ExpectedPart::LineEndOrReplicator)?;
+        let alternatives = self.take_alternatives(blanks, construct, depth)?;
+        Ok(SourceProcess::Alternation(place, alternatives))
+    }
+
+    // What is after `IF`, which is at this place. Its choices begin with as many blanks.
+    #[cycle(process)]
+    fn take_if(
+        &mut self,
+        blanks: u32,
+        place: TextPlace,
+        depth: u8,
+    ) -> Result<SourceProcess<'a>, ReadStop> {
+        self.take_if_end()?;
+        let choices = self.take_choices(blanks, construct_at(ConstructKind::If, place), depth)?;
+        Ok(SourceProcess::If(place, choices))
+    }
+
+    // What is after `WHILE`, which is at this place. Its process begins with as many blanks.
+    #[cycle(process)]
+    fn take_while(
+        &mut self,
+        blanks: u32,
+        place: TextPlace,
+        depth: u8,
+    ) -> Result<SourceProcess<'a>, ReadStop> {
+        let construct = construct_at(ConstructKind::While, place);
+        let condition = self.take_expression_line()?;
+        let process = self.take_boxed_body(blanks, construct, depth)?;
+        Ok(SourceProcess::While(place, condition, process))
+    }
+
+    // The processes below `SEQ` or `PAR`.
     #[cycle(process)]
     fn take_components(
         &mut self,
         blanks: u32,
         construct: Construct,
         depth: u8,
-    ) -> Result<Vec<SourceProcess<'a>>, OccamTextFault<'a>> {
+    ) -> Result<Vec<SourceProcess<'a>>, ReadStop> {
         let mut components = Vec::new(self.alloc);
         for _ in 0..=self.left() {
             if !self.is_at_component(blanks, Some(construct))? {
                 break;
             }
-            components.push(self.take_process(blanks, Some(construct), depth)?)?;
+            let component = self.take_process(blanks, Some(construct), depth)?;
+            components.push(component)?;
         }
         Ok(components)
     }
@@ -124,50 +208,66 @@ impl<'a, 'b> TreeReader<'a, 'b> {
         blanks: u32,
         construct: Construct,
         depth: u8,
-    ) -> Result<Vec<SourceChoice<'a>>, OccamTextFault<'a>> {
+    ) -> Result<Vec<SourceChoice<'a>>, ReadStop> {
         let mut choices = Vec::new(self.alloc);
         for _ in 0..=self.left() {
             if !self.is_at_component(blanks, Some(construct))? {
                 break;
             }
-            let condition = self.take_condition()?;
-            let below = Construct {
-                keyword: "the condition",
-                line: condition.place.line,
-            };
-            let process = self.take_body(blanks.saturating_add(STEP), below, depth)?;
-            choices.push(SourceChoice {
-                condition: condition.expression,
-                process,
-            })?;
+            let choice = self.take_choice(blanks, depth)?;
+            choices.push(choice)?;
         }
         Ok(choices)
     }
 
-    // The one process below a construct.
+    // A condition, and the process below it.
     #[cycle(process)]
-    fn take_body(
+    fn take_choice(&mut self, blanks: u32, depth: u8) -> Result<SourceChoice<'a>, ReadStop> {
+        let construct = Construct {
+            kind: ConstructKind::Condition,
+            line: self.place().line,
+        };
+        let condition = self.take_condition()?;
+        let process = self.take_body(blanks.saturating_add(STEP), construct, depth)?;
+        Ok(SourceChoice { condition, process })
+    }
+
+    /// The one process below a construct, which begins with as many blanks.
+    ///
+    /// # Errors
+    /// Faults 2, 4 and 15, and those of a process.
+    #[cycle(process)]
+    pub fn take_body(
         &mut self,
         blanks: u32,
         construct: Construct,
         depth: u8,
-    ) -> Result<SourceProcess<'a>, OccamTextFault<'a>> {
+    ) -> Result<SourceProcess<'a>, ReadStop> {
         if !self.is_at_component(blanks, Some(construct))? {
             return Err(self.without_body(blanks, construct));
         }
         let process = self.take_process(blanks, Some(construct), depth)?;
-        if self.is_at_component(blanks, Some(construct))? {
-            return Err(self.second_process());
-        }
+        self.find_no_second_process(blanks, construct)?;
         Ok(process)
+    }
+
+    // The same in memory of its own.
+    #[cycle(process)]
+    fn take_boxed_body(
+        &mut self,
+        blanks: u32,
+        construct: Construct,
+        depth: u8,
+    ) -> Result<Box<SourceProcess<'a>>, ReadStop> {
+        let process = self.take_body(blanks, construct, depth)?;
+        Ok(Box::new(self.alloc, process)?)
     }
 }
 
-// How the keyword of a construct is written.
-fn keyword_of(kind: TokenKind) -> &'static str {
-    match kind {
-        TokenKind::Seq => "SEQ",
-        TokenKind::If => "IF",
-        _ => "WHILE",
+// A construct whose keyword is at this place.
+fn construct_at(kind: ConstructKind, place: TextPlace) -> Construct {
+    Construct {
+        kind,
+        line: place.line,
     }
 }

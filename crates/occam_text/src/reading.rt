@@ -3,7 +3,7 @@ ghost use Rattle.std.specs.Prelude.{◌≤◌, IfOk, length};
 
 use crate::lines::words_of;
 use crate::mistakes::{ExpectedPart, GrammarMistake, MetPart, OccamTextFault};
-use crate::tree_reader::{MOST_NESTING, TreeReader};
+use crate::tree_reader::TreeReader;
 use occam_tree::{SourceProcess, TextPlace};
 use script_text::numbered_lines;
 use std::alloc::Global;
@@ -19,7 +19,7 @@ const MOST_LINES: usize = 65_535;
 /// Source: occam 2 reference manual, as far as it is kept here.
 ///
 /// # Errors
-/// The first mistake of the text, with fault 1 to 15, 38 or 44; or that there is no memory for the tree.
+/// The first mistake of the text, with fault 1 to 15, 34, 38 or 44; or that there is no memory for the tree.
 pub fn read_occam<'a>(
     alloc: Global,
     text: &'a [u8],
@@ -35,14 +35,10 @@ pub fn read_occam<'a>(
     }
     let words = words_of(alloc, lines.as_slice())?;
     let mut reader = TreeReader::new(alloc, lines.as_slice(), &words);
-    if !reader.is_at_component(0, None)? {
-        return Err(reader.wrong(ExpectedPart::Process));
+    match reader.take_text() {
+        Ok(process) => Ok(process),
+        Err(_) => Err(reader.fault()),
     }
-    let process = reader.take_process(0, None, MOST_NESTING)?;
-    if reader.is_at_component(0, None)? {
-        return Err(reader.second_process());
-    }
-    Ok(process)
 }
 
 // The mistake that a text is too long, at the beginning of this line.

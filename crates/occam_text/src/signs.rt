@@ -49,7 +49,7 @@ const SINGLES: [(&str, TokenKind); 19] = [
     ("?", TokenKind::Input),
     ("!", TokenKind::Output),
     (";", TokenKind::Semicolon),
-    ("&", TokenKind::Foreign),
+    ("&", TokenKind::Ampersand),
 ];
 
 /// The kind of a sign of two characters.

@@ -1,27 +1,19 @@
 //! Reads what a process has besides other processes: statements of one line, replicators, conditions and declarations.
 
+use crate::constructs::{Construct, ConstructKind};
 use crate::hints::{
     BELOW_DECLARATIONS, COLON_ENDS_DECLARATION, COLON_ENDS_PROCEDURE, CONDITION_BELOW_IF,
-    DECLARED_BEFORE, DECLARED_BEFORE_IF, EQUALS_COMPARES, GrammarHint, LINES_BELOW, NO_VALUES,
+    DECLARED_BEFORE, DECLARED_BEFORE_IF, EQUALS_COMPARES, GUARD_BELOW_ALT, GrammarHint, NO_VALUES,
     SEVERAL_PROCESSES, hint_of_first_word,
 };
-use crate::mistakes::{ExpectedPart, MetPart, OccamTextFault};
-use crate::omissions::{
-    ASSIGNMENTS, MESSAGE_PARTS, NESTED_IF, REPLICATED_IF, UNTYPED_ABBREVIATION,
-};
-use crate::tree_reader::{Construct, TreeReader};
+use crate::mistakes::{ExpectedPart, MetPart, ReadStop};
+use crate::omissions::OmittedPart;
+use crate::tree_reader::TreeReader;
 use crate::words::TokenKind;
 use line_mistakes::ShownWord;
 use occam_tree::{
-    DyadicSign, Replicator, SourceDeclaration, SourceExpression, SourceProcess, TextPlace,
+    DyadicSign, Replicator, SourceDeclaration, SourceElement, SourceExpression, SourceProcess,
 };
-
-/// The condition of a choice, and where it begins.
-#[derive(Drop)]
-pub struct PlacedCondition<'a> {
-    pub expression: SourceExpression<'a>,
-    pub place: TextPlace,
-}
 
 /// Whether a declaration begins with this word.
 pub fn is_declaration(kind: TokenKind) -> bool {
@@ -41,93 +33,121 @@ impl<'a, 'b> TreeReader<'a, 'b> {
     ///
     /// # Errors
     /// Faults 4, 5, 6, 11 and 12, and those of an expression.
-    pub fn take_action(&mut self) -> Result<SourceProcess<'a>, OccamTextFault<'a>> {
-        match self.second().kind {
-            TokenKind::Assign | TokenKind::Input | TokenKind::Output | TokenKind::OpenBracket => {}
-            TokenKind::Open => return self.take_instance(),
-            _ => return Err(self.wrong_action()),
+    pub fn take_action(&mut self) -> Result<SourceProcess<'a>, ReadStop> {
+        match self.second_kind() {
+            TokenKind::Assign | TokenKind::Input | TokenKind::Output | TokenKind::OpenBracket => {
+                self.take_element_action()
+            }
+            TokenKind::Open => self.take_instance(),
+            _ => Err(self.wrong_action()),
         }
+    }
+
+    // What is done with a variable, a channel or an element.
+    fn take_element_action(&mut self) -> Result<SourceProcess<'a>, ReadStop> {
         let element = self.take_element(ExpectedPart::Process)?;
-        match self.first().kind {
-            TokenKind::Input => {
-                self.take();
-                let variable = self.take_element(ExpectedPart::Variable)?;
-                self.take_message_end(ExpectedPart::LineEnd)?;
-                Ok(SourceProcess::Input(element, variable))
-            }
-            TokenKind::Output => {
-                self.take();
-                let value = self.take_value(ExpectedPart::OneOperator)?;
-                self.take_message_end(ExpectedPart::LineEndOrOperator)?;
-                Ok(SourceProcess::Output(element, value))
-            }
-            TokenKind::Assign => {
-                self.take();
-                let expression = self.take_expression()?;
-                self.take_line_end(ExpectedPart::LineEndOrOperator)?;
-                Ok(SourceProcess::Assignment(element, expression))
-            }
+        match self.kind() {
+            TokenKind::Input => self.take_input(element),
+            TokenKind::Output => self.take_output(element),
+            TokenKind::Assign => self.take_assignment(element),
+            _ => Err(self.wrong_element_action()),
+        }
+    }
+
+    // What is after this channel: `? element`.
+    fn take_input(&mut self, channel: SourceElement<'a>) -> Result<SourceProcess<'a>, ReadStop> {
+        self.take();
+        let element = self.take_element(ExpectedPart::Variable)?;
+        self.take_message_end(ExpectedPart::LineEnd)?;
+        Ok(SourceProcess::Input(channel, element))
+    }
+
+    // What is after this channel: `! value`.
+    fn take_output(&mut self, channel: SourceElement<'a>) -> Result<SourceProcess<'a>, ReadStop> {
+        self.take();
+        let value = self.take_value(ExpectedPart::OneOperator)?;
+        self.take_message_end(ExpectedPart::LineEndOrOperator)?;
+        Ok(SourceProcess::Output(channel, value))
+    }
+
+    // What is after this element: `:= expression`.
+    fn take_assignment(
+        &mut self,
+        element: SourceElement<'a>,
+    ) -> Result<SourceProcess<'a>, ReadStop> {
+        self.take();
+        let expression = self.take_expression_line()?;
+        Ok(SourceProcess::Assignment(element, expression))
+    }
+
+    // The mistake that nothing is done with an element.
+    fn wrong_element_action(&mut self) -> ReadStop {
+        match self.kind() {
             TokenKind::Operator(DyadicSign::Equal) => {
-                Err(self.wrong_with(ExpectedPart::ElementAction, Some(EQUALS_COMPARES)))
+                self.wrong_with(ExpectedPart::ElementAction, EQUALS_COMPARES)
             }
-            TokenKind::Comma => Err(self.left_out(ASSIGNMENTS)),
-            _ => Err(self.wrong(ExpectedPart::ElementAction)),
+            TokenKind::Comma => self.left_out(OmittedPart::Assignments),
+            _ => self.wrong(ExpectedPart::ElementAction),
         }
     }
 
     // The mistake that a name begins no process.
-    fn wrong_action(&mut self) -> OccamTextFault<'a> {
-        let name = self.take();
-        let next = self.first();
-        match next.kind {
-            TokenKind::Comma | TokenKind::Is | TokenKind::Wrong => return self.wrong_behind_name(),
-            TokenKind::Operator(DyadicSign::Equal) => return self.wrong_behind_name(),
-            _ => {}
+    fn wrong_action(&mut self) -> ReadStop {
+        let name = self.first();
+        self.take();
+        let hint = match self.kind() {
+            TokenKind::Comma
+            | TokenKind::Is
+            | TokenKind::Wrong
+            | TokenKind::Operator(DyadicSign::Equal) => None,
+            _ => hint_of_first_word(name.text),
+        };
+        if hint.is_none() {
+            return self.wrong_after_name();
         }
-        match hint_of_first_word(name.text) {
-            Some(hint) => {
-                let met = MetPart::Word(ShownWord::of(name.text));
-                self.mistake_at(name.place, ExpectedPart::Process, met, Some(hint))
-            }
-            None => self.wrong_behind_name(),
-        }
+        let met = MetPart::Word(ShownWord::of(name.text));
+        self.wrong_at(name.place, ExpectedPart::Process, met, hint)
     }
 
     // The mistake that this is after the name that a line begins with.
-    fn wrong_behind_name(&self) -> OccamTextFault<'a> {
-        match self.first().kind {
-            TokenKind::Comma => self.left_out(ASSIGNMENTS),
-            TokenKind::Is => self.left_out(UNTYPED_ABBREVIATION),
+    fn wrong_after_name(&mut self) -> ReadStop {
+        match self.kind() {
+            TokenKind::Comma => self.left_out(OmittedPart::Assignments),
+            TokenKind::Is => self.left_out(OmittedPart::UntypedAbbreviation),
             TokenKind::Operator(DyadicSign::Equal) => {
-                self.wrong_with(ExpectedPart::Action, Some(EQUALS_COMPARES))
+                self.wrong_with(ExpectedPart::Action, EQUALS_COMPARES)
             }
-            TokenKind::LineEnd => self.wrong_with(ExpectedPart::Action, Some(NO_VALUES)),
+            TokenKind::LineEnd => self.wrong_with(ExpectedPart::Action, NO_VALUES),
+            TokenKind::Ampersand => self.wrong_with(ExpectedPart::Action, GUARD_BELOW_ALT),
             _ => self.wrong(ExpectedPart::Action),
         }
     }
 
-    // The end of a line that sends or receives one value.
-    fn take_message_end(&mut self, expected: ExpectedPart) -> Result<(), OccamTextFault<'a>> {
-        match (self.first().kind, self.second().kind) {
+    /// The end of a line that sends or receives one value.
+    ///
+    /// # Errors
+    /// Faults 5 and 11.
+    pub fn take_message_end(&mut self, expected: ExpectedPart) -> Result<(), ReadStop> {
+        match (self.kind(), self.second_kind()) {
             (TokenKind::Semicolon, TokenKind::LineEnd) => Err(self.wrong(expected)),
-            (TokenKind::Semicolon, _) => Err(self.left_out(MESSAGE_PARTS)),
+            (TokenKind::Semicolon, _) => Err(self.left_out(OmittedPart::MessageParts)),
             _ => self.take_line_end(expected),
         }
     }
 
-    /// Makes sure that no statement is after `SEQ`.
+    /// Makes sure that no statement is after `SEQ`, `PAR` or `ALT`; the sentence helps if one is.
     ///
     /// # Errors
     /// Fault 11.
-    pub fn find_replicator(&self) -> Result<(), OccamTextFault<'a>> {
-        match self.second().kind {
+    pub fn find_replicator(&mut self, sentence: &'static str) -> Result<(), ReadStop> {
+        match self.second_kind() {
             TokenKind::Assign
             | TokenKind::Input
             | TokenKind::Output
             | TokenKind::Open
             | TokenKind::OpenBracket => Err(self.wrong_with(
                 ExpectedPart::LineEndOrReplicator,
-                Some(LINES_BELOW),
+                sentence,
             )),
             _ => Ok(()),
         }
@@ -137,14 +157,14 @@ impl<'a, 'b> TreeReader<'a, 'b> {
     ///
     /// # Errors
     /// Faults 5 and 11.
-    pub fn take_if_end(&mut self) -> Result<(), OccamTextFault<'a>> {
-        match self.first().kind {
+    pub fn take_if_end(&mut self) -> Result<(), ReadStop> {
+        match self.kind() {
             TokenKind::LineEnd => {
                 self.take();
                 Ok(())
             }
-            _ if self.has_replicator() => Err(self.left_out(REPLICATED_IF)),
-            _ => Err(self.wrong_with(ExpectedPart::LineEnd, Some(CONDITION_BELOW_IF))),
+            _ if self.has_replicator() => Err(self.left_out(OmittedPart::ReplicatedIf)),
+            _ => Err(self.wrong_with(ExpectedPart::LineEnd, CONDITION_BELOW_IF)),
         }
     }
 
@@ -152,61 +172,68 @@ impl<'a, 'b> TreeReader<'a, 'b> {
     ///
     /// # Errors
     /// Faults 11 and 12, and those of an expression.
-    pub fn take_replicator(&mut self) -> Result<Replicator<'a>, OccamTextFault<'a>> {
+    pub fn take_replicator(&mut self) -> Result<Replicator<'a>, ReadStop> {
         let index = self.take_name(ExpectedPart::LineEndOrReplicator)?;
-        match self.first().kind {
-            TokenKind::Operator(DyadicSign::Equal) => {
-                self.take();
-            }
+        let base = self.take_base()?;
+        let count = self.take_expression_line()?;
+        Ok(Replicator { index, base, count })
+    }
+
+    // `= expression FOR`
+    fn take_base(&mut self) -> Result<SourceExpression<'a>, ReadStop> {
+        match self.kind() {
+            TokenKind::Operator(DyadicSign::Equal) => self.take(),
             _ => return Err(self.wrong(ExpectedPart::Equals)),
         }
         let base = self.take_expression()?;
-        match self.first().kind {
+        match self.kind() {
             TokenKind::For => {
                 self.take();
+                Ok(base)
             }
-            _ => return Err(self.wrong(ExpectedPart::Count)),
+            _ => Err(self.wrong(ExpectedPart::Count)),
         }
-        let count = self.take_expression()?;
-        self.take_line_end(ExpectedPart::LineEndOrOperator)?;
-        Ok(Replicator { index, base, count })
     }
 
     /// The condition of a choice, in a line of its own.
     ///
     /// # Errors
     /// Faults 5, 6 and 11, and those of an expression.
-    pub fn take_condition(&mut self) -> Result<PlacedCondition<'a>, OccamTextFault<'a>> {
+    pub fn take_condition(&mut self) -> Result<SourceExpression<'a>, ReadStop> {
         self.take();
-        let first = self.first();
-        match first.kind {
-            TokenKind::If => return Err(self.left_out(NESTED_IF)),
-            TokenKind::Skip | TokenKind::Stop | TokenKind::Seq | TokenKind::While => {
-                return Err(self.wrong_with(ExpectedPart::Condition, Some(CONDITION_BELOW_IF)));
-            }
-            TokenKind::Val | TokenKind::Proc | TokenKind::Chan | TokenKind::Place => {
-                return Err(self.wrong_with(ExpectedPart::Condition, Some(DECLARED_BEFORE_IF)));
-            }
-            _ => {}
-        }
+        self.find_condition()?;
         let expression = self.take_expression()?;
-        match self.first().kind {
-            TokenKind::Assign | TokenKind::Input | TokenKind::Output => Err(self.wrong_with(
-                ExpectedPart::LineEndOrOperator,
-                Some(CONDITION_BELOW_IF),
-            )),
-            TokenKind::Colon => Err(self.wrong_with(
-                ExpectedPart::LineEndOrOperator,
-                Some(COLON_ENDS_DECLARATION),
-            )),
-            _ => {
-                self.take_line_end(ExpectedPart::LineEndOrOperator)?;
-                Ok(PlacedCondition {
-                    expression,
-                    place: first.place,
-                })
+        self.take_condition_end()?;
+        Ok(expression)
+    }
+
+    // Makes sure that no process or declaration is where a condition begins.
+    fn find_condition(&mut self) -> Result<(), ReadStop> {
+        let sentence = match self.kind() {
+            TokenKind::If => return Err(self.left_out(OmittedPart::NestedIf)),
+            TokenKind::Skip
+            | TokenKind::Stop
+            | TokenKind::Seq
+            | TokenKind::Par
+            | TokenKind::Alt
+            | TokenKind::Pri
+            | TokenKind::While => CONDITION_BELOW_IF,
+            TokenKind::Val | TokenKind::Proc | TokenKind::Chan | TokenKind::Place => {
+                DECLARED_BEFORE_IF
             }
-        }
+            _ => return Ok(()),
+        };
+        Err(self.wrong_with(ExpectedPart::Condition, sentence))
+    }
+
+    // The end of the line of a condition.
+    fn take_condition_end(&mut self) -> Result<(), ReadStop> {
+        let sentence = match self.kind() {
+            TokenKind::Assign | TokenKind::Input | TokenKind::Output => CONDITION_BELOW_IF,
+            TokenKind::Colon => COLON_ENDS_DECLARATION,
+            _ => return self.take_line_end(ExpectedPart::LineEndOrOperator),
+        };
+        Err(self.wrong_with(ExpectedPart::LineEndOrOperator, sentence))
     }
 
     /// The declarations in the next lines, which begin with as many blanks. A process has to follow them.
@@ -219,17 +246,17 @@ impl<'a, 'b> TreeReader<'a, 'b> {
         blanks: u32,
         construct: Option<Construct>,
         depth: u8,
-    ) -> Result<Vec<SourceDeclaration<'a>>, OccamTextFault<'a>> {
+    ) -> Result<Vec<SourceDeclaration<'a>>, ReadStop> {
         let mut declarations = Vec::new(self.alloc);
         for _ in 0..=self.left() {
             self.take();
-            let declaration = match self.first().kind {
+            let declaration = match self.kind() {
                 TokenKind::Proc => self.take_procedure(blanks, depth)?,
                 _ => self.take_declaration()?,
             };
             declarations.push(declaration)?;
             self.find_process(blanks, construct)?;
-            if !is_declaration(self.second().kind) {
+            if !is_declaration(self.second_kind()) {
                 break;
             }
         }
@@ -237,48 +264,58 @@ impl<'a, 'b> TreeReader<'a, 'b> {
     }
 
     // Makes sure that a line follows declarations which begins with as many blanks.
-    fn find_process(
-        &self,
-        blanks: u32,
-        construct: Option<Construct>,
-    ) -> Result<(), OccamTextFault<'a>> {
-        let token = self.first();
-        let hint = Some(GrammarHint::Sentence(BELOW_DECLARATIONS));
-        match token.kind {
+    fn find_process(&mut self, blanks: u32, construct: Option<Construct>) -> Result<(), ReadStop> {
+        match self.kind() {
             TokenKind::LineStart(met) if met > blanks => {
+                let hint = Some(GrammarHint::Sentence(BELOW_DECLARATIONS));
                 let expected = ExpectedPart::Indentation(blanks);
-                Err(self.mistake_at(token.place, expected, MetPart::Blanks(met), hint))
+                Err(self.wrong_here(expected, MetPart::Blanks(met), hint))
             }
-            _ if self.is_at_component(blanks, construct)? => Ok(()),
-            _ => Err(self.wrong_with(ExpectedPart::ProcessBehind, Some(BELOW_DECLARATIONS))),
+            _ => match self.is_at_component(blanks, construct) {
+                Ok(true) => Ok(()),
+                Ok(false) => Err(self.wrong_with(ExpectedPart::ProcessBehind, BELOW_DECLARATIONS)),
+                Err(stop) => Err(stop),
+            },
         }
     }
 
     /// The mistake that nothing is below a construct.
-    pub fn without_body(&self, blanks: u32, construct: Construct) -> OccamTextFault<'a> {
-        match self.first().kind {
-            TokenKind::LineStart(met) => self.wrong_indentation(blanks, met, Some(construct)),
-            _ => self.mistake_at(
-                self.first().place,
-                ExpectedPart::Process,
-                MetPart::Said("the end of the text"),
-                Some(construct.hint()),
-            ),
+    pub fn without_body(&mut self, blanks: u32, construct: Construct) -> ReadStop {
+        let expected = match (self.kind(), construct.kind) {
+            (TokenKind::LineStart(met), _) => {
+                return self.wrong_indentation(blanks, met, Some(construct));
+            }
+            (_, ConstructKind::Alternation) => ExpectedPart::InputGuard,
+            _ => ExpectedPart::Process,
+        };
+        let hint = Some(GrammarHint::Component(construct));
+        self.wrong_here(expected, MetPart::TextEnd, hint)
+    }
+
+    /// Makes sure that no second process begins in the next line, with as many blanks.
+    ///
+    /// # Errors
+    /// Faults 2 and 15.
+    pub fn find_no_second_process(
+        &mut self,
+        blanks: u32,
+        construct: Construct,
+    ) -> Result<(), ReadStop> {
+        match self.is_at_component(blanks, Some(construct)) {
+            Ok(false) => Ok(()),
+            Ok(true) => Err(self.second_process()),
+            Err(stop) => Err(stop),
         }
     }
 
     /// The mistake that a second process begins in the next line.
-    pub fn second_process(&self) -> OccamTextFault<'a> {
-        let (met, sentence) = match self.second().kind {
+    pub fn second_process(&mut self) -> ReadStop {
+        let (met, sentence) = match self.second_kind() {
             TokenKind::Colon => (MetPart::Word(ShownWord::of(":")), COLON_ENDS_PROCEDURE),
-            kind if is_declaration(kind) => (MetPart::Said("a declaration too"), DECLARED_BEFORE),
-            _ => (MetPart::Said("a second one"), SEVERAL_PROCESSES),
+            kind if is_declaration(kind) => (MetPart::Declaration, DECLARED_BEFORE),
+            _ => (MetPart::Second, SEVERAL_PROCESSES),
         };
-        self.mistake_at(
-            self.first().place,
-            ExpectedPart::OneProcess,
-            met,
-            Some(GrammarHint::Sentence(sentence)),
-        )
+        let hint = Some(GrammarHint::Sentence(sentence));
+        self.wrong_here(ExpectedPart::OneProcess, met, hint)
     }
 }

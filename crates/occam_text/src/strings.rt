@@ -31,15 +31,23 @@ pub fn string_character(text: &[u8]) -> Option<(u8, usize)> {
 
 /// The character that is written here between single quotes, and by how many bytes.
 pub fn quoted_character(text: &[u8]) -> Option<(u8, usize)> {
-    match text {
-        [b'*', b'#', digits @ ..] => {
-            let digits = std::str::from_utf8(digits.get(..2)?).ok()?;
+    match text.first().copied() {
+        Some(b'*') => starred_character(text.get(1..).unwrap_or(&[])),
+        Some(b'\'') => None,
+        Some(byte @ b' '..=b'~') => Some((byte, 1)),
+        _ => None,
+    }
+}
+
+// The same of what is written after `*`.
+fn starred_character(text: &[u8]) -> Option<(u8, usize)> {
+    match text.first().copied() {
+        Some(b'#') => {
+            let digits = std::str::from_utf8(text.get(1..3)?).ok()?;
             Some((u8::try_from(hexadecimal_word(digits)?).unwrap_or(0), 4))
         }
-        [b'*', letter, ..] => Some((escaped_character(*letter)?, 2)),
-        [b'*' | b'\'', ..] => None,
-        [byte @ b' '..=b'~', ..] => Some((*byte, 1)),
-        _ => None,
+        Some(letter) => Some((escaped_character(letter)?, 2)),
+        None => None,
     }
 }
 

@@ -1,49 +1,36 @@
 //! The words of a text as they are read into its tree, and what is said of one that is wrong.
 
+use crate::constructs::Construct;
 use crate::hints::{
     COLON_BELOW_PROCEDURE, COMMA_BETWEEN_VALUES, CONVERSION_FIRST, GrammarHint,
     OPERAND_IN_PARENTHESES, TEXT_BEGINS, UNMATCHED, UNMATCHED_BRACKETS, WHOLE_STRING, WHOLE_TABLE,
     hint_of_capitals, hint_of_sign,
 };
-use crate::lines::{TextWords, token_at};
-use crate::mistakes::{ExpectedPart, GrammarMistake, MetPart, OccamTextFault};
-use crate::omissions::{OmittedPart, SLICE};
-use crate::words::{OccamToken, TokenKind, left_out_at};
+use crate::lines::TextWords;
+use crate::mistakes::{ExpectedPart, GrammarMistake, MetPart, OccamTextFault, ReadStop};
+use crate::omissions::OmittedPart;
+use crate::words::{OccamToken, TokenKind, left_out_at, token_at};
 use line_mistakes::ShownWord;
-use occam_tree::{DyadicSign, SourceName, TextPlace};
+use occam_tree::{DyadicSign, SourceName, SourceProcess, TextPlace};
 use script_text::NumberedLine;
 use std::alloc::Global;
 
 /// How deep constructs are in one another at most, and parentheses.
 pub const MOST_NESTING: u8 = 64;
 
-/// What has components: its keyword, and the number of its line. A text itself is `None`.
-#[derive(Clone, Copy)]
-pub struct Construct {
-    pub keyword: &'static str,
-    pub line: u32,
-}
-
-impl Construct {
-    /// What is said of where its components are.
-    pub fn hint<'a>(self) -> GrammarHint<'a> {
-        GrammarHint::Component(self.keyword, self.line)
-    }
-}
-
-/// What is left of the words of a text.
+/// What is left of the words of a text, and what is wrong with them.
 #[derive(Clone, Copy)]
 pub struct TreeReader<'a, 'b> {
     pub alloc: Global,
-    rest: &'b [OccamToken<'a>],
-    // The word that was read last.
-    last: OccamToken<'a>,
-    // The first word of the operand that was read last.
-    operand: OccamToken<'a>,
+    words: &'b TextWords<'a>,
+    // How many words were read.
+    position: usize,
+    // The number of the first word of the operand that was read last, from 0.
+    operand: usize,
     // The line in which the statement begins that is read.
     first_line: u32,
     lines: &'b [NumberedLine<'a>],
-    // Why the words end, if it isn't the end of the text.
+    // The first mistake, once there is one.
     mistake: Option<GrammarMistake<'a>>,
 }
 
@@ -54,58 +41,110 @@ impl<'a, 'b> TreeReader<'a, 'b> {
         lines: &'b [NumberedLine<'a>],
         words: &'b TextWords<'a>,
     ) -> TreeReader<'a, 'b> {
-        let start = token_at(TokenKind::TextEnd, TextPlace { line: 1, column: 1 });
         TreeReader {
             alloc,
-            rest: words.tokens.as_slice(),
-            last: start,
-            operand: start,
+            words,
+            position: 0,
+            operand: 0,
             first_line: 1,
             lines,
-            mistake: words.mistake,
+            mistake: None,
+        }
+    }
+
+    /// Why reading stopped.
+    pub fn fault(&self) -> OccamTextFault<'a> {
+        match self.mistake {
+            Some(mistake) => OccamTextFault::Wrong(mistake),
+            None => OccamTextFault::NoMemory,
+        }
+    }
+
+    /// The process of a whole text.
+    ///
+    /// # Errors
+    /// Those of a process, and fault 15 if another one follows it.
+    pub fn take_text(&mut self) -> Result<SourceProcess<'a>, ReadStop> {
+        if !self.is_at_component(0, None)? {
+            return Err(self.wrong(ExpectedPart::Process));
+        }
+        let process = self.take_process(0, None, MOST_NESTING)?;
+        match self.is_at_component(0, None) {
+            Ok(false) => Ok(process),
+            Ok(true) => Err(self.second_process()),
+            Err(stop) => Err(stop),
         }
     }
 
     /// How many words are left.
     pub fn left(&self) -> usize {
-        self.rest.len()
+        self.words.tokens.len().saturating_sub(self.position)
+    }
+
+    // The word of this number, from 0. After the last one there is the end of the text.
+    fn token(&self, number: usize) -> OccamToken<'a> {
+        match self.words.tokens.get(number) {
+            Some(token) => *token,
+            None => token_at(TokenKind::TextEnd, TextPlace { line: 1, column: 1 }),
+        }
     }
 
     /// The next word, which stays.
     pub fn first(&self) -> OccamToken<'a> {
-        match self.rest.first() {
-            Some(token) => *token,
-            None => token_at(TokenKind::TextEnd, self.last.place),
-        }
+        self.token(self.position)
     }
 
     /// The word after the next one.
     pub fn second(&self) -> OccamToken<'a> {
-        match self.rest.get(1) {
-            Some(token) => *token,
-            None => token_at(TokenKind::TextEnd, self.last.place),
-        }
+        self.token(self.position.saturating_add(1))
+    }
+
+    // The word that was read last.
+    fn last(&self) -> OccamToken<'a> {
+        self.token(self.position.saturating_sub(1))
+    }
+
+    /// What the next word is.
+    pub fn kind(&self) -> TokenKind {
+        self.first().kind
+    }
+
+    /// What the word after the next one is.
+    pub fn second_kind(&self) -> TokenKind {
+        self.second().kind
+    }
+
+    /// Where the next word is.
+    pub fn place(&self) -> TextPlace {
+        self.first().place
     }
 
     /// Takes the next word.
-    pub fn take(&mut self) -> OccamToken<'a> {
+    pub fn take(&mut self) {
         let token = self.first();
-        self.rest = self.rest.get(1..).unwrap_or(&[]);
-        self.last = token;
         if let TokenKind::LineStart(_) = token.kind {
             self.first_line = token.place.line;
         }
-        token
+        self.position = self.position.saturating_add(1);
+    }
+
+    /// Takes a comma, if it is the next word.
+    pub fn take_comma(&mut self) -> bool {
+        match self.kind() {
+            TokenKind::Comma => {
+                self.take();
+                true
+            }
+            _ => false,
+        }
     }
 
     /// Takes the next word, which has to be a name.
-    pub fn take_name(
-        &mut self,
-        expected: ExpectedPart,
-    ) -> Result<SourceName<'a>, OccamTextFault<'a>> {
-        match self.first().kind {
+    pub fn take_name(&mut self, expected: ExpectedPart) -> Result<SourceName<'a>, ReadStop> {
+        let token = self.first();
+        match token.kind {
             TokenKind::Name => {
-                let token = self.take();
+                self.take();
                 Ok(SourceName {
                     text: token.text,
                     place: token.place,
@@ -116,8 +155,8 @@ impl<'a, 'b> TreeReader<'a, 'b> {
     }
 
     /// Takes the end of a line.
-    pub fn take_line_end(&mut self, expected: ExpectedPart) -> Result<(), OccamTextFault<'a>> {
-        match self.first().kind {
+    pub fn take_line_end(&mut self, expected: ExpectedPart) -> Result<(), ReadStop> {
+        match self.kind() {
             TokenKind::LineEnd => {
                 self.take();
                 Ok(())
@@ -132,11 +171,11 @@ impl<'a, 'b> TreeReader<'a, 'b> {
     /// # Errors
     /// Fault 2 if the line belongs to nothing.
     pub fn is_at_component(
-        &self,
+        &mut self,
         blanks: u32,
         construct: Option<Construct>,
-    ) -> Result<bool, OccamTextFault<'a>> {
-        match self.first().kind {
+    ) -> Result<bool, ReadStop> {
+        match self.kind() {
             TokenKind::LineStart(met) if met > blanks || met % 2 == 1 => {
                 Err(self.wrong_indentation(blanks, met, construct))
             }
@@ -148,71 +187,103 @@ impl<'a, 'b> TreeReader<'a, 'b> {
 
     /// The mistake that a line begins with other blanks than a component of this construct.
     pub fn wrong_indentation(
-        &self,
+        &mut self,
         blanks: u32,
         met: u32,
         construct: Option<Construct>,
-    ) -> OccamTextFault<'a> {
-        OccamTextFault::Wrong(GrammarMistake {
-            place: self.first().place,
-            expected: ExpectedPart::Indentation(blanks),
-            met: MetPart::Blanks(met),
-            hint: Some(hint_of_component(construct)),
-        })
+    ) -> ReadStop {
+        self.wrong_here(
+            ExpectedPart::Indentation(blanks),
+            MetPart::Blanks(met),
+            Some(hint_of_component(construct)),
+        )
     }
 
     /// The mistake that something else is expected than the next word.
-    pub fn wrong(&self, expected: ExpectedPart) -> OccamTextFault<'a> {
-        self.wrong_with(expected, None)
+    pub fn wrong(&mut self, expected: ExpectedPart) -> ReadStop {
+        let hint = self.hint(expected);
+        self.wrong_word(expected, hint)
     }
 
-    /// The same, where a sentence may help.
-    pub fn wrong_with(
-        &self,
+    /// The same, where a sentence helps.
+    pub fn wrong_with(&mut self, expected: ExpectedPart, sentence: &'static str) -> ReadStop {
+        self.wrong_word(expected, Some(GrammarHint::Sentence(sentence)))
+    }
+
+    /// The same with what helps. A mistake within the word itself comes first.
+    pub fn wrong_word(
+        &mut self,
         expected: ExpectedPart,
-        sentence: Option<&'static str>,
-    ) -> OccamTextFault<'a> {
+        hint: Option<GrammarHint<'a>>,
+    ) -> ReadStop {
         let token = self.first();
         let met = match token.kind {
             TokenKind::Wrong => {
-                if let Some(mistake) = self.mistake {
-                    return OccamTextFault::Wrong(mistake);
-                }
-                MetPart::Nothing
+                self.mistake = self.words.mistake;
+                return ReadStop;
             }
-            TokenKind::From => return self.left_out(SLICE),
+            TokenKind::From => return self.left_out(OmittedPart::Slice),
             TokenKind::LineStart(_) => MetPart::Nothing,
-            TokenKind::Text => MetPart::Said("a string"),
-            TokenKind::LineEnd => MetPart::Said("the end of the line"),
-            TokenKind::TextEnd => MetPart::Said("the end of the text"),
+            TokenKind::Text => MetPart::Text,
+            TokenKind::LineEnd => MetPart::LineEnd,
+            TokenKind::TextEnd => MetPart::TextEnd,
             _ => MetPart::Word(ShownWord::of(token.text)),
         };
-        let hint = match sentence {
-            Some(sentence) => Some(GrammarHint::Sentence(sentence)),
-            None => self.hint(expected),
-        };
-        self.mistake_at(token.place, expected, met, hint)
+        self.wrong_at(token.place, expected, met, hint)
+    }
+
+    /// A mistake at the next word.
+    pub fn wrong_here(
+        &mut self,
+        expected: ExpectedPart,
+        met: MetPart,
+        hint: Option<GrammarHint<'a>>,
+    ) -> ReadStop {
+        let place = self.place();
+        self.wrong_at(place, expected, met, hint)
     }
 
     /// A mistake at this place.
-    pub fn mistake_at(
-        &self,
+    pub fn wrong_at(
+        &mut self,
         place: TextPlace,
         expected: ExpectedPart,
         met: MetPart,
         hint: Option<GrammarHint<'a>>,
-    ) -> OccamTextFault<'a> {
-        OccamTextFault::Wrong(GrammarMistake {
+    ) -> ReadStop {
+        self.mistake = Some(GrammarMistake {
             place,
             expected,
             met,
             hint,
-        })
+        });
+        ReadStop
+    }
+
+    /// The mistake that the next word begins a part of occam which is left out.
+    pub fn left_out(&mut self, omission: OmittedPart) -> ReadStop {
+        let place = self.place();
+        self.left_out_from(place, omission)
+    }
+
+    /// The mistake that a part of occam which is left out begins at this place.
+    pub fn left_out_from(&mut self, place: TextPlace, omission: OmittedPart) -> ReadStop {
+        self.mistake = Some(left_out_at(place, omission));
+        ReadStop
+    }
+
+    // The words that are left, without the first `count` of them.
+    fn rest_after(&self, count: usize) -> &'b [OccamToken<'a>] {
+        let words = self.words;
+        words
+            .tokens
+            .get(self.position.saturating_add(count)..)
+            .unwrap_or(&[])
     }
 
     /// Whether `FOR` is in what is left of the line.
     pub fn has_replicator(&self) -> bool {
-        for token in self.rest {
+        for token in self.rest_after(0) {
             match token.kind {
                 TokenKind::For => return true,
                 TokenKind::LineEnd => return false,
@@ -222,12 +293,40 @@ impl<'a, 'b> TreeReader<'a, 'b> {
         false
     }
 
+    /// Whether a guard is here with a condition before it: `&`, before anything is received, sent or assigned.
+    pub fn has_condition(&self) -> bool {
+        for token in self.rest_after(0) {
+            match token.kind {
+                TokenKind::Ampersand => return true,
+                TokenKind::Input | TokenKind::Output | TokenKind::Assign | TokenKind::LineEnd => {
+                    return false;
+                }
+                _ => {}
+            }
+        }
+        false
+    }
+
+    /// Whether an input or a condition is in the next line, which begins with as many blanks, and the line after it is
+    /// further in.
+    pub fn has_guard(&self, blanks: u32) -> bool {
+        let mut is_guard = false;
+        for token in self.rest_after(1) {
+            match token.kind {
+                TokenKind::Input | TokenKind::Ampersand => is_guard = true,
+                TokenKind::LineStart(met) => return is_guard && met > blanks,
+                _ => {}
+            }
+        }
+        false
+    }
+
     /// Whether a part of an array by `FROM` is here: `[`, and `FROM` before the next `]`.
     pub fn has_slice(&self) -> bool {
-        if !matches!(self.first().kind, TokenKind::OpenBracket) {
+        if !matches!(self.kind(), TokenKind::OpenBracket) {
             return false;
         }
-        for token in self.rest {
+        for token in self.rest_after(1) {
             match token.kind {
                 TokenKind::From => return true,
                 TokenKind::CloseBracket | TokenKind::LineEnd => return false,
@@ -237,69 +336,52 @@ impl<'a, 'b> TreeReader<'a, 'b> {
         false
     }
 
-    /// Whether the word after the next one has a subscript.
-    pub fn has_subscript_behind(&self) -> bool {
-        match self.rest.get(2) {
-            Some(token) => matches!(token.kind, TokenKind::OpenBracket),
-            None => false,
-        }
-    }
-
-    /// The mistake that a part of occam which is left out begins with this word.
-    pub fn left_out_from(
-        &self,
-        token: OccamToken<'a>,
-        omission: OmittedPart,
-    ) -> OccamTextFault<'a> {
-        OccamTextFault::Wrong(left_out_at(token.place, omission))
-    }
-
-    /// The mistake that the next word begins a part of occam which is left out.
-    pub fn left_out(&self, omission: OmittedPart) -> OccamTextFault<'a> {
-        OccamTextFault::Wrong(left_out_at(self.first().place, omission))
+    /// What the word is after the word after the next one.
+    pub fn third_kind(&self) -> TokenKind {
+        self.token(self.position.saturating_add(2)).kind
     }
 
     // What helps where something else is expected than the next word.
     fn hint(&self, expected: ExpectedPart) -> Option<GrammarHint<'a>> {
         let token = self.first();
         hint_of_sign(token.text)
-            .or(hint_of_brackets(expected, token, self.last))
-            .or(hint_of_end(expected, token, self.last))
+            .or(hint_of_brackets(expected, token.kind, self.last().kind))
+            .or(hint_of_end(expected, token, self.last()))
             .or(self.hint_of_continuation())
     }
 
     // What helps where the statement began in another line.
     fn hint_of_continuation(&self) -> Option<GrammarHint<'a>> {
-        let line = self.first().place.line;
-        if line != self.first_line {
+        if self.place().line != self.first_line {
             Some(GrammarHint::Continued(self.first_line))
         } else {
             None
         }
     }
 
-    /// Keeps the first word of the operand that was read last.
-    pub fn keep_operand(&mut self, token: OccamToken<'a>) {
-        self.operand = token;
+    /// How many words were read.
+    pub fn position(&self) -> usize {
+        self.position
     }
 
-    /// The first word of the operand that was read last.
-    pub fn last_operand(&self) -> OccamToken<'a> {
-        self.operand
+    /// Keeps how many words were before the operand that was read last.
+    pub fn keep_operand(&mut self, position: usize) {
+        self.operand = position;
+    }
+
+    /// Where the operand begins that was read last.
+    pub fn last_operand(&self) -> TextPlace {
+        self.token(self.operand).place
     }
 
     /// The text from one word to the one that was read last, if they are in one line.
-    pub fn text_from(&self, token: OccamToken<'a>) -> Option<&'a str> {
-        self.text_at(token.place, self.last.place, self.last.text.len())
+    pub fn text_from(&self, start: TextPlace) -> Option<&'a str> {
+        let last = self.last();
+        self.text_at(start, last.place, last.text.len())
     }
 
-    /// The text from one word to another, without it, if they are in one line.
-    pub fn text_between(&self, token: OccamToken<'a>, end: OccamToken<'a>) -> Option<&'a str> {
-        self.text_at(token.place, end.place, 0)
-    }
-
-    // The text from one place to `count` bytes after another.
-    fn text_at(&self, start: TextPlace, end: TextPlace, count: usize) -> Option<&'a str> {
+    /// The text from one place to another, and `count` bytes more, if they are in one line.
+    pub fn text_at(&self, start: TextPlace, end: TextPlace, count: usize) -> Option<&'a str> {
         if start.line != end.line {
             return None;
         }
@@ -314,7 +396,7 @@ impl<'a, 'b> TreeReader<'a, 'b> {
 // What is said of where a component of this construct begins.
 fn hint_of_component<'a>(construct: Option<Construct>) -> GrammarHint<'a> {
     match construct {
-        Some(construct) => construct.hint(),
+        Some(construct) => GrammarHint::Component(construct),
         None => GrammarHint::Sentence(TEXT_BEGINS),
     }
 }
@@ -343,9 +425,8 @@ fn hint_of_end<'a>(
             TokenKind::Number(_) => Some(GrammarHint::Sentence(CONVERSION_FIRST)),
             _ => None,
         },
-        (ExpectedPart::LineEndOrOperator | ExpectedPart::LineEnd, _) => {
-            hint_of_small_letters(token).or(hint_of_small_letters(last))
-        }
+        (ExpectedPart::LineEndOrOperator | ExpectedPart::LineEnd | ExpectedPart::ConditionEnd, _) =>
+            { hint_of_small_letters(token).or(hint_of_small_letters(last)) }
         _ => None,
     }
 }
@@ -353,21 +434,21 @@ fn hint_of_end<'a>(
 // What helps where brackets, commas, tables or the colon of a procedure are wrong.
 fn hint_of_brackets<'a>(
     expected: ExpectedPart,
-    token: OccamToken<'a>,
-    last: OccamToken<'a>,
+    kind: TokenKind,
+    last: TokenKind,
 ) -> Option<GrammarHint<'a>> {
     let sentence = match expected {
-        ExpectedPart::Operand => sentence_of_operand(token.kind, last.kind)?,
-        ExpectedPart::LineEndOrOperator | ExpectedPart::LineEnd => match token.kind {
+        ExpectedPart::Operand => sentence_of_operand(kind, last)?,
+        ExpectedPart::LineEndOrOperator | ExpectedPart::LineEnd => match kind {
             TokenKind::CloseBracket => UNMATCHED_BRACKETS,
             TokenKind::Colon => COLON_BELOW_PROCEDURE,
             _ => return None,
         },
-        ExpectedPart::ClosingBracket | ExpectedPart::TableEnd => match token.kind {
+        ExpectedPart::ClosingBracket | ExpectedPart::TableEnd => match kind {
             TokenKind::LineEnd => UNMATCHED_BRACKETS,
             _ => return None,
         },
-        ExpectedPart::InstanceEnd | ExpectedPart::FormalsEnd => match token.kind {
+        ExpectedPart::InstanceEnd | ExpectedPart::FormalsEnd => match kind {
             TokenKind::LineEnd => UNMATCHED,
             _ => return None,
         },

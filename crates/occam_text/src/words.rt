@@ -6,7 +6,7 @@ use crate::hints::{
 };
 use crate::keywords::keyword_named;
 use crate::mistakes::{ExpectedPart, GrammarMistake, MetPart};
-use crate::omissions::{COUNTED, DIRECTIVE, OmittedPart, omission_named};
+use crate::omissions::{OmittedPart, omission_named};
 use crate::signs::{pair_named, single_named};
 use crate::strings::{quoted_character, string_character};
 use line_mistakes::{ShownWord, column_at};
@@ -36,6 +36,10 @@ pub enum TokenKind {
     Skip,
     Stop,
     Seq,
+    Par,
+    Alt,
+    /// `PRI`, which is before `ALT` alone.
+    Pri,
     If,
     While,
     Chan,
@@ -60,6 +64,8 @@ pub enum TokenKind {
     Assign,
     Input,
     Output,
+    /// `&`, which is between a condition and its guard.
+    Ampersand,
     /// A sign that isn't occam's.
     Foreign,
 }
@@ -89,11 +95,12 @@ pub struct OccamToken<'a> {
     pub place: TextPlace,
 }
 
-/// What is left of a line.
+/// What is left of a line, and what is wrong with it.
 #[derive(Clone, Copy)]
 pub struct LineRest<'a> {
     line: NumberedLine<'a>,
     rest: &'a [u8],
+    mistake: Option<GrammarMistake<'a>>,
 }
 
 impl<'a> LineRest<'a> {
@@ -102,7 +109,13 @@ impl<'a> LineRest<'a> {
         LineRest {
             line,
             rest: line.text,
+            mistake: None,
         }
+    }
+
+    /// The mistake in the word that was read last, if it is wrong.
+    pub fn mistake(&self) -> Option<GrammarMistake<'a>> {
+        self.mistake
     }
 
     /// Where what is left begins. What comes before it is ASCII, so that each of its bytes is a character.
@@ -126,39 +139,27 @@ impl<'a> LineRest<'a> {
         u32::try_from(blanks).unwrap_or(u32::MAX)
     }
 
-    /// Passes over blanks, and says whether nothing but a comment follows.
-    ///
-    /// # Errors
-    /// Fault 1 if the comment isn't UTF-8.
-    pub fn is_at_end(&mut self) -> Result<bool, GrammarMistake<'a>> {
+    /// Passes over blanks, and says whether nothing but a comment in UTF-8 follows.
+    pub fn is_at_end(&mut self) -> bool {
         self.take_blanks();
-        let visible = space_length(self.rest);
-        let rest = self.rest.get(visible..).unwrap_or(&[]);
-        if !rest.is_empty() && !rest.starts_with(b"--") {
-            return Ok(false);
-        }
-        match std::str::from_utf8(rest) {
-            Ok(_) => Ok(true),
-            Err(_) => Err(self.mistake(ExpectedPart::Utf8, MetPart::Nothing, None)),
-        }
+        let rest = self.visible();
+        rest.is_empty() || rest.starts_with(b"--") && std::str::from_utf8(rest).is_ok()
     }
 
-    /// The mistake that a tab is here, if there is one.
-    pub fn tab(&self) -> Option<GrammarMistake<'a>> {
-        if self.rest.starts_with(b"\t") {
-            Some(self.mistake(ExpectedPart::Blanks, MetPart::Said("a tab"), None))
-        } else {
-            None
-        }
+    /// Whether a tab is here.
+    pub fn is_at_tab(&self) -> bool {
+        self.rest.first().copied() == Some(b'\t')
     }
 
-    /// The next word. Something that isn't a blank or a comment has to be there.
-    ///
-    /// # Errors
-    /// Faults 1, 3, 5, 8, 9 and 10.
-    pub fn take_word(&mut self) -> Result<OccamToken<'a>, GrammarMistake<'a>> {
-        if let Some(mistake) = self.tab() {
-            return Err(mistake);
+    /// Whether a comment is here.
+    pub fn is_at_comment(&self) -> bool {
+        self.visible().starts_with(b"--")
+    }
+
+    /// The next word, of the kind `Wrong` if there is a mistake in it. The line isn't at its end.
+    pub fn take_word(&mut self) -> OccamToken<'a> {
+        if self.is_at_comment() {
+            return self.wrong(ExpectedPart::Utf8, MetPart::Nothing, None);
         }
         match self.rest.first().copied() {
             Some(b'a'..=b'z' | b'A'..=b'Z') => self.take_name(),
@@ -167,8 +168,14 @@ impl<'a> LineRest<'a> {
             Some(b'\'') => self.take_character(),
             Some(b'"') => self.take_string(),
             Some(b'!'..=b'~') => self.take_sign(),
-            _ => Err(self.mistake(ExpectedPart::Ascii, met_outside_ascii(self.rest), None)),
+            Some(b'\t') => self.wrong(ExpectedPart::Blanks, MetPart::Tab, None),
+            _ => self.wrong(ExpectedPart::Ascii, met_outside_ascii(self.rest), None),
         }
+    }
+
+    // What is left, without blanks and tabs at its beginning.
+    fn visible(&self) -> &'a [u8] {
+        self.rest.get(space_length(self.rest)..).unwrap_or(&[])
     }
 
     // Takes the next `count` bytes, or all if fewer are left. The answer is empty if they aren't UTF-8.
@@ -178,181 +185,194 @@ impl<'a> LineRest<'a> {
         std::str::from_utf8(head).unwrap_or("")
     }
 
-    // A mistake at the beginning of what is left.
-    fn mistake(
-        &self,
+    // The next `count` bytes, which stay.
+    fn ahead(&self, count: usize) -> &'a str {
+        let (head, _) = self.rest.split_at(count.min(self.rest.len()));
+        std::str::from_utf8(head).unwrap_or("")
+    }
+
+    // The word of the next `count` bytes.
+    fn token(&mut self, kind: TokenKind, count: usize) -> OccamToken<'a> {
+        let place = self.place();
+        let text = self.take(count);
+        OccamToken { kind, text, place }
+    }
+
+    // Keeps a mistake at the beginning of what is left.
+    fn wrong(
+        &mut self,
         expected: ExpectedPart,
         met: MetPart,
         hint: Option<GrammarHint<'a>>,
-    ) -> GrammarMistake<'a> {
-        GrammarMistake {
-            place: self.place(),
+    ) -> OccamToken<'a> {
+        let place = self.place();
+        self.mistake = Some(GrammarMistake {
+            place,
             expected,
             met,
             hint,
-        }
+        });
+        token_at(TokenKind::Wrong, place)
     }
 
-    fn left_out(&self, omission: OmittedPart) -> GrammarMistake<'a> {
-        left_out_at(self.place(), omission)
+    // Keeps the mistake that a part of occam which is left out is here.
+    fn left_out(&mut self, omission: OmittedPart) -> OccamToken<'a> {
+        let place = self.place();
+        self.mistake = Some(left_out_at(place, omission));
+        token_at(TokenKind::Wrong, place)
     }
 
     // A name or a keyword.
-    fn take_name(&mut self) -> Result<OccamToken<'a>, GrammarMistake<'a>> {
-        let place = self.place();
-        let text = self.take(name_length(self.rest));
+    fn take_name(&mut self) -> OccamToken<'a> {
+        let text = self.ahead(name_length(self.rest));
         // Keywords are in capitals, so that most names are in neither table.
         if let [b'A'..=b'Z', ..] = text.as_bytes() {
             if let Some(omission) = omission_named(text) {
-                return Err(left_out_at(place, omission));
+                return self.left_out(omission);
             }
             if let Some(kind) = keyword_named(text) {
-                return Ok(OccamToken { kind, text, place });
+                return self.token(kind, text.len());
             }
         }
-        Ok(OccamToken {
-            kind: TokenKind::Name,
-            text,
-            place,
-        })
+        self.token(TokenKind::Name, text.len())
     }
 
     // A decimal number below 2^31.
-    fn take_decimal(&mut self) -> Result<OccamToken<'a>, GrammarMistake<'a>> {
-        let start = *self;
-        let text = self.take(name_length(self.rest));
-        match decimal_number(text) {
-            Some(number) if number < 0x8000_0000 => Ok(OccamToken {
-                kind: TokenKind::Number(u32::try_from(number).unwrap_or(0)),
-                text,
-                place: start.place(),
-            }),
-            number => {
-                let hint = hint_of_number(text, number);
+    fn take_decimal(&mut self) -> OccamToken<'a> {
+        let text = self.ahead(name_length(self.rest));
+        let number = decimal_number(text);
+        match number {
+            Some(value) if value < 0x8000_0000 => {
+                let word = u32::try_from(value).unwrap_or(0);
+                self.token(TokenKind::Number(word), text.len())
+            }
+            _ => {
                 let met = MetPart::Word(ShownWord::of(text));
-                Err(start.mistake(ExpectedPart::Decimal, met, hint))
+                self.wrong(ExpectedPart::Decimal, met, hint_of_number(text, number))
             }
         }
     }
 
     // One to eight hexadecimal digits after `#`.
-    fn take_hexadecimal(&mut self) -> Result<OccamToken<'a>, GrammarMistake<'a>> {
-        let start = *self;
-        self.take(1);
-        let digits = self.take(name_length(self.rest));
-        *self = start;
-        let text = self.take(digits.len().saturating_add(1));
+    fn take_hexadecimal(&mut self) -> OccamToken<'a> {
+        let count = name_length(self.rest.get(1..).unwrap_or(&[])).saturating_add(1);
+        let text = self.ahead(count);
+        let digits = text.get(1..).unwrap_or("");
         match hexadecimal_word(digits) {
-            Some(number) if digits.len() <= 8 => Ok(OccamToken {
-                kind: TokenKind::Number(number),
-                text,
-                place: start.place(),
-            }),
-            _ if matches!(digits, "USE" | "INCLUDE" | "COMMENT" | "OPTION" | "PRAGMA") => {
-                Err(start.left_out(DIRECTIVE))
-            }
+            Some(number) if count <= 9 => self.token(TokenKind::Number(number), count),
+            _ if is_directive(digits) => self.left_out(OmittedPart::Directive),
             _ => {
                 let met = MetPart::Word(ShownWord::of(text));
-                Err(start.mistake(ExpectedPart::Hexadecimal, met, None))
+                self.wrong(ExpectedPart::Hexadecimal, met, None)
             }
         }
     }
 
     // A character between quotes.
-    fn take_character(&mut self) -> Result<OccamToken<'a>, GrammarMistake<'a>> {
-        let start = *self;
-        self.take(1);
-        let Some((character, count)) = quoted_character(self.rest) else {
-            let met = met_in_quotes(self.rest);
-            return Err(self.mistake(ExpectedPart::Character, met, None));
+    fn take_character(&mut self) -> OccamToken<'a> {
+        let inside = self.rest.get(1..).unwrap_or(&[]);
+        let Some((character, count)) = quoted_character(inside) else {
+            self.take(1);
+            return self.wrong(ExpectedPart::Character, met_in_quotes(inside), None);
         };
-        self.take(count);
-        if self.rest.first().copied() != Some(b'\'') {
-            let met = met_in_quotes(self.rest);
-            let hint = match self.rest {
-                [] => None,
-                _ => Some(GrammarHint::Sentence(STRING_IN_QUOTES)),
-            };
-            return Err(self.mistake(ExpectedPart::ClosingQuote, met, hint));
+        let rest = inside.get(count..).unwrap_or(&[]);
+        match rest.first().copied() {
+            Some(b'\'') => self.token(TokenKind::Character(character), count.saturating_add(2)),
+            next => {
+                self.take(count.saturating_add(1));
+                let hint = match next {
+                    Some(_) => Some(GrammarHint::Sentence(STRING_IN_QUOTES)),
+                    None => None,
+                };
+                self.wrong(ExpectedPart::ClosingQuote, met_in_quotes(rest), hint)
+            }
         }
-        *self = start;
-        Ok(OccamToken {
-            kind: TokenKind::Character(character),
-            text: self.take(count.saturating_add(2)),
-            place: start.place(),
-        })
     }
 
     // A string, which ends in its line.
-    fn take_string(&mut self) -> Result<OccamToken<'a>, GrammarMistake<'a>> {
-        let start = *self;
-        self.take(1);
-        for _ in 0..self.left() {
-            let Some((_, count)) = string_character(self.rest) else {
-                break;
-            };
-            self.take(count);
-        }
-        match self.rest {
-            [b'"', ..] => {}
-            [] => {
-                let met = MetPart::Said("the end of the line");
-                let hint = Some(GrammarHint::Sentence(STRING_IN_LINE));
-                return Err(self.mistake(ExpectedPart::ClosingQuote, met, hint));
+    fn take_string(&mut self) -> OccamToken<'a> {
+        let inside = self.rest.get(1..).unwrap_or(&[]);
+        let count = string_length(inside);
+        let rest = inside.get(count..).unwrap_or(&[]);
+        match rest.first().copied() {
+            Some(b'"') if count == 0 => {
+                self.wrong(ExpectedPart::FilledString, MetPart::EmptyString, None)
             }
-            [b'*'] => {
-                let met = MetPart::Said("the end of the line");
-                let hint = Some(GrammarHint::Sentence(STRING_IN_LINE));
-                return Err(self.mistake(ExpectedPart::Character, met, hint));
-            }
-            rest => {
-                return Err(self.mistake(ExpectedPart::Character, met_in_quotes(rest), None));
+            Some(b'"') => self.token(TokenKind::Text, count.saturating_add(2)),
+            _ => {
+                self.take(count.saturating_add(1));
+                self.without_string_end(rest)
             }
         }
-        let count = start.left().saturating_sub(self.left()).saturating_add(1);
-        *self = start;
-        let text = self.take(count);
-        if count <= 2 {
-            let met = MetPart::Said("an empty one");
-            return Err(start.mistake(ExpectedPart::FilledString, met, None));
+    }
+
+    // Keeps the mistake that a string doesn't go on with this, which is no character of it and no quote.
+    fn without_string_end(&mut self, rest: &'a [u8]) -> OccamToken<'a> {
+        let hint = Some(GrammarHint::Sentence(STRING_IN_LINE));
+        match rest.len() {
+            0 => self.wrong(ExpectedPart::ClosingQuote, MetPart::LineEnd, hint),
+            1 if rest.starts_with(b"*") => {
+                self.wrong(ExpectedPart::Character, MetPart::LineEnd, hint)
+            }
+            _ => self.wrong(ExpectedPart::Character, met_in_quotes(rest), None),
         }
-        Ok(OccamToken {
-            kind: TokenKind::Text,
-            text,
-            place: start.place(),
-        })
     }
 
     // A sign of one character or two.
-    fn take_sign(&mut self) -> Result<OccamToken<'a>, GrammarMistake<'a>> {
-        let start = *self;
-        let pair = self.take(2);
+    fn take_sign(&mut self) -> OccamToken<'a> {
+        let pair = self.ahead(2);
         if pair == "::" {
-            return Err(start.left_out(COUNTED));
+            return self.left_out(OmittedPart::CountedArray);
         }
-        let place = start.place();
-        if let Some(kind) = pair_named(pair) {
-            return Ok(OccamToken {
-                kind,
-                text: pair,
-                place,
-            });
+        match pair_named(pair) {
+            Some(kind) => self.token(kind, 2),
+            None => self.token(single_named(self.ahead(1)), 1),
         }
-        *self = start;
-        let text = self.take(1);
-        let kind = single_named(text);
-        Ok(OccamToken { kind, text, place })
+    }
+}
+
+/// A token that isn't written.
+pub fn token_at<'a>(kind: TokenKind, place: TextPlace) -> OccamToken<'a> {
+    OccamToken {
+        kind,
+        text: "",
+        place,
     }
 }
 
 /// The mistake that a part of occam which is left out is at this place.
 pub fn left_out_at<'a>(place: TextPlace, omission: OmittedPart) -> GrammarMistake<'a> {
+    let (_, advice) = omission.texts();
     GrammarMistake {
         place,
         expected: ExpectedPart::LeftIn(omission),
         met: MetPart::Nothing,
-        hint: Some(GrammarHint::Sentence(omission.advice)),
+        hint: Some(GrammarHint::Sentence(advice)),
     }
+}
+
+// How many bytes the characters of a string take which are written here, after its first quote.
+fn string_length(text: &[u8]) -> usize {
+    let mut length: usize = 0;
+    for _ in 0..text.len() {
+        match string_character(text.get(length..).unwrap_or(&[])) {
+            Some((_, count)) => length = length.saturating_add(count),
+            None => break,
+        }
+    }
+    length
+}
+
+// Words after `#` that begin a directive.
+const DIRECTIVES: [&str; 5] = ["USE", "INCLUDE", "COMMENT", "OPTION", "PRAGMA"];
+
+fn is_directive(word: &str) -> bool {
+    for directive in &DIRECTIVES {
+        if *directive == word {
+            return true;
+        }
+    }
+    false
 }
 
 // How many blanks a text begins with.
@@ -403,7 +423,7 @@ fn met_in_quotes(text: &[u8]) -> MetPart {
     let count = if text.starts_with(b"*") { 2 } else { 1 };
     let head = text.get(..count).unwrap_or(text);
     match std::str::from_utf8(head) {
-        Ok("") => MetPart::Said("the end of the line"),
+        Ok(word) if word.is_empty() => MetPart::LineEnd,
         Ok(word) => MetPart::Word(ShownWord::of(word)),
         Err(_) => met_outside_ascii(text),
     }
@@ -420,6 +440,6 @@ fn met_outside_ascii(text: &[u8]) -> MetPart {
     }
     match text.first() {
         Some(byte) => MetPart::Byte(*byte),
-        None => MetPart::Said("the end of the line"),
+        None => MetPart::LineEnd,
     }
 }

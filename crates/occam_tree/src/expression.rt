@@ -74,7 +74,6 @@ pub enum DyadicSign {
 }
 
 /// An expression as it is written. Parentheses leave no trace but in its form.
-#[derive(Drop)]
 pub enum SourceExpression<'a> {
     /// What a name means.
     Name(SourceName<'a>),
@@ -97,8 +96,23 @@ pub enum SourceExpression<'a> {
     Dyadic(DyadicSign, TextPlace, Box<SourceExpression<'a>>, Box<SourceExpression<'a>>),
 }
 
+impl<'a> Drop for SourceExpression<'a> {
+    fn drop(self) {
+        match self {
+            SourceExpression::Name(_) => {}
+            SourceExpression::Element(_, _) => {}
+            SourceExpression::Size(_, _) => {}
+            SourceExpression::Number(_, _) => {}
+            SourceExpression::Character(_, _) => {}
+            SourceExpression::Truth(_, _) => {}
+            SourceExpression::Monadic(_, _, _) => {}
+            SourceExpression::Converted(_, _, _) => {}
+            SourceExpression::Dyadic(_, _, _, _) => {}
+        }
+    }
+}
+
 /// Constants one after another.
-#[derive(Drop)]
 pub enum SourceTable<'a> {
     /// A string: the bytes between its quotes, at least one.
     Text(TextPlace, Vec<u8>),
@@ -106,10 +120,27 @@ pub enum SourceTable<'a> {
     Values(TextPlace, Vec<SourceExpression<'a>>),
 }
 
+impl<'a> Drop for SourceTable<'a> {
+    fn drop(self) {
+        match self {
+            SourceTable::Text(_, _) => {}
+            SourceTable::Values(_, _) => {}
+        }
+    }
+}
+
 /// What is sent, abbreviated or given to a procedure.
-#[derive(Drop)]
 pub enum SourceValue<'a> {
     /// An expression; an array too, by its name.
     Expression(SourceExpression<'a>),
     Table(SourceTable<'a>),
+}
+
+impl<'a> Drop for SourceValue<'a> {
+    fn drop(self) {
+        match self {
+            SourceValue::Expression(_) => {}
+            SourceValue::Table(_) => {}
+        }
+    }
 }

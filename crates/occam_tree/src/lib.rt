@@ -10,6 +10,6 @@ pub use expression::{
 };
 pub use place::{SourceName, TextPlace};
 pub use process::{
-    DataType, Replicator, SourceChoice, SourceDeclaration, SourceElement, SourceFormals,
-    SourceProcedure, SourceProcess, SourceType,
+    DataType, Replicator, SourceAlternative, SourceChoice, SourceDeclaration, SourceElement,
+    SourceFormals, SourceGuard, SourceMessage, SourceProcedure, SourceProcess, SourceType,
 };

@@ -14,28 +14,63 @@ pub enum DataType {
     Bool,
 }
 
+/// What the messages of a channel are, as it is written after `CHAN OF`.
+pub enum SourceMessage<'a> {
+    /// `TYPE`
+    One(DataType),
+    /// `[size]TYPE`
+    Array(SourceExpression<'a>, DataType),
+}
+
+impl<'a> Drop for SourceMessage<'a> {
+    fn drop(self) {
+        match self {
+            SourceMessage::One(_) => {}
+            SourceMessage::Array(_, _) => {}
+        }
+    }
+}
+
 /// A type as it is written.
-#[derive(Drop)]
 pub enum SourceType<'a> {
     /// A value of this type.
     Data(DataType),
     /// `[size]TYPE`, or `[]TYPE` for an array of any size, which only parameters and abbreviations have.
     Array(Option<SourceExpression<'a>>, DataType),
-    /// `CHAN OF TYPE`
-    Channel(DataType),
-    /// `CHAN OF [size]TYPE`
-    ArrayChannel(SourceExpression<'a>, DataType),
+    /// `CHAN OF message`
+    Channel(SourceMessage<'a>),
+    /// `[size]CHAN OF message`, or `[]CHAN OF message` for an array of any size, which only parameters and abbreviations
+    /// have.
+    ChannelArray(Option<SourceExpression<'a>>, SourceMessage<'a>),
+}
+
+impl<'a> Drop for SourceType<'a> {
+    fn drop(self) {
+        match self {
+            SourceType::Data(_) => {}
+            SourceType::Array(_, _) => {}
+            SourceType::Channel(_) => {}
+            SourceType::ChannelArray(_, _) => {}
+        }
+    }
 }
 
 /// A variable, an array or a channel where it is used: by its name, or as an element of an array.
-#[derive(Drop)]
 pub struct SourceElement<'a> {
     pub name: SourceName<'a>,
     pub subscript: Option<SourceExpression<'a>>,
 }
 
+impl<'a> Drop for SourceElement<'a> {
+    fn drop(self) {
+        let SourceElement {
+            name: _,
+            subscript: _,
+        } = self;
+    }
+}
+
 /// Parameters of one type.
-#[derive(Drop)]
 pub struct SourceFormals<'a> {
     /// Whether `VAL` is before the type: the parameters are values, which don't change.
     pub are_values: bool,
@@ -44,8 +79,17 @@ pub struct SourceFormals<'a> {
     pub names: Vec<SourceName<'a>>,
 }
 
+impl<'a> Drop for SourceFormals<'a> {
+    fn drop(self) {
+        let SourceFormals {
+            are_values: _,
+            formal_type: _,
+            names: _,
+        } = self;
+    }
+}
+
 /// `PROC name (formals)`, and the process below it.
-#[derive(Drop)]
 #[cycle(source_process)]
 pub struct SourceProcedure<'a> {
     pub name: SourceName<'a>,
@@ -53,8 +97,18 @@ pub struct SourceProcedure<'a> {
     pub process: SourceProcess<'a>,
 }
 
+impl<'a> Drop for SourceProcedure<'a> {
+    #[cycle(source_process)]
+    fn drop(self) {
+        let SourceProcedure {
+            name: _,
+            formals: _,
+            process: _,
+        } = self;
+    }
+}
+
 /// What declares something.
-#[derive(Drop)]
 #[cycle(source_process)]
 pub enum SourceDeclaration<'a> {
     /// `TYPE name, name:`
@@ -68,24 +122,90 @@ pub enum SourceDeclaration<'a> {
     Procedure(Box<SourceProcedure<'a>>),
 }
 
+impl<'a> Drop for SourceDeclaration<'a> {
+    #[cycle(source_process)]
+    fn drop(self) {
+        match self {
+            SourceDeclaration::Variables(_, _) => {}
+            SourceDeclaration::Placed(_, _) => {}
+            SourceDeclaration::Value(_, _, _) => {}
+            SourceDeclaration::Renamed(_, _, _) => {}
+            SourceDeclaration::Procedure(_) => {}
+        }
+    }
+}
+
 /// `index = base FOR count`
-#[derive(Drop)]
 pub struct Replicator<'a> {
     pub index: SourceName<'a>,
     pub base: SourceExpression<'a>,
     pub count: SourceExpression<'a>,
 }
 
+impl<'a> Drop for Replicator<'a> {
+    fn drop(self) {
+        let Replicator {
+            index: _,
+            base: _,
+            count: _,
+        } = self;
+    }
+}
+
 /// A condition of `IF`, and what is done if it is the first that is `TRUE`.
-#[derive(Drop)]
 #[cycle(source_process)]
 pub struct SourceChoice<'a> {
     pub condition: SourceExpression<'a>,
     pub process: SourceProcess<'a>,
 }
 
+impl<'a> Drop for SourceChoice<'a> {
+    #[cycle(source_process)]
+    fn drop(self) {
+        let SourceChoice {
+            condition: _,
+            process: _,
+        } = self;
+    }
+}
+
+/// What a guard waits for.
+pub enum SourceGuard<'a> {
+    /// `channel ? element`
+    Input(SourceElement<'a>, SourceElement<'a>),
+    /// `SKIP`
+    Skip(TextPlace),
+}
+
+impl<'a> Drop for SourceGuard<'a> {
+    fn drop(self) {
+        match self {
+            SourceGuard::Input(_, _) => {}
+            SourceGuard::Skip(_) => {}
+        }
+    }
+}
+
+/// An alternative of `ALT`: its guard, with a condition before `&` if there is one, and the process below it.
+#[cycle(source_process)]
+pub struct SourceAlternative<'a> {
+    pub condition: Option<SourceExpression<'a>>,
+    pub guard: SourceGuard<'a>,
+    pub process: SourceProcess<'a>,
+}
+
+impl<'a> Drop for SourceAlternative<'a> {
+    #[cycle(source_process)]
+    fn drop(self) {
+        let SourceAlternative {
+            condition: _,
+            guard: _,
+            process: _,
+        } = self;
+    }
+}
+
 /// A process as it is written. Its place is that of its first word.
-#[derive(Drop)]
 #[cycle(source_process)]
 pub enum SourceProcess<'a> {
     /// `SKIP`
@@ -104,10 +224,41 @@ pub enum SourceProcess<'a> {
     Sequence(TextPlace, Vec<SourceProcess<'a>>),
     /// `SEQ index = base FOR count`, and the process below it.
     Repeated(TextPlace, Replicator<'a>, Box<SourceProcess<'a>>),
+    /// `PAR`, and the processes below it.
+    Parallel(TextPlace, Vec<SourceProcess<'a>>),
+    /// `PAR index = base FOR count`, and the process below it.
+    ReplicatedParallel(TextPlace, Replicator<'a>, Box<SourceProcess<'a>>),
+    /// `ALT` or `PRI ALT`, and the alternatives below it.
+    Alternation(TextPlace, Vec<SourceAlternative<'a>>),
+    /// `ALT index = base FOR count` or `PRI ALT index = base FOR count`, and the alternative below it.
+    ReplicatedAlternation(TextPlace, Replicator<'a>, Box<SourceAlternative<'a>>),
     /// `IF`, and the choices below it.
     If(TextPlace, Vec<SourceChoice<'a>>),
     /// `WHILE condition`, and the process below it.
     While(TextPlace, SourceExpression<'a>, Box<SourceProcess<'a>>),
     /// Declarations, and the process after them, in which they hold.
     Declared(Vec<SourceDeclaration<'a>>, Box<SourceProcess<'a>>),
+}
+
+impl<'a> Drop for SourceProcess<'a> {
+    #[cycle(source_process)]
+    fn drop(self) {
+        match self {
+            SourceProcess::Skip(_) => {}
+            SourceProcess::Stop(_) => {}
+            SourceProcess::Assignment(_, _) => {}
+            SourceProcess::Input(_, _) => {}
+            SourceProcess::Output(_, _) => {}
+            SourceProcess::Instance(_, _) => {}
+            SourceProcess::Sequence(_, _) => {}
+            SourceProcess::Repeated(_, _, _) => {}
+            SourceProcess::Parallel(_, _) => {}
+            SourceProcess::ReplicatedParallel(_, _, _) => {}
+            SourceProcess::Alternation(_, _) => {}
+            SourceProcess::ReplicatedAlternation(_, _, _) => {}
+            SourceProcess::If(_, _) => {}
+            SourceProcess::While(_, _, _) => {}
+            SourceProcess::Declared(_, _) => {}
+        }
+    }
 }

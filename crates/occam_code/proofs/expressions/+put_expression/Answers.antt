@@ -1,6 +1,6 @@
 use Rattle.std.proofs.Common.{◌++◌, length, sym, ap, ◌∙◌}
 use Rattle.std.proofs.lemmas.Result.{on_ok_weaker}
-use Rattle.occam_code.specs.Code.{and_code, or_code, expression_code}
+use Rattle.occam_code.specs.Expressions.{and_code, or_code, expression_code}
 use Rattle.occam_code.proofs.Patch.{patch_and, patch_or}
 use Rattle.occam_code.proofs.expressions.+put_expression.Goals as goal
 
@@ -8,7 +8,7 @@ pub returns-in_ok-put_expression-in-And-2-clause-code : goal.returns-in_ok-put_e
 returns-in_ok-put_expression-in-And-2-clause-code t c =
     let base = c.args.code.now.items in
     let k = length base in
-    let t = c.args.temporary in
+    let t = c.args.words in
     let left = c.deref-in-And.result.now in
     let right = c.deref-in-And-2.result.now in
     let start = c.len-skip.ensures ∙ c.put_expression-in-And.new.code.ok.0 in
@@ -25,7 +25,7 @@ pub returns-in_ok-put-in-Or-2-clause-code : goal.returns-in_ok-put-in-Or-2-claus
 returns-in_ok-put-in-Or-2-clause-code t c =
     let base = c.args.code.now.items in
     let k = length base in
-    let t = c.args.temporary in
+    let t = c.args.words in
     let left = c.deref-in-Or.result.now in
     let right = c.deref-in-Or-2.result.now in
     let start = c.len-choice.ensures ∙ c.put-in-Or.new.code.ok.0 in

@@ -8,5 +8,5 @@ on_ok_both (Err e) f left right = tt
 
 pub returns-clause-gives : goal.returns-clause-gives
 returns-clause-gives c =
-    on_ok_both c.put_expression.result (gives_value c.args.code.now.items _ c.args.temporary c.args.e.now)
+    on_ok_both c.put_expression.result (gives_value c.args.code.now.items _ c.args.words c.args.e.now)
     c.put_expression.ensures.code c.put_expression.ensures.words
