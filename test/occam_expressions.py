@@ -3,6 +3,7 @@ and changed is looked at here, too."""
 import re
 from dataclasses import dataclass
 
+from occam_uses import interval
 from occam_values import BOOL, BYTE, DYADIC, Halts, INT, MONADIC, MOST_NEGATIVE, MOST_POSITIVE, wrapped
 
 SIZES = {INT: 4, BYTE: 1}
@@ -14,7 +15,7 @@ MOSTPOS NOT OF OR PAR PLACE PLACED PLUS PORT PRI PROC PROCESSOR PROTOCOL REAL32 
 TIMES TRUE TRUNC VAL VALOF WHILE""".split())
 TOKEN = re.compile(r"""(?P<blank>\ +)|(?P<comment>--.*)|(?P<name>[A-Za-z][A-Za-z0-9.]*)|(?P<number>[0-9]+)|(?P<digits>\#[0-9A-Fa-f]+)
 |(?P<character>'(?:\*\#[0-9A-Fa-f]{2}|\*[nctss'"*]|[^*'])')|(?P<string>"(?:\*\#[0-9A-Fa-f]{2}|\*[nctss'"*]|[^*"])+")
-|(?P<sign>:=|/\\|\\/|><|<<|>>|<=|>=|<>|[-+*/\\~=<>():,?!\[\]])""", re.X)
+|(?P<sign>:=|/\\|\\/|><|<<|>>|<=|>=|<>|[-+*/\\~=<>():,?!&\[\]])""", re.X)
 LETTER = re.compile(r"""\*\#[0-9A-Fa-f]{2}|\*.|.""")
 MOST_ELEMENTS = 16_000
 # The size of an array that isn't known where the body of a PROC is read by itself.
@@ -82,6 +83,8 @@ class Value:
     of: object
     cost: int
     constant: int | None = None
+    # from where to where it is, if it is the index of a SEQ with constant bounds, and a constant more or less
+    span: tuple | None = None
 
 
 def number_cost(number):
@@ -111,6 +114,11 @@ class Name:
     level: int = 0
     size: int | None = None
     root: Root | None = None
+    # of an array of channels: how many they are
+    many: int | None = None
+    # of an index: its first and last value if they are constant; of what is found while running: which cells or channels it may be
+    span: tuple | None = None
+    region: tuple | None = None
 
 
 @dataclass
@@ -121,6 +129,7 @@ class Kind:
     is_channel: bool = False
     message: int | None = None
     is_val: bool = False
+    many: int | None = None
 
 
 def outside(_):
@@ -147,6 +156,8 @@ class Place:
     cell: object
     cost: int
     name: Name
+    # which cells it may have, from one on and below another
+    region: tuple | None = None
 
     def cell_of(self):
         """How the cell is found from the store."""
@@ -257,7 +268,8 @@ class Expressions:
         place = self.element(scope)
         if place.size is not None:
             self.fail("expected a subscript behind an array")
-        return Value(place.type, place.value(), place.cost)
+        self.use("reads", place.region)
+        return Value(place.type, place.value(), place.cost, span=place.name.span)
 
     def element(self, scope):
         """A name, or an element, that is read or changed."""
@@ -267,7 +279,8 @@ class Expressions:
             self.fail("expected a variable")
         self.name_root(known)
         if self.peek() != "[":
-            return Place(known.type, known.size, known.number, 2, known)
+            region = known.region or (known.number, known.number + (known.size or 1))
+            return Place(known.type, known.size, known.number, 2, known, region)
         if known.size is None:
             self.fail("expected no subscript behind a scalar")
         self.take()
@@ -290,7 +303,7 @@ class Expressions:
                 return Place(known.type, None, outside, 9, known)
             if not 0 <= index.constant < size:
                 self.fail(f"expected a subscript from 0 to {size - 1}")
-            return Place(known.type, None, first + index.constant, 3, known)
+            return Place(known.type, None, first + index.constant, 3, known, interval(first, size, index))
 
         def cell(store):
             at = of(store)
@@ -298,7 +311,7 @@ class Expressions:
                 raise Halts
             at = min(max(at, 0), size - 1)
             return first + (at if rules.is_straight else size - 1 - at)
-        return Place(known.type, None, cell, index.cost + 9, known)
+        return Place(known.type, None, cell, index.cost + 9, known, interval(first, size, index))
 
     def change(self, place):
         """Changes a place, on which no abbreviation may rest."""
@@ -341,6 +354,10 @@ class Expressions:
     def size(self, scope):
         """The number of elements of an array."""
         known = self.known(scope)
+        if known.kind == "channel" and known.many is not None:
+            if known.many == UNKNOWN:
+                return Value(INT, lambda store: UNKNOWN, 2)
+            return self.constant(INT, known.many)
         if known.kind not in ("array", "table"):
             self.fail("expected an array")
         self.name_root(known)
@@ -378,7 +395,10 @@ class Expressions:
             self.fail(f"expected another operator than {operator} for {left.type} and {right.type}")
         does, first, second = self.rules.dyadic[operator], left.of, right.of
         cost = left.cost + right.cost + 4 + (5 if operator in ("<<", ">>") else 4)
-        return self.folded(Value(result, lambda store: does(first(store), second(store)), cost), left, right)
+        span = None
+        if operator in ("+", "-") and left.span and right.constant is not None:
+            span = tuple(it + right.constant if operator == "+" else it - right.constant for it in left.span)
+        return self.folded(Value(result, lambda store: does(first(store), second(store)), cost, span=span), left, right)
 
     def choice(self, operator, left, right):
         if left.type != BOOL or right.type != BOOL:

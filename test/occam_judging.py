@@ -75,6 +75,15 @@ CHANGES = {
     "names of a PROC are those of the instance": replace(Rules(), is_read_there=False),
     "a VAL isn't evaluated": replace(Rules(), is_evaluated=False),
     "SIZE of a table is one less": replace(Rules(), left_out=1),
+    "PAR goes on when one component has ended": replace(Rules(), waits_for_all=False),
+    "PAR leaves out its last component": replace(Rules(), components_left_out=1),
+    "a replicated PAR counts from one more": replace(Rules(), first_component=1),
+    "who sends doesn't wait": replace(Rules(), is_synchronous=False),
+    "a channel is the one after it": replace(Rules(), channel_at=lambda at, size: (at + 1) % size),
+    "a channel is the first of its array": replace(Rules(), channel_at=lambda at, size: 0),
+    "ALT takes a closed guard": replace(Rules(), takes_closed=True),
+    "ALT takes the last guard": replace(Rules(), takes_last=True),
+    "an ALT without an open guard does nothing": replace(Rules(), halts_without_guard=False),
     "out.int writes no sign": replace(Rules(), digits=lambda number: str(abs(number))),
     "out.int writes an empty 0": replace(Rules(), digits=lambda number: str(number) if number else ""),
     "out.int writes MOSTNEG as 0": replace(Rules(), digits=lambda number: str(number) if number != MOST_NEGATIVE else "0"),
@@ -88,6 +97,10 @@ def is_other(made, rules):
         talk = read(made.text, rules).run(made.coming, MOST_COST)
     except Exception:
         return True
+    if made.talk.is_loose:
+        # the farm may send any beginning of what is said
+        is_other = any(not made.talk.said.get(link, b"").startswith(it) for link, it in talk.said.items())
+        return is_other or talk.end != made.talk.end
     return (talk.said, talk.end) != (made.talk.said, made.talk.end)
 
 
@@ -180,6 +193,58 @@ def exchanged_addresses(text):
     return "\n".join(lines) + "\n"
 
 
+def counted(more):
+    """Changes how many components a PAR waits for."""
+    def change(text):
+        pairs = list(codes_of(text))
+        real = [at for at, (_, code) in enumerate(pairs) if code]
+        lines = [line for line, _ in pairs]
+        for places in zip(real, real[1:], real[2:], real[3:]):
+            codes = [pairs[at][1] for at in places]
+            found = re.fullmatch(r"ldc (\d+)", codes[2])
+            if codes[0] == "ldpi" and codes[1].startswith("stl ") and found and codes[3].startswith("stl "):
+                lines[places[2]] = f"{INSTRUCTION.match(pairs[places[2]][0])['label']}ldc {int(found[1]) + more}"
+        return "\n".join(lines) + "\n"
+    return change
+
+
+def further_down(text):
+    """The own words of components are one word further down than their code means."""
+    pairs = list(codes_of(text))
+    real = [at for at, (_, code) in enumerate(pairs) if code]
+    lines = [line for line, _ in pairs]
+    for at, behind in zip(real, real[1:]):
+        found = re.fullmatch(r"ldlp -(\d+)", pairs[at][1])
+        if found and pairs[behind][1] == "startp":
+            lines[at] = f"{INSTRUCTION.match(pairs[at][0])['label']}ldlp -{int(found[1]) + 1}"
+    return "\n".join(lines) + "\n"
+
+
+def without_moves(text):
+    """The workspace isn't moved back at the end of a PAR."""
+    pairs = list(codes_of(text))
+    moves = [at for at, (_, code) in enumerate(pairs) if code.startswith("ajw ")][1:]
+    return "\n".join(INSTRUCTION.match(line)["label"] if at in moves else line for at, (line, _) in enumerate(pairs)) + "\n"
+
+
+def last_first(text):
+    """The guards of an ALT are looked at from the last to the first."""
+    lines, group, groups = [], [], None
+    for line, code in codes_of(text):
+        if code == "altend":
+            lines += [it for one in reversed(groups) for it in one] + group
+            group, groups = [], None
+        if groups is None:
+            lines.append(line)
+            groups = [] if code == "altwt" else None
+            continue
+        group.append(line)
+        if code in ("disc", "diss"):
+            groups.append(group)
+            group = []
+    return "\n".join(lines) + "\n"
+
+
 larger_sizes = followed(1, "csub0", r"ldlp \d+")
 without_last_byte = followed(-1, "move")
 
@@ -218,6 +283,17 @@ SPOILT = {
     "copies left out": exchanged(move="rev/rev"),
     "copies with their sides swapped": exchanged_addresses,
     "one byte less copied": without_last_byte,
+    "PAR waits for one component less": counted(-1),
+    "PAR waits for one component more": counted(1),
+    "a component isn't started": exchanged(startp="rev/rev"),
+    "the words of components are further down": further_down,
+    "the workspace isn't moved back": without_moves,
+    "channels have no first value": without("-mint", r"-stl \d+"),
+    "a closed guard is enabled": exchanged(enbc="stl 0/ldc 1/enbc"),
+    "a closed SKIP is enabled": exchanged(enbs="stl 0/ldc 1/enbs"),
+    "the last guard is taken": last_first,
+    "one byte less heard": followed(-1, "in"),
+    "one byte less sent": followed(-1, "out"),
 }
 
 

@@ -1,4 +1,4 @@
-"""What a sequential occam program means: a reader and an interpreter that share nothing with the compiler. Arithmetic has 32 bits.
+"""What an occam program means: a reader and an interpreter that share nothing with the compiler. Arithmetic has 32 bits.
 
 usage: python3 -B test/occam_meaning.py FILE [LINK=HEX ..]
 
@@ -6,85 +6,15 @@ Runs the program of a file. What comes at link N is given as N=HEX. Prints what 
 bytes of input are taken. Scripts use `read`, which gives a program from its text, and `run`.
 """
 import sys
-from dataclasses import dataclass
 
-from occam_expressions import Expressions, Kind, LINKS, MOST_ELEMENTS, Name, Procedure, Root, SIZES, UNKNOWN, Wrong, statements_of
+from occam_expressions import Expressions, Kind, LINKS, MOST_ELEMENTS, Name, Procedure, Root, UNKNOWN, Wrong, statements_of
+from occam_processes import Processes
+from occam_running import INSIDE, Program, Talk, after, halt, sequence, skip, talks
+from occam_uses import Uses
 from occam_values import BOOL, BYTE, Halts, INT, Rules, wrapped
 
 
-class Waits(Exception):
-    """Nothing more comes at a link at which the program hears."""
-
-
-class GoesOn(Exception):
-    """The program was stopped, since it had cost enough."""
-
-
-# ---- runs
-
-@dataclass
-class Talk:
-    """What a run sent at each link, how many bytes it took from each, how it ended (`ended`, `halted`, `waits`, `goes on`), about how
-    many instruction bytes it cost, and what its variables are at its end."""
-    said: dict
-    taken: dict
-    end: str
-    cost: int
-    store: list
-
-
-class Machine:
-    """A run on its way."""
-
-    def __init__(self, program, coming, most, first):
-        self.store, self.coming, self.most = [first] * program.variables, coming, most
-        for begin, numbers in program.tables:
-            self.store[begin:begin + len(numbers)] = numbers
-        self.said, self.taken, self.cost = {}, {}, 0
-
-    def spend(self, cost):
-        self.cost += cost
-        if self.cost > self.most:
-            raise GoesOn
-
-    def hear(self, link, size, order):
-        begin = self.taken.get(link, 0)
-        found = self.coming.get(link, b"")[begin:begin + size]
-        self.taken[link] = begin + len(found)
-        if len(found) < size:
-            raise Waits
-        return int.from_bytes(found, order, signed=size == 4)
-
-    def say(self, link, number, size, order):
-        self.said.setdefault(link, bytearray()).extend((number & ((1 << (8 * size)) - 1)).to_bytes(size, order))
-
-
-@dataclass
-class Program:
-    """A program that can be run: its body, how many cells for variables and elements it has, the words whose place is known, each with
-    its cells, the places of its channels with their types, and the tables, each with its first cell."""
-    body: object
-    variables: int
-    named: list
-    channels: dict
-    tables: list
-
-    def run(self, coming=None, most=2_000_000, first=0):
-        """The talk of a run for what comes at each link, in which variables have a value at first that no program may depend on."""
-        machine, end = Machine(self, coming or {}, most, first), "ended"
-        try:
-            self.body(machine)
-        except Halts:
-            end = "halted"
-        except Waits:
-            end = "waits"
-        except GoesOn:
-            end = "goes on"
-        said = {link: bytes(it) for link, it in machine.said.items()}
-        return Talk(said, dict(machine.taken), end, machine.cost, machine.store)
-
-
-class Reader(Expressions):
+class Reader(Expressions, Processes, Uses):
     """Reads the statements of a text into what runs them."""
 
     def __init__(self, text, rules):
@@ -95,6 +25,7 @@ class Reader(Expressions):
         # how many PROCs are put in place around what is read, and whether the body of one is read by itself
         self.depth, self.is_by_itself = 0, False
         self.lines = text.count("\n") + 1
+        self.begin_uses()
 
     # -- processes
 
@@ -112,26 +43,29 @@ class Reader(Expressions):
     def process(self, indent, scope, level):
         if not self.next(indent):
             raise Wrong(self.lines, "expected a process")
-        begins, undo = [], []
+        begins, undo, block = [], [], []
         while self.peek() in ("INT", "BYTE", "BOOL", "CHAN", "PLACE", "VAL", "PROC", "["):
-            scope = self.declaration(indent, scope, level, begins, undo)
+            with self.at_any_line():
+                scope = self.declaration(indent, scope, level, begins, undo, block)
             if not self.next(indent):
                 raise Wrong(self.lines, "expected a process behind the declarations")
+        self.words_of_channels(block)
         word = self.peek()
         if word in ("SKIP", "STOP"):
             self.take()
             self.end()
             body = skip if word == "SKIP" else halt
-        elif word in ("SEQ", "IF", "WHILE"):
+        elif word in ("SEQ", "IF", "WHILE", "PAR", "ALT", "PRI"):
             self.take()
-            body = {"SEQ": self.sequence, "IF": self.conditional, "WHILE": self.loop}[word](indent, scope)
+            body = {"SEQ": self.in_sequence, "IF": self.conditional, "WHILE": self.loop, "PAR": self.par, "ALT": self.alt,
+                    "PRI": self.pri}[word](indent, scope)
         else:
             body = self.simple(scope)
         for it in reversed(undo):
             it()
         return after(begins, body) if begins else body
 
-    def declaration(self, indent, scope, level, begins, undo):
+    def declaration(self, indent, scope, level, begins, undo, block):
         if self.peek() == "PLACE":
             self.take()
             return self.place(scope, level)
@@ -142,7 +76,7 @@ class Reader(Expressions):
         kind = self.kind(scope)
         if self.peek(1) == "IS":
             return self.abbreviation(kind, scope, begins, undo)
-        if kind.size == 0:
+        if 0 in (kind.size, kind.many):
             self.fail("expected a size")
         scope, old, names = dict(scope), scope, set()
         while True:
@@ -151,7 +85,7 @@ class Reader(Expressions):
                 self.fail("expected each name once")
             names.add(name)
             if kind.is_channel:
-                scope[name] = Name("channel", kind.type, None, level, kind.message)
+                scope[name] = self.new_channel(kind, level, block)
             else:
                 scope[name] = self.variable(kind)
             if self.peek() != ",":
@@ -165,14 +99,7 @@ class Reader(Expressions):
         """A type."""
         size = self.bracket(scope) if self.peek() == "[" else None
         if self.peek() == "CHAN":
-            if size is not None:
-                self.fail("expected no array of channels")
-            self.take()
-            self.take("OF")
-            message = self.bracket(scope) if self.peek() == "[" else None
-            if self.peek() not in SIZES or message == 0:
-                self.fail("expected INT or BYTE")
-            return Kind(self.take().text, None, True, message)
+            return self.channel_kind(size, scope)
         if self.peek() not in (INT, BYTE, BOOL):
             self.fail("expected INT, BYTE or BOOL")
         return Kind(self.take().text, size)
@@ -249,6 +176,7 @@ class Reader(Expressions):
             self.fitting(place, kind or Kind(place.type, 0))
             bound = Name("table", place.type, place.cell, size=place.size)
         else:
+            first = self.here
             if kind and kind.size is not None:
                 self.fail("expected an array")
             value = self.expression(scope, kind and kind.type)
@@ -256,6 +184,8 @@ class Reader(Expressions):
                 bound = Name("constant", value.type, value.constant)
             else:
                 bound = self.new_value(value, begins)
+                # an index with another name is still that index
+                bound.span = value.span if self.here == first + 1 else None
         self.freeze(list(self.used), undo)
         self.used = before | self.used
         return bound
@@ -281,10 +211,7 @@ class Reader(Expressions):
     def bound_element(self, kind, scope, begins, undo):
         """What a name is that is an abbreviation of a variable, an element, an array or a channel."""
         if kind.is_channel:
-            known = self.known(scope)
-            if known.kind != "channel" or (known.type, known.size) != (kind.type, kind.message):
-                self.fail("expected a channel of the same type")
-            return known
+            return self.bound_channel(kind, scope, begins, undo)
         before, self.used = self.used, set()
         place = self.element(scope)
         self.change(place)
@@ -298,7 +225,7 @@ class Reader(Expressions):
         else:
             if place.size is not None or place.type != kind.type:
                 self.fail("expected a variable of the same type")
-            bound = Name("variable", place.type, self.found_once(place, begins), root=root)
+            bound = Name("variable", place.type, self.found_once(place, begins), root=root, region=place.region)
         self.freeze(list(used), undo)
         self.rename(bound, undo)
         return bound
@@ -342,7 +269,7 @@ class Reader(Expressions):
         for kind, name in procedure.formals:
             size = UNKNOWN if kind.size == 0 else kind.size
             if kind.is_channel:
-                inner[name] = Name("channel", kind.type, None, 1, kind.message)
+                inner[name] = Name("channel", kind.type, None, 1, kind.message, many=UNKNOWN if kind.many == 0 else kind.many)
             elif kind.is_val:
                 inner[name] = Name("value" if size is None else "table", kind.type, self.cells(1), size=size)
             else:
@@ -384,11 +311,12 @@ class Reader(Expressions):
         known = scope[called]
         self.take("(")
         begins, undo, inner = [], [], dict(known.scope if self.rules.is_read_there else scope)
-        for at, (kind, name) in enumerate(known.formals):
-            if at:
-                self.take(",")
-            bind = self.bound_value if kind.is_val else self.bound_element
-            inner[name] = bind(kind, scope, begins, undo)
+        with self.at_any_line():
+            for at, (kind, name) in enumerate(known.formals):
+                if at:
+                    self.take(",")
+                bind = self.bound_value if kind.is_val else self.bound_element
+                inner[name] = bind(kind, scope, begins, undo)
         self.take(")")
         self.end()
         self.is_certain = False
@@ -396,7 +324,9 @@ class Reader(Expressions):
             body = known.body(inner, self)
         else:
             self.depth += 1
+            self.instances.append(self.tokens[0].line)
             body = self.body_of(known, inner)
+            self.instances.pop()
             self.depth -= 1
         for it in reversed(undo):
             it()
@@ -407,7 +337,7 @@ class Reader(Expressions):
         self.take("AT")
         place = self.expression(scope, INT).constant
         if place is None or not 0 <= place < 8 or place in self.places or level or channel.kind != "channel" \
-                or channel.number is not None:
+                or channel.number < INSIDE or channel.many is not None:
             self.fail("expected a place from 0 to 7")
         channel.number = place
         self.places[place] = channel.type
@@ -415,17 +345,13 @@ class Reader(Expressions):
         self.end()
         return scope
 
-    def sequence(self, indent, scope):
+    def in_sequence(self, indent, scope):
         if self.here < len(self.tokens):
             return self.replicated(indent, scope)
         parts = []
-        while self.at < len(self.statements) and self.statements[self.at][0] > indent:
+        while self.has_more(indent):
             parts.append(self.process(indent + 2, scope, 1))
-
-        def run(machine):
-            for part in parts:
-                part(machine)
-        return run
+        return sequence(parts)
 
     def replicated(self, indent, scope):
         name = self.name()
@@ -436,52 +362,56 @@ class Reader(Expressions):
         self.end()
         slot = self.cells(1)
         self.words += 2
-        body = self.process(indent + 2, {**scope, name: Name("index", INT, slot)}, 1)
+        is_known = base.constant is not None and count.constant is not None
+        span = (base.constant, base.constant + count.constant - 1) if is_known else None
+        body = self.process(indent + 2, {**scope, name: Name("index", INT, slot, span=span)}, 1)
         first, turns, cost, rules = base.of, count.of, base.cost + count.cost + 12, self.rules
 
-        def run(machine):
+        def every(machine):
             machine.spend(cost)
             begin, many = first(machine.store), turns(machine.store)
             if many < 0 and rules.halts_at_negative:
                 raise Halts
             for turn in range(rules.first_turn, many + rules.first_turn):
                 machine.store[slot] = wrapped(begin + turn)
-                body(machine)
+                yield
                 machine.spend(7)
-        return run
+        return repeated(every, body)
 
     def conditional(self, indent, scope):
         self.end()
         choices = []
         while self.at < len(self.statements) and self.statements[self.at][0] > indent:
             self.next(indent + 2)
-            condition = self.expression(scope, BOOL)
+            with self.at_any_line():
+                condition = self.expression(scope, BOOL)
             self.end()
             choices.append((condition.of, condition.cost + 6, self.process(indent + 4, scope, 1)))
         rules = self.rules
 
-        def run(machine):
-            for condition, cost, chosen in choices:
+        def chosen(machine):
+            for condition, cost, process in choices:
                 machine.spend(cost)
                 if condition(machine.store):
-                    return chosen(machine)
+                    return process
             if rules.halts_without_choice:
                 raise Halts
-        return run
+            return skip
+        return choosing(chosen, any(talks(it[2]) for it in choices))
 
     def loop(self, indent, scope):
         condition = self.expression(scope, BOOL)
         self.end()
         goes_on, cost, body, rules = condition.of, condition.cost + 6, self.process(indent + 2, scope, 1), self.rules
 
-        def run(machine):
+        def every(machine):
             if not rules.tests_first:
-                body(machine)
+                yield
             machine.spend(cost)
             while goes_on(machine.store):
-                body(machine)
+                yield
                 machine.spend(cost)
-        return run
+        return repeated(every, body)
 
     def simple(self, scope):
         known = scope.get(self.peek())
@@ -489,15 +419,16 @@ class Reader(Expressions):
             return self.instance(scope)
         if known is None or known.kind != "channel":
             return self.assignment(scope)
-        self.take()
-        sign = self.take().text
-        if sign not in ("?", "!") or not self.is_by_itself and (known.number is None or (known.number < 4) != (sign == "!")):
-            self.fail("expected a channel that is placed, or :=")
-        return (self.output if sign == "!" else self.input)(known, scope)
+        wire, sign = self.wire(scope), self.take().text
+        if sign not in ("?", "!"):
+            self.fail("expected ? or !")
+        self.directed(wire, sign)
+        return (self.output if sign == "!" else self.input)(wire, scope)
 
     def assignment(self, scope):
         place = self.element(scope)
         self.change(place)
+        self.use("changes", place.region)
         self.take(":=")
         if place.size is not None:
             return self.copy(place, scope)
@@ -518,6 +449,7 @@ class Reader(Expressions):
         source = self.whole(scope)
         self.end()
         self.fitting(source, Kind(place.type, place.size))
+        self.use("reads", source.region)
         to, begin, many = place.cell, source.cell, place.size
         cost = 6 + 4 * many
         many -= 0 if self.rules.copies_all else 1
@@ -525,47 +457,6 @@ class Reader(Expressions):
         def run(machine):
             machine.spend(cost)
             machine.store[to:to + many] = machine.store[begin:begin + many]
-        return run
-
-    def input(self, channel, scope):
-        place = self.element(scope)
-        self.change(place)
-        self.end()
-        if place.type != channel.type or place.size != channel.size and place.size != UNKNOWN:
-            self.fail(f"expected a variable of {channel.type}")
-        cell, link, size, rules = place.cell_of(), (channel.number or 0) - 4, SIZES[channel.type], self.rules
-        many, cost = channel.size or 1, 11 + place.cost
-
-        def run(machine):
-            machine.spend(cost)
-            begin = cell(machine.store)
-            for at in range(begin, begin + many):
-                heard = machine.hear(link, size, rules.order)
-                machine.store[at] = heard & rules.byte_mask if size == 1 else heard
-        return run
-
-    def output(self, channel, scope):
-        link, size, rules = channel.number, SIZES[channel.type], self.rules
-        if channel.size is not None:
-            if not self.is_whole(scope):
-                self.fail("expected an array")
-            place = self.whole(scope)
-            self.end()
-            self.fitting(place, Kind(channel.type, channel.size))
-            begin, many = place.cell, place.size
-
-            def run_all(machine):
-                machine.spend(11)
-                for at in range(begin, begin + many):
-                    machine.say(link, machine.store[at], size, rules.order)
-            return run_all
-        value = self.expression(scope, channel.type)
-        self.end()
-        of, cost = value.of, value.cost + 8
-
-        def run(machine):
-            machine.spend(cost)
-            machine.say(link, of(machine.store), size, rules.order)
         return run
 
 
@@ -579,7 +470,11 @@ class Prelude:
 
     def body(self, inner, reader):
         to, given, text_of, rules = inner["to"], inner["it"], self.text_of, reader.rules
-        if not reader.is_by_itself and (to.number is None or to.number > 3):
+        with reader.at_any_line():
+            reader.use("sends", to.region or isinstance(to.number, int) and (to.number, to.number + 1) or None)
+            if given.kind == "table":
+                reader.use("reads", (given.number, given.number + given.size))
+        if not reader.is_by_itself and isinstance(to.number, int) and 3 < to.number < INSIDE:
             reader.fail("expected a channel at an output")
         if given.kind == "constant":
             of = lambda store: given.number
@@ -587,14 +482,13 @@ class Prelude:
             of = lambda store: store[given.number:given.number + given.size]
         else:
             of = lambda store: store[given.number]
-        # what is found once may be found while running alone
-        link = to.number
+        link = to.number if callable(to.number) else lambda store: to.number
 
-        def run(machine):
+        def steps(machine):
             for it in text_of(of(machine.store), rules):
                 machine.spend(40)
-                machine.say(link, it, 1, rules.order)
-        return run
+                yield "say", link(machine.store), [it], 1
+        return steps
 
 
 PRELUDE = {
@@ -603,21 +497,32 @@ PRELUDE = {
 }
 
 
-def after(begins, body):
-    """A process behind what is evaluated before it."""
-    def run(machine):
-        for it in begins:
-            it(machine)
-        body(machine)
-    return run
+def repeated(every, body):
+    """A process each time that something comes."""
+    if not talks(body):
+        def run(machine):
+            for _ in every(machine):
+                body(machine)
+        return run
+
+    def steps(machine):
+        for _ in every(machine):
+            yield from body(machine)
+    return steps
 
 
-def skip(_):
-    return None
+def choosing(chosen, is_talking):
+    """The process that is chosen."""
+    if not is_talking:
+        return lambda machine: chosen(machine)(machine)
 
-
-def halt(_):
-    raise Halts
+    def steps(machine):
+        process = chosen(machine)
+        if talks(process):
+            yield from process(machine)
+        else:
+            process(machine)
+    return steps
 
 
 def read(text, rules=None):
@@ -627,7 +532,7 @@ def read(text, rules=None):
     body = reader.process(0, scope, 0)
     if reader.at != len(reader.statements):
         raise Wrong(reader.statements[reader.at][1][0].line, "expected nothing behind the program's process")
-    return Program(body, reader.slots, reader.named, reader.places, reader.tables)
+    return Program(body, reader.slots, reader.named, reader.places, reader.tables, reader.rules, reader.clashes)
 
 
 def main(words):

@@ -1,25 +1,34 @@
 """Right occam programs with one mistake each, and where it must be said. Scripts use `mistakes`."""
+import functools
 import random
 import re
 from dataclasses import dataclass
 
-from occam_expressions import Wrong
+from occam_clashes import CLASHES, OFTEN
+from occam_expressions import Wrong, tokens_of
 from occam_meaning import read
+from occam_parallel import ParallelWriter
+from occam_pieces import FEATURES
 from occam_printing import Printer
-from occam_programs import Writer
+from occam_writing import Writer
 
 
 @dataclass
 class Mistake:
-    """A text with a mistake: its kind, and the fault's numbers that are right, and its line and its column if
-    they are fixed."""
+    """A text with a mistake: its kind, and the fault's numbers that are right, and its line, or some of which each is right, and its
+    column if they are fixed."""
     kind: str
     text: str
     faults: tuple
-    line: int | None
+    line: int | frozenset | None
     column: int | None
     # whether no other line is wrong
     is_alone: bool = True
+
+    def is_at(self, line, column):
+        """Whether a place is right."""
+        lines = self.line if isinstance(self.line, frozenset) else {self.line}
+        return (self.line is None or line in lines) and self.column in (None, column)
 
 
 # Statements with a mistake that are put before the first process of a SEQ, 2 further in, with `|` between lines: the kind, the fault's
@@ -77,9 +86,6 @@ BEFORE = [
     ("a variable that is sent to", (18,), "INT q.1:|@q.1 ! 1", ""),
     ("an input into a channel", (18,), "q.9 ? @q.9", "CHAN OF INT q.9:|PLACE q.9 AT {in}:"),
     ("a constant that is assigned", (18, 26), "@link0.out := 1", ""),
-    ("PAR", (5,), "@PAR|  SKIP|  SKIP", ""),
-    ("ALT", (5,), "@ALT", ""),
-    ("PRI PAR", (5,), "@PRI PAR|  SKIP", ""),
     ("CASE", (5,), "INT q.1:|@CASE q.1|  1|    SKIP", ""),
     ("TIMER", (5,), "@TIMER q.1:|SKIP", ""),
     ("REAL32", (5,), "@REAL32 q.1:|SKIP", ""),
@@ -197,9 +203,11 @@ BEFORE = [
     ("a sign that occam hasn't", (1, 6, 9, 11), "INT q.1:|q.1 := @$", ""),
     ("PLACE of a variable", (18, 30), "INT q.1:|%PLACE q.1 AT 0:|SKIP", ""),
 ]
+# In how many programs of a seed mistakes are planted, how many clashes are made by chance at most, and of how many tries.
+MOST_LINES, MOST_CLASHES, MOST_TRIES = 40, 4, 60
 # Mistakes that may be said at a line of the PROC or at that of its instance, and those of which several are said, this one first.
-ANY_LINE = {"a change in a PROC's instance", "a PROC's colon further in"}
-SEVERAL = {"AND of INT"}
+ANY_LINE = {"a change in a PROC's instance", "a PROC's colon further in", "257 components that are written"}
+SEVERAL = {"AND of INT"} | OFTEN
 # Mistakes in the outermost declarations, put before the program.
 HEADS = [
     ("PLACE 8", (30,), "CHAN OF INT q.9:|PLACE q.9 AT @8:"),
@@ -208,6 +216,8 @@ HEADS = [
     ("a place of two channels", (30,), "CHAN OF INT q.8, q.9:|PLACE q.8 AT {in}:|%PLACE q.9 AT {in}:"),
     ("a channel with two places", (30,), "CHAN OF INT q.9:|PLACE q.9 AT {in}:|%PLACE q.9 AT {out}:"),
     ("PLACE of a name that isn't declared", (16,), "PLACE @q.9 AT {in}:"),
+    ("PLACE of an array of channels", (13, 18, 30), "[2]CHAN OF INT q.9:|%PLACE q.9 AT {in}:"),
+    ("PLACE of an element", (13,), "[2]CHAN OF INT q.9:|%PLACE q.9[0] AT {in}:"),
     ("CHAN OF ANY", (5,), "%CHAN OF ANY q.9:"),
     ("CHAN without OF", (5, 13), "%CHAN INT q.9:"),
     ("PROTOCOL", (5,), "@PROTOCOL q.9 IS INT:"),
@@ -228,10 +238,14 @@ def at_mark(lines):
     raise ValueError(lines)
 
 
-def program_lines(seed, is_plain=False):
-    """The lines of text of a right program without continued lines, which has none at link 3, and no PROC if it is plain."""
+@functools.lru_cache(maxsize=None)
+def program_lines(seed, is_plain=False, is_clashing=False):
+    """The lines of text of a right program without continued lines, which has none at link 3, and no PROC if it is plain; one with several
+    processes if it is for clashes."""
     for again in range(100):
-        writer = Writer(f"{seed}/{again} to be wrong")
+        chance = random.Random(f"{seed}/{again} kind")
+        kind = ParallelWriter if "PAR" in FEATURES and not is_plain and (is_clashing or chance.random() < 0.4) else Writer
+        writer = kind(f"{seed}/{again} to be wrong")
         writer.program()
         printer = Printer(seed)
         printer.breaks, printer.end = 0, "\n"
@@ -239,7 +253,7 @@ def program_lines(seed, is_plain=False):
         if is_plain and ("PROC" in text or " IS " in text):
             continue
         if writer.links < 4 and any(tokens == ["SEQ"] for _, tokens in writer.lines) and is_right(text):
-            return text.split("\n")
+            return tuple(text.split("\n"))
     raise ValueError(seed)
 
 
@@ -257,14 +271,18 @@ def filled(text):
 
 
 def in_procs(lines):
-    """Which lines are in a PROC, whose instances are put in place: there a mistake of names may be said more often, or not at all."""
-    inside, indent = set(), None
+    """Which lines are in a PROC, or below a replicator of PAR or ALT, which are put in place: there a mistake of names may be said more
+    often, or not at all."""
+    inside, indent, is_proc = set(), None, False
     for at, line in enumerate(lines):
-        if indent is None and line.lstrip().startswith("PROC"):
-            indent = len(line) - len(line.lstrip())
+        further = len(line) - len(line.lstrip())
+        if indent is not None and not is_proc and line.strip() and further <= indent and not line.lstrip().startswith("--"):
+            indent = None
+        if indent is None and re.match(r" *(?:PROC\b|PAR +\w|ALT +\w|PRI +ALT +\w)", line):
+            indent, is_proc = further, line.lstrip().startswith("PROC")
         if indent is not None:
             inside.add(at)
-            if re.match(" " * indent + r":\s*(?:--.*)?$", line):
+            if is_proc and re.match(" " * indent + r":\s*(?:--.*)?$", line):
                 indent = None
     return inside
 
@@ -347,13 +365,41 @@ def unlike_types(lines, chance):
         yield Mistake("a declaration that is left out", missing, (16, 18, 19, 20, 21, 23, 26, 29), line, None, False)
 
 
+def clashing(seed, chance):
+    """Programs in which one name is put for another, so that two components use what one of them changes, or one channel."""
+    lines = program_lines(f"{seed} clashing", False, True)
+    tokens = [(at, it) for at, line in enumerate(lines) for it in tokens_of(line, at) if it.kind == "name"]
+    first = next((at for at, line in enumerate(lines) if re.match(r" *PAR\b", line)), len(lines))
+    inner, found = [it for it in tokens if it[0] > first], 0
+    for _ in range(MOST_TRIES if "PAR" in FEATURES and inner else 0):
+        (at, old), (_, new) = chance.choice(inner), chance.choice(inner)
+        begin = old.column - 1
+        line = lines[at][:begin] + new.text + lines[at][begin + len(old.text):]
+        text = "\n".join([*lines[:at], line, *lines[at + 1:]]) + "\n"
+        clashes = clashes_of(text) if old.text != new.text else []
+        if clashes:
+            every = None if any(it.lines is None for it in clashes) else frozenset().union(*(it.lines for it in clashes))
+            faults = tuple({fault for it in clashes for fault in it.faults})
+            yield Mistake(f"{new.text} for {old.text} in line {at + 1}", text, faults, every, None, False)
+            found += 1
+        if found == MOST_CLASHES:
+            return
+
+
+def clashes_of(text):
+    """What the components of a right program use against the rules, or nothing of another text."""
+    try:
+        return read(text).clashes
+    except Wrong:
+        return []
+
+
 def whole_texts(seed):
     """Mistakes of a whole text."""
     deep = "".join(f"{'  ' * it}SEQ\n" for it in range(70)) + "  " * 70 + "SKIP\n"
     yield Mistake("declarations alone", "INT x:\n", (15,), None, None)
     yield Mistake("a text without a line", "", (4, 15), None, None)
     yield Mistake("a line that goes on further out", f"INT x{seed}:\nSEQ\n  x{seed} := 1 +\n 2\n", (2,), 4, 2)
-    yield Mistake("a channel that isn't placed", "CHAN OF INT c:\nc ! 1\n", (5, 30), 2, None)
     yield Mistake("SEQ 70 deep", deep, (38,), None, None)
     yield Mistake("PLACE that isn't outermost", "CHAN OF INT c:\nSEQ\n  PLACE c AT 0:\n  c ! 1\n", (30,), 3, None)
     yield Mistake("IF with a process for a choice", "IF\n  SKIP\n", (4, 6), 2, 3)
@@ -362,15 +408,16 @@ def whole_texts(seed):
 def mistakes(seed):
     """One mistake of each kind, in programs of a seed."""
     chance = random.Random(f"{seed} planted")
-    for number, row in enumerate(BEFORE):
-        lines = program_lines(f"{seed}.{number}")
+    for number, row in enumerate([*BEFORE, *(CLASHES if "PAR" in FEATURES else [])]):
+        lines = program_lines(f"{seed}.{number % MOST_LINES}")
         yield before(lines, chance, row)
     for number, row in enumerate(HEADS):
-        yield at_head(program_lines(f"{seed}.h{number}"), row)
+        yield at_head(program_lines(f"{seed}.{number % MOST_LINES}"), row)
     for number, row in enumerate(BEHIND):
-        yield behind(program_lines(f"{seed}.b{number}"), row)
+        yield behind(program_lines(f"{seed}.{number % MOST_LINES}"), row)
     lines = program_lines(f"{seed}.c")
     for kind, faults, at, column, line in changed(lines, chance):
         yield Mistake(kind, "\n".join([*lines[:at], line, *lines[at + 1:]]) + "\n", faults, at + 1, column)
     yield from unlike_types(program_lines(f"{seed}.u", True), chance)
+    yield from clashing(seed, chance)
     yield from whole_texts(seed)

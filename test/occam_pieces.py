@@ -11,7 +11,7 @@ MOST_COMING, MOST_SAID, MOST_COST = 1_000, 1_500, 1_000_000
 # What the language allows and a compiler might not: it is in programs unless it is taken from here.
 FEATURES = {"hiding", "equal bools", "odd continuation", "blank at the end", "arrays of INT", "arrays of BYTE", "arrays of BOOL",
             "array messages", "copies", "SIZE", "tables", "strings", "VAL", "VAL of arrays", "renamed variables", "renamed elements",
-            "renamed arrays", "renamed channels", "PROC", "PROC in PROC", "written PROC", "prelude"}
+            "renamed arrays", "renamed channels", "PROC", "PROC in PROC", "written PROC", "prelude", "PAR", "ALT", "arrays of channels"}
 # How often each of these is met where it may be, if it is in a program at all.
 WEIGHTS = {"arrays": 0.7, "fill": 0.85, "element": 0.45, "copies": 0.15, "SIZE": 0.05, "VAL": 0.15, "renamed": 0.2, "PROC": 0.10,
            "written PROC": 0.06, "call": 0.4, "prelude": 0.1, "array messages": 0.25, "over": 0.6}
@@ -22,7 +22,7 @@ OPEN = {"INT of BOOL"}
 NAMES = ("x", "y", "z", "n", "count", "total", "a.b", "value", "x1", "x2", "last.byte", "Sum", "hash", "flag", "is.even", "left",
          "right", "mask", "w", "v.0", "difference.of.words", "K", "seen", "digit", "carry", "p", "q", "step", "bits", "a.name.with.dots")
 EDGES = (0, 1, 2, 3, 7, 8, 15, 16, 17, 255, 256, 257, 4095, 4096, 65535, 65536, 1 << 20, 1 << 28, MOST_POSITIVE, MOST_POSITIVE - 1)
-SIGNS = {"[", "]", "+", "-", "*", "/", "\\", "/\\", "\\/", "><", "<<", ">>", "=", "<>", "<", ">", "<=", ">=", ":=", "?", "!", ",", ":",
+SIGNS = {"[", "]", "+", "-", "*", "/", "\\", "/\\", "\\/", "><", "<<", ">>", "=", "<>", "<", ">", "<=", ">=", ":=", "?", "!", "&", ",", ":",
          "(", ")"}
 OPERATORS = ("+", "-", "*", "/", "\\", "REM", "PLUS", "MINUS", "TIMES", "/\\", "\\/", "><", "<<", ">>", "+", "-", "*")
 REMARKS = ("", " ", " a remark", " x := 1", " 'not a character", " \"", " ü, ≤", "-- :")

@@ -37,7 +37,7 @@ class Printer:
         token, before = tokens[at], tokens[at - 1] if at else "("
         if token == "MINUS":
             return (before not in SIGNS or before == ")") and before not in ("FOR", "WHILE", INT, "NOT", BYTE, BOOL)
-        return token in SIGNS - {"?", "!", "(", ")", ":", "[", "]"} or token in ("REM", "PLUS", "TIMES", "AND", "OR", "FOR", "IS")
+        return token in SIGNS - {"?", "!", "&", "(", ")", ":", "[", "]"} or token in ("REM", "PLUS", "TIMES", "AND", "OR", "FOR", "IS")
 
     def line(self, indent, tokens):
         """The lines of text of a statement."""

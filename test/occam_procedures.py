@@ -78,7 +78,8 @@ class Procedures:
         used = {it for name, it in last.items() if name in written}
         for it in [it for it in used if isinstance(it, Proc)]:
             used |= it.used
-        used |= {it for it in written if any(it == side[0] for it2 in kept[2].values() for side in it2)}
+        names = {side[0] for sides in (kept[2], self.array_channels) for every in sides.values() for side in every}
+        used |= written & names
         self.variables, self.assigned, self.channels, self.rest, self.most_turns = kept
         self.rest -= 4
         self.variables.append(Proc(name, formals, used))

@@ -116,3 +116,14 @@ class Rules:
     left_out: int = 0
     # how out.int writes a number
     digits: object = str
+    # whether a PAR waits for all its components, how many it leaves out, and from where the index of a replicated one counts
+    waits_for_all: bool = True
+    components_left_out: int = 0
+    first_component: int = 0
+    # whether who sends waits for who hears, and which element of an array of channels is meant
+    is_synchronous: bool = True
+    channel_at: object = lambda at, size: at
+    # whether an ALT takes a guard whose condition is FALSE, the last guard that is ready, and whether it errs if none is open
+    takes_closed: bool = False
+    takes_last: bool = False
+    halts_without_guard: bool = True
