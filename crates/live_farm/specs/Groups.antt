@@ -90,7 +90,7 @@ LacksNode group (Some node) name text =
 abbrev pub AnswersWhy : DomainUsers → ℕ → ℕ → Option ℕ → List ℕ → Type 0
 AnswersWhy group user number node text =
     (name : Bor (List ℕ)) × IsNamedSo group user name
-    × (((told : List ℕ) × IsToldOf group told × (text ≡ why_text name.now told))
+    × (((told : List ℕ) × IsToldOf group node told × (text ≡ why_text name.now told))
     ⊎ (LacksNode group node name.now text ⊎ (text ≡ error_text name.now number why.Journal)))
 
 -- the domain of a user begins again, as the operator asked in the line of this number; or nothing changes, and the

@@ -6,6 +6,7 @@ use Rattle.domain_core.specs.Moments.{MomentValue}
 use Rattle.farm_service.specs.declared.status.DomainStatus.{DomainStatus}
 use Rattle.farm_service.specs.Domains.{IsFound, IsStatusOf}
 use Rattle.record_following.specs.Following.{IsReached}
+use Rattle.node_causes.specs.Explained.{IsExplained}
 use Rattle.live_farm.specs.declared.group.DomainUsers.{DomainUsers}
 use Rattle.live_farm.specs.Asking.{commands_asked}
 
@@ -39,9 +40,9 @@ stop_text status room =
 abbrev pub moment_text : DomainStatus → ℕ → ℕ → List ℕ → List ℕ
 moment_text status room done causes = after_text done status.recorded ++ stop_text status room ++ causes
 
--- what is said of the domain of these users: of a moment to which calls of it lead, and of its status when it had
--- recorded as many events as its users were answered commands, or more
-pub record IsToldOf (group : DomainUsers) (told : List ℕ) : Type 0 where
+-- what is said of the domain of these users, and of all its nodes or the one that is asked for: of a moment to which
+-- calls of it lead, and of its status when it had recorded as many events as its users were answered commands, or more
+pub record IsToldOf (group : DomainUsers) (node : Option ℕ) (told : List ℕ) : Type 0 where
   pub domain : DomainValue
   pub status : DomainStatus
   pub moment : MomentValue
@@ -51,4 +52,5 @@ pub record IsToldOf (group : DomainUsers) (told : List ℕ) : Type 0 where
   pub status_of : IsStatusOf domain status
   pub recorded : commands_asked group ≤ status.recorded
   pub reached : IsReached group.service.now.plan group.domain moment
+  pub explained : IsExplained moment node causes
   pub text : told ≡ moment_text status room moment.recorded causes

@@ -123,7 +123,7 @@ impl Shadow {
     ) -> Result<String, FollowFault>
         requires reached { IsReached group.now.service.now.plan group.now.domain self.old.follower }
         requires status { IsStatusHere group.now status }
-        ensures { IfOk result (λ told. IsToldOf group.now (string_bytes told)) }
+        ensures { IfOk result (λ told. IsToldOf group.now node (string_bytes told)) }
     {
         self.follow_journal(rt, group.service, group.domain, status.recorded)?;
         let causes = explain_moment(alloc, &self.follower, node)?;
@@ -208,7 +208,7 @@ pub(crate) fn told_of<R: Wait>(
     node: Option<u8>,
 ) -> Result<String, FollowFault>
     requires { IsStatusHere group.now status }
-    ensures { IfOk result (λ told. IsToldOf group.now (string_bytes told)) }
+    ensures { IfOk result (λ told. IsToldOf group.now node (string_bytes told)) }
 {
     let mut shadow = Shadow::open(alloc, group.service.plan(), group.domain)?;
     shadow.tell_of_journal(rt, alloc, group, status, node)

@@ -7,7 +7,7 @@ ghost use Rattle.farm_service.specs.Services.{IsItsOperator};
 ghost use Rattle.live_lines.specs.LiveRanges.{IsInRange};
 ghost use Rattle.live_farm.specs.Asking.{commands_listed};
 ghost use Rattle.live_farm.specs.Crews.{number_of};
-ghost use Rattle.live_farm.specs.Closings.{AreUsersListed};
+ghost use Rattle.live_farm.specs.Closings.{AreUsersListed, HasListed, HaveListed, AllWereAsked, AreUsersRecorded};
 
 use crate::asked::AskedCommands;
 use crate::crew::{Crew, RestGate};
@@ -17,7 +17,7 @@ use crate::operator::Operator;
 use crate::outlet::SharedOutlet;
 use crate::record::{RecordState, SharedRecord, keep_and_tell};
 use crate::threads::run_crew;
-use domain_core::{NoMemory, Refusal};
+use domain_core::Refusal;
 use farm_service::{
     Closed, Histories, Opened, Service, UserPass, WorkerPass, run_users_and_workers,
 };
@@ -111,6 +111,7 @@ fn serve_all<
     requires passes { AreItsPasses service.now.plan service.now.queue passes.old.items }
     ensures passes { OnOk result (AreItsPasses service.now.plan service.now.queue passes.new.items) }
     ensures users { IfOk result (λ back. map number_of back.items ≡ map number_of users.items) }
+    ensures kept { IfOk result (λ back. HaveListed K.has_kept K.was_out service.now.plan back.items records.now) }
 {
     let quantum = Quantum::of(settings.quantum);
     let room = Vec::with_capacity(alloc, users.len())?;
@@ -134,8 +135,8 @@ fn serve_all<
     Ok(back)
 }
 
-// Records what a domain answered since its last line, with all that the passes of its users list. The answer is the state of its
-// record then.
+// Records what a domain answered since its last line, with all that the passes of its users list. For a domain whose record can't
+// be taken there is nothing to record.
 fn keep_last<R: Wait, K: SharedRecord, N: Notices>(
     rt: &R,
     alloc: Global,
@@ -144,16 +145,19 @@ fn keep_last<R: Wait, K: SharedRecord, N: Notices>(
     passes: &[UserPass],
     record: &K,
     errors: &N,
-) -> Result<RecordState, NoMemory>
-    ensures { IfOk result (λ state. state ≡ RecordState.Kept
-        → K.has_kept «record».now service.now.plan domain (commands_listed domain passes.now)) }
+) -> Result<(), LiveFailure>
+    ensures kept { OnOk result (HasListed K.has_kept K.was_out service.now.plan passes.now domain «record».now) }
+    ensures asked { K.was_asked «record».now service.now.plan domain (commands_listed domain passes.now) }
 {
     let asked = AskedCommands::of_passes(domain, passes);
-    keep_and_tell(rt, alloc, service, asked, record, false, errors)
+    match keep_and_tell(rt, alloc, service, asked, record, false, errors)? {
+        RecordState::Kept | RecordState::Out => Ok(()),
+        RecordState::Unrecorded => Err(record.failure(rt, alloc)),
+    }
 }
 
-// Records what the domains answered since their last lines. All threads have ended. If several records aren't whole, the
-// failure names the last. For a domain whose record can't be taken there is nothing to record.
+// Records what the domains answered since their last lines. All threads have ended. Each record is asked, whatever became of those
+// before it. If several records aren't whole, the failure is that of the last.
 fn keep_rest<R: Wait, K: SharedRecord, N: Notices>(
     rt: &R,
     alloc: Global,
@@ -161,18 +165,24 @@ fn keep_rest<R: Wait, K: SharedRecord, N: Notices>(
     passes: &[UserPass],
     records: &[K],
     errors: &N,
-) -> Result<(), LiveFailure> {
+) -> Result<(), LiveFailure>
+    ensures kept { OnOk result (HaveListed K.has_kept K.was_out service.now.plan passes.now records.now) }
+    ensures asked { AllWereAsked K.was_asked service.now.plan passes.now records.now }
+{
     let mut kept = Ok(());
-    for (domain, record) in (0..service.plan().domains()).zip(records) {
-        let state = keep_last(rt, alloc, service, domain, passes, record, errors)?;
-        if state == RecordState::Unrecorded {
-            kept = Err(record.failure(rt, alloc));
+    for domain in 0..service.plan().domains() {
+        if let Some(record) = records.get(usize::from(domain)) {
+            let last = keep_last(rt, alloc, service, domain, passes, record, errors);
+            if last.is_err() {
+                kept = last;
+            }
         }
     }
     kept
 }
 
 // As `serve_all`, with the operator who has this seat.
+// Six clauses: what is required of the seat and of what `serve_all` takes, and what it vouches for.
 fn serve_seated<
     R: Threads + Wait + Sync,
     K: SharedRecord + Sync,
@@ -198,6 +208,7 @@ fn serve_seated<
     requires passes { AreItsPasses service.now.plan service.now.queue passes.old.items }
     ensures passes { OnOk result (AreItsPasses service.now.plan service.now.queue passes.new.items) }
     ensures users { IfOk result (λ back. map number_of back.items ≡ map number_of users.items) }
+    ensures kept { IfOk result (λ back. HaveListed K.has_kept K.was_out service.now.plan back.items records.now) }
 {
     let operator = Operator::new(service, seat, gauge);
     let mut reader = LiveReader {
@@ -244,6 +255,7 @@ fn close<R: Wait>(
 /// Opens a farm on histories, answers the lines of an input as they come, and closes the farm with the passes of all users when
 /// the input ends or the operator stops it. What each domain answers is recorded, in the record of its place, before the answer
 /// is written. The gauge is the file in which the system says how much memory the program has.
+// Six clauses: the settings, what closing vouches for, and what the records have.
 pub fn run_live<
     R: Threads + Wait + Sync,
     K: SharedRecord + Sync,
@@ -266,6 +278,7 @@ pub fn run_live<
     ensures runs { IfOk result (λ closed. EachMergeRuns (places_of histories.plan) closed.domains.items) }
     ensures users { IfOk result (λ closed. AreUsersListed histories.plan closed.domains.items) }
     ensures asked { IfOk result (λ closed. AllAreRightlyAsked closed.domains.items) }
+    ensures kept { IfOk result (λ closed. AreUsersRecorded K.has_kept K.was_out histories.plan records.now closed.domains.items) }
 {
     let opened = match Service::open_again(rt, alloc, histories, settings.workers) {
         Ok(opened) => opened,

@@ -1,5 +1,5 @@
 //! The record of a domain, which threads share.
-ghost use Rattle.std.specs.Prelude.{◌≡◌, ℕ, List, ⊤, IfOk, OnOk};
+ghost use Rattle.std.specs.Prelude.{◌≡◌, ℕ, List, ⊤, IfErr, IfOk, OnOk};
 ghost use Rattle.plan_rules.specs.Data.{DomainData};
 ghost use Rattle.live_farm.specs.Kept.{HasKept};
 
@@ -55,6 +55,13 @@ pub trait SharedRecord {
     // commands.
     ghost has_kept: { Self → List DomainData → ℕ → ℕ → Type 0 } = { λ _ _ _ _. ⊤ };
 
+    // Holds after a call of `keep`, whatever it came to: of a domain of this number of a plan the record was to have at least
+    // this number of commands.
+    ghost was_asked: { Self → List DomainData → ℕ → ℕ → Type 0 } = { λ _ _ _ _. ⊤ };
+
+    // Holds after a call of `keep` whose error is `Out`.
+    ghost was_out: { Self → Type 0 } = { λ _. ⊤ };
+
     /// As [`DomainRecord::keep`], for the domain that was asked.
     fn keep<R: Wait>(
         &self,
@@ -63,7 +70,9 @@ pub trait SharedRecord {
         asked: AskedCommands,
         begins_anew: bool,
     ) -> Result<(), NotKept>
-        ensures { OnOk result (has_kept self.now service.now.plan asked.domain asked.commands) };
+        ensures kept { OnOk result (has_kept self.now service.now.plan asked.domain asked.commands) }
+        ensures asked { was_asked self.now service.now.plan asked.domain asked.commands }
+        ensures out { IfErr result (λ e. e ≡ NotKept.Out → was_out self.now) };
 
     /// How it is with the record.
     fn state<R: Wait>(&self, rt: &R) -> RecordState;
@@ -177,8 +186,10 @@ pub(crate) fn keep_and_tell<R: Wait, K: SharedRecord, N: Notices>(
     begins_anew: bool,
     errors: &N,
 ) -> Result<RecordState, NoMemory>
-    ensures { IfOk result (λ state. state ≡ RecordState.Kept
+    ensures kept { IfOk result (λ state. state ≡ RecordState.Kept
         → K.has_kept «record».now service.now.plan asked.domain asked.commands) }
+    ensures asked { K.was_asked «record».now service.now.plan asked.domain asked.commands }
+    ensures out { IfOk result (λ state. state ≡ RecordState.Out → K.was_out «record».now) }
 {
     let before = record.state(rt);
     match record.keep(rt, service, asked, begins_anew) {

@@ -1,4 +1,5 @@
 -- what must be believed
 pub mod Causes
+pub mod Explained
 -- what only helps contracts
 pub mod Passage

@@ -1,10 +1,10 @@
 //! Reads a record, and explains what the nodes of its domain wait for.
+ghost use Rattle.std.specs.Prelude.{◌≡◌, IfOk, string_bytes};
+ghost use Rattle.node_causes.specs.Explained.{cut_text, IsExplained, IsLedText, IsRecordText};
 
-use crate::telling::{Chosen, write_causes};
-use crate::words::push_number;
+use crate::paragraphs::{Chosen, explain};
 use domain_core::NoMemory;
 use record_following::{Follower, RecordStop, follow_record, read_record};
-use script_text::TextWriter;
 use std::alloc::Global;
 use step_meter::StepMeter;
 
@@ -24,25 +24,41 @@ pub fn explain_record<M: StepMeter>(
     text: &[u8],
     most: u64,
     meter: &mut M,
-) -> Result<String, RecordStop> {
+) -> Result<String, RecordStop>
+    ensures { IfOk result (λ told. IsRecordText (string_bytes told)) }
+{
     let record = read_record(alloc, text, most)?;
     let follower = follow_record(alloc, &record.plan, record.lines.as_slice(), meter)?;
     explain_followed(alloc, &follower, record.is_cut).map_err(RecordStop::from)
 }
 
-// Says it of a domain that was led by its record, whose last line may be cut.
-fn explain_followed(alloc: Global, follower: &Follower, is_cut: bool) -> Result<String, NoMemory> {
-    let mut told = TextWriter::new(alloc);
-    push_number(&mut told, "after ", follower.recorded(), " events\n");
+// That the last line of a record is cut, if it is.
+fn cut_words(is_cut: bool) -> &'static str
+    ensures { result.now ≡ cut_text is_cut }
+{
     if is_cut {
-        told.push("The last line is cut, and was left out.\n");
+        "The last line is cut, and was left out.\n"
+    } else {
+        ""
     }
+}
+
+/// Says it of a domain that was led by its record, whose last line may be cut.
+pub fn explain_followed(
+    alloc: Global,
+    follower: &Follower,
+    is_cut: bool,
+) -> Result<String, NoMemory>
+    ensures { IfOk result (λ told. IsLedText follower.now is_cut (string_bytes told)) }
+{
+    let recorded = follower.recorded();
+    let cut = cut_words(is_cut);
     let all = Chosen {
         node: None,
         most_inside: usize::MAX,
     };
-    write_causes(alloc, follower, all, &mut told);
-    told.finish()
+    let causes = explain(alloc, follower, all)?;
+    format!(in alloc; "after {recorded} events\n{cut}{causes}")
 }
 
 /// Says why each node, or one of them, does no more than it does, at the moment to which a domain was led. Of the processes
@@ -51,12 +67,12 @@ pub fn explain_moment(
     alloc: Global,
     follower: &Follower,
     node: Option<u8>,
-) -> Result<String, NoMemory> {
-    let mut told = TextWriter::new(alloc);
+) -> Result<String, NoMemory>
+    ensures { IfOk result (λ told. IsExplained follower.now node (string_bytes told)) }
+{
     let chosen = Chosen {
         node,
         most_inside: MOST_INSIDE,
     };
-    write_causes(alloc, follower, chosen, &mut told);
-    told.finish()
+    explain(alloc, follower, chosen)
 }

@@ -15,10 +15,10 @@ impl Scene<'_> {
     pub(crate) fn write_sent(&mut self, device: Device, text: &mut TextWriter) {
         match sent_byte(&mut self.moment, device) {
             SentByte::Unwired => {
-                text.push("  The byte stays: no port of the switch is joined to that link.\n");
+                text.push("The byte stays: no port of the switch is joined to that link.\n");
             }
             SentByte::Waits { port, moved } => {
-                push_number(text, "  The byte waits at port ", u64::from(port), "");
+                push_number(text, "The byte waits at port ", u64::from(port), "");
                 push_move(text, port, moved);
             }
             SentByte::Left { port, drives } => self.write_left(port, drives, text),
@@ -29,7 +29,7 @@ impl Scene<'_> {
     fn write_left(&mut self, port: u8, drives: u32, text: &mut TextWriter) {
         match self.past.port(port).byte {
             Some(event) => {
-                text.push("  The byte");
+                text.push("The byte");
                 push_lost(text, port, event);
             }
             None => self.write_arrivals(port, drives, text),
@@ -39,7 +39,7 @@ impl Scene<'_> {
     // Says what became of a byte that left a port, at each output that this drives.
     fn write_arrivals(&mut self, port: u8, drives: u32, text: &mut TextWriter) {
         if drives == 0 {
-            let before = "  The byte left, and input ";
+            let before = "The byte left, and input ";
             push_number(text, before, u64::from(port), " drives no output now.\n");
         }
         for output in 0..self.moment.part().count() {
@@ -54,7 +54,7 @@ impl Scene<'_> {
         if output >= self.moment.part().count() {
             return;
         }
-        push_number(text, "  At output ", u64::from(output), " ");
+        push_number(text, "At output ", u64::from(output), " ");
         match arrival_at(&mut self.moment, output) {
             Arrival::Nobody => text.push("no device is joined that could take the byte.\n"),
             Arrival::Held(device) => push_held(text, device),
@@ -189,7 +189,7 @@ impl Scene<'_> {
         if let Some((source, output)) = self.output_done(node, link)
             && output.whole != whole
         {
-            push_device(text, "  The counts differ: the last output of ", source, "");
+            push_device(text, "The counts differ: the last output of ", source, "");
             push_count(text, " has ", output.whole, ", all of which came, and this");
             push_count(text, " `in` has ", whole, ", of which ");
             push_number(text, "", u64::from(wait.left), " are still to come.\n");
@@ -199,7 +199,7 @@ impl Scene<'_> {
     // Says so if an acknowledge of a link was lost at its port.
     fn write_own_loss(&self, port: u8, link: LinkNumber, text: &mut TextWriter) {
         if let Some(event) = self.past.port(port).acknowledge {
-            push_link(text, "  An acknowledge of ", link, "");
+            push_link(text, "An acknowledge of ", link, "");
             push_lost(text, port, event);
         }
     }
@@ -216,24 +216,19 @@ fn push_held(text: &mut TextWriter, device: Device) {
 
 // That a link is joined to no port.
 fn push_unjoined(text: &mut TextWriter, link: LinkNumber) {
-    let before = "  No byte comes: no port of the switch is joined to ";
+    let before = "No byte comes: no port of the switch is joined to ";
     push_link(text, before, link, ".\n");
 }
 
 // That no input drives the output to which a link is joined.
 fn push_undriven(text: &mut TextWriter, link: LinkNumber, port: u8) {
-    push_link(
-        text,
-        "  No byte comes by ",
-        link,
-        ": no input drives output ",
-    );
+    push_link(text, "No byte comes by ", link, ": no input drives output ");
     push_number(text, "", u64::from(port), ".\n");
 }
 
 // Which input drives the output to which a link is joined.
 fn push_drive(text: &mut TextWriter, input: u8, port: u8, link: LinkNumber) {
-    push_number(text, "  Input ", u64::from(input), " drives output ");
+    push_number(text, "Input ", u64::from(input), " drives output ");
     push_number(text, "", u64::from(port), " of ");
     push_link(text, "", link, ". ");
 }

@@ -1,12 +1,12 @@
-//! What is said of a domain's nodes, in sentences.
+//! What is found of a domain's nodes, in sentences.
 
 use crate::cause::{Cause, InputWait, InsideWait, LinkWaits, OutputWait, Rendezvous};
-use crate::finding::{cause_of, inside_waits, join_wait};
-use crate::words::{push_at, push_count, push_instruction, push_link, push_number, push_text};
-use bootstrap::{CODE_START, Node, Task, number_of};
-use domain_core::{Device, Moment};
+use crate::doing::{has_ended, is_waited_for};
+use crate::finding::join_wait;
+use crate::words::{push_at, push_count, push_instruction, push_link, push_number};
+use bootstrap::{Node, number_of};
+use domain_core::{Device, Moment, NoMemory};
 use link_channels::{LinkNumber, Process};
-use node_memory::Fault;
 use record_following::{FaultPast, Follower, Past, ZerosPast};
 use script_text::TextWriter;
 use std::alloc::Global;
@@ -14,18 +14,6 @@ use t414_step::Cpu;
 
 /// How many Steps without a packet are said to be many.
 const MANY_STEPS: u64 = 100_000;
-
-/// How many packets among nodes are said to be many.
-const MANY_PACKETS: u64 = 256;
-
-/// What is explained.
-#[derive(Clone, Copy)]
-pub struct Chosen {
-    /// One node, or all of the domain.
-    pub node: Option<u8>,
-    /// How many processes that wait at channels in a node's memory are listed at most.
-    pub most_inside: usize,
-}
 
 /// A domain whose nodes are explained.
 #[derive(Drop)]
@@ -36,54 +24,52 @@ pub struct Scene<'a> {
     most_inside: usize,
 }
 
-/// Writes why the chosen nodes do no more than they do, at the moment to which a domain was led. If there is no memory to look
-/// at them the text says so when it is finished.
-pub fn write_causes(alloc: Global, follower: &Follower, chosen: Chosen, text: &mut TextWriter) {
-    match follower.moment() {
-        Ok(moment) => {
-            let mut scene = Scene {
-                alloc,
-                moment,
-                past: follower.past(),
-                most_inside: chosen.most_inside,
-            };
-            scene.write_nodes(follower, chosen.node, text);
-        }
-        Err(error) => text.keep_failure(Err(error)),
+impl<'a> Scene<'a> {
+    /// A domain at the moment to which it was led. Of the processes that wait at channels in a node's memory at most that many
+    /// are listed.
+    pub(crate) fn of(
+        alloc: Global,
+        follower: &'a Follower,
+        most_inside: usize,
+    ) -> Result<Scene<'a>, NoMemory> {
+        Ok(Scene {
+            alloc,
+            moment: follower.moment()?,
+            past: follower.past(),
+            most_inside,
+        })
     }
 }
 
 impl Scene<'_> {
-    // Writes what is said of one node, or of all and of the domain.
-    fn write_nodes(&mut self, follower: &Follower, chosen: Option<u8>, text: &mut TextWriter) {
-        if let Some(number) = chosen {
-            self.write_node(follower, number, text);
-            return;
-        }
-        for number in 0..8u8 {
-            self.write_node(follower, number, text);
-        }
-        self.write_exchanges(text);
-    }
-
-    // Writes what is said of a node, if it is there.
-    fn write_node(&mut self, follower: &Follower, number: u8, text: &mut TextWriter) {
-        if let Some(cause) = cause_of(follower, number) {
-            push_number(text, "node ", u64::from(number), "");
-            self.write_cause(number, cause, text);
-            self.write_overruns(number, text);
-        }
+    /// What is found of a node: why it does no more than it does, in lines.
+    pub(crate) fn found(
+        &mut self,
+        number: u8,
+        cause: &Cause,
+        inside: &[InsideWait],
+    ) -> Result<String, NoMemory> {
+        let mut text = TextWriter::new(self.alloc);
+        self.write_cause(number, cause, inside, &mut text);
+        self.write_overruns(number, &mut text);
+        text.finish()
     }
 
     // Writes why a node does no more than it does.
-    fn write_cause(&mut self, number: u8, cause: Cause, text: &mut TextWriter) {
+    fn write_cause(
+        &mut self,
+        number: u8,
+        cause: &Cause,
+        inside: &[InsideWait],
+        text: &mut TextWriter,
+    ) {
         match cause {
             Cause::WantsControl => self.write_wanting(number, text),
-            Cause::Takes { link, task } => self.write_taking(number, link, task, text),
-            Cause::Answers { link, left } => self.write_answering(number, link, left, text),
+            Cause::Takes { link, .. } => self.write_taking(number, *link, text),
+            Cause::Answers { link, .. } => self.write_answering(number, *link, text),
             Cause::Runs => self.write_running(number, text),
-            Cause::Rests(waits) => self.write_resting(number, &waits, text),
-            Cause::Halted(fault) => self.write_halted(number, fault, text),
+            Cause::Rests(waits) => self.write_waits(number, waits, inside, text),
+            Cause::Halted(_) => self.write_halted(number, text),
         }
     }
 
@@ -97,70 +83,38 @@ impl Scene<'_> {
 
     // It waits for a control byte.
     fn write_wanting(&mut self, number: u8, text: &mut TextWriter) {
-        if !self.is_quiet(number) {
-            text.push(" waits for a control byte, and its next Step takes one.\n");
-            return;
-        }
-        text.push(" waits for a control byte.\n");
-        for link in LinkNumber::all() {
-            self.write_supply_if_wired(number, link, text);
+        if self.is_quiet(number) {
+            for link in LinkNumber::all() {
+                self.write_supply_if_wired(number, link, text);
+            }
         }
     }
 
     // It takes the bytes of a task.
-    fn write_taking(&mut self, number: u8, link: LinkNumber, task: Task, text: &mut TextWriter) {
-        match task {
-            Task::Poke { left, .. } => {
-                let came = 8 - u32::from(left.min(8));
-                push_taken(text, " takes a poke by ", link, came, 8);
-            }
-            Task::Peek { left, .. } => {
-                let came = 4 - u32::from(left.min(4));
-                push_taken(text, " takes a peek by ", link, came, 4);
-            }
-            Task::Load { left, address } => {
-                let came = address.wrapping_sub(CODE_START);
-                let whole = came.wrapping_add(u32::from(left));
-                push_taken(text, " takes code by ", link, came, whole);
-                text.push(", as the control byte ");
-                text.push_hex_byte((whole % 0x100) as u8);
-                text.push(" asks");
-            }
-        }
-        text.push(".\n");
+    fn write_taking(&mut self, number: u8, link: LinkNumber, text: &mut TextWriter) {
         if self.is_quiet(number) {
             self.write_supply(number, link, text);
         } else {
-            text.push("  Its next Step takes a byte.\n");
+            text.push("Its next Step takes a byte.\n");
         }
     }
 
     // It answers a peek.
-    fn write_answering(&mut self, number: u8, link: LinkNumber, left: u8, text: &mut TextWriter) {
-        push_link(text, " answers a peek by ", link, ": ");
-        let behind = " more are to be sent when the last one is acknowledged.\n";
-        push_count(text, "", u32::from(left), behind);
+    fn write_answering(&mut self, number: u8, link: LinkNumber, text: &mut TextWriter) {
         if self.is_quiet(number) {
             self.write_sent(Device::Link { node: number, link }, text);
         } else {
-            text.push("  Its next Step goes on.\n");
+            text.push("Its next Step goes on.\n");
         }
     }
 
     // It has something to do.
     fn write_running(&mut self, number: u8, text: &mut TextWriter) {
-        let steps = self.past.node(number).steps;
-        push_number(
-            text,
-            " runs, ",
-            steps,
-            " Steps since a packet came or went.\n",
-        );
         if let Some(node) = self.moment.node(number) {
             self.write_next(number, node, text);
         }
-        if steps >= MANY_STEPS {
-            text.push("  It may run for ever.\n");
+        if self.past.node(number).steps >= MANY_STEPS {
+            text.push("It may run for ever.\n");
         }
     }
 
@@ -169,7 +123,7 @@ impl Scene<'_> {
         if let Some(cpu) = node.registers()
             && cpu.running
         {
-            text.push("  It is at ");
+            text.push("It is at ");
             let byte = node.memory().byte(cpu.instruction).ok();
             push_instruction(text, cpu, byte);
             text.push(".\n");
@@ -178,38 +132,23 @@ impl Scene<'_> {
     }
 
     // It met a fault.
-    fn write_halted(&mut self, number: u8, fault: Fault, text: &mut TextWriter) {
-        push_number(text, " halted by fault ", u64::from(fault.number()), "");
+    fn write_halted(&mut self, number: u8, text: &mut TextWriter) {
         let Some(past) = self.past.node(number).fault else {
-            push_text(text, ": ", fault);
             return;
         };
-        push_number(text, " in event ", past.event, "");
-        push_text(text, ": ", fault);
         if let FaultPast {
             registers: Some(cpu),
             byte,
             ..
         } = past
         {
-            text.push("  It was at ");
+            text.push("It was at ");
             push_instruction(text, cpu, byte);
             push_registers(text, cpu);
             self.write_workspace(number, cpu.workspace, text);
         }
         if let Some(zeros) = past.zeros {
             push_zeros(text, zeros);
-        }
-    }
-
-    // No process can go on.
-    fn write_resting(&mut self, number: u8, waits: &[LinkWaits; 4], text: &mut TextWriter) {
-        let Some(node) = self.moment.node(number) else {
-            return;
-        };
-        match inside_waits(self.alloc, node.memory()) {
-            Ok(inside) => self.write_waits(number, waits, inside.as_slice(), text),
-            Err(error) => text.keep_failure(Err(error)),
         }
     }
 
@@ -221,13 +160,11 @@ impl Scene<'_> {
         inside: &[InsideWait],
         text: &mut TextWriter,
     ) {
-        if are_at_links(waits, inside) && !is_waited_for(waits) {
-            text.push(" has ended: no process is left.\n");
+        if has_ended(waits, inside) {
             self.write_join(number, text);
             self.write_untaken(number, text);
             return;
         }
-        text.push(" rests.\n");
         for (place, link) in LinkNumber::all().iter().enumerate() {
             if let Some(waits) = waits.get(place) {
                 self.write_link(number, *link, *waits, text);
@@ -241,7 +178,7 @@ impl Scene<'_> {
         if let Some(node) = self.moment.node(number)
             && let Some(join) = join_wait(node)
         {
-            text.push("  The last process ended by `endp` at ");
+            text.push("The last process ended by `endp` at ");
             text.push_word(join.ended);
             text.push(". The join at workspace ");
             text.push_word(join.workspace);
@@ -258,7 +195,7 @@ impl Scene<'_> {
             if node.links().at(link).end.input.buffer.is_some() {
                 let behind =
                     " holds a byte that nobody will take: reset the node before you boot it again.\n";
-                push_number(text, "  Link ", u64::from(number_of(link)), behind);
+                push_number(text, "Link ", u64::from(number_of(link)), behind);
             }
         }
     }
@@ -285,13 +222,13 @@ impl Scene<'_> {
             let more = (count - self.most_inside) as u64;
             push_number(
                 text,
-                "  ",
+                "",
                 more,
                 " more processes wait at channels in its memory.\n",
             );
         }
         if count > 0 && !is_waited_for(waits) {
-            text.push("  No other process is left that could come there: a deadlock.\n");
+            text.push("No other process is left that could come there: a deadlock.\n");
         }
     }
 
@@ -357,7 +294,7 @@ impl Scene<'_> {
         };
         let above = end.wrapping_add(3);
         if workspace == above - above % 4 {
-            text.push("  Its workspace ");
+            text.push("Its workspace ");
             text.push_word(workspace);
             text.push(
                 " begins where its code ends, so what is saved below it overwrites the code: ajw moves it.\n",
@@ -373,7 +310,7 @@ impl Scene<'_> {
         for link in LinkNumber::all() {
             let overruns = node.links().at(link).end.input.overruns;
             if overruns > 0 {
-                push_number(text, "  Link ", u64::from(number_of(link)), " dropped ");
+                push_number(text, "Link ", u64::from(number_of(link)), " dropped ");
                 push_count(
                     text,
                     "",
@@ -383,34 +320,6 @@ impl Scene<'_> {
             }
         }
     }
-
-    // Says so if the nodes have long been alone with one another.
-    fn write_exchanges(&self, text: &mut TextWriter) {
-        if self.past.exchanges >= MANY_PACKETS {
-            let since = self.past.alone_since;
-            push_number(text, "Since event ", since, " the nodes have passed ");
-            let behind =
-                " packets to one another, and no byte came from a host or went to one: it may go on for ever.\n";
-            push_number(text, "", self.past.exchanges, behind);
-        }
-    }
-}
-
-// How much of a task has come by a link.
-fn push_taken(text: &mut TextWriter, what: &str, link: LinkNumber, came: u32, whole: u32) {
-    push_link(text, what, link, ": ");
-    push_number(text, "", u64::from(came), " of ");
-    push_count(text, "", whole, " have come");
-}
-
-// Whether somebody waits at a link.
-fn is_waited_for(waits: &[LinkWaits; 4]) -> bool {
-    for it in waits {
-        if it.input.is_some() || it.output.is_some() || it.watch.is_some() {
-            return true;
-        }
-    }
-    false
 }
 
 // Whether a process waits at a link.
@@ -421,16 +330,6 @@ fn is_at_link(waits: &[LinkWaits; 4], process: Process) -> bool {
         }
     }
     false
-}
-
-// Whether each of these processes waits at a link.
-fn are_at_links(waits: &[LinkWaits; 4], inside: &[InsideWait]) -> bool {
-    for wait in inside {
-        if !is_at_link(waits, wait.process) {
-            return false;
-        }
-    }
-    true
 }
 
 // Whether it is this process that waits.
@@ -497,7 +396,7 @@ fn write_rendezvous(wait: InsideWait, text: &mut TextWriter) {
 
 // Writes how a node came to zeros through which it ran.
 fn push_zeros(text: &mut TextWriter, zeros: ZerosPast) {
-    text.push("  Before that it ran through zeros, each of which is `j 0`, from ");
+    text.push("Before that it ran through zeros, each of which is `j 0`, from ");
     text.push_word(zeros.first);
     text.push(" on. It came there from ");
     push_instruction(text, zeros.registers, Some(zeros.byte));

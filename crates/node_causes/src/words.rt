@@ -3,19 +3,10 @@
 use bootstrap::number_of;
 use domain_core::{Device, Moved};
 use link_channels::{LinkNumber, Process};
-use node_memory::Fault;
 use script_text::TextWriter;
 use t414_assembly::{Instruction, write_instruction};
 use t414_decode::{Function, decode};
 use t414_step::Cpu;
-
-/// Writes a text, then a fault in words, and ends the line.
-pub fn push_text(text: &mut TextWriter, before: &str, fault: Fault) {
-    text.push(before);
-    let written = write!(text.as_mut_string(), "{fault}");
-    text.keep_failure(written);
-    text.push(".\n");
-}
 
 /// Writes a number between two texts.
 pub fn push_number(text: &mut TextWriter, before: &str, number: u64, behind: &str) {
@@ -53,10 +44,10 @@ pub fn push_device(text: &mut TextWriter, before: &str, device: Device, behind: 
 pub fn push_at(text: &mut TextWriter, process: Option<Process>) {
     match process {
         Some(process) => {
-            text.push("  The process at ");
+            text.push("The process at ");
             text.push_word(process.instruction.wrapping_sub(1));
         }
-        None => text.push("  A process"),
+        None => text.push("A process"),
     }
 }
 

@@ -13,6 +13,7 @@ returns g c = record {
   status_of = c.requires.status.2;
   recorded = c.requires.status.3;
   reached = c.in_ok-follow_journal.ensures;
+  explained = c.in_ok-causes.ensures;
   text =
       subst
       (λ (done : ℕ). string_bytes c.in_ok-tell.field-0
