@@ -8,7 +8,7 @@ ghost use Rattle.live_farm.specs.Groups.{IsStatusHere, AnswersLine, AnswersRest,
 ghost use Rattle.live_farm.specs.Groups.{IsSameDomain, StaysAfterError};
 
 use crate::asked::AskedCommands;
-use crate::causes::told_of;
+use crate::causes::explain_domain;
 use crate::group::DomainUsers;
 use crate::letter::{Letter, Matter};
 use crate::texts::{
@@ -184,7 +184,7 @@ impl DomainUsers<'_> {
         {
             return no_node_answer(alloc, name, node);
         }
-        match told_of(rt, alloc, self, self.status(rt), node) {
+        match explain_domain(rt, alloc, self, self.status(rt), node) {
             Ok(told) => why_answer(alloc, name, told.as_str()),
             Err(FollowFault::Memory(_)) => Err(NoMemory),
             Err(_) => error_answer(alloc, name, number, Why::Journal),

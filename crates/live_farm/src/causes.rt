@@ -200,7 +200,7 @@ fn tell(
 /// # Errors
 ///
 /// Why what was copied can't be done again, which no run comes to; `Memory`.
-pub(crate) fn told_of<R: Wait>(
+pub(crate) fn explain_domain<R: Wait>(
     rt: &R,
     alloc: Global,
     group: &DomainUsers<'_>,

@@ -28,7 +28,7 @@ fn push_count(text: &mut String, count: u32) -> Result<(), NoMemory>
 }
 
 // How much of what a node takes has come by a link.
-fn taken(
+fn came_words(
     alloc: Global,
     what: &str,
     link: LinkNumber,
@@ -45,26 +45,26 @@ fn taken(
 }
 
 // It takes the bytes of a task.
-fn taking(alloc: Global, link: LinkNumber, task: Task) -> Result<String, NoMemory>
+fn task_words(alloc: Global, link: LinkNumber, task: Task) -> Result<String, NoMemory>
     ensures { IfOk result (λ text. string_bytes text ≡ task_text link task) }
 {
     match task {
         Task::Poke { left, .. } => {
             let came = 8 - u32::from(left.min(8));
-            let mut text = taken(alloc, " takes a poke by ", link, came, 8)?;
+            let mut text = came_words(alloc, " takes a poke by ", link, came, 8)?;
             text.push_str(".")?;
             Ok(text)
         }
         Task::Peek { left, .. } => {
             let came = 4 - u32::from(left.min(4));
-            let mut text = taken(alloc, " takes a peek by ", link, came, 4)?;
+            let mut text = came_words(alloc, " takes a peek by ", link, came, 4)?;
             text.push_str(".")?;
             Ok(text)
         }
         Task::Load { left, address } => {
             let came = address.wrapping_sub(CODE_START);
             let whole = came.wrapping_add(u32::from(left));
-            let mut text = taken(alloc, " takes code by ", link, came, whole)?;
+            let mut text = came_words(alloc, " takes code by ", link, came, whole)?;
             text.push_str(", as the control byte ")?;
             write_byte(&mut text, (whole % 0x100) as u8)?;
             text.push_str(" asks.")?;
@@ -74,7 +74,7 @@ fn taking(alloc: Global, link: LinkNumber, task: Task) -> Result<String, NoMemor
 }
 
 // It answers a peek.
-fn answering(alloc: Global, link: LinkNumber, left: u8) -> Result<String, NoMemory>
+fn answering_words(alloc: Global, link: LinkNumber, left: u8) -> Result<String, NoMemory>
     ensures { IfOk result (λ text. string_bytes text ≡ answering_text link left) }
 {
     let number = number_of(link);
@@ -85,14 +85,14 @@ fn answering(alloc: Global, link: LinkNumber, left: u8) -> Result<String, NoMemo
 }
 
 // It has something to do.
-fn running(alloc: Global, steps: u64) -> Result<String, NoMemory>
+fn running_words(alloc: Global, steps: u64) -> Result<String, NoMemory>
     ensures { IfOk result (λ text. string_bytes text ≡ running_text steps) }
 {
     format!(in alloc; " runs, {steps} Steps since a packet came or went.")
 }
 
 // It waits for a control byte.
-fn wanting(alloc: Global, is_quiet: bool) -> Result<String, NoMemory>
+fn wanting_words(alloc: Global, is_quiet: bool) -> Result<String, NoMemory>
     ensures { IfOk result (λ text. string_bytes text ≡ wanting_text is_quiet) }
 {
     String::from_str(
@@ -127,7 +127,7 @@ pub(crate) fn has_ended(waits: &[LinkWaits; 4], inside: &[InsideWait]) -> bool
 }
 
 // No process of it can go on, or none is left.
-fn resting(alloc: Global, has_ended: bool) -> Result<String, NoMemory>
+fn resting_words(alloc: Global, has_ended: bool) -> Result<String, NoMemory>
     ensures { IfOk result (λ text. string_bytes text ≡ resting_text has_ended) }
 {
     String::from_str(
@@ -151,7 +151,7 @@ fn push_event(text: &mut String, event: Option<u64>) -> Result<(), NoMemory>
 }
 
 // Appends words without their line feeds.
-fn push_words(text: &mut String, words: &str) -> Result<(), NoMemory>
+fn push_in_one_line(text: &mut String, words: &str) -> Result<(), NoMemory>
     ensures { OnOk result (string_bytes text.new ≡ string_bytes text.old ++ in_one_line words.now) }
 {
     for line in words.lines() {
@@ -161,14 +161,19 @@ fn push_words(text: &mut String, words: &str) -> Result<(), NoMemory>
 }
 
 // It met a fault, which has these words.
-fn halted(alloc: Global, fault: Fault, event: Option<u64>, words: &str) -> Result<String, NoMemory>
+fn halted_words(
+    alloc: Global,
+    fault: Fault,
+    event: Option<u64>,
+    words: &str,
+) -> Result<String, NoMemory>
     ensures { IfOk result (λ text. string_bytes text ≡ halted_text fault event words.now) }
 {
     let number = fault.number();
     let mut text = format!(in alloc; " halted by fault {number}")?;
     push_event(&mut text, event)?;
     text.push_str(": ")?;
-    push_words(&mut text, words)?;
+    push_in_one_line(&mut text, words)?;
     text.push_str(".")?;
     Ok(text)
 }
@@ -185,18 +190,18 @@ pub(crate) fn doing_of(
     ensures { IfOk result (λ text. IsDoing node.now cause.now (string_bytes text)) }
 {
     match cause {
-        Cause::WantsControl => wanting(alloc, node.quiet()),
-        Cause::Takes { link, task } => taking(alloc, *link, *task),
-        Cause::Answers { link, left } => answering(alloc, *link, *left),
-        Cause::Runs => running(alloc, past.steps),
-        Cause::Rests(waits) => resting(alloc, has_ended(waits, inside)),
+        Cause::WantsControl => wanting_words(alloc, node.quiet()),
+        Cause::Takes { link, task } => task_words(alloc, *link, *task),
+        Cause::Answers { link, left } => answering_words(alloc, *link, *left),
+        Cause::Runs => running_words(alloc, past.steps),
+        Cause::Rests(waits) => resting_words(alloc, has_ended(waits, inside)),
         Cause::Halted(fault) => {
             let words = format!(in alloc; "{fault}")?;
             let event = match past.fault {
                 Some(fault) => Some(fault.event),
                 None => None,
             };
-            halted(alloc, *fault, event, words.as_str())
+            halted_words(alloc, *fault, event, words.as_str())
         }
     }
 }

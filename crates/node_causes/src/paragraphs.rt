@@ -61,12 +61,12 @@ fn paragraph_of(
     let inside = inside_waits(alloc, node.memory())?;
     let past = follower.past().node(number);
     let doing = doing_of(alloc, node, &cause, inside.as_slice(), &past)?;
-    let found = scene.found(number, &cause, inside.as_slice())?;
+    let found = scene.found_lines(number, &cause, inside.as_slice())?;
     paragraph(alloc, number, doing.as_str(), found.as_str())
 }
 
 // That the nodes have been alone with one another since an event, and passed that many packets.
-fn tell_alone(alloc: Global, since: u64, passed: u64) -> Result<String, NoMemory>
+fn alone_since(alloc: Global, since: u64, passed: u64) -> Result<String, NoMemory>
     ensures { IfOk result (λ text. string_bytes text ≡ alone_text since passed) }
 {
     let mut text = format!(in alloc; "Since event {since}")?;
@@ -79,13 +79,13 @@ fn tell_alone(alloc: Global, since: u64, passed: u64) -> Result<String, NoMemory
 }
 
 // The same if they have passed many, else nothing.
-fn alone_of(alloc: Global, past: &Past) -> Result<String, NoMemory>
+fn alone_words(alloc: Global, past: &Past) -> Result<String, NoMemory>
     ensures { IfOk result (λ text. IsAloneText (string_bytes text)) }
 {
     if past.exchanges < MANY_PACKETS {
         return Ok(String::new(alloc));
     }
-    tell_alone(alloc, past.alone_since, past.exchanges)
+    alone_since(alloc, past.alone_since, past.exchanges)
 }
 
 // The paragraphs of all nodes, and whether these have long been alone with one another.
@@ -101,7 +101,7 @@ fn all_paragraphs(
         let paragraph = paragraph_of(alloc, scene, follower, number)?;
         text.push_str(paragraph.as_str())?;
     }
-    let alone = alone_of(alloc, follower.past())?;
+    let alone = alone_words(alloc, follower.past())?;
     text.push_str(alone.as_str())?;
     Ok(text)
 }

@@ -43,7 +43,7 @@ impl<'a> Scene<'a> {
 
 impl Scene<'_> {
     /// What is found of a node: why it does no more than it does, in lines.
-    pub(crate) fn found(
+    pub(crate) fn found_lines(
         &mut self,
         number: u8,
         cause: &Cause,

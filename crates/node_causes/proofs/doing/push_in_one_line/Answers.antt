@@ -1,7 +1,7 @@
 use Rattle.std.proofs.Common.{rules}
 use Rattle.std.proofs.lemmas.Iterator.Consumers.{YieldsList-at, YieldsList-end}
 use Rattle.std.proofs.lemmas.Iterator.Splits.{YieldsList-from_lines}
-use Rattle.node_causes.proofs.doing.push_words.Goals as goal
+use Rattle.node_causes.proofs.doing.push_in_one_line.Goals as goal
 
 pub returns : goal.returns
 returns c =

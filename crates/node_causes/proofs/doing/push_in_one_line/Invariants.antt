@@ -1,6 +1,6 @@
 use Rattle.std.proofs.Common.{◌≡◌, ◌++◌, map, string_bytes}
 use Rattle.std.specs.List.{flat_map}
-use Rattle.node_causes.proofs.doing.push_words.Given as goal
+use Rattle.node_causes.proofs.doing.push_in_one_line.Given as goal
 
 -- the lines so far stand there
 abbrev pub invariant-loop-line : goal.invariant-loop-line
