@@ -1,19 +1,27 @@
 //! A record is looked through by commands.
 
 use crate::failure::wrong_debugging;
+use crate::programs::{WrongProgram, program_of_text};
 use lab_command::{ArgumentFault, Debugging, LabFailure, TerminalMeter, read_file, readable_bytes};
-use lab_debug::{DebugFault, Debugger, ProgramOf, ProgramTexts, debug};
+use lab_debug::{DebugFault, Debugger, FoundProgram, ProgramFiles, ProgramOf, debug};
 use script_text::decimal_number;
 use std::alloc::{AllocError, Global};
 use std::io::{BufReader, IsTerminal};
 
-/// The texts of programs are those of files.
+/// Programs are those of files.
 #[derive(Clone, Copy)]
 struct Files<'a>(&'a HostRuntime);
 
-impl ProgramTexts for Files<'_> {
-    fn text_of(&self, file: &str) -> Result<Option<Vec<u8>>, AllocError> {
-        readable_bytes(self.0, file)
+impl ProgramFiles for Files<'_> {
+    fn program_of(&self, file: &str) -> Result<FoundProgram, AllocError> {
+        let Some(text) = readable_bytes(self.0, file)? else {
+            return Ok(FoundProgram::Unreadable);
+        };
+        match program_of_text(self.0.alloc(), file, text) {
+            Ok(program) => Ok(FoundProgram::Program(program)),
+            Err(WrongProgram::Told(mistakes)) => Ok(FoundProgram::Wrong(mistakes)),
+            Err(WrongProgram::Memory) => Err(AllocError),
+        }
     }
 }
 

@@ -2,21 +2,14 @@
 
 use crate::debugging::read_programs;
 use crate::failure::stopped_record;
-use lab_command::{LabFailure, Showing, TerminalMeter, WRONG_TEXT, read_file};
+use crate::programs::{ReadProgram, read_node_programs};
+use lab_command::{LabFailure, Showing, TerminalMeter, read_file};
 use lab_debug::ProgramOf;
 use lab_film::{SourceLine, Span, film_of, page_of, sources_of};
-use node_trace::Program;
+use node_trace::{LinePlace, ProgramLine};
 use record_following::RecordStop;
 use std::alloc::{Alloc, AllocError, Global};
 use std::fs::Files;
-use t414_assembly::TextFault;
-
-/// The program of a node.
-#[derive(Drop)]
-struct FilmedProgram {
-    node: u8,
-    program: Program,
-}
 
 /// The page that shows a span of a record, with the lines of the programs that are named. Wrong words are reported before a
 /// file is read.
@@ -45,46 +38,37 @@ fn read_sources<R: Files + Alloc<A = Global>>(
     rt: &R,
     programs: &[ProgramOf],
 ) -> Result<String, LabFailure> {
-    let mut read = Vec::new(rt.alloc());
-    for of in programs {
-        let text = read_file(rt, of.file)?;
-        match Program::read(rt.alloc(), text) {
-            Ok(program) => read.push(FilmedProgram {
-                node: of.node,
-                program,
-            })?,
-            Err(fault) => return Err(wrong_program(rt.alloc(), &fault, of.file)),
-        }
-    }
+    let read = read_node_programs(rt, programs)?;
     Ok(sources_told(rt.alloc(), read.as_slice())?)
 }
 
-// The text of a file is no program.
-fn wrong_program(alloc: Global, fault: &TextFault, file: &str) -> LabFailure {
-    match fault {
-        TextFault::Memory(_) => LabFailure::Memory,
-        fault => LabFailure::of_line(alloc, fault, WRONG_TEXT).in_file(alloc, file),
-    }
-}
-
-fn sources_told(alloc: Global, programs: &[FilmedProgram]) -> Result<String, AllocError> {
+fn sources_told(alloc: Global, programs: &[ReadProgram]) -> Result<String, AllocError> {
     let mut sources = Vec::new(alloc);
     for it in programs {
         let lines = it.program.lines(alloc)?;
         for line in lines.as_slice() {
-            sources.push(SourceLine {
-                node: it.node,
-                address: line.address,
-                length: line.length,
-                text: line.text,
-                label: match line.label {
-                    Some(label) => Some((label.name, label.address)),
-                    None => None,
-                },
-            })?;
+            sources.push(source_line(it.node, line))?;
         }
     }
     sources_of(alloc, sources.as_slice())
+}
+
+// A line of a node's program, as the page has it.
+fn source_line<'a>(node: u8, line: &ProgramLine<'a>) -> SourceLine<'a> {
+    let (label, occam_line, instance) = match line.place {
+        LinePlace::Label(Some(label)) => (Some((label.name, label.address)), None, None),
+        LinePlace::Label(None) => (None, None, None),
+        LinePlace::Number { instance } => (None, Some(line.number), instance),
+    };
+    SourceLine {
+        node,
+        address: line.address,
+        length: line.length,
+        text: line.text,
+        label,
+        occam_line,
+        instance,
+    }
 }
 
 fn show(

@@ -9,6 +9,7 @@ mod film;
 mod mistakes;
 mod occam_texts;
 mod plans;
+mod programs;
 mod replays;
 mod rows;
 mod scripts;
@@ -23,12 +24,11 @@ use crate::replays::{print_drawing, print_replayed};
 use crate::rows::report_rows;
 use crate::scripts::print_script;
 use crate::table::print_plan;
-use crate::tracing::print_trace;
+use crate::tracing::{print_of_node, print_trace};
 use crate::why::print_why;
 use lab_command::{
     CommandLine, LabFailure, LabRequest, Report, command_words, end_with, read_command_line,
 };
-use node_answers::answer_of_node;
 use std::process::ExitCode;
 
 fn main(rt: HostRuntime) -> ExitCode {
@@ -46,14 +46,14 @@ fn report(rt: &HostRuntime) -> Result<Report, LabFailure> {
 fn answer(rt: &HostRuntime, request: &LabRequest) -> Result<Report, LabFailure> {
     match request {
         LabRequest::Rows(asked) => report_rows(rt, asked),
-        LabRequest::Node(asked) => Report::of(answer_of_node(rt, asked)),
+        LabRequest::Node(asked) => Report::of(print_of_node(rt, asked)),
         LabRequest::Occam(asked) => Report::of(print_occam(rt, asked)),
         LabRequest::Plan => Report::of(print_plan(rt)),
         LabRequest::Replay(most) => Report::of(print_replayed(rt, *most)),
         LabRequest::Draw(drawing) => Report::of(print_drawing(rt, *drawing)),
         LabRequest::Script(script, what) => Report::of(print_script(rt, *script, *what)),
         LabRequest::TraceScript(asked) => Report::of(print_trace(rt, *asked)),
-        LabRequest::Why(asked) => Report::of(print_why(rt, *asked)),
+        LabRequest::Why(asked) => Report::of(print_why(rt, asked)),
         LabRequest::Film(asked) => Report::of(print_film(rt, asked)),
         LabRequest::Debug(asked) => Report::of(print_debugging(rt, asked)),
     }

@@ -2,11 +2,37 @@
 
 use crate::debugging::open_debugger;
 use crate::failure::wrong_debugging;
+use crate::programs::{is_occam, program_in_file};
 use crate::scripts::{folder_of, loaded_files, print_record};
-use lab_command::{LabFailure, TracedScript, USUAL_STEPS, read_file};
+use lab_command::{
+    BootOptions, BootedCode, LabFailure, NodeRequest, TracedScript, USUAL_STEPS, read_file,
+};
 use lab_debug::{DebugFault, Debugger};
+use node_answers::{answer_of_node, inputs_of, print_booted_program};
 use script_text::TextWriter;
 use std::alloc::Global;
+
+/// The answer to a request about a node by itself, or a program. A program may be one of occam.
+pub fn print_of_node(rt: &HostRuntime, request: &NodeRequest) -> Result<String, LabFailure> {
+    match request {
+        NodeRequest::Boot(options) => match options.code {
+            BootedCode::Program(file) if is_occam(file) => print_booted_occam(rt, options, file),
+            _ => answer_of_node(rt, request),
+        },
+        _ => answer_of_node(rt, request),
+    }
+}
+
+// Traces a node that is booted with the program of occam in a file.
+fn print_booted_occam(
+    rt: &HostRuntime,
+    options: &BootOptions,
+    file: &str,
+) -> Result<String, LabFailure> {
+    let inputs = inputs_of(rt.alloc(), options)?;
+    let program = program_in_file(rt, file)?;
+    print_booted_program(rt, options, inputs.as_slice(), &program, file)
+}
 
 /// What each Step of a domain's nodes does while the script in a file runs, and each packet. The files that it loads have their
 /// names from the folder of that file.

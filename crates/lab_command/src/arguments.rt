@@ -78,7 +78,7 @@ impl Argument {
                 "program",
                 "FILE",
                 Form::Word,
-                "The same with the code of the program in this file; its labels and lines are shown",
+                "The same with the code of the program in this file; its labels and lines are shown. Of occam if the name ends with .occ",
             ),
             Argument::Plan => argument_words(
                 "plan",
@@ -168,7 +168,7 @@ impl Argument {
                 "program",
                 "K FILE",
                 Form::Pairs,
-                "Takes the labels and lines of node K from its program in this file",
+                "Takes the lines of node K, with labels or variables, from its program in this file; of occam if the name ends with .occ",
             ),
             Argument::Listing => argument_words(
                 "listing",

@@ -195,7 +195,7 @@ fn read_subcommand<'a>(
         Subcommand::Disassemble => Ok(LabRequest::Node(NodeRequest::Disassemble)),
         Subcommand::Occam => read_occam_request(matches),
         Subcommand::Rows => read_rows(alloc, matches),
-        Subcommand::Why => read_why(matches),
+        Subcommand::Why => read_why(alloc, matches),
         Subcommand::Film => read_film(alloc, matches),
         Subcommand::Expand => Ok(LabRequest::Script(matches.get_str("script"), ScriptUse::Expand)),
         Subcommand::Run => Ok(LabRequest::Script(matches.get_str("script"), run_of(matches))),
@@ -287,10 +287,12 @@ fn record_of<'a>(matches: &ArgMatches<'a>) -> Result<&'a str, ArgumentFault> {
     }
 }
 
-fn read_why<'a>(matches: &ArgMatches<'a>) -> Result<LabRequest<'a>, ArgumentFault> {
+fn read_why<'a>(alloc: Global, matches: &ArgMatches<'a>) -> Result<LabRequest<'a>, ArgumentFault> {
     let record = record_of(matches)?;
+    let programs = Vec::from_slice(alloc, matches.get_strs("program").unwrap_or(&[]))?;
     Ok(LabRequest::Why(Explaining {
         record,
+        programs,
         events: matches.get_one::<u64>("at").unwrap_or(u64::MAX),
         most: steps_of(matches),
     }))

@@ -135,10 +135,12 @@ pub struct RowFiles<'a> {
 }
 
 /// What is explained of a record.
-#[derive(Clone, Copy)]
+#[derive(Drop)]
 pub struct Explaining<'a> {
     /// The file of the record.
     pub record: &'a str,
+    /// The programs of nodes: the number of a node, the file of its program, and so on.
+    pub programs: Vec<&'a str>,
     /// After how many of its events, or at its end if it has fewer.
     pub events: u64,
     /// How many Steps may be done to get there, or any number.

@@ -86,7 +86,12 @@ impl Subcommand {
                 Argument::Memory,
             ],
             Subcommand::Rows => &[Argument::Files, Argument::Steps],
-            Subcommand::Why => &[Argument::Record, Argument::At, Argument::Steps],
+            Subcommand::Why => &[
+                Argument::Record,
+                Argument::At,
+                Argument::Program,
+                Argument::Steps,
+            ],
             Subcommand::Film => &[
                 Argument::Record,
                 Argument::From,

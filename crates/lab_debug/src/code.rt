@@ -1,7 +1,7 @@
 //! The instructions of a node, disassembled.
 
 use bootstrap::{Memory, Node};
-use node_trace::{ProgramLine, label_in, write_source};
+use node_trace::{LinePlace, ProgramLine, label_in, write_source};
 use record_following::next_registers;
 use script_text::TextWriter;
 use std::alloc::{AllocError, Global};
@@ -85,6 +85,7 @@ fn write_labels(lines: &[ProgramLine], address: u32, text: &mut TextWriter) {
     for line in lines {
         if line.length == 0
             && line.address == address
+            && let LinePlace::Label(_) = line.place
             && let Some(label) = label_in(line.text)
         {
             text.push(label);

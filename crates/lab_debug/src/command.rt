@@ -16,6 +16,8 @@ pub enum Address<'a> {
 pub enum Sought<'a> {
     /// A node comes to the instruction at an address.
     At { node: u8, address: Address<'a> },
+    /// A node comes to the code of the line of this number.
+    Line { node: u8, line: u32 },
     /// A node comes to an instruction byte that doesn't follow the one that it did.
     Jump { node: u8 },
     /// A node meets a fault.
@@ -58,6 +60,11 @@ pub enum DebugCommand<'a> {
         node: u8,
         address: Option<Address<'a>>,
     },
+    /// The variables of a node's program, or those of a name.
+    Variables {
+        node: u8,
+        name: Option<&'a str>,
+    },
     Queue(u8),
     Links(u8),
     Hosts,
@@ -84,6 +91,7 @@ enum FirstWord {
     Registers,
     Memory,
     Code,
+    Variables,
     Queue,
     Links,
     Hosts,
@@ -94,7 +102,7 @@ enum FirstWord {
     Quit,
 }
 
-const FIRST_WORDS: [(&str, FirstWord); 18] = [
+const FIRST_WORDS: [(&str, FirstWord); 19] = [
     ("events", FirstWord::Events),
     ("go", FirstWord::Go),
     ("next", FirstWord::Next),
@@ -105,6 +113,7 @@ const FIRST_WORDS: [(&str, FirstWord); 18] = [
     ("registers", FirstWord::Registers),
     ("memory", FirstWord::Memory),
     ("code", FirstWord::Code),
+    ("variables", FirstWord::Variables),
     ("queue", FirstWord::Queue),
     ("links", FirstWord::Links),
     ("hosts", FirstWord::Hosts),
@@ -207,11 +216,12 @@ impl FirstWord {
             FirstWord::Trace => "trace [N [K]]",
             FirstWord::Back => "back [N], or back until ..",
             FirstWord::Until =>
-                "until node K at ADDR, until jump of node K, until fault, until byte PORT, until write ADDR of node K, or until lost",
+                "until node K at ADDR, until node K at line L, until jump of node K, until fault, until byte PORT, until write ADDR of node K, or until lost",
             FirstWord::Look => "look",
             FirstWord::Registers => "registers K",
             FirstWord::Memory => "memory K ADDR [COUNT]",
             FirstWord::Code => "code K [ADDR]",
+            FirstWord::Variables => "variables K [NAME]",
             FirstWord::Queue => "queue K",
             FirstWord::Links => "links K",
             FirstWord::Hosts => "hosts",
@@ -236,12 +246,14 @@ impl FirstWord {
             FirstWord::Registers => "the registers of node K",
             FirstWord::Memory => "words of its memory",
             FirstWord::Code => "its instructions, with > at the one that it does next",
+            FirstWord::Variables => "the variables of its occam program, or those of a name",
             FirstWord::Queue => "its process, and those that wait for the processor",
             FirstWord::Links => "its four links",
             FirstWord::Hosts => "what the hosts send and have received",
             FirstWord::Switch => "what drives each output",
             FirstWord::Why => "why the nodes do no more than they do",
-            FirstWord::Program => "takes labels and lines from the program of node K",
+            FirstWord::Program =>
+                "takes labels or variables, and lines, from the program of node K",
             FirstWord::Help => "this list",
             FirstWord::Quit => "ends",
         }
@@ -256,7 +268,9 @@ pub fn write_help(text: &mut TextWriter) {
         text.push(verb.does());
         text.push("\n");
     }
-    text.push("An address has hexadecimal digits, of which the first is 0 to 9, or is a label.\n");
+    text.push(
+        "An address has hexadecimal digits, of which the first is 0 to 9, or is a label, or the name of an occam variable.\n",
+    );
 }
 
 /// The words of a command that are still to be read.
@@ -354,8 +368,24 @@ impl<'a> CommandWords<'a> {
     fn sought_at(&mut self) -> Result<Sought<'a>, Mistake> {
         let node = self.small()?;
         self.expect("at")?;
+        if let Some(line) = self.line_number()? {
+            return Ok(Sought::Line { node, line });
+        }
         let address = self.address()?;
         Ok(Sought::At { node, address })
+    }
+
+    // The number after the word `line`, if there is one after it: a label may have that name.
+    fn line_number(&mut self) -> Result<Option<u32>, Mistake> {
+        let mut ahead = *self;
+        if ahead.next_word() != Some("line") || ahead.is_empty() {
+            return Ok(None);
+        }
+        *self = ahead;
+        match u32::try_from(self.number(u64::MAX)?) {
+            Ok(line) => Ok(Some(line)),
+            Err(_) => Err(Mistake::NoNumber),
+        }
     }
 
     // What comes after `until write`.
@@ -421,6 +451,16 @@ impl<'a> CommandWords<'a> {
         Ok(DebugCommand::Code { node, address })
     }
 
+    fn variables(&mut self) -> Result<DebugCommand<'a>, Mistake> {
+        let node = self.small()?;
+        let name = if self.is_empty() {
+            None
+        } else {
+            Some(self.word()?)
+        };
+        Ok(DebugCommand::Variables { node, name })
+    }
+
     fn why(&mut self) -> Result<DebugCommand<'a>, Mistake> {
         if self.is_empty() {
             return Ok(DebugCommand::Why(None));
@@ -447,6 +487,7 @@ impl<'a> CommandWords<'a> {
             FirstWord::Registers => Ok(DebugCommand::Registers(self.small()?)),
             FirstWord::Memory => self.memory(),
             FirstWord::Code => self.code(),
+            FirstWord::Variables => self.variables(),
             FirstWord::Queue => Ok(DebugCommand::Queue(self.small()?)),
             FirstWord::Links => Ok(DebugCommand::Links(self.small()?)),
             FirstWord::Hosts => Ok(DebugCommand::Hosts),

@@ -4,12 +4,16 @@
 mod code;
 mod command;
 mod fault;
+mod lines;
 mod moving;
 mod showing;
 mod talking;
 mod tracing;
 mod until;
+mod variables;
+mod waiting;
 
 pub use fault::DebugFault;
 pub use moving::Debugger;
-pub use talking::{ProgramOf, ProgramTexts, debug};
+pub use talking::{FoundProgram, ProgramFiles, ProgramOf, debug};
+pub use waiting::write_waits;

@@ -6,12 +6,16 @@ ghost use Rattle.record_following.specs.Progress.{IsMomentAt};
 use crate::code::write_code;
 use crate::command::{Address, DebugCommand, Sought, write_help};
 use crate::fault::DebugFault;
+use crate::lines::{add_line, write_no_code};
 use crate::showing::{
     write_events, write_hosts, write_links, write_look, write_memory, write_place, write_queue,
     write_registers, write_said, write_switch,
 };
+use crate::talking::FoundProgram;
 use crate::tracing::{concerns, write_next_move, write_next_step};
 use crate::until::{Goal, seek, seek_back};
+use crate::variables::{variable_address, write_variables};
+use crate::waiting::write_waits;
 use bootstrap::Node;
 use domain_core::{Event, NoMemory};
 use lab_timeline::Timeline;
@@ -21,7 +25,6 @@ use record_following::{FollowFault, RecordedLine, WhyFault};
 use script_text::TextWriter;
 use std::alloc::Global;
 use step_meter::StepMeter;
-use t414_assembly::TextFault;
 
 /// The most events that one command shows.
 const MOST_TRACED: u64 = 100_000;
@@ -85,23 +88,20 @@ impl<'a> Debugger<'a> {
         write_place(&self.timeline, text);
     }
 
-    /// Takes labels and lines from the text of a node's program.
+    /// Takes the program of a node, if it is one, or says what is wrong with it.
     pub fn take_program(
         &mut self,
         node: u8,
-        source: Vec<u8>,
+        found: FoundProgram,
         text: &mut TextWriter,
     ) -> Result<(), DebugFault> {
         if self.node(node, text).is_none() {
             return Ok(());
         }
-        match Program::read(self.alloc, source) {
-            Ok(program) => self.programs.push(NodeProgram { node, program })?,
-            Err(TextFault::Memory(error)) => return Err(DebugFault::Memory(error)),
-            Err(fault) => {
-                let written = write!(text.as_mut_string(), "{fault}\n");
-                text.keep_failure(written);
-            }
+        match found {
+            FoundProgram::Program(program) => self.programs.push(NodeProgram { node, program })?,
+            FoundProgram::Wrong(mistakes) => text.push(mistakes.as_str()),
+            FoundProgram::Unreadable => {}
         }
         Ok(())
     }
@@ -152,6 +152,9 @@ impl<'a> Debugger<'a> {
             text.push(": try program K FILE\n");
             return Ok(None);
         };
+        if !program.has_labels() {
+            return Ok(variable_address(program, label, node, text));
+        }
         let found = program.address_of(self.alloc, label)?;
         if found.is_none() {
             write_unknown(text, label, node);
@@ -276,8 +279,13 @@ impl<'a> Debugger<'a> {
         Ok(())
     }
 
-    // What is looked for, with its address as a number.
-    fn goal(&self, sought: Sought, text: &mut TextWriter) -> Result<Option<Goal>, NoMemory> {
+    // What is looked for. Its addresses are added as numbers to a list, which is empty before.
+    fn goal<'g>(
+        &self,
+        sought: Sought,
+        addresses: &'g mut Vec<u32>,
+        text: &mut TextWriter,
+    ) -> Result<Option<Goal<'g>>, NoMemory> {
         Ok(match sought {
             Sought::Fault => Some(Goal::Fault),
             Sought::Lost => Some(Goal::Lost),
@@ -287,9 +295,20 @@ impl<'a> Debugger<'a> {
                 None => None,
             },
             Sought::At { node, address } => match self.address_at(node, address, text)? {
-                Some(address) => Some(Goal::At { node, address }),
+                Some(address) => {
+                    addresses.push(address)?;
+                    Some(Goal::At { node, addresses })
+                }
                 None => None,
             },
+            Sought::Line { node, line } => {
+                self.add_line_of(node, line, addresses, text)?;
+                if addresses.is_empty() {
+                    None
+                } else {
+                    Some(Goal::At { node, addresses })
+                }
+            }
             Sought::Write { node, address } => match self.address_at(node, address, text)? {
                 Some(address) => Some(Goal::Write {
                     node,
@@ -298,6 +317,39 @@ impl<'a> Debugger<'a> {
                 None => None,
             },
         })
+    }
+
+    // Adds where the code of a line of a node's program begins, or says that there is none.
+    fn add_line_of(
+        &self,
+        node: u8,
+        line: u32,
+        addresses: &mut Vec<u32>,
+        text: &mut TextWriter,
+    ) -> Result<(), NoMemory> {
+        let Some(program) = self.program_at(node, "lines", text) else {
+            return Ok(());
+        };
+        let begins = program.begins(self.alloc)?;
+        add_line(begins.as_slice(), line, addresses)?;
+        if addresses.is_empty() {
+            write_no_code(begins.as_slice(), line, node, text);
+        }
+        Ok(())
+    }
+
+    // The program of a node that is there, or that nothing of this kind is known of it.
+    fn program_at(&self, node: u8, what: &str, text: &mut TextWriter) -> Option<&Program> {
+        let _ = self.node(node, text)?;
+        let program = self.program(node);
+        if program.is_none() {
+            text.push("no ");
+            text.push(what);
+            text.push(" are known of node ");
+            text.push_decimal(u64::from(node));
+            text.push(": try program K FILE\n");
+        }
+        program
     }
 
     // An address of a node that is there, or what there isn't.
@@ -334,7 +386,8 @@ impl<'a> Debugger<'a> {
         direction: Direction,
         text: &mut TextWriter,
     ) -> Result<(), FollowFault> {
-        let Some(goal) = self.goal(sought, text)? else {
+        let mut addresses = Vec::new(self.alloc);
+        let Some(goal) = self.goal(sought, &mut addresses, text)? else {
             return Ok(());
         };
         if !self.seek(goal, direction)? {
@@ -401,6 +454,35 @@ impl<'a> Debugger<'a> {
         }
         let told = explain_moment(self.alloc, self.timeline.here(), number)?;
         text.push(told.as_str());
+        for node in 0..8u8 {
+            if number.is_none() || number == Some(node) {
+                self.show_waits(node, text)?;
+            }
+        }
+        Ok(())
+    }
+
+    // Says in which lines of its program a node waits, if the program is known.
+    fn show_waits(&self, node: u8, text: &mut TextWriter) -> Result<(), NoMemory> {
+        match self.program(node) {
+            Some(program) => write_waits(self.alloc, self.timeline.here(), node, program, text),
+            None => Ok(()),
+        }
+    }
+
+    // Shows the variables of a node's program, or those of a name.
+    fn show_variables(
+        &self,
+        number: u8,
+        name: Option<&str>,
+        text: &mut TextWriter,
+    ) -> Result<(), NoMemory> {
+        if let Some(program) = self.program_at(number, "variables", text)
+            && let Some(node) = self.timeline.here().node(number)
+        {
+            let lines = program.lines(self.alloc)?;
+            write_variables(node, program, lines.as_slice(), name, text);
+        }
         Ok(())
     }
 
@@ -413,6 +495,9 @@ impl<'a> Debugger<'a> {
                 count,
             } => return self.show_memory(node, address, count, text),
             DebugCommand::Code { node, address } => return self.show_code(node, address, text),
+            DebugCommand::Variables { node, name } => {
+                return self.show_variables(node, name, text);
+            }
             DebugCommand::Switch => return write_switch(&self.timeline, text),
             DebugCommand::Why(node) => return self.show_causes(node, text),
             DebugCommand::Events { from, count } => write_events(&self.timeline, from, count, text),

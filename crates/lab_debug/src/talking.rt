@@ -3,6 +3,7 @@
 use crate::command::{DebugCommand, read_command};
 use crate::fault::DebugFault;
 use crate::moving::Debugger;
+use node_trace::Program;
 use script_text::{InputLine, TextWriter, next_line, write_whole};
 use std::alloc::{AllocError, Global};
 use std::io::{BufRead, Write};
@@ -17,41 +18,50 @@ pub struct ProgramOf<'a> {
     pub file: &'a str,
 }
 
-/// Where the texts of programs are found.
-pub trait ProgramTexts {
-    /// The text of a file, or `None` if it can't be read.
-    fn text_of(&self, file: &str) -> Result<Option<Vec<u8>>, AllocError>;
+/// What is in a file.
+#[derive(Drop)]
+pub enum FoundProgram {
+    Program(Program),
+    /// A text that is no program: what is wrong, each mistake a line.
+    Wrong(String),
+    /// It can't be read.
+    Unreadable,
+}
+
+/// Where programs are found.
+pub trait ProgramFiles {
+    /// The program in a file.
+    fn program_of(&self, file: &str) -> Result<FoundProgram, AllocError>;
 }
 
 // Takes the program of a node from a file.
-fn take_program<T: ProgramTexts>(
+fn take_program<T: ProgramFiles>(
     debugger: &mut Debugger,
-    texts: &T,
+    files: &T,
     of: ProgramOf,
     text: &mut TextWriter,
 ) -> Result<(), DebugFault> {
-    match texts.text_of(of.file)? {
-        Some(source) => debugger.take_program(of.node, source, text),
-        None => {
-            text.push("`");
-            text.push(of.file);
-            text.push("` can't be read\n");
-            Ok(())
-        }
+    let found = files.program_of(of.file)?;
+    if let FoundProgram::Unreadable = found {
+        text.push("`");
+        text.push(of.file);
+        text.push("` can't be read\n");
+        return Ok(());
     }
+    debugger.take_program(of.node, found, text)
 }
 
 // Does what a line says, and tells whether more commands are read.
-fn answer_line<T: ProgramTexts>(
+fn answer_line<T: ProgramFiles>(
     debugger: &mut Debugger,
-    texts: &T,
+    files: &T,
     line: &str,
     text: &mut TextWriter,
 ) -> Result<bool, DebugFault> {
     match read_command(line) {
         Ok(DebugCommand::Quit) => return Ok(false),
         Ok(DebugCommand::Program { node, file }) => {
-            take_program(debugger, texts, ProgramOf { node, file }, text)?;
+            take_program(debugger, files, ProgramOf { node, file }, text)?;
         }
         Ok(command) => debugger.obey(command, text)?,
         Err(fault) => fault.write(text),
@@ -60,10 +70,10 @@ fn answer_line<T: ProgramTexts>(
 }
 
 // Does what was read says, writes the answer, and tells whether more commands are read.
-fn answer<T: ProgramTexts, W: Write>(
+fn answer<T: ProgramFiles, W: Write>(
     alloc: Global,
     debugger: &mut Debugger,
-    texts: &T,
+    files: &T,
     read: &InputLine,
     output: &mut W,
 ) -> Result<bool, DebugFault> {
@@ -76,7 +86,7 @@ fn answer<T: ProgramTexts, W: Write>(
             true
         }
         InputLine::Whole(bytes) => match std::str::from_utf8(bytes.as_slice()) {
-            Ok(line) => answer_line(debugger, texts, line, &mut text)?,
+            Ok(line) => answer_line(debugger, files, line, &mut text)?,
             Err(_) => {
                 text.push("a command is a text in UTF-8\n");
                 true
@@ -103,26 +113,26 @@ fn prompt<W: Write>(alloc: Global, debugger: &Debugger, output: &mut W) -> Resul
 }
 
 // Takes programs, and says where the debugger is.
-fn greet<T: ProgramTexts, W: Write>(
+fn greet<T: ProgramFiles, W: Write>(
     alloc: Global,
     debugger: &mut Debugger,
     programs: &[ProgramOf],
-    texts: &T,
+    files: &T,
     output: &mut W,
 ) -> Result<(), DebugFault> {
     let mut text = TextWriter::new(alloc);
     for of in programs {
-        take_program(debugger, texts, *of, &mut text)?;
+        take_program(debugger, files, *of, &mut text)?;
     }
     debugger.greet(&mut text);
     write_text(text, output)
 }
 
 // Reads a command and answers it, and returns whether more commands are read. On a terminal a prompt comes before it.
-fn answer_next<R: BufRead, W: Write, T: ProgramTexts>(
+fn answer_next<R: BufRead, W: Write, T: ProgramFiles>(
     alloc: Global,
     debugger: &mut Debugger,
-    texts: &T,
+    files: &T,
     input: &mut R,
     output: &mut W,
     is_terminal: bool,
@@ -131,7 +141,7 @@ fn answer_next<R: BufRead, W: Write, T: ProgramTexts>(
         prompt(alloc, debugger, output)?;
     }
     let read = next_line(alloc, input, MOST_COMMAND_BYTES)?;
-    answer(alloc, debugger, texts, &read, output)
+    answer(alloc, debugger, files, &read, output)
 }
 
 /// Reads commands to the end of the input or to `quit`, and shows what they ask of a record that was opened. On a terminal a
@@ -141,18 +151,18 @@ fn answer_next<R: BufRead, W: Write, T: ProgramTexts>(
 ///
 /// `Record` if the record isn't what its domain answers; `Io` if commands can't be read or answers can't be written; `Memory`. A
 /// wrong command is answered, and ends nothing.
-pub fn debug<R: BufRead, W: Write, T: ProgramTexts>(
+pub fn debug<R: BufRead, W: Write, T: ProgramFiles>(
     alloc: Global,
     debugger: &mut Debugger,
     programs: &[ProgramOf],
-    texts: &T,
+    files: &T,
     input: &mut R,
     output: &mut W,
     is_terminal: bool,
 ) -> Result<(), DebugFault> {
-    greet(alloc, debugger, programs, texts, output)?;
+    greet(alloc, debugger, programs, files, output)?;
     for _ in 0..u64::MAX {
-        if !answer_next(alloc, debugger, texts, input, output, is_terminal)? {
+        if !answer_next(alloc, debugger, files, input, output, is_terminal)? {
             break;
         }
     }

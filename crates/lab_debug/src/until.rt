@@ -10,9 +10,9 @@ use std::alloc::AllocError;
 
 /// What is looked for in a record.
 #[derive(Clone, Copy)]
-pub enum Goal {
-    /// A node comes to the instruction at an address.
-    At { node: u8, address: u32 },
+pub enum Goal<'a> {
+    /// A node comes to the instruction at one of these addresses.
+    At { node: u8, addresses: &'a [u32] },
     /// A node comes to an instruction byte that doesn't follow the one that it did.
     Jump { node: u8 },
     /// A node meets a fault.
@@ -32,7 +32,7 @@ enum Taken {
     Last,
 }
 
-impl Goal {
+impl Goal<'_> {
     // The node at which it is looked for.
     fn node(self) -> Option<u8> {
         match self {
@@ -53,11 +53,21 @@ impl Goal {
     // Whether an event made it so, which was a Step of the node or not.
     fn is_met(self, before: Option<u32>, after: Option<u32>, is_step: bool) -> bool {
         match self {
-            Goal::At { address, .. } => after == Some(address) && (is_step || before != after),
+            Goal::At { addresses, .. } => {
+                is_any(after, addresses) && (is_step || before != after)
+            }
             Goal::Jump { .. } => is_step && is_jump(before, after),
             Goal::Write { .. } => before != after,
             Goal::Fault | Goal::Byte(_) | Goal::Lost => false,
         }
+    }
+}
+
+// Whether an address is one of these.
+fn is_any(address: Option<u32>, addresses: &[u32]) -> bool {
+    match address {
+        Some(address) => addresses.contains(&address),
+        None => false,
     }
 }
 

@@ -75,6 +75,12 @@ function sourceShown(number, address) {
   return [made("td", "", line ? labelled(line) : ""), made("td", "", line ? line.text.trim() : "")];
 }
 
+// The line of occam at which a node is, if its program is one of occam.
+function occamShown(registers, number) {
+  const text = occamText(number, registers.Iptr);
+  return text ? [made("div", "occam", text)] : [];
+}
+
 function codeShown(node, registers, number) {
   const rows = listing(node, registers).map((it) => {
     const bytes = Array.from({ length: it.next - it.place }, (_, at) => hex(node.code.get(it.place + at), 2)).join(" ");
@@ -98,8 +104,11 @@ function linesShown(name, lines, kind) {
 }
 
 // The queue, of which four processes are shown, and the words of the workspace.
-function processesShown(node) {
-  const waiting = node.waiting.map((it) => "W " + hex(it.workspace, 8) + " at " + hex(it.instruction, 8));
+function processesShown(node, number) {
+  const waiting = node.waiting.map((it) => {
+    const line = occamText(number, it.instruction);
+    return "W " + hex(it.workspace, 8) + " at " + hex(it.instruction, 8) + (line ? "  " + line : "");
+  });
   const name = "processes that wait for the processor" + (waiting.length > 3 ? ", the first four" : "");
   return [linesShown(name, waiting, "waiting"), linesShown("words from W on", workspaceWords(node, node.registers), "workspace")];
 }
@@ -125,10 +134,12 @@ function nodeShown(node, number, change) {
   }
   if (kind === "halted" && FAULTS[fault]) box.append(made("div", "halted", FAULTS[fault]));
   if (node.registers.Iptr !== undefined) {
-    box.append(registersShown(node.registers, (change || {}).registers || {}), codeShown(node, node.registers, number), ...processesShown(node));
+    box.append(registersShown(node.registers, (change || {}).registers || {}), ...occamShown(node.registers, number),
+      codeShown(node, node.registers, number), ...processesShown(node, number));
   }
   if (node.before.Iptr !== undefined) {
-    box.append(made("div", "faint", "before it halted"), registersShown(node.before, {}), codeShown(node, node.before, number));
+    box.append(made("div", "faint", "before it halted"), registersShown(node.before, {}),
+      ...occamShown(node.before, number), codeShown(node, node.before, number));
     box.append(linesShown("words from W on", workspaceWords(node, node.before), "workspace"));
     if (node.outside) box.append(linesShown("where it was last outside of zeros", codeLines(node, node.outside, number), "outside"));
   }

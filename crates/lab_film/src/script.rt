@@ -233,7 +233,14 @@ const linkText = (letters) => [...letters.matchAll(/([sh])(..)|([kwdv])|([io])(\
 // the line of a node's program that has the byte at an address
 const sourceAt = (number, address) => sources.find((it) => it.node === number && it.address <= address && address < it.address + it.length);
 const hasSources = (number) => sources.some((it) => it.node === number);
-const labelled = (it) => (it.label === undefined ? "" : it.label + (it.behind ? "+" + it.behind : ""));
+// the number of a line of occam, and in brackets that of the instance which had it put in place
+const numbered = (it) => "line " + it.occamLine + (it.instance === undefined ? "" : " (" + it.instance + ")");
+const labelled = (it) => (it.occamLine !== undefined ? numbered(it) : it.label === undefined ? "" : it.label + (it.behind ? "+" + it.behind : ""));
+// where an address is in the text of a program of occam
+function occamText(number, address) {
+  const line = sourceAt(number, address);
+  return line && line.occamLine !== undefined ? numbered(line) + ": " + line.text.trim() : "";
+}
 
 // ---- instructions
 

@@ -19,6 +19,10 @@ pub struct SourceLine<'a> {
     pub text: &'a str,
     /// The nearest label, on the line or above it, and its address.
     pub label: Option<(&'a str, u32)>,
+    /// The number of the line, if it is one of an occam text.
+    pub occam_line: Option<u32>,
+    /// The line of the instance, if the line is in the body of a PROC that was put in place.
+    pub instance: Option<u32>,
 }
 
 /// The same, as it is written.
@@ -32,6 +36,10 @@ struct SourceTold {
     label: Option<String>,
     /// How many bytes after its label the line begins, and 0 if it has none.
     behind: u32,
+    #[serde(rename = "occamLine", skip_serializing_if = "Option::is_none")]
+    occam_line: Option<u32>,
+    #[serde(skip_serializing_if = "Option::is_none")]
+    instance: Option<u32>,
 }
 
 fn source_told(alloc: Global, line: SourceLine) -> Result<SourceTold, NoMemory> {
@@ -49,6 +57,8 @@ fn source_told(alloc: Global, line: SourceLine) -> Result<SourceTold, NoMemory> 
         text: String::from_str(alloc, line.text)?,
         label,
         behind,
+        occam_line: line.occam_line,
+        instance: line.instance,
     })
 }
 

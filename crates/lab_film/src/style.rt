@@ -17,7 +17,7 @@ body { margin: 0; background: var(--ground); color: var(--ink); font: 14px/1.4 s
 header { position: sticky; top: 0; z-index: 1; padding: 8px 16px; border-bottom: 1px solid var(--line); background: var(--card); }
 h1 { font-size: 17px; margin: 0 12px 0 0; display: inline-block; }
 h2 { font-size: 14px; margin: 0 0 6px; }
-code, pre, td { font-family: ui-monospace, "DejaVu Sans Mono", monospace; font-size: 12.5px; }
+code, pre, td, .occam { font-family: ui-monospace, "DejaVu Sans Mono", monospace; font-size: 12.5px; }
 pre { margin: 0; white-space: pre-wrap; overflow-wrap: anywhere; }
 .faint { color: var(--faint); }
 #event { font-size: 15px; line-height: 21px; min-height: 25px; overflow-wrap: anywhere; padding-top: 4px; }

@@ -59,37 +59,42 @@ fn print_program(
     options: &BootOptions,
     file: &str,
 ) -> Result<String, LabFailure> {
-    match read_inputs(rt.alloc(), options.inputs.as_slice()) {
-        Ok(inputs) => {
-            let program = read_program(rt, file)?;
-            trace_or_failure(
-                rt.alloc(),
-                trace_program(rt, options, inputs.as_slice(), &program),
-            )
-        }
-        Err(fault) => Err(LabFailure::of_argument(rt.alloc(), fault)),
+    let inputs = inputs_of(rt.alloc(), options)?;
+    let program = read_program(rt, file)?;
+    print_booted_program(rt, options, inputs.as_slice(), &program, file)
+}
+
+/// What the words of the command line send to a program.
+pub fn inputs_of(alloc: Global, options: &BootOptions) -> Result<Vec<LinkInput>, LabFailure> {
+    match read_inputs(alloc, options.inputs.as_slice()) {
+        Ok(inputs) => Ok(inputs),
+        Err(fault) => Err(LabFailure::of_argument(alloc, fault)),
     }
 }
 
-// The program in a file, if a boot takes its code.
+// The program in a file.
 fn read_program<R: Files + Alloc<A = Global>>(rt: &R, file: &str) -> Result<Program, LabFailure> {
     let text = read_file(rt, file)?;
-    match booted_program(rt.alloc(), text) {
+    match Program::read(rt.alloc(), text) {
         Ok(program) => Ok(program),
-        Err(failure) => Err(failure.in_file(rt.alloc(), file)),
+        Err(fault) => Err(wrong_program(rt.alloc(), &fault).in_file(rt.alloc(), file)),
     }
 }
 
-// The program of a text, if a boot takes its code.
-fn booted_program(alloc: Global, text: Vec<u8>) -> Result<Program, LabFailure> {
-    let program = match Program::read(alloc, text) {
-        Ok(program) => program,
-        Err(fault) => return Err(wrong_program(alloc, &fault)),
-    };
+/// Traces a node that is booted with the program in a file, to which this is sent.
+///
+/// A failure too if a boot doesn't take its code.
+pub fn print_booted_program(
+    rt: &HostRuntime,
+    options: &BootOptions,
+    inputs: &[LinkInput],
+    program: &Program,
+    file: &str,
+) -> Result<String, LabFailure> {
     let length = program.code().len();
     match BootFault::of_length(length) {
-        None => Ok(program),
-        Some(_) => Err(wrong_length(alloc, length)),
+        None => trace_or_failure(rt.alloc(), trace_program(rt, options, inputs, program)),
+        Some(_) => Err(wrong_length(rt.alloc(), length).in_file(rt.alloc(), file)),
     }
 }
 

@@ -10,4 +10,5 @@ mod tracing;
 
 pub use answering::answer_of_node;
 pub use assembly::{disassembly_of, print_assembled, print_code};
+pub use booting::{inputs_of, print_booted_program};
 pub use failure::wrong_trace;

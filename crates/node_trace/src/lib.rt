@@ -12,6 +12,7 @@ mod fault;
 mod hosts;
 mod instruction;
 mod left_out;
+mod marked;
 mod packets;
 mod performing;
 mod program;
@@ -25,8 +26,12 @@ pub use crate::boot::{BootTrace, trace_boot, trace_step, write_stopped};
 pub use crate::changes::{write_all_registers, write_link_fields};
 pub use crate::fault::TraceFault;
 pub use crate::hosts::LinkInput;
+pub use crate::marked::{CodePiece, MarkedCode, ProgramVariable, ShownType};
 pub use crate::packets::write_packet;
-pub use crate::program::{PlacedLabel, Program, ProgramLine, label_in, write_source};
+pub use crate::program::{
+    LinePlace, PlacedLabel, Program, ProgramCode, ProgramLine, label_in, line_with,
+    write_line_number, write_source,
+};
 pub use crate::tracing::{read_trace_line, trace};
 pub use bootstrap::{BootFault, LinkNumber, link_of};
 pub use line_words::NumberedLineFault;

@@ -1,9 +1,10 @@
 //! The program of a node: its labels, and its lines by their addresses.
 ghost use Rattle.std.specs.Prelude.{◌≡◌, IfOk};
-ghost use Rattle.node_trace.specs.Placed.{IsPlaced};
+ghost use Rattle.node_trace.specs.Placed.{IsPlaced, bytes_of as code_bytes};
 
+use crate::marked::{CodePiece, MarkedCode, ProgramVariable};
 use bootstrap::MOST_BOOTED;
-use script_text::{TextWriter, numbered_lines};
+use script_text::{NumberedLine, TextWriter, numbered_lines};
 use std::alloc::{AllocError, Global};
 use t414_assembly::{Assembly, BOOTED, LOADED, TextFault, assemble};
 
@@ -21,17 +22,27 @@ pub struct PlacedLabel<'a> {
     pub address: u32,
 }
 
-/// A line of a program.
+/// How it is shown where a line is.
+#[derive(Clone, Copy)]
+pub enum LinePlace<'a> {
+    /// By the nearest label, on the line or above it, if there is one.
+    Label(Option<PlacedLabel<'a>>),
+    /// By its number, and by the line that had it put in place, if it was.
+    Number { instance: Option<u32> },
+}
+
+/// A line of a program, or a piece of its code that belongs to a line.
 #[derive(Clone, Copy)]
 pub struct ProgramLine<'a> {
     /// The address of its first byte.
     pub address: u32,
     /// How many bytes it has.
     pub length: u32,
+    /// The number of the line, from 1.
+    pub number: u32,
     /// The line as it was written.
     pub text: &'a str,
-    /// The nearest label, on the line or above it.
-    pub label: Option<PlacedLabel<'a>>,
+    pub place: LinePlace<'a>,
 }
 
 impl ProgramLine<'_> {
@@ -41,11 +52,28 @@ impl ProgramLine<'_> {
     }
 }
 
+/// The code of a program, and how it is known what belongs to which line.
+pub enum ProgramCode {
+    /// It was assembled from the text.
+    Assembled(Assembly),
+    /// It was made from the text by another compiler.
+    Marked(MarkedCode),
+}
+
+// Dropped by hand, since a derived `Drop` makes callers prove the drop of each part.
+impl Drop for ProgramCode {
+    fn drop(self) {
+        match self {
+            ProgramCode::Assembled(_) | ProgramCode::Marked(_) => {}
+        }
+    }
+}
+
 /// The program of a node, where a boot or pokes put it.
 pub struct Program {
     text: Vec<u8>,
     origin: u32,
-    made: Assembly,
+    made: ProgramCode,
 }
 
 // Dropped by hand, since a derived `Drop` makes callers prove the drop of each field.
@@ -72,53 +100,79 @@ impl Program {
         } else {
             (LOADED, assemble(alloc, LOADED, text.as_slice())?)
         };
-        Ok(Program { text, origin, made })
+        Ok(Program {
+            text,
+            origin,
+            made: ProgramCode::Assembled(made),
+        })
+    }
+
+    /// The program of a text whose code another compiler made for this address.
+    pub fn of_marked(text: Vec<u8>, origin: u32, marked: MarkedCode) -> Program
+        ensures text { result.text ≡ text }
+        ensures origin { result.origin ≡ origin }
+        ensures made { result.made ≡ ProgramCode.TheVariants.Marked marked }
+    {
+        Program {
+            text,
+            origin,
+            made: ProgramCode::Marked(marked),
+        }
     }
 
     /// Its bytes.
     pub fn code(&self) -> &[u8]
-        ensures { result.now ≡ self.now.made.image.bytes.items }
+        ensures { result.now ≡ code_bytes self.now.made }
     {
-        self.made.image.bytes.as_slice()
+        match &self.made {
+            ProgramCode::Assembled(made) => made.image.bytes.as_slice(),
+            ProgramCode::Marked(marked) => marked.bytes.as_slice(),
+        }
     }
 
-    /// Its lines.
+    /// Its lines that have code or a label, as pieces of code.
     pub fn lines(&self, alloc: Global) -> Result<Vec<ProgramLine<'_>>, AllocError> {
         let source = numbered_lines(alloc, self.text.as_slice())?;
-        let mut lines = Vec::new(alloc);
-        let mut label = None;
-        for (index, line) in source.iter().enumerate() {
-            let line = self.line_at(index, std::str::from_utf8(line.text).unwrap_or(""), label);
-            label = line.label;
-            lines.push(line)?;
+        match &self.made {
+            ProgramCode::Assembled(made) => {
+                assembled_lines(alloc, self.origin, made, source.as_slice())
+            }
+            ProgramCode::Marked(marked) => {
+                marked_lines(alloc, marked.pieces.as_slice(), source.as_slice())
+            }
         }
-        Ok(lines)
     }
 
-    // The line of this index and text, below one with this label.
-    fn line_at<'a>(
-        &self,
-        index: usize,
-        text: &'a str,
-        above: Option<PlacedLabel<'a>>,
-    ) -> ProgramLine<'a> {
-        let first = self.made.start_of_line(index);
-        let behind = self.made.start_of_line(index.saturating_add(1));
-        let address = self.origin.wrapping_add(first);
-        let label = match label_in(text) {
-            Some(name) => Some(PlacedLabel { name, address }),
-            None => above,
-        };
-        ProgramLine {
-            address,
-            length: behind.wrapping_sub(first),
-            text,
-            label,
+    /// Where the code of each line begins: the same as the lines, but of a program that another compiler made each line in
+    /// which a process begins, with all its code.
+    pub fn begins(&self, alloc: Global) -> Result<Vec<ProgramLine<'_>>, AllocError> {
+        match &self.made {
+            ProgramCode::Assembled(_) => self.lines(alloc),
+            ProgramCode::Marked(marked) => {
+                let source = numbered_lines(alloc, self.text.as_slice())?;
+                marked_lines(alloc, marked.begins.as_slice(), source.as_slice())
+            }
         }
+    }
+
+    /// Its variables, as far as they are known.
+    pub fn variables(&self) -> &[ProgramVariable] {
+        match &self.made {
+            ProgramCode::Assembled(_) => &[],
+            ProgramCode::Marked(marked) => marked.variables.as_slice(),
+        }
+    }
+
+    /// Whether it has labels: it was assembled.
+    pub fn has_labels(&self) -> bool {
+        matches!(self.made, ProgramCode::Assembled(_))
     }
 
     /// The address of a label.
     pub fn address_of(&self, alloc: Global, label: &str) -> Result<Option<u32>, AllocError> {
+        if !self.has_labels() {
+            return Ok(None);
+        }
         for line in &self.lines(alloc)? {
             if label_in(line.text) == Some(label) {
                 return Ok(Some(line.address));
@@ -126,6 +180,65 @@ impl Program {
         }
         Ok(None)
     }
+}
+
+// The lines of an assembled text whose first byte is at an address.
+fn assembled_lines<'a>(
+    alloc: Global,
+    origin: u32,
+    made: &Assembly,
+    source: &[NumberedLine<'a>],
+) -> Result<Vec<ProgramLine<'a>>, AllocError> {
+    let mut lines = Vec::new(alloc);
+    let mut label = None;
+    for (index, line) in source.iter().enumerate() {
+        let text = std::str::from_utf8(line.text).unwrap_or("");
+        let first = made.start_of_line(index);
+        let behind = made.start_of_line(index.saturating_add(1));
+        let address = origin.wrapping_add(first);
+        if let Some(name) = label_in(text) {
+            label = Some(PlacedLabel { name, address });
+        }
+        lines.push(ProgramLine {
+            address,
+            length: behind.wrapping_sub(first),
+            number: number_of(index),
+            text,
+            place: LinePlace::Label(label),
+        })?;
+    }
+    Ok(lines)
+}
+
+// The number of the line of an index.
+fn number_of(index: usize) -> u32 {
+    u32::try_from(index).unwrap_or(u32::MAX).saturating_add(1)
+}
+
+// Pieces of code as lines of their text.
+fn marked_lines<'a>(
+    alloc: Global,
+    pieces: &[CodePiece],
+    source: &[NumberedLine<'a>],
+) -> Result<Vec<ProgramLine<'a>>, AllocError> {
+    let mut lines = Vec::new(alloc);
+    for piece in pieces {
+        let index = (piece.line as usize).saturating_sub(1);
+        let text = match source.get(index) {
+            Some(line) => std::str::from_utf8(line.text).unwrap_or(""),
+            None => "",
+        };
+        lines.push(ProgramLine {
+            address: piece.address,
+            length: piece.length,
+            number: piece.line,
+            text,
+            place: LinePlace::Number {
+                instance: piece.instance,
+            },
+        })?;
+    }
+    Ok(lines)
 }
 
 // Whether a byte can be in a label.
@@ -177,25 +290,43 @@ fn pad(text: &mut TextWriter, begin: usize, width: usize) {
     }
 }
 
-// Writes the nearest label, and how many bytes an address is after it, `-` if there is none.
-fn write_place(label: Option<PlacedLabel>, address: u32, text: &mut TextWriter) {
+// Writes a label, and how many bytes an address is after it.
+fn write_label(label: PlacedLabel, address: u32, text: &mut TextWriter) {
+    text.push(label.name);
+    let behind = address.wrapping_sub(label.address);
+    if behind != 0 {
+        text.push("+");
+        text.push_decimal(u64::from(behind));
+    }
+}
+
+/// Writes the number of a line, and in brackets the line that had it put in place, if it was: `line 6 (20)`.
+pub fn write_line_number(line: &ProgramLine, text: &mut TextWriter) {
+    text.push("line ");
+    text.push_decimal(u64::from(line.number));
+    if let LinePlace::Number {
+        instance: Some(instance),
+    } = line.place
+    {
+        text.push(" (");
+        text.push_decimal(u64::from(instance));
+        text.push(")");
+    }
+}
+
+// Writes where an address of a line is: the nearest label, `-` if there is none, or the number of the line.
+fn write_place(line: &ProgramLine, address: u32, text: &mut TextWriter) {
     let begin = text.as_mut_string().len();
-    match label {
-        Some(label) => {
-            text.push(label.name);
-            let behind = address.wrapping_sub(label.address);
-            if behind != 0 {
-                text.push("+");
-                text.push_decimal(u64::from(behind));
-            }
-        }
-        None => text.push("-"),
+    match line.place {
+        LinePlace::Label(Some(label)) => write_label(label, address, text),
+        LinePlace::Label(None) => text.push("-"),
+        LinePlace::Number { .. } => write_line_number(line, text),
     }
     pad(text, begin, PLACES);
 }
 
-// The first line that has the byte at an address.
-fn line_with<'a>(lines: &[ProgramLine<'a>], address: u32) -> Option<ProgramLine<'a>> {
+/// The first line that has the byte at an address.
+pub fn line_with<'a>(lines: &[ProgramLine<'a>], address: u32) -> Option<ProgramLine<'a>> {
     for line in lines {
         if line.has(address) {
             return Some(*line);
@@ -219,7 +350,7 @@ pub fn write_source(
     };
     pad(text, begin, INSTRUCTIONS);
     text.push("  ");
-    write_place(line.label, address, text);
+    write_place(&line, address, text);
     text.push("  ");
     let source = line.text.trim();
     text.push(source);

@@ -7,11 +7,11 @@ use crate::prelude::PRELUDE;
 use crate::uses::UseMistake;
 use node_memory::MEMORY_START;
 use occam_code::{Emission, LineMark, emit_program, processes_below, words_of};
-use occam_names::core_of;
+use occam_names::{CoreProgram, core_of};
 use occam_text::read_occam;
 use occam_tree::{SourceDeclaration, SourceProcess};
 use occam_uses::find_clash;
-use std::alloc::Global;
+use std::alloc::{AllocError, Global};
 use t414_assembly::{Image, LayoutFault, lay_out};
 
 /// How many bytes of memory the largest node has.
@@ -60,12 +60,26 @@ impl CodeSize {
 /// `Text` has the first place at which the text isn't written as occam, `Names` what is wrong with the names and types of a
 /// text that is, and `Uses` what processes of a PAR use together in a text in which nothing else is wrong.
 pub fn compile<'a>(alloc: Global, text: &'a [u8]) -> Result<OccamProgram, OccamFault<'a>> {
+    let core = core_of_text(alloc, text)?;
+    Ok(program_of(alloc, &core)?)
+}
+
+/// The core of a text, with its variables. The faults are those of [`compile`].
+pub(crate) fn core_of_text<'a>(
+    alloc: Global,
+    text: &'a [u8],
+) -> Result<CoreProgram<'a>, OccamFault<'a>> {
     let prelude = read_occam(alloc, PRELUDE.as_bytes())?;
     let tree = read_occam(alloc, text)?;
     let core = core_of(alloc, declarations_of(&prelude), &tree)?;
-    if let Some(clash) = find_clash(alloc, &core.process)? {
-        return Err(OccamFault::Uses(UseMistake::of(clash, &core)));
+    match find_clash(alloc, &core.process)? {
+        Some(clash) => Err(OccamFault::Uses(UseMistake::of(clash, &core))),
+        None => Ok(core),
     }
+}
+
+/// The program of a core.
+pub(crate) fn program_of(alloc: Global, core: &CoreProgram) -> Result<OccamProgram, AllocError> {
     let variables = u32::try_from(core.variables.len()).unwrap_or(u32::MAX);
     let emission = emit_program(alloc, &core.process, variables, core.tables.as_slice())?;
     let below = processes_below(&core.process).saturating_mul(WORDS_EACH);

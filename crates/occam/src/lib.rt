@@ -3,11 +3,17 @@
 
 mod compiling;
 mod fault;
+mod naming;
 mod prelude;
 mod printing;
+mod spans;
 mod uses;
+mod variables;
 
 pub use compiling::{CodeSize, LARGEST_MEMORY, OccamProgram, bytes_at, compile, image_at};
 pub use fault::OccamFault;
+pub use naming::{NamedProgram, PlacedLine, PlacedProgram, compile_named};
 pub use printing::assembler_text;
+pub use spans::LineSpan;
 pub use uses::UseMistake;
+pub use variables::{OccamVariable, VariableType};
