@@ -67,3 +67,14 @@ def recorded(plan, lines):
     answers = out.splitlines()
     begin = next(n for n, line in enumerate(answers) if re.match(r"@\w+ \w+", line) or line == "end")
     return plan + "".join(f"{it}\n" for it in journal_lines(answers[begin:answers.index("end", begin)]))
+
+
+def by_hand(code, steps):
+    """The record of one node that is booted with code, a byte in three events, and then does Steps: for a code of n bytes there are
+    4 configuration bytes, n + 1 writes, and for each byte a Move of the host's port, a Step, and a Move of the node's port."""
+    message = [f"{len(code) // 2:02x}", *re.findall("..", code)]
+    lines = [f"config {byte} @0 = nothing" for byte in ("01", "00", "07", "03")]
+    lines += [f"write 0 {byte} @0 = written" for byte in message]
+    lines += ["move 7 @farm = passed", "step 0 @farm = ran", "move 0 @farm = passed"] * len(message)
+    text = ONE + "".join(f"0 {line}\n" for line in lines)
+    return text + f"{steps} times 0 step 0 @farm = {steps} ran\n"
