@@ -14,7 +14,7 @@ use crate::showing::{
 use crate::talking::FoundProgram;
 use crate::tracing::{concerns, write_next_move, write_next_step};
 use crate::until::{Goal, seek, seek_back};
-use crate::variables::{variable_address, write_variables};
+use crate::variables::{memory_found, variable_address, write_variables};
 use crate::waiting::write_waits;
 use bootstrap::Node;
 use domain_core::{Event, NoMemory};
@@ -481,7 +481,7 @@ impl<'a> Debugger<'a> {
             && let Some(node) = self.timeline.here().node(number)
         {
             let lines = program.lines(self.alloc)?;
-            write_variables(node, program, lines.as_slice(), name, text);
+            write_variables(&memory_found(node)?, program, lines.as_slice(), name, text);
         }
         Ok(())
     }

@@ -1,7 +1,8 @@
 //! The variables of a node's program, and what is in them.
 
 use crate::waiting::write_line_at;
-use bootstrap::Node;
+use bootstrap::{Memory, Node};
+use domain_core::NoMemory;
 use node_trace::{Program, ProgramLine, ProgramVariable, ShownType};
 use process_queue::NOT_PROCESS;
 use script_text::{TextWriter, decimal_number};
@@ -91,10 +92,21 @@ fn element_address(
     found
 }
 
+/// The memory of a node as its next Step finds it, which serves the links first: a byte that came to a link and is waited for is in
+/// its place then.
+pub fn memory_found(node: &Node) -> Result<Memory, NoMemory> {
+    let mut memory = node.memory().copy(node.memory().allocator())?;
+    if let Some(mut registers) = node.registers() {
+        let mut links = node.links().copy();
+        let _ = links.serve_all(&mut memory, &mut registers.queue);
+    }
+    Ok(memory)
+}
+
 /// Writes the variables of a node's program with their addresses and what is in them; or those of a name, with all elements if
 /// it is an array.
 pub fn write_variables(
-    node: &Node,
+    memory: &Memory,
     program: &Program,
     lines: &[ProgramLine],
     name: Option<&str>,
@@ -108,7 +120,7 @@ pub fn write_variables(
     for variable in program.variables() {
         if name.is_none() || name == Some(variable.name.as_str()) {
             is_any = true;
-            write_variable(node, variable, lines, most, text);
+            write_variable(memory, variable, lines, most, text);
         }
     }
     if !is_any {
@@ -122,7 +134,7 @@ pub fn write_variables(
 
 // Writes a variable, an array with at most so many elements.
 fn write_variable(
-    node: &Node,
+    memory: &Memory,
     variable: &ProgramVariable,
     lines: &[ProgramLine],
     most: u32,
@@ -132,18 +144,18 @@ fn write_variable(
         (ShownType::Channel, Some(length)) => {
             for subscript in 0..length {
                 write_head(variable, Some(subscript), text);
-                write_value(node, variable, Some(subscript), lines, text);
+                write_value(memory, variable, Some(subscript), lines, text);
                 text.push("\n");
             }
         }
         (_, Some(length)) => {
             write_head(variable, None, text);
-            write_elements(node, variable, length, most, text);
+            write_elements(memory, variable, length, most, text);
             text.push("\n");
         }
         (_, None) => {
             write_head(variable, None, text);
-            write_value(node, variable, None, lines, text);
+            write_value(memory, variable, None, lines, text);
             text.push("\n");
         }
     }
@@ -177,7 +189,7 @@ fn write_head(variable: &ProgramVariable, subscript: Option<u32>, text: &mut Tex
 
 // Writes the elements of an array, at most so many.
 fn write_elements(
-    node: &Node,
+    memory: &Memory,
     variable: &ProgramVariable,
     length: u32,
     most: u32,
@@ -188,32 +200,32 @@ fn write_elements(
         if subscript > 0 {
             text.push(", ");
         }
-        write_value(node, variable, Some(subscript), &[], text);
+        write_value(memory, variable, Some(subscript), &[], text);
     }
     text.push(if length > most { ", ..]" } else { "]" });
 }
 
 // What is in a variable, or in an element, if it is in memory.
-fn value_in(node: &Node, variable: &ProgramVariable, subscript: Option<u32>) -> Option<u32> {
+fn value_in(memory: &Memory, variable: &ProgramVariable, subscript: Option<u32>) -> Option<u32> {
     let address = variable.address_at(subscript)?;
     match (variable.shown, subscript) {
-        (ShownType::Byte, Some(_)) => match node.memory().byte(address) {
+        (ShownType::Byte, Some(_)) => match memory.byte(address) {
             Ok(byte) => Some(u32::from(byte)),
             Err(_) => None,
         },
-        _ => node.memory().word(address).ok(),
+        _ => memory.word(address).ok(),
     }
 }
 
 // Writes what is in a variable, or in an element.
 fn write_value(
-    node: &Node,
+    memory: &Memory,
     variable: &ProgramVariable,
     subscript: Option<u32>,
     lines: &[ProgramLine],
     text: &mut TextWriter,
 ) {
-    let Some(value) = value_in(node, variable, subscript) else {
+    let Some(value) = value_in(memory, variable, subscript) else {
         text.push("outside memory");
         return;
     };
@@ -221,7 +233,7 @@ fn write_value(
         ShownType::Byte => write_byte(value, text),
         ShownType::Bool if value == 0 => text.push("FALSE"),
         ShownType::Bool if value == 1 => text.push("TRUE"),
-        ShownType::Channel => write_channel(node, value, lines, text),
+        ShownType::Channel => write_channel(memory, value, lines, text),
         ShownType::Int | ShownType::Bool => text.push_signed(i64::from(value.cast_signed())),
     }
 }
@@ -249,13 +261,13 @@ fn write_byte(value: u32, text: &mut TextWriter) {
 }
 
 // Writes who waits at the channel in a word.
-fn write_channel(node: &Node, word: u32, lines: &[ProgramLine], text: &mut TextWriter) {
+fn write_channel(memory: &Memory, word: u32, lines: &[ProgramLine], text: &mut TextWriter) {
     if word == NOT_PROCESS {
         text.push("empty");
         return;
     }
     let workspace = word - word % 4;
-    match node.memory().word(workspace.wrapping_sub(4)) {
+    match memory.word(workspace.wrapping_sub(4)) {
         Ok(instruction) if word % 2 == 1 => {
             text.push("a process waits");
             write_line_at(lines, instruction.wrapping_sub(1), text);

@@ -1,5 +1,5 @@
 -- Programs where a boot or pokes put them.
-use Rattle.std.specs.Prelude.{ℕ, ⊥, List, length}
+use Rattle.std.specs.Prelude.{ℕ, List, length}
 use Rattle.t414_assembly.specs.declared.assembling.Assembly.{Assembly}
 use Rattle.t414_assembly.specs.Program.{IsImage}
 use Rattle.node_trace.specs.declared.marked.MarkedCode.{MarkedCode}
@@ -13,6 +13,6 @@ IsPlaced origin (Assembled made) =
 IsPlaced origin (Marked marked) = ⊥
 
 -- the bytes of a program
-abbrev pub bytes_of : ProgramCode → List ℕ
-bytes_of (Assembled made) = made.image.bytes.items
-bytes_of (Marked marked) = marked.bytes.items
+abbrev pub code_bytes : ProgramCode → List ℕ
+code_bytes (Assembled made) = made.image.bytes.items
+code_bytes (Marked marked) = marked.bytes.items

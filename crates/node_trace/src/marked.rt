@@ -1,4 +1,4 @@
-//! Code of which it is known what belongs to which line of a text, whatever made it.
+//! Code whose lines in a text are known, whatever made it.
 
 /// A piece of code that belongs to one line of a text.
 #[derive(Clone, Copy)]
@@ -59,7 +59,7 @@ impl ProgramVariable {
 /// The code of a program, and what is known of it.
 pub struct MarkedCode {
     pub bytes: Vec<u8>,
-    /// The pieces of which the lines are known, from the lowest address on.
+    /// The pieces that belong to lines, from the lowest address on.
     pub pieces: Vec<CodePiece>,
     /// Where the code of each line begins. A line may be there several times.
     pub begins: Vec<CodePiece>,

@@ -1,6 +1,7 @@
 //! The program of a node: its labels, and its lines by their addresses.
 ghost use Rattle.std.specs.Prelude.{◌≡◌, IfOk};
-ghost use Rattle.node_trace.specs.Placed.{IsPlaced, bytes_of as code_bytes};
+ghost use Rattle.node_trace.specs.Placed.{IsPlaced, code_bytes};
+ghost use Rattle.node_trace.specs.declared.program.ProgramCode.TheVariants.{Marked};
 
 use crate::marked::{CodePiece, MarkedCode, ProgramVariable};
 use bootstrap::MOST_BOOTED;
@@ -111,7 +112,7 @@ impl Program {
     pub fn of_marked(text: Vec<u8>, origin: u32, marked: MarkedCode) -> Program
         ensures text { result.text ≡ text }
         ensures origin { result.origin ≡ origin }
-        ensures made { result.made ≡ ProgramCode.TheVariants.Marked marked }
+        ensures made { result.made ≡ Marked marked }
     {
         Program {
             text,
