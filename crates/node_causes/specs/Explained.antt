@@ -13,9 +13,7 @@ use Rattle.bootstrap.specs.Step.{is_quiet}
 use Rattle.bootstrap.specs.declared.node.Node.{Node}
 use Rattle.bootstrap.specs.declared.state.Task.{Task}
 use Rattle.bootstrap.specs.declared.state.Task.TheVariants.{Poke, Peek, Load}
-use Rattle.plan_rules.specs.Data.{DomainData}
 use Rattle.domain_core.specs.Moments.{MomentValue}
-use Rattle.record_following.specs.Following.{IsReached}
 use Rattle.answer_text.specs.Digits.{byte_text}
 use Rattle.node_causes.specs.declared.cause.LinkWaits.{LinkWaits}
 use Rattle.node_causes.specs.declared.cause.InsideWait.{InsideWait}
@@ -161,12 +159,3 @@ abbrev pub IsLedText : MomentValue → Bool → List ℕ → Type 0
 IsLedText m cut text =
     (causes : List ℕ) × IsExplained m None causes
     × (text ≡ codes "after " ++ decimal m.recorded ++ codes " events\n" ++ cut_text cut ++ causes)
-
--- what is said of a record: of a moment to which calls lead the only domain of a plan
-pub record IsRecordText (text : List ℕ) : Type 0 where
-  pub plan : List DomainData
-  pub moment : MomentValue
-  pub cut : Bool
-  pub one : length plan ≡ 1
-  pub reached : IsReached plan 0 moment
-  pub is : IsLedText moment cut text

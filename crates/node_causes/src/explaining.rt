@@ -1,36 +1,14 @@
-//! Reads a record, and explains what the nodes of its domain wait for.
+//! Explains what the nodes of a domain wait for that was led by its record.
 ghost use Rattle.std.specs.Prelude.{◌≡◌, IfOk, string_bytes};
-ghost use Rattle.node_causes.specs.Explained.{cut_text, IsExplained, IsLedText, IsRecordText};
+ghost use Rattle.node_causes.specs.Explained.{cut_text, IsExplained, IsLedText};
 
 use crate::paragraphs::{Chosen, explain};
 use domain_core::NoMemory;
-use record_following::{Follower, RecordStop, follow_record, read_record};
+use record_following::Follower;
 use std::alloc::Global;
-use step_meter::StepMeter;
 
 /// How many processes that wait at channels in a node's memory `explain_moment` lists at most.
 const MOST_INSIDE: usize = 100;
-
-/// Says why each node of a record's domain does no more than it does, after the first `most` events of the record. What comes
-/// after its last line feed is left out, and the text says so.
-///
-/// # Errors
-///
-/// `Record` with `NoMark` if the text has no line `---`, with `Plan` and `Domains` if what comes before that line is no plan of
-/// one domain, with `Wrong` and `Line` and the first line that isn't one of this domain's record, and with `Memory`; `Steps` if
-/// its lines have more Steps than the meter allows.
-pub fn explain_record<M: StepMeter>(
-    alloc: Global,
-    text: &[u8],
-    most: u64,
-    meter: &mut M,
-) -> Result<String, RecordStop>
-    ensures { IfOk result (λ told. IsRecordText (string_bytes told)) }
-{
-    let record = read_record(alloc, text, most)?;
-    let follower = follow_record(alloc, &record.plan, record.lines.as_slice(), meter)?;
-    explain_followed(alloc, &follower, record.is_cut).map_err(RecordStop::from)
-}
 
 // That the last line of a record is cut, if it is.
 fn cut_words(is_cut: bool) -> &'static str
