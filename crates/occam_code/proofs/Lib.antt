@@ -6,3 +6,8 @@ pub mod Workspace
 pub mod Operations
 pub mod Values
 pub mod Running
+pub mod Quiet
+pub mod Lone
+pub mod Assigning
+pub mod Behaving
+pub mod Behaved

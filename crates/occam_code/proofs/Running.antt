@@ -31,10 +31,10 @@ use Rattle.occam_code.proofs.Workspace.{byte_is, byte_address, element_address, 
 use Rattle.occam_code.proofs.Operations.{points, word_subscript, byte_subscript, loads_byte, at, twice, Ends, Moves, later, onward, arrives, constant, equals, last_equals, bounded, ends_at, one_run, two_run}
 use Rattle.occam_code.proofs.Values.{IsWord, is_less, value_word}
 
-landing : (x y : ℕ) → x < 2 ^ 32 → y < 2 ^ 32 → y ⊕ less (plus x 0) y ≡ x
+pub landing : (x y : ℕ) → x < 2 ^ 32 → y < 2 ^ 32 → y ⊕ less (plus x 0) y ≡ x
 landing x y fx fy = omega arith
 
-is_zero : (x : ℕ) → (x == 0) ≡ true → x ≡ 0
+pub is_zero : (x : ℕ) → (x == 0) ≡ true → x ≡ 0
 is_zero x is = grind (arith, nat_tests)
 
 right_none : (result : ℕ → ℕ → Option ℕ) (outcome : Option ℕ) → None ≡ of_two result outcome None
@@ -47,7 +47,7 @@ right_some result None y = refl
 right_some result (Some x) y = refl
 
 -- the word of a variable
-word_after : (base v count size w long : ℕ) → v < count → count + base ≤ size → w + 4 * size ≤ long → long ≤ 65536
+pub word_after : (base v count size w long : ℕ) → v < count → count + base ≤ size → w + 4 * size ≤ long → long ≤ 65536
     → v ⊕ base ≡ v + base
 word_after base v count size w long below within most bound = omega arith
 

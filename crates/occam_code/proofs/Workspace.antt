@@ -50,13 +50,13 @@ word_put w base size count j x store m holds below =
     ∙ ap (λ b. cond b (Ok (with_word_from m (word_offset a) x)) (Err OutsideMemory)) inside
     ∙ ap (λ i. Ok (with_word_from m i x)) (offset_of w j holds.least holds.aligned)
 
-length-with : (m : List ℕ) (i x : ℕ) → length (with_word_from m i x) ≡ length m
+pub length-with : (m : List ℕ) (i x : ℕ) → length (with_word_from m i x) ≡ length m
 length-with m i x = simp length-set
 
 read_back : (m : List ℕ) (i x : ℕ) → x < 2 ^ 32 → i + 3 < length m → word_from (with_word_from m i x) i ≡ x
 read_back m i x fits within = grind (arith, common_steps)
 
-other_byte : (m : List ℕ) (i x j : ℕ) → (j < i) ⊎ (i + 4 ≤ j)
+pub other_byte : (m : List ℕ) (i x j : ℕ) → (j < i) ⊎ (i + 4 ≤ j)
     → slice_index (with_word_from m i x) j ≡ slice_index m j
 other_byte m i x j (inl below) = grind (arith, common_steps)
 other_byte m i x j (inr above) = grind (arith, common_steps)
@@ -65,7 +65,7 @@ set_bytes : (m : List ℕ) (k v : ℕ) → ((i : ℕ) → slice_index m i < 2 ^ 
     → (i : ℕ) → slice_index (slice_set m k v) i < 2 ^ 8
 set_bytes m k v bytes fits i = let here = bytes i in grind (arith, common_steps, here)
 
-bytes_with : (m : List ℕ) (k x : ℕ) → ((i : ℕ) → slice_index m i < 2 ^ 8)
+pub bytes_with : (m : List ℕ) (k x : ℕ) → ((i : ℕ) → slice_index m i < 2 ^ 8)
     → (i : ℕ) → slice_index (with_word_from m k x) i < 2 ^ 8
 bytes_with m k x bytes =
     let one = set_bytes m k (x % 2 ^ 8) bytes (omega arith) in

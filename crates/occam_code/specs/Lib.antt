@@ -8,5 +8,7 @@ pub mod Code
 pub mod Layout
 pub mod Machine
 pub mod Evaluates
+pub mod Alone
+pub mod Behaves
 -- what only helps contracts
 pub mod Filled

@@ -1,2 +1,3 @@
 -- what must be believed
 pub mod Values
+pub mod Processes

@@ -1,0 +1,135 @@
+-- What a sequential process does: which words it leaves in its variables, what it says and hears, and how it ends.
+-- occam 2 reference manual, processes. A condition is FALSE if it is 0. A message of an INT is four bytes, the least
+-- significant first, and one of a BYTE is one byte. By which links bytes come is left open: an input takes the next.
+use Rattle.std.specs.Prelude.{◌≡◌, ℕ, zero, suc, ◌+◌, ◌*◌, ◌/◌, ◌%◌, ◌^◌, ◌<◌, ◌≤◌, ◌==◌, ⊤, List, [], ◌∷◌, ◌++◌, Option, Some, None, length, take, drop, pos, int_lt, nat_le, nat_lt, if◌then◌else◌, slice_index, slice_set}
+use Rattle.node_memory.specs.Bytes.{word_from}
+use Rattle.node_memory.specs.Words.{◌⊕◌, ◌⊖◌, signed}
+use Rattle.occam_core.specs.declared.channel.CoreChannel.TheVariants.{Link}
+use Rattle.occam_core.specs.declared.channel.MessageKind.{MessageKind}
+use Rattle.occam_core.specs.declared.channel.MessageKind.TheVariants as message
+use Rattle.occam_core.specs.declared.expression.CoreArray.{CoreArray}
+use Rattle.occam_core.specs.declared.expression.ElementKind.TheVariants as kind
+use Rattle.occam_core.specs.declared.process.CoreProcess.{CoreProcess}
+use Rattle.occam_core.specs.declared.process.CoreProcess.TheVariants.{Skip, Stop, Line', Assign, AssignElement, Input, Output, Sequence', If', While', Repeat'}
+use Rattle.occam_core.specs.Values.{value}
+
+-- a message of these bytes by a link's channel of this number
+pub data Exchange : Type 0 where
+  Said : (channel : ℕ) (bytes : List ℕ) → Exchange
+  Heard : (channel : ℕ) (bytes : List ℕ) → Exchange
+
+-- where a process has come to: the words of its variables, the bytes that are still to come, and all messages so far
+pub record Situation : Type 0 where
+  pub store : List ℕ
+  pub coming : List ℕ
+  pub talk : List Exchange
+
+-- how far a process goes: it ends, it errs, it waits for a message of which too little comes, or it has made as many
+-- turns of a loop as it was given. All but an end have the messages up to there
+pub data Course : Type 0 where
+  Ended : Situation → Course
+  Erred : List Exchange → Course
+  Awaits : List Exchange → Course
+  Unfinished : List Exchange → Course
+
+-- goes on where a process has ended
+abbrev pub then_do : Course → (Situation → Course) → Course
+then_do (Ended at) go = go at
+then_do (Erred talk) go = Erred talk
+then_do (Awaits talk) go = Awaits talk
+then_do (Unfinished talk) go = Unfinished talk
+
+-- goes on with a value, or errs if there is none
+abbrev pub with_value : Option ℕ → List Exchange → (ℕ → Course) → Course
+with_value None talk go = Erred talk
+with_value (Some x) talk go = go x
+
+-- a variable gets a word
+abbrev pub assigned : ℕ → ℕ → Situation → Situation
+assigned v x at = record at { store = slice_set at.store v x }
+
+-- the next bytes that come, as a message of a channel
+abbrev pub heard : ℕ → ℕ → Situation → Situation
+heard channel count at = record at {
+  coming = drop count at.coming;
+  talk = at.talk ++ Heard channel (take count at.coming) ∷ [];
+}
+
+-- how many bytes a message has
+abbrev pub bytes_in : MessageKind → ℕ
+bytes_in message.Byte = 1
+bytes_in message.Word = 4
+
+-- the value of a message
+abbrev pub value_heard : MessageKind → List ℕ → ℕ
+value_heard message.Byte bytes = slice_index bytes 0
+value_heard message.Word bytes = word_from bytes 0
+
+-- a value as a message
+abbrev pub bytes_said : MessageKind → ℕ → List ℕ
+bytes_said message.Byte x = x % 2 ^ 8 ∷ []
+bytes_said message.Word x = x % 2 ^ 8 ∷ x / 2 ^ 8 % 2 ^ 8 ∷ x / 2 ^ 16 % 2 ^ 8 ∷ x / 2 ^ 24 % 2 ^ 8 ∷ []
+
+-- at most this number of turns of a loop, as long as its condition isn't 0
+abbrev pub turns : ℕ → (Situation → Option ℕ) → (Situation → Course) → Situation → Course
+turns zero test body at = Unfinished at.talk
+turns (suc n) test body at =
+    with_value (test at) at.talk (λ x. if x == 0 then Ended at else then_do (body at) (turns n test body))
+
+-- how many turns are left, as the variable after the index says
+abbrev pub turns_left : ℕ → Situation → ℕ
+turns_left v at = slice_index at.store (v + 1)
+
+-- after a turn one turn less is left
+abbrev pub turned : ℕ → Situation → Situation
+turned v at = assigned (v + 1) (turns_left v at ⊖ 1) at
+
+-- at most this number of turns of a loop with an index: if one is left after a turn, the index is one more for it
+abbrev pub rounds : ℕ → ℕ → (Situation → Course) → Situation → Course
+rounds zero v body at = Unfinished at.talk
+rounds (suc n) v body at =
+    then_do (body at)
+    (λ end. if int_lt (pos 1) (signed (turns_left v end))
+    then rounds n v body (assigned v (slice_index end.store v ⊕ 1) (turned v end))
+    else Ended (turned v end))
+
+-- what a process does where each loop in it makes at most n turns; of a process that isn't sequential nothing is said.
+-- The number of a loop's turns is evaluated when its index has its first value
+abbrev pub does : ℕ → CoreProcess → Situation → Course
+does n Skip at = Ended at
+does n Stop at = Erred at.talk
+does n (Line' place p a) at = does n a at
+does n (Assign v e) at = with_value (value e at.store) at.talk (λ x. Ended (assigned v x at))
+does n (AssignElement array i e) at =
+    with_value (value e at.store) at.talk
+    (λ x. with_value (value i at.store) at.talk
+    (λ k. if nat_lt k array.length then Ended (assigned (array.first + k) x at) else Erred at.talk))
+does n (Input (Link c) kind v) at =
+    if nat_le (bytes_in kind) (length at.coming)
+    then Ended (assigned v (value_heard kind at.coming) (heard c (bytes_in kind) at))
+    else Awaits at.talk
+does n (Output (Link c) kind e) at =
+    with_value (value e at.store) at.talk
+    (λ x. Ended (record at { talk = at.talk ++ Said c (bytes_said kind x) ∷ [] }))
+does n (Sequence' p a q b) at = then_do (does n a at) (does n b)
+does n (If' e p a q b) at =
+    with_value (value e at.store) at.talk (λ x. if x == 0 then does n b at else does n a at)
+does n (While' e p a) at = turns n (λ now. value e now.store) (does n a) at
+does n (Repeat' v base count p a) at =
+    with_value (value base at.store) at.talk
+    (λ x. let begun = assigned v x at in
+    with_value (value count begun.store) begun.talk
+    (λ k. if nat_le (2 ^ 31) k then Erred begun.talk
+    else (let set = assigned (v + 1) k begun in if k == 0 then Ended set else rounds n v (does n a) set)))
+does n _ at = Unfinished at.talk
+
+-- the processes whose code is proved to do what is said here
+abbrev pub IsSequential : CoreProcess → Type 0
+IsSequential Skip = ⊤
+IsSequential Stop = ⊤
+IsSequential (Line' place p a) = IsSequential a
+IsSequential (Assign v e) = ⊤
+IsSequential (Sequence' p a q b) = IsSequential a × IsSequential b
+IsSequential (If' e p a q b) = IsSequential a × IsSequential b
+IsSequential (While' e p a) = IsSequential a
+IsSequential _ = ⊥
