@@ -3,12 +3,14 @@ use Rattle.std.proofs.Common.{◌≡◌, ℕ, zero, suc, ◌+◌, ◌-◌, ◌*�
 use Rattle.std.specs.Prelude.{◌==◌, slice_index, slice_set}
 use Rattle.std.proofs.lemmas.Bool.Decides.{nat_tests}
 use Rattle.std.proofs.lemmas.Grind.{common_steps}
+use Rattle.node_memory.specs.Words.{◌⊕◌, ◌⊗◌}
 use Rattle.node_memory.specs.Bytes.{first_address, with_word_from}
 use Rattle.occam_code.specs.Evaluates.{word_in, Holds, KeepsOthers}
-use Rattle.occam_code.proofs.Workspace.{with_word_in, length-with, other_byte, bytes_with, stored_word, kept_store, kept_then}
+use Rattle.occam_code.proofs.Workspace.{word_address, with_word_in, length-with, other_byte, bytes_with, stored_word, kept_store, kept_then}
+use Rattle.occam_code.proofs.Running.{word_after}
 
 -- another word than the one that was written
-other_word : (w j k x : ℕ) (m : List ℕ) → (j < k) ⊎ (k < j) → word_in w (with_word_in w m j x) k ≡ word_in w m k
+pub other_word : (w j k x : ℕ) (m : List ℕ) → (j < k) ⊎ (k < j) → word_in w (with_word_in w m j x) k ≡ word_in w m k
 other_word w j k x m (inl above) =
     let o = w - first_address + 4 * j in
     let b : (i : ℕ) → o + 4 ≤ i → slice_index (with_word_from m o x) i ≡ slice_index m i =
@@ -22,15 +24,15 @@ other_word w j k x m (inr below) =
     let p = w - first_address + 4 * k in
     rw (b p (omega (arith, below)), b (p + 1) (omega (arith, below)), b (p + 2) (omega (arith, below)), b (p + 3) (omega (arith, below))) refl
 
-set_same : (store : List ℕ) (v x : ℕ) → v < length store → slice_index (slice_set store v x) v ≡ x
+pub set_same : (store : List ℕ) (v x : ℕ) → v < length store → slice_index (slice_set store v x) v ≡ x
 set_same store v x below = grind (arith, common_steps)
 
-set_other : (store : List ℕ) (v x k : ℕ) → (v < k) ⊎ (k < v) → slice_index (slice_set store v x) k ≡ slice_index store k
+pub set_other : (store : List ℕ) (v x k : ℕ) → (v < k) ⊎ (k < v) → slice_index (slice_set store v x) k ≡ slice_index store k
 set_other store v x k (inl above) = grind (arith, common_steps)
 set_other store v x k (inr below) = grind (arith, common_steps)
 
 -- which of two numbers is less
-apart_or : (v k : ℕ) → ((v < k) ⊎ (k < v)) ⊎ (v ≡ k)
+pub apart_or : (v k : ℕ) → ((v < k) ⊎ (k < v)) ⊎ (v ≡ k)
 apart_or zero zero = inr refl
 apart_or zero (suc k) = inl (inl (omega arith))
 apart_or (suc v) zero = inl (inr (omega arith))
@@ -77,3 +79,19 @@ pub kept_word : (w size j x : ℕ) (begun m : List ℕ) → KeepsOthers w 0 size
     → KeepsOthers w 0 size begun (with_word_in w m j x)
 kept_word w size j x begun m kept below =
     kept_then w 0 j size begun m (with_word_in w m j x) (omega arith) kept (kept_store w j size x m below)
+
+-- the word after one
+pub next_address : (w base size count v : ℕ) (store m : List ℕ) → Holds w base size count store m → v + 1 < count
+    → count + base ≤ size → w ⊕ 4 ⊗ (v ⊕ base) ⊕ 4 ≡ w ⊕ 4 ⊗ (v + 1 + base)
+next_address w base size count v store m holds below room =
+    let long = length m in
+    let next = word_after base v count size (w - first_address) long (omega (arith, below)) room holds.most
+    holds.memory.most in
+    let here = word_address w (v + base) size long holds.least holds.most holds.memory.most
+    (omega (arith, below, room)) in
+    let there = word_address w (v + 1 + base) size long holds.least holds.most holds.memory.most
+    (omega (arith, below, room)) in
+    ap (λ j. w ⊕ 4 ⊗ j ⊕ 4) next
+    ∙ ap (λ a. a ⊕ 4) here
+    ∙ omega (arith, holds.least, holds.most, holds.memory.most, below, room)
+    ∙ sym there

@@ -17,7 +17,8 @@ use Rattle.occam_code.specs.Behaves.{IsBegun, IsAtEnd, Behaves, CodeBehaves}
 use Rattle.occam_code.proofs.Workspace.{kept_same}
 use Rattle.occam_code.proofs.Operations.{at}
 use Rattle.occam_code.proofs.Lone.{Lies, run, lone}
-use Rattle.occam_code.proofs.Behaving.{Held, Arrives, Shows, st, process_runs}
+use Rattle.occam_code.proofs.Behaving.{Ground, Held, Shows}
+use Rattle.occam_code.proofs.Sequential.{process_runs}
 
 -- the process doesn't run any more
 abbrev IsOver : LoneStage → Type 0
@@ -155,35 +156,51 @@ ends_past g program last q here place none =
     ap (λ h. while_running h (stage_after g program 0))
     (ap (λ n. stage_at g n (slice_get program n) q) at_last ∙ ap (λ i. stage_at g last i q) none)
 
--- what a run of a process says of a run of its code, that begins with it
-follows_from : (p : CoreProcess) (g : Setting) (addresses : (k : ℕ) → g.address k < 2 ^ 32) (program : List Statement)
-    (words : FrameWords) (size count last n : ℕ) (start : LoneProcess)
-    (halts : start.registers.halt_on_error ≡ true) (in_slice : (start.registers.bytes == 1024) ≡ false)
-    (course : Course) (x : Situation) → g.place_at (g.address last) ≡ last → slice_get program last ≡ None
-    → Shows g addresses program start.registers start.links words.base size count start.memory halts in_slice n last
-    start course
-    → Follows p x (λ k. run g program k start) (IsAtEnd g last words size start) n course
-follows_from p g addresses program words size count last n start halts in_slice (Ended end) x place none shows =
-    let q = lone g program start.links (at start.registers (g.address last) shows.a shows.b shows.c) shows.memory end
-    shows.breaks in
-    let over = shows.goes.by 1 in
-    (over.0, q, over.2 ∙ ends_past g program last q refl place none, record {
-      a = shows.a;
-      b = shows.b;
-      c = shows.c;
-      registers = refl;
-      links = refl;
-      holds =
-          subst (λ i. Holds start.registers.workspace words.base size i end.store shows.memory) (sym shows.held.long)
-          shows.held.holds;
-      kept = shows.held.kept;
-      coming = refl;
-      talk = refl;
-    })
-follows_from p g addresses program words size count last n start halts in_slice (Erred talk) x place none shows = shows
-follows_from p g addresses program words size count last n start halts in_slice (Awaits talk) x place none shows = shows
-follows_from p g addresses program words size count last n start halts in_slice (Unfinished talk) x place none shows =
-    (shows.0, shows.1, shows.2, shows.3, shows.4)
+module _ (words : FrameWords) (g : Setting) (addresses : (k : ℕ) → g.address k < 2 ^ 32) (program : List Statement)
+    (size count last : ℕ) (start : LoneProcess) (halts : start.registers.halt_on_error ≡ true)
+    (in_slice : (start.registers.bytes == 1024) ≡ false) (own : 1 ≤ words.base) where
+  -- where the process is run
+  abbrev ground : Ground
+  ground =
+      record {
+        setting = g;
+        addresses = addresses;
+        program = program;
+        registers = start.registers;
+        links = start.links;
+        base = words.base;
+        size = size;
+        count = count;
+        begun = start.memory;
+        halts = halts;
+        in_slice = in_slice;
+        own = own;
+      }
+
+  -- what a run of a process says of a run of its code, that begins with it
+  follows_from : (p : CoreProcess) (n : ℕ) (course : Course) (x : Situation) → g.place_at (g.address last) ≡ last
+      → slice_get program last ≡ None → Shows ground n last start course
+      → Follows p x (λ k. run g program k start) (IsAtEnd g last words size start) n course
+  follows_from p n (Ended end) x place none shows =
+      let q = lone g program start.links (at start.registers (g.address last) shows.a shows.b shows.c) shows.memory end
+      shows.breaks in
+      let over = shows.goes.by 1 in
+      (over.0, q, over.2 ∙ ends_past g program last q refl place none, record {
+        a = shows.a;
+        b = shows.b;
+        c = shows.c;
+        registers = refl;
+        links = refl;
+        holds =
+            subst (λ i. Holds start.registers.workspace words.base size i end.store shows.memory) (sym shows.held.long)
+            shows.held.holds;
+        kept = shows.held.kept;
+        coming = refl;
+        talk = refl;
+      })
+  follows_from p n (Erred talk) x place none shows = shows
+  follows_from p n (Awaits talk) x place none shows = shows
+  follows_from p n (Unfinished talk) x place none shows = shows
 
 -- the law
 pub behaves : CodeBehaves
@@ -197,8 +214,8 @@ behaves p first words program sequential same g size x s begun =
     (λ i below. taken program last (first + i) (omega (arith, below)) ∙ same i below)
     (λ i below. begun.places (first + i) (omega arith) (omega (arith, below))) in
     let in_slice : (registers.bytes == 1024) ≡ false = not_at registers.bytes begun.slice in
-    let held : Held g begun.addresses front registers s.links words.base size count s.memory begun.halts in_slice
-    s.memory x =
+    let w = ground words g begun.addresses front size count last s begun.halts in_slice begun.own in
+    let held : Held w s.memory x =
     record {
       holds = begun.holds;
       kept = kept_same registers.workspace 0 size s.memory;
@@ -208,10 +225,8 @@ behaves p first words program sequential same g size x s begun =
     let start = begins g front first x s begun.here begun.coming begun.talk in
     let none : slice_get front last ≡ None = slice_get_past front last (omega (arith, length-take last program)) in
     run_behaves p x g front s (IsAtEnd g last words size s)
-    (λ n. follows_from p g begun.addresses front words size count last n s begun.halts in_slice (does n p x) x
+    (λ n. follows_from words g begun.addresses front size count last s begun.halts in_slice begun.own p n (does n p x) x
     (begun.places last (omega arith) (omega arith)) none
-    (subst (λ q. Shows g begun.addresses front registers s.links words.base size count s.memory begun.halts in_slice n
-    last q (does n p x)) start
-    (process_runs g begun.addresses front registers s.links words.base size count s.memory
-    begun.halts in_slice p sequential begun.within n first words.temporary registers.a registers.b registers.c s.memory
+    (subst (λ q. Shows w n last q (does n p x)) start
+    (process_runs w p sequential begun.within n first words.temporary registers.a registers.b registers.c s.memory
     x s.breaks lies held begun.free begun.room)))

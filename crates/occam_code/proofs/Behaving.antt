@@ -19,9 +19,9 @@ use Rattle.t414_step.specs.ChannelRows.{CpuEffect}
 use Rattle.t414_step.specs.Rows.{row, direct, slice}
 use Rattle.occam_core.specs.declared.expression.Expression.{Expression}
 use Rattle.occam_core.specs.declared.process.CoreProcess.{CoreProcess}
-use Rattle.occam_core.specs.declared.process.CoreProcess.TheVariants.{Skip, Stop, Line', Assign, AssignElement, Input, Output, Sequence', If', While', Repeat'}
+use Rattle.occam_core.specs.declared.process.CoreProcess.TheVariants.{Skip, Stop, Assign, Sequence', If', While'}
 use Rattle.occam_core.specs.Values.{value}
-use Rattle.occam_core.specs.Processes.{Exchange, Situation, Course, Ended, Erred, Awaits, Unfinished, then_do, with_value, assigned, turns, does, IsSequential}
+use Rattle.occam_core.specs.Processes.{Exchange, Situation, Course, Ended, Erred, Awaits, Unfinished, then_do, with_value, assigned, turns, does}
 use Rattle.occam_code.specs.declared.frame.FrameWords.{FrameWords}
 use Rattle.occam_code.specs.Instructions as asm
 use Rattle.occam_code.specs.Words.{temporaries_of, process_temporaries}
@@ -40,19 +40,36 @@ use Rattle.occam_code.proofs.Lone.{blanks, has_behind, Lies, lies_front, lies_ba
 use Rattle.occam_code.proofs.Assigning.{holds_assigned, kept_word}
 
 -- the second of two, where a test fails
-if_false : {A : Type 0} (b : Bool) (x y : A) → b ≡ false → (if b then x else y) ≡ y
+pub if_false : {A : Type 0} (b : Bool) (x y : A) → b ≡ false → (if b then x else y) ≡ y
 if_false b x y is = ap (λ q. if q then x else y) is
 
 -- no slice ends
-slice_goes_on : (t : Cpu) (ls : FourLinks) (m : List ℕ) → (t.bytes == 1024) ≡ false → slice t ls m ≡ Gave t ls m
+pub slice_goes_on : (t : Cpu) (ls : FourLinks) (m : List ℕ) → (t.bytes == 1024) ≡ false → slice t ls m ≡ Gave t ls m
 slice_goes_on t ls m in_slice = if_false (t.bytes == 1024) _ (Gave t ls m) in_slice
 
 -- a store is as long as before
-set_long : (store : List ℕ) (v y : ℕ) → length (slice_set store v y) ≡ length store
+pub set_long : (store : List ℕ) (v y : ℕ) → length (slice_set store v y) ≡ length store
 set_long store v y = simp length-set
 
-module _ (g : Setting) (addresses : (k : ℕ) → g.address k < 2 ^ 32) (program : List Statement) (s : Cpu) (ls : FourLinks)
-    (base size count : ℕ) (begun : List ℕ) (halts : s.halt_on_error ≡ true) (in_slice : (s.bytes == 1024) ≡ false) where
+-- where a process is run by itself: its program, the registers and the links that stay, where its words are, and memory
+-- as it was at the beginning
+pub record Ground : Type 0 where
+  pub setting : Setting
+  pub addresses : (k : ℕ) → setting.address k < 2 ^ 32
+  pub program : List Statement
+  pub registers : Cpu
+  pub links : FourLinks
+  pub base : ℕ
+  pub size : ℕ
+  pub count : ℕ
+  pub begun : List ℕ
+  pub halts : registers.halt_on_error ≡ true
+  pub in_slice : (registers.bytes == 1024) ≡ false
+  pub own : 1 ≤ base
+
+module _ (w : Ground) where
+  open w use {setting as g, addresses, program, registers as s, links as ls, base, size, count, begun, halts, in_slice}
+
   -- the words that are free from one on
   abbrev pub from : ℕ → FrameWords
   from temporary = record { base = base; temporary = temporary }
@@ -87,7 +104,7 @@ module _ (g : Setting) (addresses : (k : ℕ) → g.address k < 2 ^ 32) (program
       (j : ℕ) × (q : LoneProcess) × (n ≤ j) × (run g program j p ≡ Running q) × (q.talk ≡ talk)
 
   -- the same after some statements
-  later : (course : Course) (n last : ℕ) (p q : LoneProcess) → Advances g program p q → Shows n last q course
+  pub later : (course : Course) (n last : ℕ) (p q : LoneProcess) → Advances g program p q → Shows n last q course
       → Shows n last p course
   later (Ended end) n last p q adv shows =
       record {
@@ -105,7 +122,7 @@ module _ (g : Setting) (addresses : (k : ℕ) → g.address k < 2 ^ 32) (program
       let a = adv.by shows.0 in (a.0, shows.1, omega (arith, a.1, shows.2), a.2 ∙ shows.3, shows.4)
 
   -- after one statement or more the run is longer
-  later_more : (course : Course) (n last : ℕ) (p q : LoneProcess) → Proceeds g program p q → Shows n last q course
+  pub later_more : (course : Course) (n last : ℕ) (p q : LoneProcess) → Proceeds g program p q → Shows n last q course
       → Shows (suc n) last p course
   later_more (Ended end) n last p q adv shows = later (Ended end) n last p q (some g program p q adv) shows
   later_more (Erred talk) n last p q adv shows = later (Erred talk) n last p q (some g program p q adv) shows
@@ -114,14 +131,14 @@ module _ (g : Setting) (addresses : (k : ℕ) → g.address k < 2 ^ 32) (program
       let a = adv.by shows.0 in (a.0, shows.1, omega (arith, a.1, shows.2), a.2 ∙ shows.3, shows.4)
 
   -- a run for fewer turns
-  fewer : (course : Course) (m n last : ℕ) (p : LoneProcess) → m ≤ n → Shows n last p course → Shows m last p course
+  pub fewer : (course : Course) (m n last : ℕ) (p : LoneProcess) → m ≤ n → Shows n last p course → Shows m last p course
   fewer (Ended end) m n last p less shows = shows
   fewer (Erred talk) m n last p less shows = shows
   fewer (Awaits talk) m n last p less shows = shows
   fewer (Unfinished talk) m n last p less shows = (shows.0, shows.1, omega (arith, less, shows.2), shows.3, shows.4)
 
   -- one process after another
-  then_on : (course : Course) (go : Situation → Course) (n mid last : ℕ) (p : LoneProcess) → Shows n mid p course
+  pub then_on : (course : Course) (go : Situation → Course) (n mid last : ℕ) (p : LoneProcess) → Shows n mid p course
       → ((end : Situation) (a b c : ℕ) (u : List ℕ) (r : ℕ) → Held u end → Shows n last (st mid a b c u end r) (go end))
       → Shows n last p (then_do course go)
   then_on (Ended end) go n mid last p shows next =
@@ -132,18 +149,18 @@ module _ (g : Setting) (addresses : (k : ℕ) → g.address k < 2 ^ 32) (program
   then_on (Unfinished talk) go n mid last p shows next = shows
 
   -- the end of a run under another name
-  ends_as : (course : Course) (n last next : ℕ) (p : LoneProcess) → last ≡ next → Shows n last p course
+  pub ends_as : (course : Course) (n last next : ℕ) (p : LoneProcess) → last ≡ next → Shows n last p course
       → Shows n next p course
   ends_as course n last next p same shows = subst (λ k. Shows n k p course) same shows
 
   -- an end
-  ended : (n last a b c : ℕ) (m : List ℕ) (x : Situation) (r : ℕ) (p : LoneProcess)
+  pub ended : (n last a b c : ℕ) (m : List ℕ) (x : Situation) (r : ℕ) (p : LoneProcess)
       → Advances g program p (st last a b c m x r) → Held m x → Shows n last p (Ended x)
   ended n last a b c m x r p goes held =
       record { a = a; b = b; c = c; memory = m; breaks = r; goes = goes; held = held }
 
   -- an instruction that is done by its row
-  rows : (k a b c k' a' b' c' : ℕ) (m u : List ℕ) (x : Situation) (r : ℕ) (f : Function) (o : Operand)
+  pub rows : (k a b c k' a' b' c' : ℕ) (m u : List ℕ) (x : Situation) (r : ℕ) (f : Function) (o : Operand)
       (rest : List Statement) → Lies g program k (Instruction f o ∷ rest)
       → manner_of f (operand_of g.address (k + 1) f o) ≡ ByRow
       → done_at g.address k f o (at s (g.address k) a b c) ls m ≡ Gave (at s (g.address k') a' b' c') ls u
@@ -154,7 +171,7 @@ module _ (g : Setting) (addresses : (k : ℕ) → g.address k < 2 ^ 32) (program
       ∙ ap (λ e. left_by e (st k a b c m x r) Running) does)
 
   -- stl
-  stores : (k j a b c : ℕ) (m : List ℕ) (x : Situation) (r : ℕ) (rest : List Statement)
+  pub stores : (k j a b c : ℕ) (m : List ℕ) (x : Situation) (r : ℕ) (rest : List Statement)
       → Lies g program k (asm.stl j ∷ rest) → Held m x → j < size
       → Proceeds g program (st k a b c m x r) (st (k + 1) b c c (with_word_in s.workspace m j a) x r)
   unfolding direct
@@ -164,7 +181,7 @@ module _ (g : Setting) (addresses : (k : ℕ) → g.address k < 2 ^ 32) (program
       (word_put s.workspace base size count j a x.store m held.holds below))
 
   -- cj at 0
-  jumps : (k place b c : ℕ) (m : List ℕ) (x : Situation) (r : ℕ) (rest : List Statement)
+  pub jumps : (k place b c : ℕ) (m : List ℕ) (x : Situation) (r : ℕ) (rest : List Statement)
       → Lies g program k (asm.cj place ∷ rest)
       → Proceeds g program (st k 0 b c m x r) (st place 0 b c m x r)
   unfolding direct
@@ -174,7 +191,7 @@ module _ (g : Setting) (addresses : (k : ℕ) → g.address k < 2 ^ 32) (program
       (landing (g.address place) (g.address (k + 1)) (addresses place) (addresses (k + 1))))
 
   -- cj at another value
-  passes : (k place a b c : ℕ) (m : List ℕ) (x : Situation) (r : ℕ) (rest : List Statement)
+  pub passes : (k place a b c : ℕ) (m : List ℕ) (x : Situation) (r : ℕ) (rest : List Statement)
       → Lies g program k (asm.cj place ∷ rest) → (a == 0) ≡ false
       → Proceeds g program (st k a b c m x r) (st (k + 1) b c c m x r)
   unfolding direct
@@ -184,7 +201,7 @@ module _ (g : Setting) (addresses : (k : ℕ) → g.address k < 2 ^ 32) (program
       else at s (g.address (k + 1)) b c c) ls m) nonzero)
 
   -- j
-  goes_back : (k place a b c : ℕ) (m : List ℕ) (x : Situation) (r : ℕ) (rest : List Statement)
+  pub goes_back : (k place a b c : ℕ) (m : List ℕ) (x : Situation) (r : ℕ) (rest : List Statement)
       → Lies g program k (asm.j place ∷ rest)
       → Proceeds g program (st k a b c m x r)
       (st place (g.others r).0 (g.others r).1 (g.others r).2 m x (r + 1))
@@ -199,7 +216,7 @@ module _ (g : Setting) (addresses : (k : ℕ) → g.address k < 2 ^ 32) (program
       (landing (g.address place) (g.address (k + 1)) (addresses place) (addresses (k + 1))))
 
   -- memory after an expression's code
-  held_on : (t : ℕ) (m u : List ℕ) (x : Situation) → Held m x → Holds s.workspace base size count x.store u
+  pub held_on : (t : ℕ) (m u : List ℕ) (x : Situation) → Held m x → Holds s.workspace base size count x.store u
       → KeepsOthers s.workspace t size m u → Held u x
   held_on t m u x held holds kept =
       record {
@@ -210,7 +227,7 @@ module _ (g : Setting) (addresses : (k : ℕ) → g.address k < 2 ^ 32) (program
       }
 
   -- what is done with the value of an expression
-  evaluated : (outcome : Option ℕ) (go : ℕ → Course) (n last k mid t a b c : ℕ) (m : List ℕ) (x : Situation) (r : ℕ)
+  pub evaluated : (outcome : Option ℕ) (go : ℕ → Course) (n last k mid t a b c : ℕ) (m : List ℕ) (x : Situation) (r : ℕ)
       (code : List Statement) → AreByRow code → Lies g program k code → Held m x
       → Comes g.address (blanks k ++ code) ls mid t base size count x.store (at s (g.address k) a b c) m outcome
       → IsWord outcome
@@ -226,7 +243,7 @@ module _ (g : Setting) (addresses : (k : ℕ) → g.address k < 2 ^ 32) (program
       (next v comes.b comes.c comes.memory word (held_on t m comes.memory x held comes.holds comes.kept) comes.kept)
 
   -- an expression's code, and what is done with its value
-  evaluates : (e : Expression) (go : ℕ → Course) (n last k t a b c : ℕ) (m : List ℕ) (x : Situation) (r : ℕ)
+  pub evaluates : (e : Expression) (go : ℕ → Course) (n last k t a b c : ℕ) (m : List ℕ) (x : Situation) (r : ℕ)
       → IsWithin count e → Lies g program k (expression_code k (from t) e) → Held m x → count + base ≤ t
       → t + temporaries_of e ≤ size
       → ((v b' c' : ℕ) (u : List ℕ) → v < 2 ^ 32 → Held u x → KeepsOthers s.workspace t size m u
@@ -249,13 +266,13 @@ module _ (g : Setting) (addresses : (k : ℕ) → g.address k < 2 ^ 32) (program
       → count + base ≤ t → t + process_temporaries p ≤ size
       → Shows n (k + length (process_code k (from t) p)) (st k a b c m x r) (does n p x)
 
-  skip_runs : Runs Skip
+  pub skip_runs : Runs Skip
   skip_runs n k t a b c m x r lies held free room =
       let e : k ≡ k + 0 = omega arith in
       ends_as (Ended x) n k (k + 0) (st k a b c m x r) e
       (ended n k a b c m x r (st k a b c m x r) (waits g program (st k a b c m x r)) held)
 
-  stop_runs : Runs Stop
+  pub stop_runs : Runs Stop
   unfolding direct row operation_of
   stop_runs n k t a b c m x r lies held free room =
       stops_on g program (st k a b c m x r) (st k a b c m x r) ErrorSet (waits g program (st k a b c m x r))
@@ -264,7 +281,7 @@ module _ (g : Setting) (addresses : (k : ℕ) → g.address k < 2 ^ 32) (program
       else Gave (record (at s (g.address (k + 1)) a b c) { error = true }) ls m) (st k a b c m x r) Running) halts)
 
   -- a variable has got a word
-  held_assigned : (v y : ℕ) (m : List ℕ) (x : Situation) → Held m x → v < count → count + base ≤ size → y < 2 ^ 32
+  pub held_assigned : (v y : ℕ) (m : List ℕ) (x : Situation) → Held m x → v < count → count + base ≤ size → y < 2 ^ 32
       → Held (with_word_in s.workspace m (v + base) y) (assigned v y x)
   held_assigned v y m x held within room fits =
       record {
@@ -275,18 +292,18 @@ module _ (g : Setting) (addresses : (k : ℕ) → g.address k < 2 ^ 32) (program
       }
 
   -- stl at the end of an assignment
-  assigns : (n k v y b c : ℕ) (m : List ℕ) (x : Situation) (r : ℕ) (rest : List Statement)
+  pub assigns : (k v y b c : ℕ) (m : List ℕ) (x : Situation) (r : ℕ) (rest : List Statement)
       → Lies g program k (asm.stl (v ⊕ base) ∷ rest) → Held m x → v < count → count + base ≤ size
       → Proceeds g program (st k y b c m x r)
       (st (k + 1) b c c (with_word_in s.workspace m (v + base) y) (assigned v y x) r)
-  assigns n k v y b c m x r rest lies held within room =
+  assigns k v y b c m x r rest lies held within room =
       let next = word_after base v count size (s.workspace - 0x80000000) (length m) within room held.holds.most
       held.holds.memory.most in
       subst (λ j. Proceeds g program (st k y b c m x r)
       (st (k + 1) b c c (with_word_in s.workspace m j y) (assigned v y x) r)) next
       (stores k (v ⊕ base) y b c m x r rest lies held (omega (arith, next, within, room)))
 
-  assign_runs : (v : ℕ) (e : Expression) → ProcessIsWithin count (Assign v e) → Runs (Assign v e)
+  pub assign_runs : (v : ℕ) (e : Expression) → ProcessIsWithin count (Assign v e) → Runs (Assign v e)
   assign_runs v e fit n k t a b c m x r lies held free room =
       let code = expression_code k (from t) e in
       let more = asm.stl (v ⊕ base) ∷ [] in
@@ -300,10 +317,10 @@ module _ (g : Setting) (addresses : (k : ℕ) → g.address k < 2 ^ 32) (program
       r (st mid y b' c' u x r)
       (some g program (st mid y b' c' u x r)
       (st (mid + 1) b' c' c' (with_word_in s.workspace u (v + base) y) (assigned v y x) r)
-      (assigns n mid v y b' c' u x r [] (lies_back g program k code more lies) held' fit.0 within))
+      (assigns mid v y b' c' u x r [] (lies_back g program k code more lies) held' fit.0 within))
       (held_assigned v y u x held' fit.0 within fits)))
 
-  sequence_runs : (box box' : Box (Unit {0}) Global) (p q : CoreProcess) → Runs p → Runs q
+  pub sequence_runs : (box box' : Box (Unit {0}) Global) (p q : CoreProcess) → Runs p → Runs q
       → Runs (Sequence' box p box' q)
   sequence_runs box box' p q run_p run_q n k t a b c m x r lies held free room =
       let first = process_code k (from t) p in
@@ -318,7 +335,7 @@ module _ (g : Setting) (addresses : (k : ℕ) → g.address k < 2 ^ 32) (program
       (omega (arith, room))))
 
   -- j after a process
-  then_jump : (course : Course) (n over end : ℕ) (p : LoneProcess) (rest : List Statement)
+  pub then_jump : (course : Course) (n over end : ℕ) (p : LoneProcess) (rest : List Statement)
       → Lies g program over (asm.j end ∷ rest) → Shows n over p course → Shows n end p course
   then_jump (Ended x) n over end p rest lies shows =
       let r = shows.breaks in
@@ -365,7 +382,7 @@ module _ (g : Setting) (addresses : (k : ℕ) → g.address k < 2 ^ 32) (program
       (lies_back g program start first (asm.j end ∷ second) lies.2)
       (run_p n start t b c c m x r (lies_front g program start first (asm.j end ∷ second) lies.2) held free room))
 
-  if_runs : (e : Expression) (box box' : Box (Unit {0}) Global) (p q : CoreProcess) → IsWithin count e → Runs p → Runs q
+  pub if_runs : (e : Expression) (box box' : Box (Unit {0}) Global) (p q : CoreProcess) → IsWithin count e → Runs p → Runs q
       → Runs (If' e box p box' q)
   if_runs e box box' p q fit run_p run_q n k t a b c m x r lies held free room =
       let test = expression_code k (from t) e in
@@ -414,7 +431,7 @@ module _ (g : Setting) (addresses : (k : ℕ) → g.address k < 2 ^ 32) (program
       (next y (g.others r').0 (g.others r').1 (g.others r').2 u (r' + 1) held')))
 
   -- a loop with a condition, for some turns of those that it may make
-  loops : (e : Expression) (box : Box (Unit {0}) Global) (p : CoreProcess) → IsWithin count e → Runs p
+  pub loops : (e : Expression) (box : Box (Unit {0}) Global) (p : CoreProcess) → IsWithin count e → Runs p
       → (n most k t a b c : ℕ) (m : List ℕ) (x : Situation) (r : ℕ) → n ≤ most
       → Lies g program k (process_code k (from t) (While' e box p)) → Held m x → count + base ≤ t
       → t + process_temporaries (While' e box p) ≤ size
@@ -441,18 +458,3 @@ module _ (g : Setting) (addresses : (k : ℕ) → g.address k < 2 ^ 32) (program
       (lies_back g program k test more lies) held' free (omega (arith, room))
       (λ y a'' b'' c'' w r' held''. ends_as (rounds y) n all end (st k a'' b'' c'' w y r') (sym ends)
       (loops e box p fit run_p n most k t a'' b'' c'' w y r' (omega (arith, less)) lies held'' free room))))
-
-  -- the code of a sequential process does what the process does
-  pub process_runs : (p : CoreProcess) → IsSequential p → ProcessIsWithin count p → Runs p
-  process_runs Skip sequential fit = skip_runs
-  process_runs Stop sequential fit = stop_runs
-  process_runs (Line' place box p) sequential fit = process_runs p sequential fit
-  process_runs (Assign v e) sequential fit = assign_runs v e fit
-  process_runs (Sequence' box p box' q) sequential fit =
-      sequence_runs box box' p q (process_runs p sequential.0 fit.0) (process_runs q sequential.1 fit.1)
-  process_runs (If' e box p box' q) sequential fit =
-      if_runs e box box' p q fit.0 (process_runs p sequential.0 fit.1) (process_runs q sequential.1 fit.2)
-  process_runs (While' e box p) sequential fit =
-      λ n k t a b c m x r lies held free room. loops e box p fit.0 (process_runs p sequential fit.1) n n k t a b c m x r
-      (omega arith) lies held free room
-  process_runs _ sequential fit = absurd sequential

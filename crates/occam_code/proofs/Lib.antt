@@ -10,4 +10,11 @@ pub mod Quiet
 pub mod Lone
 pub mod Assigning
 pub mod Behaving
+pub mod Repeating
+pub mod MessageBytes
+pub mod Speaking
+pub mod Hearing
+pub mod StoreBytes
+pub mod Elements
+pub mod Sequential
 pub mod Behaved

@@ -45,7 +45,7 @@ two_more k = omega arith
 three_more : (k : ℕ) → k + 1 + 1 + 1 ≡ k + 3
 three_more k = omega arith
 
-not_below : (x bound : ℕ) → nat_le bound x ≡ not (nat_lt x bound)
+pub not_below : (x bound : ℕ) → nat_le bound x ≡ not (nat_lt x bound)
 not_below x bound = grind (arith, nat_tests)
 
 more_than : (x bound : ℕ) → nat_le (bound + 1) x ≡ nat_lt bound x

@@ -8,7 +8,7 @@ use Rattle.node_memory.specs.declared.fault.Fault.TheVariants.{OutsideMemory}
 use Rattle.occam_code.specs.Evaluates.{word_in, Holds, KeepsOthers}
 
 -- the address of a word
-word_address : (w j size long : ℕ) → first_address ≤ w → w - first_address + 4 * size ≤ long → long ≤ 65536 → j < size
+pub word_address : (w j size long : ℕ) → first_address ≤ w → w - first_address + 4 * size ≤ long → long ≤ 65536 → j < size
     → w ⊕ 4 ⊗ j ≡ w + 4 * j
 word_address w j size long least most bound below = omega arith
 
@@ -61,7 +61,7 @@ pub other_byte : (m : List ℕ) (i x j : ℕ) → (j < i) ⊎ (i + 4 ≤ j)
 other_byte m i x j (inl below) = grind (arith, common_steps)
 other_byte m i x j (inr above) = grind (arith, common_steps)
 
-set_bytes : (m : List ℕ) (k v : ℕ) → ((i : ℕ) → slice_index m i < 2 ^ 8) → v < 2 ^ 8
+pub set_bytes : (m : List ℕ) (k v : ℕ) → ((i : ℕ) → slice_index m i < 2 ^ 8) → v < 2 ^ 8
     → (i : ℕ) → slice_index (slice_set m k v) i < 2 ^ 8
 set_bytes m k v bytes fits i = let here = bytes i in grind (arith, common_steps, here)
 
@@ -183,7 +183,7 @@ byte_is w base size count v i store m holds below =
     ∙ ap Ok (byte_from m o (i % 4) holds.bytes (omega arith))
 
 -- the address of an array
-array_address : (w base v size long : ℕ) → first_address ≤ w → w - first_address + 4 * size ≤ long → long ≤ 65536
+pub array_address : (w base v size long : ℕ) → first_address ≤ w → w - first_address + 4 * size ≤ long → long ≤ 65536
     → v + base < size → w ⊕ 4 ⊗ (v ⊕ base) ≡ w + 4 * (v + base)
 array_address w base v size long least most bound below =
     let next : v ⊕ base ≡ v + base = omega arith in

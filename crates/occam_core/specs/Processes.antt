@@ -1,13 +1,13 @@
 -- What a sequential process does: which words it leaves in its variables, what it says and hears, and how it ends.
 -- occam 2 reference manual, processes. A condition is FALSE if it is 0. A message of an INT is four bytes, the least
 -- significant first, and one of a BYTE is one byte. By which links bytes come is left open: an input takes the next.
-use Rattle.std.specs.Prelude.{◌≡◌, ℕ, zero, suc, ◌+◌, ◌*◌, ◌/◌, ◌%◌, ◌^◌, ◌<◌, ◌≤◌, ◌==◌, ⊤, List, [], ◌∷◌, ◌++◌, Option, Some, None, length, take, drop, pos, int_lt, nat_le, nat_lt, if◌then◌else◌, slice_index, slice_set}
+use Rattle.std.specs.Prelude.{◌≡◌, ℕ, zero, suc, ◌+◌, ◌-◌, ◌*◌, ◌/◌, ◌%◌, ◌^◌, ◌<◌, ◌≤◌, ◌==◌, ⊤, List, [], ◌∷◌, ◌++◌, Option, Some, None, length, take, drop, pos, int_lt, nat_le, nat_lt, if◌then◌else◌, slice_index, slice_set}
 use Rattle.node_memory.specs.Bytes.{word_from}
 use Rattle.node_memory.specs.Words.{◌⊕◌, ◌⊖◌, signed}
 use Rattle.occam_core.specs.declared.channel.CoreChannel.TheVariants.{Link}
 use Rattle.occam_core.specs.declared.channel.MessageKind.{MessageKind}
 use Rattle.occam_core.specs.declared.channel.MessageKind.TheVariants as message
-use Rattle.occam_core.specs.declared.expression.CoreArray.{CoreArray}
+use Rattle.occam_core.specs.declared.expression.ElementKind.{ElementKind}
 use Rattle.occam_core.specs.declared.expression.ElementKind.TheVariants as kind
 use Rattle.occam_core.specs.declared.process.CoreProcess.{CoreProcess}
 use Rattle.occam_core.specs.declared.process.CoreProcess.TheVariants.{Skip, Stop, Line', Assign, AssignElement, Input, Output, Sequence', If', While', Repeat'}
@@ -47,6 +47,23 @@ with_value (Some x) talk go = go x
 -- a variable gets a word
 abbrev pub assigned : ℕ → ℕ → Situation → Situation
 assigned v x at = record at { store = slice_set at.store v x }
+
+-- a byte of the words of a store, of which each has four, the least significant first
+abbrev pub byte_in : List ℕ → ℕ → ℕ
+byte_in σ i = slice_index σ (i / 4) / 2 ^ (8 * (i % 4)) % 2 ^ 8
+
+-- a word with another byte in one of its four places
+abbrev pub with_byte_of : ℕ → ℕ → ℕ → ℕ
+with_byte_of word place byte = word - word / 2 ^ (8 * place) % 2 ^ 8 * 2 ^ (8 * place) + byte * 2 ^ (8 * place)
+
+-- a store with another byte
+abbrev pub with_byte_in : List ℕ → ℕ → ℕ → List ℕ
+with_byte_in σ i byte = slice_set σ (i / 4) (with_byte_of (slice_index σ (i / 4)) (i % 4) byte)
+
+-- a store with another value of the element of an array that begins at a variable; a BYTE is the value's lowest byte
+abbrev pub with_element : ElementKind → ℕ → List ℕ → ℕ → ℕ → List ℕ
+with_element kind.Word first σ k x = slice_set σ (first + k) x
+with_element kind.Byte first σ k x = with_byte_in σ (4 * first + k) (x % 2 ^ 8)
 
 -- the next bytes that come, as a message of a channel
 abbrev pub heard : ℕ → ℕ → Situation → Situation
@@ -103,7 +120,9 @@ does n (Assign v e) at = with_value (value e at.store) at.talk (λ x. Ended (ass
 does n (AssignElement array i e) at =
     with_value (value e at.store) at.talk
     (λ x. with_value (value i at.store) at.talk
-    (λ k. if nat_lt k array.length then Ended (assigned (array.first + k) x at) else Erred at.talk))
+    (λ k. if nat_lt k array.length
+    then Ended (record at { store = with_element array.kind array.first at.store k x })
+    else Erred at.talk))
 does n (Input (Link c) kind v) at =
     if nat_le (bytes_in kind) (length at.coming)
     then Ended (assigned v (value_heard kind at.coming) (heard c (bytes_in kind) at))
@@ -123,13 +142,17 @@ does n (Repeat' v base count p a) at =
     else (let set = assigned (v + 1) k begun in if k == 0 then Ended set else rounds n v (does n a) set)))
 does n _ at = Unfinished at.talk
 
--- the processes whose code is proved to do what is said here
+-- the processes whose code does what is said here: no PAR and no ALT, and messages of an INT or a BYTE by links alone
 abbrev pub IsSequential : CoreProcess → Type 0
 IsSequential Skip = ⊤
 IsSequential Stop = ⊤
 IsSequential (Line' place p a) = IsSequential a
 IsSequential (Assign v e) = ⊤
+IsSequential (AssignElement array i e) = ⊤
+IsSequential (Input (Link c) kind v) = (4 ≤ c) × (c < 8)
+IsSequential (Output (Link c) kind e) = c < 4
 IsSequential (Sequence' p a q b) = IsSequential a × IsSequential b
 IsSequential (If' e p a q b) = IsSequential a × IsSequential b
 IsSequential (While' e p a) = IsSequential a
+IsSequential (Repeat' v base count p a) = IsSequential a
 IsSequential _ = ⊥

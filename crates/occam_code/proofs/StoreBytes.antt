@@ -1,0 +1,121 @@
+-- A byte of a store is written, in the workspace that holds it: for the law of processes.
+use Rattle.std.proofs.Common.{◌≡◌, ℕ, zero, suc, ◌+◌, ◌-◌, ◌*◌, ◌/◌, ◌%◌, ◌^◌, ◌<◌, ◌≤◌, ◌⊎◌, inl, inr, List, length, refl, sym, ap, ◌∙◌, subst, arith, length-set}
+use Rattle.std.specs.Prelude.{slice_index, slice_set}
+use Rattle.std.proofs.lemmas.Grind.{common_steps}
+use Rattle.node_memory.specs.Bytes.{first_address, word_from}
+use Rattle.occam_core.specs.Processes.{Situation, with_byte_of, with_byte_in}
+use Rattle.occam_code.specs.Evaluates.{word_in, Holds, KeepsOthers}
+use Rattle.occam_code.proofs.Workspace.{set_bytes}
+use Rattle.occam_code.proofs.Assigning.{set_same, set_other, apart_or}
+use Rattle.occam_code.proofs.Behaving.{Ground, Held, set_long}
+
+-- another byte than the one that was written
+other_place : (m : List ℕ) (i j b : ℕ) → (i < j) ⊎ (j < i) → slice_index (slice_set m i b) j ≡ slice_index m j
+other_place m i j b apart = set_other m i b j apart
+
+-- a word with another byte
+byte_written : (m : List ℕ) (o j b : ℕ) → j < 4 → o + 3 < length m → ((i : ℕ) → slice_index m i < 2 ^ 8) → b < 2 ^ 8
+    → word_from (slice_set m (o + j) b) o ≡ with_byte_of (word_from m o) j b
+byte_written m o zero b below within bytes fits =
+    let here : slice_index (slice_set m (o + 0) b) o ≡ b =
+    subst (λ k. slice_index (slice_set m (o + 0) b) k ≡ b) (omega arith) (set_same m (o + 0) b (omega (arith, within))) in
+    let e1 = other_place m (o + 0) (o + 1) b (inl (omega arith)) in
+    let e2 = other_place m (o + 0) (o + 2) b (inl (omega arith)) in
+    let e3 = other_place m (o + 0) (o + 3) b (inl (omega arith)) in
+    omega (arith, here, e1, e2, e3, bytes o, bytes (o + 1), bytes (o + 2), bytes (o + 3), fits)
+byte_written m o (suc zero) b below within bytes fits =
+    let here = set_same m (o + 1) b (omega (arith, within)) in
+    let e0 = other_place m (o + 1) o b (inr (omega arith)) in
+    let e2 = other_place m (o + 1) (o + 2) b (inl (omega arith)) in
+    let e3 = other_place m (o + 1) (o + 3) b (inl (omega arith)) in
+    omega (arith, here, e0, e2, e3, bytes o, bytes (o + 1), bytes (o + 2), bytes (o + 3), fits)
+byte_written m o (suc (suc zero)) b below within bytes fits =
+    let here = set_same m (o + 2) b (omega (arith, within)) in
+    let e0 = other_place m (o + 2) o b (inr (omega arith)) in
+    let e1 = other_place m (o + 2) (o + 1) b (inr (omega arith)) in
+    let e3 = other_place m (o + 2) (o + 3) b (inl (omega arith)) in
+    omega (arith, here, e0, e1, e3, bytes o, bytes (o + 1), bytes (o + 2), bytes (o + 3), fits)
+byte_written m o (suc (suc (suc zero))) b below within bytes fits =
+    let here = set_same m (o + 3) b (omega (arith, within)) in
+    let e0 = other_place m (o + 3) o b (inr (omega arith)) in
+    let e1 = other_place m (o + 3) (o + 1) b (inr (omega arith)) in
+    let e2 = other_place m (o + 3) (o + 2) b (inr (omega arith)) in
+    omega (arith, here, e0, e1, e2, bytes o, bytes (o + 1), bytes (o + 2), bytes (o + 3), fits)
+byte_written m o (suc (suc (suc (suc j)))) b below within bytes fits = absurd (omega arith)
+
+-- a word none of whose bytes was written
+word_beside : (m : List ℕ) (o i b : ℕ) → (i < o) ⊎ (o + 4 ≤ i) → word_from (slice_set m i b) o ≡ word_from m o
+word_beside m o i b (inl before) =
+    let e : (k : ℕ) → o ≤ k → slice_index (slice_set m i b) k ≡ slice_index m k =
+    λ k from. other_place m i k b (inl (omega (arith, before, from))) in
+    rw (e o (omega arith), e (o + 1) (omega arith), e (o + 2) (omega arith), e (o + 3) (omega arith)) refl
+word_beside m o i b (inr behind) =
+    let e : (k : ℕ) → k < o + 4 → slice_index (slice_set m i b) k ≡ slice_index m k =
+    λ k under. other_place m i k b (inr (omega (arith, behind, under))) in
+    rw (e o (omega arith), e (o + 1) (omega arith), e (o + 2) (omega arith), e (o + 3) (omega arith)) refl
+
+beside : (o base v k i : ℕ) → (v < k) ⊎ (k < v) → v ≡ i / 4
+    → (o + 4 * base + i < o + 4 * (k + base)) ⊎ (o + 4 * (k + base) + 4 ≤ o + 4 * base + i)
+beside o base v k i (inl above) is = inl (omega (arith, above, is))
+beside o base v k i (inr below) is = inr (omega (arith, below, is))
+
+-- the variables after a byte was written
+byte_word : (w base size count i b k : ℕ) (store m : List ℕ) → Holds w base size count store m → i < 4 * count
+    → count + base ≤ size → length store ≡ count → b < 2 ^ 8 → k < count
+    → ((i / 4 < k) ⊎ (k < i / 4)) ⊎ (i / 4 ≡ k)
+    → word_in w (slice_set m (w - first_address + 4 * base + i) b) (k + base) ≡ slice_index (with_byte_in store i b) k
+byte_word w base size count i b k store m holds within room long fits below (inl apart) =
+    let o = w - first_address in
+    word_beside m (o + 4 * (k + base)) (o + 4 * base + i) b (beside o base (i / 4) k i apart refl)
+    ∙ holds.variables k below
+    ∙ sym (set_other store (i / 4) (with_byte_of (slice_index store (i / 4)) (i % 4) b) k apart)
+byte_word w base size count i b k store m holds within room long fits below (inr same) =
+    let o = w - first_address in
+    let v = i / 4 in
+    let word = o + 4 * (v + base) in
+    let place : o + 4 * base + i ≡ word + i % 4 = omega arith in
+    let under : v < count = omega (arith, within) in
+    subst (λ n. word_in w (slice_set m (o + 4 * base + i) b) (n + base) ≡ slice_index (with_byte_in store i b) n) same
+    (ap (λ n. word_from (slice_set m n b) word) place
+    ∙ byte_written m word (i % 4) b (omega arith) (omega (arith, holds.most, under, room)) holds.bytes fits
+    ∙ ap (λ n. with_byte_of n (i % 4) b) (holds.variables v under)
+    ∙ sym (set_same store v (with_byte_of (slice_index store v) (i % 4) b) (omega (arith, under, long))))
+
+kept_byte : (w base size i b k : ℕ) (m : List ℕ) → 4 * base + i < 4 * size
+    → (k < w - first_address + 4 * 0) ⊎ (w - first_address + 4 * size ≤ k)
+    → slice_index (slice_set m (w - first_address + 4 * base + i) b) k ≡ slice_index m k
+kept_byte w base size i b k m within (inl before) =
+    other_place m (w - first_address + 4 * base + i) k b (inr (omega (arith, before)))
+kept_byte w base size i b k m within (inr behind) =
+    other_place m (w - first_address + 4 * base + i) k b (inl (omega (arith, behind, within)))
+
+-- a byte of the variables is written
+pub held_byte : (w : Ground) (i b : ℕ) (m : List ℕ) (x : Situation) → Held w m x → i < 4 * w.count
+    → w.count + w.base ≤ w.size → b < 2 ^ 8
+    → Held w (slice_set m (w.registers.workspace - first_address + 4 * w.base + i) b)
+    (record x { store = with_byte_in x.store i b })
+held_byte w i b m x held within room fits =
+    let h = held.holds in
+    let at = w.registers.workspace - first_address + 4 * w.base + i in
+    let long = set_long m at b in
+    let word = with_byte_of (slice_index x.store (i / 4)) (i % 4) b in
+    record {
+      holds =
+          record {
+            memory = rw long h.memory;
+            bytes = set_bytes m at b h.bytes fits;
+            aligned = h.aligned;
+            least = h.least;
+            most = rw long h.most;
+            variables = λ k below. byte_word w.registers.workspace w.base w.size w.count i b k x.store m h within room
+                held.long fits below (apart_or (i / 4) k);
+          };
+      kept =
+          record {
+            long = long ∙ held.kept.long;
+            others = λ k apart. kept_byte w.registers.workspace w.base w.size i b k m (omega (arith, within, room)) apart
+                ∙ held.kept.others k apart;
+          };
+      long = set_long x.store (i / 4) word ∙ held.long;
+      bytes = held.bytes;
+    }
