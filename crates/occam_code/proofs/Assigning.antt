@@ -16,18 +16,33 @@ other_word w j k x m (inl above) =
     let b : (i : ℕ) → o + 4 ≤ i → slice_index (with_word_from m o x) i ≡ slice_index m i =
     λ i from. other_byte m o x i (inr from) in
     let p = w - first_address + 4 * k in
-    rw (b p (omega (arith, above)), b (p + 1) (omega (arith, above)), b (p + 2) (omega (arith, above)), b (p + 3) (omega (arith, above))) refl
+    rw (
+      b p (omega (arith, above)),
+      b (p + 1) (omega (arith, above)),
+      b (p + 2) (omega (arith, above)),
+      b (p + 3)
+          (omega (arith, above)),
+    ) refl
 other_word w j k x m (inr below) =
     let o = w - first_address + 4 * j in
     let b : (i : ℕ) → i < o → slice_index (with_word_from m o x) i ≡ slice_index m i =
     λ i under. other_byte m o x i (inl under) in
     let p = w - first_address + 4 * k in
-    rw (b p (omega (arith, below)), b (p + 1) (omega (arith, below)), b (p + 2) (omega (arith, below)), b (p + 3) (omega (arith, below))) refl
+    rw (
+      b p (omega (arith, below)),
+      b (p + 1) (omega (arith, below)),
+      b (p + 2) (omega (arith, below)),
+      b (p + 3)
+          (omega (arith, below)),
+    ) refl
 
+-- what was written is read
 pub set_same : (store : List ℕ) (v x : ℕ) → v < length store → slice_index (slice_set store v x) v ≡ x
 set_same store v x below = grind (arith, common_steps)
 
-pub set_other : (store : List ℕ) (v x k : ℕ) → (v < k) ⊎ (k < v) → slice_index (slice_set store v x) k ≡ slice_index store k
+-- another place is as it was
+pub set_other : (store : List ℕ) (v x k : ℕ) → (v < k) ⊎ (k < v) → slice_index (slice_set store v x) k ≡ slice_index
+    store k
 set_other store v x k (inl above) = grind (arith, common_steps)
 set_other store v x k (inr below) = grind (arith, common_steps)
 

@@ -21,7 +21,7 @@ use Rattle.occam_core.specs.declared.expression.Expression.{Expression}
 use Rattle.occam_core.specs.declared.process.CoreProcess.{CoreProcess}
 use Rattle.occam_core.specs.declared.process.CoreProcess.TheVariants.{Skip, Stop, Assign, Sequence', If', While'}
 use Rattle.occam_core.specs.Values.{value}
-use Rattle.occam_core.specs.Processes.{Exchange, Situation, Course, Ended, Erred, Awaits, Unfinished, then_do, with_value, assigned, turns, does}
+use Rattle.occam_core.specs.Processes.{Exchange, Situation, Course, Ended, Erred, Awaits, Unfinished, then_do, value_then, assigned, turns, does}
 use Rattle.occam_code.specs.declared.frame.FrameWords.{FrameWords}
 use Rattle.occam_code.specs.Instructions as asm
 use Rattle.occam_code.specs.Words.{temporaries_of, process_temporaries}
@@ -29,7 +29,7 @@ use Rattle.occam_code.specs.Expressions.{expression_code}
 use Rattle.occam_code.specs.Code.{process_code}
 use Rattle.occam_code.specs.Machine.{done_at}
 use Rattle.occam_code.specs.Evaluates.{Holds, KeepsOthers, Comes}
-use Rattle.occam_code.specs.Alone.{Setting, LoneProcess, LoneStage, Running, Past, Stopped, AtInput, after_others, left_by, Manner, ByRow, ThenOthers, manner_of, next_stage, while_running}
+use Rattle.occam_code.specs.Alone.{LoneSetting, LoneProcess, LoneStage, Running, Past, Stopped, AtInput, after_others, left_after, Manner, ByRow, ThenOthers, manner_of, next_stage, while_running}
 use Rattle.occam_code.specs.Behaves.{IsWithin, ProcessIsWithin}
 use Rattle.occam_code.proofs.Workspace.{with_word_in, word_put, kept_same, kept_then, holds_store}
 use Rattle.occam_code.proofs.Operations.{at}
@@ -54,7 +54,7 @@ set_long store v y = simp length-set
 -- where a process is run by itself: its program, the registers and the links that stay, where its words are, and memory
 -- as it was at the beginning
 pub record Ground : Type 0 where
-  pub setting : Setting
+  pub setting : LoneSetting
   pub addresses : (k : ℕ) → setting.address k < 2 ^ 32
   pub program : List Statement
   pub registers : Cpu
@@ -67,8 +67,20 @@ pub record Ground : Type 0 where
   pub in_slice : (registers.bytes == 1024) ≡ false
   pub own : 1 ≤ base
 
-module _ (w : Ground) where
-  open w use {setting as g, addresses, program, registers as s, links as ls, base, size, count, begun, halts, in_slice}
+module _ (ground : Ground) where
+  open ground use {
+    setting as g,
+    addresses,
+    program,
+    registers as s,
+    links as ls,
+    base,
+    size,
+    count,
+    begun,
+    halts,
+    in_slice,
+  }
 
   -- the words that are free from one on
   abbrev pub from : ℕ → FrameWords
@@ -76,14 +88,14 @@ module _ (w : Ground) where
 
   -- the process is at a place, in a situation
   abbrev pub st : ℕ → ℕ → ℕ → ℕ → List ℕ → Situation → ℕ → LoneProcess
-  st k a b c m x r = lone g program ls (at s (g.address k) a b c) m x r
+  st k a b c m now breaks = lone g program ls (at s (g.address k) a b c) m now breaks
 
   -- memory holds the situation's variables, and has kept what isn't the workspace's
-  pub record Held (m : List ℕ) (x : Situation) : Type 0 where
-    pub holds : Holds s.workspace base size count x.store m
+  pub record Held (m : List ℕ) (now : Situation) : Type 0 where
+    pub holds : Holds s.workspace base size count now.store m
     pub kept : KeepsOthers s.workspace 0 size begun m
-    pub long : length x.store ≡ count
-    pub bytes : (i : ℕ) → slice_index x.coming i < 2 ^ 8
+    pub long : length now.store ≡ count
+    pub bytes : (i : ℕ) → slice_index now.coming i < 2 ^ 8
 
   -- some statements lead to a place, in a situation
   pub record Arrives (last : ℕ) (p : LoneProcess) (end : Situation) : Type 0 where
@@ -101,33 +113,38 @@ module _ (w : Ground) where
   Shows n last p (Erred talk) = (j : ℕ) × (run g program j p ≡ Stopped ErrorSet talk)
   Shows n last p (Awaits talk) = (j : ℕ) × (run g program j p ≡ AtInput talk)
   Shows n last p (Unfinished talk) =
-      (j : ℕ) × (q : LoneProcess) × (n ≤ j) × (run g program j p ≡ Running q) × (q.talk ≡ talk)
+      (j : ℕ) × (after : LoneProcess) × (n ≤ j) × (run g program j p ≡ Running after) × (after.talk ≡ talk)
 
   -- the same after some statements
-  pub later : (course : Course) (n last : ℕ) (p q : LoneProcess) → Advances g program p q → Shows n last q course
+  pub later : (course : Course) (n last : ℕ) (p after : LoneProcess) → Advances g program p after → Shows n last
+      after course
       → Shows n last p course
-  later (Ended end) n last p q adv shows =
+  later (Ended end) n last p after adv shows =
       record {
         a = shows.a;
         b = shows.b;
         c = shows.c;
         memory = shows.memory;
         breaks = shows.breaks;
-        goes = advances_on g program p q (st last shows.a shows.b shows.c shows.memory end shows.breaks) adv shows.goes;
+        goes = advances_on g program p after (st last shows.a shows.b shows.c shows.memory end shows.breaks) adv
+            shows.goes;
         held = shows.held;
       }
-  later (Erred talk) n last p q adv shows = let a = adv.by shows.0 in (a.0, a.2 ∙ shows.1)
-  later (Awaits talk) n last p q adv shows = let a = adv.by shows.0 in (a.0, a.2 ∙ shows.1)
-  later (Unfinished talk) n last p q adv shows =
+  later (Erred talk) n last p after adv shows = let a = adv.by shows.0 in (a.0, a.2 ∙ shows.1)
+  later (Awaits talk) n last p after adv shows = let a = adv.by shows.0 in (a.0, a.2 ∙ shows.1)
+  later (Unfinished talk) n last p after adv shows =
       let a = adv.by shows.0 in (a.0, shows.1, omega (arith, a.1, shows.2), a.2 ∙ shows.3, shows.4)
 
   -- after one statement or more the run is longer
-  pub later_more : (course : Course) (n last : ℕ) (p q : LoneProcess) → Proceeds g program p q → Shows n last q course
+  pub later_more : (course : Course) (n last : ℕ) (p after : LoneProcess) → Proceeds g program p after → Shows n last
+      after course
       → Shows (suc n) last p course
-  later_more (Ended end) n last p q adv shows = later (Ended end) n last p q (some g program p q adv) shows
-  later_more (Erred talk) n last p q adv shows = later (Erred talk) n last p q (some g program p q adv) shows
-  later_more (Awaits talk) n last p q adv shows = later (Awaits talk) n last p q (some g program p q adv) shows
-  later_more (Unfinished talk) n last p q adv shows =
+  later_more (Ended end) n last p after adv shows = later (Ended end) n last p after (some g program p after adv) shows
+  later_more (Erred talk) n last p after adv shows = later (Erred talk) n last p after (some g program p after adv)
+      shows
+  later_more (Awaits talk) n last p after adv shows = later (Awaits talk) n last p after (some g program p after adv)
+      shows
+  later_more (Unfinished talk) n last p after adv shows =
       let a = adv.by shows.0 in (a.0, shows.1, omega (arith, a.1, shows.2), a.2 ∙ shows.3, shows.4)
 
   -- a run for fewer turns
@@ -139,7 +156,8 @@ module _ (w : Ground) where
 
   -- one process after another
   pub then_on : (course : Course) (go : Situation → Course) (n mid last : ℕ) (p : LoneProcess) → Shows n mid p course
-      → ((end : Situation) (a b c : ℕ) (u : List ℕ) (r : ℕ) → Held u end → Shows n last (st mid a b c u end r) (go end))
+      → ((end : Situation) (a b c : ℕ) (u : List ℕ) (breaks : ℕ) → Held u end → Shows n last
+      (st mid a b c u end breaks) (go end))
       → Shows n last p (then_do course go)
   then_on (Ended end) go n mid last p shows next =
       later (go end) n last p (st mid shows.a shows.b shows.c shows.memory end shows.breaks) shows.goes
@@ -154,155 +172,168 @@ module _ (w : Ground) where
   ends_as course n last next p same shows = subst (λ k. Shows n k p course) same shows
 
   -- an end
-  pub ended : (n last a b c : ℕ) (m : List ℕ) (x : Situation) (r : ℕ) (p : LoneProcess)
-      → Advances g program p (st last a b c m x r) → Held m x → Shows n last p (Ended x)
-  ended n last a b c m x r p goes held =
-      record { a = a; b = b; c = c; memory = m; breaks = r; goes = goes; held = held }
+  pub ended : (n last a b c : ℕ) (m : List ℕ) (now : Situation) (breaks : ℕ) (p : LoneProcess)
+      → Advances g program p (st last a b c m now breaks) → Held m now → Shows n last p (Ended now)
+  ended n last a b c m now breaks p goes held =
+      record { a = a; b = b; c = c; memory = m; breaks = breaks; goes = goes; held = held }
 
   -- an instruction that is done by its row
-  pub rows : (k a b c k' a' b' c' : ℕ) (m u : List ℕ) (x : Situation) (r : ℕ) (f : Function) (o : Operand)
+  pub rows : (k a b c k' a' b' c' : ℕ) (m u : List ℕ) (now : Situation) (breaks : ℕ) (f : Function) (o : Operand)
       (rest : List Statement) → Lies g program k (Instruction f o ∷ rest)
       → manner_of f (operand_of g.address (k + 1) f o) ≡ ByRow
       → done_at g.address k f o (at s (g.address k) a b c) ls m ≡ Gave (at s (g.address k') a' b' c') ls u
-      → Proceeds g program (st k a b c m x r) (st k' a' b' c' u x r)
-  rows k a b c k' a' b' c' m u x r f o rest lies manner does =
-      one_on g program (st k a b c m x r) (st k' a' b' c' u x r)
-      (staged g program k (st k a b c m x r) f o ByRow refl lies.0 lies.1 manner
-      ∙ ap (λ e. left_by e (st k a b c m x r) Running) does)
+      → Proceeds g program (st k a b c m now breaks) (st k' a' b' c' u now breaks)
+  rows k a b c k' a' b' c' m u now breaks f o rest lies manner does =
+      one_on g program (st k a b c m now breaks) (st k' a' b' c' u now breaks)
+      (staged g program k (st k a b c m now breaks) f o ByRow refl lies.0 lies.1 manner
+      ∙ ap (λ e. left_after e (st k a b c m now breaks) Running) does)
 
   -- stl
-  pub stores : (k j a b c : ℕ) (m : List ℕ) (x : Situation) (r : ℕ) (rest : List Statement)
-      → Lies g program k (asm.stl j ∷ rest) → Held m x → j < size
-      → Proceeds g program (st k a b c m x r) (st (k + 1) b c c (with_word_in s.workspace m j a) x r)
+  pub stores : (k j a b c : ℕ) (m : List ℕ) (now : Situation) (breaks : ℕ) (rest : List Statement)
+      → Lies g program k (asm.stl j ∷ rest) → Held m now → j < size
+      → Proceeds g program (st k a b c m now breaks) (st (k + 1) b c c (with_word_in s.workspace m j a) now breaks)
   unfolding direct
-  stores k j a b c m x r rest lies held below =
-      rows k a b c (k + 1) b c c m (with_word_in s.workspace m j a) x r StoreLocal (operand.Number j) rest lies refl
+  stores k j a b c m now breaks rest lies held below =
+      rows k a b c (k + 1) b c c m (with_word_in s.workspace m j a) now breaks StoreLocal (operand.Number j) rest
+      lies refl
       (ap (λ q. tried q ls m (λ u. Gave (at s (g.address (k + 1)) b c c) ls u))
-      (word_put s.workspace base size count j a x.store m held.holds below))
+      (word_put s.workspace base size count j a now.store m held.holds below))
 
   -- cj at 0
-  pub jumps : (k place b c : ℕ) (m : List ℕ) (x : Situation) (r : ℕ) (rest : List Statement)
+  pub jumps : (k place b c : ℕ) (m : List ℕ) (now : Situation) (breaks : ℕ) (rest : List Statement)
       → Lies g program k (asm.cj place ∷ rest)
-      → Proceeds g program (st k 0 b c m x r) (st place 0 b c m x r)
+      → Proceeds g program (st k 0 b c m now breaks) (st place 0 b c m now breaks)
   unfolding direct
-  jumps k place b c m x r rest lies =
-      rows k 0 b c place 0 b c m m x r ConditionalJump (operand.Label place 0) rest lies refl
+  jumps k place b c m now breaks rest lies =
+      rows k 0 b c place 0 b c m m now breaks ConditionalJump (operand.Label place 0) rest lies refl
       (ap (λ i. Gave (at s i 0 b c) ls m)
       (landing (g.address place) (g.address (k + 1)) (addresses place) (addresses (k + 1))))
 
   -- cj at another value
-  pub passes : (k place a b c : ℕ) (m : List ℕ) (x : Situation) (r : ℕ) (rest : List Statement)
+  pub passes : (k place a b c : ℕ) (m : List ℕ) (now : Situation) (breaks : ℕ) (rest : List Statement)
       → Lies g program k (asm.cj place ∷ rest) → (a == 0) ≡ false
-      → Proceeds g program (st k a b c m x r) (st (k + 1) b c c m x r)
+      → Proceeds g program (st k a b c m now breaks) (st (k + 1) b c c m now breaks)
   unfolding direct
-  passes k place a b c m x r rest lies nonzero =
-      rows k a b c (k + 1) b c c m m x r ConditionalJump (operand.Label place 0) rest lies refl
+  passes k place a b c m now breaks rest lies nonzero =
+      rows k a b c (k + 1) b c c m m now breaks ConditionalJump (operand.Label place 0) rest lies refl
       (ap (λ q. Gave (if q then at s (g.address (k + 1) ⊕ less (plus (g.address place) 0) (g.address (k + 1))) a b c
       else at s (g.address (k + 1)) b c c) ls m) nonzero)
 
   -- j
-  pub goes_back : (k place a b c : ℕ) (m : List ℕ) (x : Situation) (r : ℕ) (rest : List Statement)
+  pub goes_back : (k place a b c : ℕ) (m : List ℕ) (now : Situation) (breaks : ℕ) (rest : List Statement)
       → Lies g program k (asm.j place ∷ rest)
-      → Proceeds g program (st k a b c m x r)
-      (st place (g.others r).0 (g.others r).1 (g.others r).2 m x (r + 1))
+      → Proceeds g program (st k a b c m now breaks)
+      (st place (g.others breaks).0 (g.others breaks).1 (g.others breaks).2 m now (breaks + 1))
   unfolding direct
-  goes_back k place a b c m x r rest lies =
+  goes_back k place a b c m now breaks rest lies =
       let target = g.address (k + 1) ⊕ less (plus (g.address place) 0) (g.address (k + 1)) in
-      one_on g program (st k a b c m x r) (st place (g.others r).0 (g.others r).1 (g.others r).2 m x (r + 1))
-      (staged g program k (st k a b c m x r) Jump (operand.Label place 0) ThenOthers refl lies.0 lies.1 refl
-      ∙ ap (λ e. left_by e (st k a b c m x r) (λ p. Running (after_others g p)))
+      one_on g program (st k a b c m now breaks)
+      (st place (g.others breaks).0 (g.others breaks).1 (g.others breaks).2 m now (breaks + 1))
+      (staged g program k (st k a b c m now breaks) Jump (operand.Label place 0) ThenOthers refl lies.0 lies.1 refl
+      ∙ ap (λ e. left_after e (st k a b c m now breaks) (λ p. Running (after_others g p)))
       (slice_goes_on (at s target a b c) ls m in_slice)
-      ∙ ap (λ i. Running (after_others g (lone g program ls (at s i a b c) m x r)))
+      ∙ ap (λ i. Running (after_others g (lone g program ls (at s i a b c) m now breaks)))
       (landing (g.address place) (g.address (k + 1)) (addresses place) (addresses (k + 1))))
 
   -- memory after an expression's code
-  pub held_on : (t : ℕ) (m u : List ℕ) (x : Situation) → Held m x → Holds s.workspace base size count x.store u
-      → KeepsOthers s.workspace t size m u → Held u x
-  held_on t m u x held holds kept =
+  pub held_on : (spare : ℕ) (m u : List ℕ) (now : Situation) → Held m now → Holds s.workspace base size count
+      now.store u
+      → KeepsOthers s.workspace spare size m u → Held u now
+  held_on spare m u now held holds kept =
       record {
         holds = holds;
-        kept = kept_then s.workspace 0 t size begun m u (omega arith) held.kept kept;
+        kept = kept_then s.workspace 0 spare size begun m u (omega arith) held.kept kept;
         long = held.long;
         bytes = held.bytes;
       }
 
   -- what is done with the value of an expression
-  pub evaluated : (outcome : Option ℕ) (go : ℕ → Course) (n last k mid t a b c : ℕ) (m : List ℕ) (x : Situation) (r : ℕ)
-      (code : List Statement) → AreByRow code → Lies g program k code → Held m x
-      → Comes g.address (blanks k ++ code) ls mid t base size count x.store (at s (g.address k) a b c) m outcome
+  pub evaluated : (outcome : Option ℕ) (go : ℕ → Course) (n last k mid spare a b c : ℕ) (m : List ℕ)
+      (now : Situation) (breaks : ℕ)
+      (code : List Statement) → AreByRow code → Lies g program k code → Held m now
+      → Comes g.address (blanks k ++ code) ls mid spare base size count now.store (at s (g.address k) a b c) m outcome
       → IsWord outcome
-      → ((v b' c' : ℕ) (u : List ℕ) → v < 2 ^ 32 → Held u x → KeepsOthers s.workspace t size m u
-      → Shows n last (st mid v b' c' u x r) (go v))
-      → Shows n last (st k a b c m x r) (with_value outcome x.talk go)
-  evaluated None go n last k mid t a b c m x r code quiet lies held comes word next =
-      falls_lone g program code k ls (at s (g.address k) a b c) m x r quiet lies (comes halts)
-  evaluated (Some v) go n last k mid t a b c m x r code quiet lies held comes word next =
-      later (go v) n last (st k a b c m x r) (st mid v comes.b comes.c comes.memory x r)
+      → ((v b' c' : ℕ) (u : List ℕ) → v < 2 ^ 32 → Held u now → KeepsOthers s.workspace spare size m u
+      → Shows n last (st mid v b' c' u now breaks) (go v))
+      → Shows n last (st k a b c m now breaks) (value_then outcome now.talk go)
+  evaluated None go n last k mid spare a b c m now breaks code quiet lies held comes word next =
+      falls_lone g program code k ls (at s (g.address k) a b c) m now breaks quiet lies (comes halts)
+  evaluated (Some v) go n last k mid spare a b c m now breaks code quiet lies held comes word next =
+      later (go v) n last (st k a b c m now breaks) (st mid v comes.b comes.c comes.memory now breaks)
       (leads_lone g program code k ls comes.number (at s (g.address k) a b c)
-      (at s (g.address mid) v comes.b comes.c) m comes.memory x r quiet lies comes.leads)
-      (next v comes.b comes.c comes.memory word (held_on t m comes.memory x held comes.holds comes.kept) comes.kept)
+      (at s (g.address mid) v comes.b comes.c) m comes.memory now breaks quiet lies comes.leads)
+      (next v comes.b comes.c comes.memory word (held_on spare m comes.memory now held comes.holds comes.kept)
+      comes.kept)
 
   -- an expression's code, and what is done with its value
-  pub evaluates : (e : Expression) (go : ℕ → Course) (n last k t a b c : ℕ) (m : List ℕ) (x : Situation) (r : ℕ)
-      → IsWithin count e → Lies g program k (expression_code k (from t) e) → Held m x → count + base ≤ t
-      → t + temporaries_of e ≤ size
-      → ((v b' c' : ℕ) (u : List ℕ) → v < 2 ^ 32 → Held u x → KeepsOthers s.workspace t size m u
-      → Shows n last (st (k + length (expression_code k (from t) e)) v b' c' u x r) (go v))
-      → Shows n last (st k a b c m x r) (with_value (value e x.store) x.talk go)
-  evaluates e go n last k t a b c m x r fit lies held free room next =
-      let code = expression_code k (from t) e in
+  pub evaluates : (e : Expression) (go : ℕ → Course) (n last k spare a b c : ℕ) (m : List ℕ) (now : Situation)
+      (breaks : ℕ)
+      → IsWithin count e → Lies g program k (expression_code k (from spare) e) → Held m now → count + base ≤ spare
+      → spare + temporaries_of e ≤ size
+      → ((v b' c' : ℕ) (u : List ℕ) → v < 2 ^ 32 → Held u now → KeepsOthers s.workspace spare size m u
+      → Shows n last (st (k + length (expression_code k (from spare) e)) v b' c' u now breaks) (go v))
+      → Shows n last (st k a b c m now breaks) (value_then (value e now.store) now.talk go)
+  evaluates e go n last k spare a b c m now breaks fit lies held free room next =
+      let code = expression_code k (from spare) e in
       let whole = blanks k ++ code in
-      let fits = stored g.address addresses whole ls base size count x.store s m held.holds in
-      evaluated (value e x.store) go n last k (k + length code) t a b c m x r code (quiet_expression e k (from t)) lies
+      let fits = stored g.address addresses whole ls base size count now.store s m held.holds in
+      evaluated (value e now.store) go n last k (k + length code) spare a b c m now breaks code
+      (quiet_expression e k (from spare)) lies
       held
-      (runs g.address addresses whole ls base size count x.store e fit.1 fit.0 fits k t a b c s m (has_behind code k)
+      (runs g.address addresses whole ls base size count now.store e fit.1 fit.0 fits k spare a b c s m
+      (has_behind code k)
       held.holds free room)
-      (value_word e count x.store fit.1 fit.0 fits) next
+      (value_word e count now.store fit.1 fit.0 fits) next
 
   -- the code of a process, from any registers, does what it does
   abbrev pub Runs : CoreProcess → Type 0
   Runs p =
-      (n k t a b c : ℕ) (m : List ℕ) (x : Situation) (r : ℕ) → Lies g program k (process_code k (from t) p) → Held m x
-      → count + base ≤ t → t + process_temporaries p ≤ size
-      → Shows n (k + length (process_code k (from t) p)) (st k a b c m x r) (does n p x)
+      (n k spare a b c : ℕ) (m : List ℕ) (now : Situation) (breaks : ℕ) → Lies g program k
+      (process_code k (from spare) p) → Held m now
+      → count + base ≤ spare → spare + process_temporaries p ≤ size
+      → Shows n (k + length (process_code k (from spare) p)) (st k a b c m now breaks) (does n p now)
 
+  -- SKIP
   pub skip_runs : Runs Skip
   skip_runs n k t a b c m x r lies held free room =
       let e : k ≡ k + 0 = omega arith in
       ends_as (Ended x) n k (k + 0) (st k a b c m x r) e
       (ended n k a b c m x r (st k a b c m x r) (waits g program (st k a b c m x r)) held)
 
+  -- STOP
   pub stop_runs : Runs Stop
   unfolding direct row operation_of
   stop_runs n k t a b c m x r lies held free room =
       stops_on g program (st k a b c m x r) (st k a b c m x r) ErrorSet (waits g program (st k a b c m x r))
       (staged g program k (st k a b c m x r) Operate (operand.Number 0x10) ByRow refl lies.0 lies.1 refl
-      ∙ ap (λ q. left_by (if q then Halted ErrorSet ls m
+      ∙ ap (λ q. left_after (if q then Halted ErrorSet ls m
       else Gave (record (at s (g.address (k + 1)) a b c) { error = true }) ls m) (st k a b c m x r) Running) halts)
 
   -- a variable has got a word
-  pub held_assigned : (v y : ℕ) (m : List ℕ) (x : Situation) → Held m x → v < count → count + base ≤ size → y < 2 ^ 32
-      → Held (with_word_in s.workspace m (v + base) y) (assigned v y x)
-  held_assigned v y m x held within room fits =
+  pub held_assigned : (v y : ℕ) (m : List ℕ) (now : Situation) → Held m now → v < count → count + base ≤ size → y < 2
+      ^ 32
+      → Held (with_word_in s.workspace m (v + base) y) (assigned v y now)
+  held_assigned v y m now held within room fits =
       record {
-        holds = holds_assigned s.workspace base size count v y x.store m held.holds within room fits held.long;
+        holds = holds_assigned s.workspace base size count v y now.store m held.holds within room fits held.long;
         kept = kept_word s.workspace size (v + base) y begun m held.kept (omega (arith, within, room));
-        long = set_long x.store v y ∙ held.long;
+        long = set_long now.store v y ∙ held.long;
         bytes = held.bytes;
       }
 
   -- stl at the end of an assignment
-  pub assigns : (k v y b c : ℕ) (m : List ℕ) (x : Situation) (r : ℕ) (rest : List Statement)
-      → Lies g program k (asm.stl (v ⊕ base) ∷ rest) → Held m x → v < count → count + base ≤ size
-      → Proceeds g program (st k y b c m x r)
-      (st (k + 1) b c c (with_word_in s.workspace m (v + base) y) (assigned v y x) r)
-  assigns k v y b c m x r rest lies held within room =
+  pub assigns : (k v y b c : ℕ) (m : List ℕ) (now : Situation) (breaks : ℕ) (rest : List Statement)
+      → Lies g program k (asm.stl (v ⊕ base) ∷ rest) → Held m now → v < count → count + base ≤ size
+      → Proceeds g program (st k y b c m now breaks)
+      (st (k + 1) b c c (with_word_in s.workspace m (v + base) y) (assigned v y now) breaks)
+  assigns k v y b c m now breaks rest lies held within room =
       let next = word_after base v count size (s.workspace - 0x80000000) (length m) within room held.holds.most
       held.holds.memory.most in
-      subst (λ j. Proceeds g program (st k y b c m x r)
-      (st (k + 1) b c c (with_word_in s.workspace m j y) (assigned v y x) r)) next
-      (stores k (v ⊕ base) y b c m x r rest lies held (omega (arith, next, within, room)))
+      subst (λ j. Proceeds g program (st k y b c m now breaks)
+      (st (k + 1) b c c (with_word_in s.workspace m j y) (assigned v y now) breaks)) next
+      (stores k (v ⊕ base) y b c m now breaks rest lies held (omega (arith, next, within, room)))
 
+  -- an assignment
   pub assign_runs : (v : ℕ) (e : Expression) → ProcessIsWithin count (Assign v e) → Runs (Assign v e)
   assign_runs v e fit n k t a b c m x r lies held free room =
       let code = expression_code k (from t) e in
@@ -313,13 +344,15 @@ module _ (w : Ground) where
       (omega (arith, length-append code more))
       (evaluates e (λ y. Ended (assigned v y x)) n (mid + 1) k t a b c m x r fit.1
       (lies_front g program k code more lies) held free room
-      (λ y b' c' u fits held' kept. ended n (mid + 1) b' c' c' (with_word_in s.workspace u (v + base) y) (assigned v y x)
+      (λ y b' c' u fits held' kept. ended n (mid + 1) b' c' c' (with_word_in s.workspace u (v + base) y)
+      (assigned v y x)
       r (st mid y b' c' u x r)
       (some g program (st mid y b' c' u x r)
       (st (mid + 1) b' c' c' (with_word_in s.workspace u (v + base) y) (assigned v y x) r)
       (assigns mid v y b' c' u x r [] (lies_back g program k code more lies) held' fit.0 within))
       (held_assigned v y u x held' fit.0 within fits)))
 
+  -- two processes, one after the other
   pub sequence_runs : (box box' : Box (Unit {0}) Global) (p q : CoreProcess) → Runs p → Runs q
       → Runs (Sequence' box p box' q)
   sequence_runs box box' p q run_p run_q n k t a b c m x r lies held free room =
@@ -351,38 +384,42 @@ module _ (w : Ground) where
   then_jump (Unfinished talk) n over end p rest lies shows = shows
 
   -- cj, and one of two processes
-  chosen : (zero : Bool) (p q : CoreProcess) (n mid other end t v b c : ℕ) (m : List ℕ) (x : Situation) (r : ℕ)
+  chosen : (zero : Bool) (p q : CoreProcess) (n mid other end spare v b c : ℕ) (m : List ℕ) (now : Situation)
+      (breaks : ℕ)
       → (v == 0) ≡ zero → Runs p → Runs q
-      → other ≡ mid + 1 + length (process_code (mid + 1) (from t) p) + 1
-      → end ≡ other + length (process_code other (from t) q)
+      → other ≡ mid + 1 + length (process_code (mid + 1) (from spare) p) + 1
+      → end ≡ other + length (process_code other (from spare) q)
       → Lies g program mid
-      (asm.cj other ∷ (process_code (mid + 1) (from t) p ++ asm.j end ∷ process_code other (from t) q))
-      → Held m x → count + base ≤ t → t + process_temporaries p ≤ size → t + process_temporaries q ≤ size
-      → Shows n end (st mid v b c m x r) (if zero then does n q x else does n p x)
-  chosen true p q n mid other end t v b c m x r is run_p run_q at_other at_end lies held free room room' =
-      let first = process_code (mid + 1) (from t) p in
-      let second = process_code other (from t) q in
+      (asm.cj other ∷ (process_code (mid + 1) (from spare) p ++ asm.j end ∷ process_code other (from spare) q))
+      → Held m now → count + base ≤ spare → spare + process_temporaries p ≤ size → spare + process_temporaries q ≤ size
+      → Shows n end (st mid v b c m now breaks) (if zero then does n q now else does n p now)
+  chosen true p q n mid other end spare v b c m now breaks is run_p run_q at_other at_end lies held free room room' =
+      let first = process_code (mid + 1) (from spare) p in
+      let second = process_code other (from spare) q in
       let start = mid + 1 in
       let tail = lies_back g program start first (asm.j end ∷ second) lies.2 in
       let second_lies = subst (λ i. Lies g program i second) (sym at_other) tail.2 in
-      ends_as (does n q x) n (other + length second) end (st mid v b c m x r) (sym at_end)
-      (subst (λ i. Shows n (other + length second) (st mid i b c m x r) (does n q x)) (sym (is_zero v is))
-      (later (does n q x) n (other + length second) (st mid 0 b c m x r) (st other 0 b c m x r)
-      (some g program (st mid 0 b c m x r) (st other 0 b c m x r)
-      (jumps mid other b c m x r (first ++ asm.j end ∷ second) lies))
-      (run_q n other t 0 b c m x r second_lies held free room')))
-  chosen false p q n mid other end t v b c m x r is run_p run_q at_other at_end lies held free room room' =
-      let first = process_code (mid + 1) (from t) p in
-      let second = process_code other (from t) q in
+      ends_as (does n q now) n (other + length second) end (st mid v b c m now breaks) (sym at_end)
+      (subst (λ i. Shows n (other + length second) (st mid i b c m now breaks) (does n q now)) (sym (is_zero v is))
+      (later (does n q now) n (other + length second) (st mid 0 b c m now breaks) (st other 0 b c m now breaks)
+      (some g program (st mid 0 b c m now breaks) (st other 0 b c m now breaks)
+      (jumps mid other b c m now breaks (first ++ asm.j end ∷ second) lies))
+      (run_q n other spare 0 b c m now breaks second_lies held free room')))
+  chosen false p q n mid other end spare v b c m now breaks is run_p run_q at_other at_end lies held free room room' =
+      let first = process_code (mid + 1) (from spare) p in
+      let second = process_code other (from spare) q in
       let start = mid + 1 in
-      later (does n p x) n end (st mid v b c m x r) (st start b c c m x r)
-      (some g program (st mid v b c m x r) (st start b c c m x r)
-      (passes mid other v b c m x r (first ++ asm.j end ∷ second) lies is))
-      (then_jump (does n p x) n (start + length first) end (st start b c c m x r) second
+      later (does n p now) n end (st mid v b c m now breaks) (st start b c c m now breaks)
+      (some g program (st mid v b c m now breaks) (st start b c c m now breaks)
+      (passes mid other v b c m now breaks (first ++ asm.j end ∷ second) lies is))
+      (then_jump (does n p now) n (start + length first) end (st start b c c m now breaks) second
       (lies_back g program start first (asm.j end ∷ second) lies.2)
-      (run_p n start t b c c m x r (lies_front g program start first (asm.j end ∷ second) lies.2) held free room))
+      (run_p n start spare b c c m now breaks (lies_front g program start first (asm.j end ∷ second) lies.2) held
+      free room))
 
-  pub if_runs : (e : Expression) (box box' : Box (Unit {0}) Global) (p q : CoreProcess) → IsWithin count e → Runs p → Runs q
+  -- a choice
+  pub if_runs : (e : Expression) (box box' : Box (Unit {0}) Global) (p q : CoreProcess) → IsWithin count e → Runs p →
+      Runs q
       → Runs (If' e box p box' q)
   if_runs e box box' p q fit run_p run_q n k t a b c m x r lies held free room =
       let test = expression_code k (from t) e in
@@ -401,30 +438,34 @@ module _ (w : Ground) where
       (lies_back g program k test more lies) held' free (omega (arith, room)) (omega (arith, room))))
 
   -- the rest of a turn of a loop, and the turns after it
-  turn : (zero : Bool) (p : CoreProcess) (rounds : Situation → Course) (n most mid over end k t v b c : ℕ) (m : List ℕ)
-      (x : Situation) (r : ℕ) → (v == 0) ≡ zero → suc n ≤ most → Runs p
-      → over ≡ mid + 1 + length (process_code (mid + 1) (from t) p) → end ≡ over + 1
-      → Lies g program mid (asm.cj end ∷ (process_code (mid + 1) (from t) p ++ asm.j k ∷ []))
-      → Held m x → count + base ≤ t → t + process_temporaries p ≤ size
+  turn : (zero : Bool) (p : CoreProcess) (rounds : Situation → Course) (n most mid over end k spare v b c : ℕ)
+      (m : List ℕ)
+      (now : Situation) (breaks : ℕ) → (v == 0) ≡ zero → suc n ≤ most → Runs p
+      → over ≡ mid + 1 + length (process_code (mid + 1) (from spare) p) → end ≡ over + 1
+      → Lies g program mid (asm.cj end ∷ (process_code (mid + 1) (from spare) p ++ asm.j k ∷ []))
+      → Held m now → count + base ≤ spare → spare + process_temporaries p ≤ size
       → ((y : Situation) (a' b' c' : ℕ) (u : List ℕ) (r' : ℕ) → Held u y
       → Shows n end (st k a' b' c' u y r') (rounds y))
-      → Shows (suc n) end (st mid v b c m x r) (if zero then Ended x else then_do (does most p x) rounds)
-  turn true p rounds n most mid over end k t v b c m x r is less run_p at_over at_end lies held free room next =
-      let body = process_code (mid + 1) (from t) p in
-      subst (λ i. Shows (suc n) end (st mid i b c m x r) (Ended x)) (sym (is_zero v is))
-      (ended (suc n) end 0 b c m x r (st mid 0 b c m x r)
-      (some g program (st mid 0 b c m x r) (st end 0 b c m x r)
-      (jumps mid end b c m x r (body ++ asm.j k ∷ []) lies)) held)
-  turn false p rounds n most mid over end k t v b c m x r is less run_p at_over at_end lies held free room next =
-      let body = process_code (mid + 1) (from t) p in
+      → Shows (suc n) end (st mid v b c m now breaks) (if zero then Ended now else then_do (does most p now) rounds)
+  turn true p rounds n most mid over end k spare v b c m now breaks is less run_p at_over at_end lies held free room
+      next =
+      let body = process_code (mid + 1) (from spare) p in
+      subst (λ i. Shows (suc n) end (st mid i b c m now breaks) (Ended now)) (sym (is_zero v is))
+      (ended (suc n) end 0 b c m now breaks (st mid 0 b c m now breaks)
+      (some g program (st mid 0 b c m now breaks) (st end 0 b c m now breaks)
+      (jumps mid end b c m now breaks (body ++ asm.j k ∷ []) lies)) held)
+  turn false p rounds n most mid over end k spare v b c m now breaks is less run_p at_over at_end lies held free room
+      next =
+      let body = process_code (mid + 1) (from spare) p in
       let start = mid + 1 in
       let back = lies_back g program start body (asm.j k ∷ []) lies.2 in
-      later (then_do (does most p x) rounds) (suc n) end (st mid v b c m x r) (st start b c c m x r)
-      (some g program (st mid v b c m x r) (st start b c c m x r)
-      (passes mid end v b c m x r (body ++ asm.j k ∷ []) lies is))
-      (then_on (does most p x) rounds (suc n) (start + length body) end (st start b c c m x r)
-      (fewer (does most p x) (suc n) most (start + length body) (st start b c c m x r) less
-      (run_p most start t b c c m x r (lies_front g program start body (asm.j k ∷ []) lies.2) held free room))
+      later (then_do (does most p now) rounds) (suc n) end (st mid v b c m now breaks) (st start b c c m now breaks)
+      (some g program (st mid v b c m now breaks) (st start b c c m now breaks)
+      (passes mid end v b c m now breaks (body ++ asm.j k ∷ []) lies is))
+      (then_on (does most p now) rounds (suc n) (start + length body) end (st start b c c m now breaks)
+      (fewer (does most p now) (suc n) most (start + length body) (st start b c c m now breaks) less
+      (run_p most start spare b c c m now breaks (lies_front g program start body (asm.j k ∷ []) lies.2) held free
+      room))
       (λ y a' b' c' u r' held'. later_more (rounds y) n end (st (start + length body) a' b' c' u y r')
       (st k (g.others r').0 (g.others r').1 (g.others r').2 u y (r' + 1))
       (goes_back (start + length body) k a' b' c' u y r' [] back)
@@ -432,29 +473,32 @@ module _ (w : Ground) where
 
   -- a loop with a condition, for some turns of those that it may make
   pub loops : (e : Expression) (box : Box (Unit {0}) Global) (p : CoreProcess) → IsWithin count e → Runs p
-      → (n most k t a b c : ℕ) (m : List ℕ) (x : Situation) (r : ℕ) → n ≤ most
-      → Lies g program k (process_code k (from t) (While' e box p)) → Held m x → count + base ≤ t
-      → t + process_temporaries (While' e box p) ≤ size
-      → Shows n (k + length (process_code k (from t) (While' e box p))) (st k a b c m x r)
-      (turns n (λ now. value e now.store) (does most p) x)
-  loops e box p fit run_p zero most k t a b c m x r less lies held free room =
-      (0, st k a b c m x r, omega arith, refl, refl)
-  loops e box p fit run_p (suc n) most k t a b c m x r less lies held free room =
-      let test = expression_code k (from t) e in
+      → (n most k spare a b c : ℕ) (m : List ℕ) (now : Situation) (breaks : ℕ) → n ≤ most
+      → Lies g program k (process_code k (from spare) (While' e box p)) → Held m now → count + base ≤ spare
+      → spare + process_temporaries (While' e box p) ≤ size
+      → Shows n (k + length (process_code k (from spare) (While' e box p))) (st k a b c m now breaks)
+      (turns n (λ now. value e now.store) (does most p) now)
+  loops e box p fit run_p zero most k spare a b c m now breaks less lies held free room =
+      (0, st k a b c m now breaks, omega arith, refl, refl)
+  loops e box p fit run_p (suc n) most k spare a b c m now breaks less lies held free room =
+      let test = expression_code k (from spare) e in
       let mid = k + length test in
       let start = mid + 1 in
-      let body = process_code start (from t) p in
+      let body = process_code start (from spare) p in
       let over = start + length body in
       let end = over + 1 in
       let more = asm.cj end ∷ (body ++ asm.j k ∷ []) in
       let all = k + length (test ++ more) in
       let ends : end ≡ all = omega (arith, length-append test more, length-append body (asm.j k ∷ [])) in
       let rounds = turns n (λ now. value e now.store) (does most p) in
-      ends_as (with_value (value e x.store) x.talk (λ v. if v == 0 then Ended x else then_do (does most p x) rounds))
-      (suc n) end all (st k a b c m x r) ends
-      (evaluates e (λ v. if v == 0 then Ended x else then_do (does most p x) rounds) (suc n) end k t a b c m x r fit
+      ends_as (value_then (value e now.store) now.talk
+      (λ v. if v == 0 then Ended now else then_do (does most p now) rounds))
+      (suc n) end all (st k a b c m now breaks) ends
+      (evaluates e (λ v. if v == 0 then Ended now else then_do (does most p now) rounds) (suc n) end k spare a b c m
+      now breaks fit
       (lies_front g program k test more lies) held free (omega (arith, room))
-      (λ v b' c' u fits held' kept. turn (v == 0) p rounds n most mid over end k t v b' c' u x r refl less run_p refl refl
+      (λ v b' c' u fits held' kept. turn (v == 0) p rounds n most mid over end k spare v b' c' u now breaks refl less
+      run_p refl refl
       (lies_back g program k test more lies) held' free (omega (arith, room))
-      (λ y a'' b'' c'' w r' held''. ends_as (rounds y) n all end (st k a'' b'' c'' w y r') (sym ends)
-      (loops e box p fit run_p n most k t a'' b'' c'' w y r' (omega (arith, less)) lies held'' free room))))
+      (λ y a'' b'' c'' ground r' held''. ends_as (rounds y) n all end (st k a'' b'' c'' ground y r') (sym ends)
+      (loops e box p fit run_p n most k spare a'' b'' c'' ground y r' (omega (arith, less)) lies held'' free room))))

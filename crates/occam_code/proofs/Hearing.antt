@@ -18,7 +18,7 @@ use Rattle.occam_code.specs.Instructions as asm
 use Rattle.occam_code.specs.Guards.{channel_code}
 use Rattle.occam_code.specs.Code.{process_code}
 use Rattle.occam_code.specs.Machine.{done_at}
-use Rattle.occam_code.specs.Alone.{LoneProcess, LoneStage, Running, AtInput, after_others, and_then, with_bytes, channel_at, hear, left_by, Hears, next_stage, while_running, stage_after}
+use Rattle.occam_code.specs.Alone.{LoneProcess, LoneStage, Running, AtInput, after_others, and_then, with_bytes, channel_at, hear, left_after, Hears, next_stage, while_running, stage_after}
 use Rattle.occam_code.proofs.Workspace.{array_address, with_word_in}
 use Rattle.occam_code.proofs.Lone.{Lies, lies_front, lies_back, run, Advances, Proceeds, waits, advances_on, some, one_on, staged}
 use Rattle.occam_code.proofs.MessageBytes.{channel_word, input_of, heard_byte, heard_word, rest_bytes, value_fits}
@@ -26,139 +26,146 @@ use Rattle.occam_code.proofs.Behaving.{Ground, from, st, Held, Shows, later, end
 use Rattle.occam_code.proofs.Repeating.{word_of, points}
 use Rattle.occam_code.proofs.Speaking.{constants, channel_runs}
 
-module _ (w : Ground) where
-  open w use {setting as g, program, registers as s, links as ls, base, size, count}
+module _ (ground : Ground) where
+  open ground use {setting as g, program, registers as s, links as ls, base, size, count}
 
   -- a wait after some statements
-  listens_on : (p q : LoneProcess) → Advances g program p q → next_stage g program q ≡ AtInput q.talk
-      → (j : ℕ) × (run g program j p ≡ AtInput q.talk)
-  listens_on p q adv is =
+  listens_on : (p after : LoneProcess) → Advances g program p after → next_stage g program after ≡ AtInput after.talk
+      → (j : ℕ) × (run g program j p ≡ AtInput after.talk)
+  listens_on p after adv is =
       let a = adv.by 1 in (a.0, a.2 ∙ ap (λ h. while_running h (stage_after g program 0)) is)
 
   -- what in does, if enough bytes come, or not
-  input_stage : (enough : Bool) (n c pointer k : ℕ) (m : List ℕ) (x : Situation) (r : ℕ) (rest : List Statement)
-      → 4 ≤ c → c < 8 → Lies g program k (asm.in ∷ rest) → nat_le n (length x.coming) ≡ enough
-      → next_stage g program (st w k n (channel_word c) pointer m x r)
+  input_stage : (enough : Bool) (n c pointer k : ℕ) (m : List ℕ) (now : Situation) (breaks : ℕ) (rest : List Statement)
+      → 4 ≤ c → c < 8 → Lies g program k (asm.in ∷ rest) → nat_le n (length now.coming) ≡ enough
+      → next_stage g program (st ground k n (channel_word c) pointer m now breaks)
       ≡ (if enough
-      then and_then (with_bytes m pointer (take n x.coming)) (st w (k + 1) n (channel_word c) pointer m x r)
-      (λ u. Running (after_others g (st w (k + 1) n (channel_word c) pointer u (heard c n x) r)))
-      else AtInput x.talk)
+      then and_then (with_bytes m pointer (take n now.coming))
+      (st ground (k + 1) n (channel_word c) pointer m now breaks)
+      (λ u. Running (after_others g (st ground (k + 1) n (channel_word c) pointer u (heard c n now) breaks)))
+      else AtInput now.talk)
   unfolding operation_of
-  input_stage enough n c pointer k m x r rest least below lies is =
-      let p = st w k n (channel_word c) pointer m x r in
-      let next = st w (k + 1) n (channel_word c) pointer m x r in
-      let other = left_by (done_at g.address k Operate (operand.Number 0x07) p.registers ls m) p Running in
+  input_stage enough n c pointer k m now breaks rest least below lies is =
+      let p = st ground k n (channel_word c) pointer m now breaks in
+      let next = st ground (k + 1) n (channel_word c) pointer m now breaks in
+      let other = left_after (done_at g.address k Operate (operand.Number 0x07) p.registers ls m) p Running in
       let input = input_of c least below in
-      let bytes = take n x.coming in
+      let bytes = take n now.coming in
       let heard_by = λ (number : ℕ). and_then (with_bytes m pointer bytes) next
       (λ u. Running (after_others g (record next {
         memory = u;
-        coming = drop n x.coming;
-        talk = x.talk ++ Heard number bytes ∷ [];
+        coming = drop n now.coming;
+        talk = now.talk ++ Heard number bytes ∷ [];
       }))) in
       staged g program k p Operate (operand.Number 0x07) Hears refl lies.0 lies.1 refl
       ∙ ap (λ q. hear g q next other) input.kind
-      ∙ ap (λ number. if nat_le n (length x.coming) then heard_by number else AtInput x.talk) input.number
-      ∙ ap (λ q. if q then heard_by c else AtInput x.talk) is
+      ∙ ap (λ number. if nat_le n (length now.coming) then heard_by number else AtInput now.talk) input.number
+      ∙ ap (λ q. if q then heard_by c else AtInput now.talk) is
 
   -- the situation after an input
   abbrev after_input : ℕ → MessageKind → ℕ → Situation → Situation
-  after_input c kind v x = assigned v (value_heard kind x.coming) (heard c (bytes_in kind) x)
+  after_input c kind v now = assigned v (value_heard kind now.coming) (heard c (bytes_in kind) now)
 
   -- a variable has got a message
-  held_heard : (c v : ℕ) (kind : MessageKind) (m : List ℕ) (x : Situation) → Held w m x → v < count
+  held_heard : (c v : ℕ) (kind : MessageKind) (m : List ℕ) (now : Situation) → Held ground m now → v < count
       → count + base ≤ size
-      → Held w (with_word_in s.workspace m (v + base) (value_heard kind x.coming)) (after_input c kind v x)
-  held_heard c v kind m x held within room =
-      let y = value_heard kind x.coming in
-      let held' = held_assigned w v y m x held within room (value_fits kind x.coming held.bytes) in
+      → Held ground (with_word_in s.workspace m (v + base) (value_heard kind now.coming)) (after_input c kind v now)
+  held_heard c v kind m now held within room =
+      let y = value_heard kind now.coming in
+      let held' = held_assigned ground v y m now held within room (value_fits kind now.coming held.bytes) in
       record {
         holds = held'.holds;
         kept = held'.kept;
         long = held'.long;
-        bytes = rest_bytes (bytes_in kind) x.coming held.bytes;
+        bytes = rest_bytes (bytes_in kind) now.coming held.bytes;
       }
 
   -- an input's operation, if the bytes would fill the variable's word
-  hears : (enough : Bool) (n c v : ℕ) (kind : MessageKind) (pointer k : ℕ) (m before : List ℕ) (x : Situation) (r : ℕ)
+  hears : (enough : Bool) (n c v : ℕ) (kind : MessageKind) (pointer k : ℕ) (m before : List ℕ) (now : Situation)
+      (breaks : ℕ)
       (rest : List Statement) → 4 ≤ c → c < 8 → Lies g program k (asm.in ∷ rest)
-      → nat_le (bytes_in kind) (length x.coming) ≡ enough
-      → (enough ≡ true → with_bytes m pointer (take (bytes_in kind) x.coming)
-      ≡ Ok (with_word_in s.workspace before (v + base) (value_heard kind x.coming)))
-      → Held w before x → v < count → count + base ≤ size
-      → Shows w n (k + 1) (st w k (bytes_in kind) (channel_word c) pointer m x r)
-      (if enough then Ended (after_input c kind v x) else Awaits x.talk)
-  hears true n c v kind pointer k m before x r rest least below lies is fills held within room =
-      let p = st w k (bytes_in kind) (channel_word c) pointer m x r in
-      let u = with_word_in s.workspace before (v + base) (value_heard kind x.coming) in
-      let y = after_input c kind v x in
-      let end = st w (k + 1) (g.others r).0 (g.others r).1 (g.others r).2 u y (r + 1) in
-      let next = st w (k + 1) (bytes_in kind) (channel_word c) pointer m x r in
-      ended w n (k + 1) (g.others r).0 (g.others r).1 (g.others r).2 u y (r + 1) p
+      → nat_le (bytes_in kind) (length now.coming) ≡ enough
+      → (enough ≡ true → with_bytes m pointer (take (bytes_in kind) now.coming)
+      ≡ Ok (with_word_in s.workspace before (v + base) (value_heard kind now.coming)))
+      → Held ground before now → v < count → count + base ≤ size
+      → Shows ground n (k + 1) (st ground k (bytes_in kind) (channel_word c) pointer m now breaks)
+      (if enough then Ended (after_input c kind v now) else Awaits now.talk)
+  hears true n c v kind pointer k m before now breaks rest least below lies is fills held within room =
+      let p = st ground k (bytes_in kind) (channel_word c) pointer m now breaks in
+      let u = with_word_in s.workspace before (v + base) (value_heard kind now.coming) in
+      let y = after_input c kind v now in
+      let end = st ground (k + 1) (g.others breaks).0 (g.others breaks).1 (g.others breaks).2 u y (breaks + 1) in
+      let next = st ground (k + 1) (bytes_in kind) (channel_word c) pointer m now breaks in
+      ended ground n (k + 1) (g.others breaks).0 (g.others breaks).1 (g.others breaks).2 u y (breaks + 1) p
       (some g program p end
       (one_on g program p end
-      (input_stage true (bytes_in kind) c pointer k m x r rest least below lies is
+      (input_stage true (bytes_in kind) c pointer k m now breaks rest least below lies is
       ∙ ap (λ q. and_then q next (λ l. Running (after_others g
-      (st w (k + 1) (bytes_in kind) (channel_word c) pointer l (heard c (bytes_in kind) x) r)))) (fills refl))))
-      (held_heard c v kind before x held within room)
-  hears false n c v kind pointer k m before x r rest least below lies is fills held within room =
-      let p = st w k (bytes_in kind) (channel_word c) pointer m x r in
+      (st ground (k + 1) (bytes_in kind) (channel_word c) pointer l (heard c (bytes_in kind) now) breaks))))
+      (fills refl))))
+      (held_heard c v kind before now held within room)
+  hears false n c v kind pointer k m before now breaks rest least below lies is fills held within room =
+      let p = st ground k (bytes_in kind) (channel_word c) pointer m now breaks in
       listens_on p p (waits g program p)
-      (input_stage false (bytes_in kind) c pointer k m x r rest least below lies is)
+      (input_stage false (bytes_in kind) c pointer k m now breaks rest least below lies is)
 
   -- the code of an input behind the clearing of its variable
-  input_tail : (n c v t : ℕ) (kind : MessageKind) (k a b d : ℕ) (m before : List ℕ) (x : Situation) (r : ℕ)
+  input_tail : (n c v spare : ℕ) (kind : MessageKind) (k a b d : ℕ) (m before : List ℕ) (now : Situation) (breaks : ℕ)
       → 4 ≤ c → c < 8
       → Lies g program k
-      (asm.ldlp (v ⊕ base) ∷ (channel_code (from w t) (Link c) ++ asm.ldc (bytes_in kind) ∷ asm.in ∷ []))
-      → (nat_le (bytes_in kind) (length x.coming) ≡ true
-      → with_bytes m (s.workspace ⊕ 4 ⊗ (v ⊕ base)) (take (bytes_in kind) x.coming)
-      ≡ Ok (with_word_in s.workspace before (v + base) (value_heard kind x.coming)))
-      → Held w before x → v < count → count + base ≤ size
-      → Shows w n (k + 1 + length (channel_code (from w t) (Link c)) + 1 + 1) (st w k a b d m x r)
-      (if nat_le (bytes_in kind) (length x.coming) then Ended (after_input c kind v x) else Awaits x.talk)
-  input_tail n c v t kind k a b d m before x r least below lies fills held within room =
-      let channel = channel_code (from w t) (Link c) in
+      (asm.ldlp (v ⊕ base) ∷ (channel_code (from ground spare) (Link c) ++ asm.ldc (bytes_in kind) ∷ asm.in ∷ []))
+      → (nat_le (bytes_in kind) (length now.coming) ≡ true
+      → with_bytes m (s.workspace ⊕ 4 ⊗ (v ⊕ base)) (take (bytes_in kind) now.coming)
+      ≡ Ok (with_word_in s.workspace before (v + base) (value_heard kind now.coming)))
+      → Held ground before now → v < count → count + base ≤ size
+      → Shows ground n (k + 1 + length (channel_code (from ground spare) (Link c)) + 1 + 1)
+      (st ground k a b d m now breaks)
+      (if nat_le (bytes_in kind) (length now.coming) then Ended (after_input c kind v now) else Awaits now.talk)
+  input_tail n c v spare kind k a b d m before now breaks least below lies fills held within room =
+      let channel = channel_code (from ground spare) (Link c) in
       let back = asm.ldc (bytes_in kind) ∷ asm.in ∷ [] in
       let pointer = s.workspace ⊕ 4 ⊗ (v ⊕ base) in
       let mid = k + 1 + length channel in
-      let enough = nat_le (bytes_in kind) (length x.coming) in
-      let course = if enough then Ended (after_input c kind v x) else Awaits x.talk in
-      let p = st w k a b d m x r in
-      let p1 = st w (k + 1) pointer a b m x r in
-      let p2 = st w mid (channel_word c) pointer a m x r in
-      let p3 = st w (mid + 1) (bytes_in kind) (channel_word c) pointer m x r in
+      let enough = nat_le (bytes_in kind) (length now.coming) in
+      let course = if enough then Ended (after_input c kind v now) else Awaits now.talk in
+      let p = st ground k a b d m now breaks in
+      let p1 = st ground (k + 1) pointer a b m now breaks in
+      let p2 = st ground mid (channel_word c) pointer a m now breaks in
+      let p3 = st ground (mid + 1) (bytes_in kind) (channel_word c) pointer m now breaks in
       let back_lies = lies_back g program (k + 1) channel back lies.2 in
-      later w course n (mid + 1 + 1) p p3
-      (advances_on g program p p1 p3 (some g program p p1 (points w k (v ⊕ base) a b d m x r (channel ++ back) lies))
+      later ground course n (mid + 1 + 1) p p3
+      (advances_on g program p p1 p3 (some g program p p1
+      (points ground k (v ⊕ base) a b d m now breaks (channel ++ back) lies))
       (advances_on g program p1 p2 p3
-      (channel_runs w c t (k + 1) pointer a b m x r (lies_front g program (k + 1) channel back lies.2))
+      (channel_runs ground c spare (k + 1) pointer a b m now breaks (lies_front g program (k + 1) channel back lies.2))
       (some g program p2 p3
-      (constants w mid (bytes_in kind) (channel_word c) pointer a m x r (asm.in ∷ []) back_lies))))
-      (hears enough n c v kind pointer (mid + 1) m before x r [] least below back_lies.2 refl fills held within room)
+      (constants ground mid (bytes_in kind) (channel_word c) pointer a m now breaks (asm.in ∷ []) back_lies))))
+      (hears enough n c v kind pointer (mid + 1) m before now breaks [] least below back_lies.2 refl fills held
+      within room)
 
   -- where the variable of an input is
-  pointer_is : (v : ℕ) (m : List ℕ) (x : Situation) → Held w m x → v < count → count + base ≤ size
+  pointer_is : (v : ℕ) (m : List ℕ) (now : Situation) → Held ground m now → v < count → count + base ≤ size
       → s.workspace ⊕ 4 ⊗ (v ⊕ base) ≡ s.workspace + 4 * (v + base)
-  pointer_is v m x held within room =
+  pointer_is v m now held within room =
       array_address s.workspace base v size (length m) held.holds.least held.holds.most held.holds.memory.most
       (omega (arith, within, room))
 
   -- the offset of a variable's word
-  offset_is : (v : ℕ) (m : List ℕ) (x : Situation) → Held w m x
+  offset_is : (v : ℕ) (m : List ℕ) (now : Situation) → Held ground m now
       → s.workspace + 4 * (v + base) - first_address ≡ s.workspace - first_address + 4 * (v + base)
-  offset_is v m x held = omega (arith, held.holds.least)
+  offset_is v m now held = omega (arith, held.holds.least)
 
   -- an input by a link
-  pub input_runs : (c : ℕ) (kind : MessageKind) (v : ℕ) → 4 ≤ c → c < 8 → v < count → Runs w (Input (Link c) kind v)
+  pub input_runs : (c : ℕ) (kind : MessageKind) (v : ℕ) → 4 ≤ c → c < 8 → v < count → Runs ground
+      (Input (Link c) kind v)
   input_runs c message.Word v least below within n k t a b d m x r lies held free room =
-      let channel = channel_code (from w t) (Link c) in
+      let channel = channel_code (from ground t) (Link c) in
       let back = asm.ldc 4 ∷ asm.in ∷ [] in
       let inside : count + base ≤ size = omega (arith, free, room) in
       let h = held.holds in
       let pointer = s.workspace + 4 * (v + base) in
-      ends_as w (does n (Input (Link c) message.Word v) x) n (k + 1 + length channel + 1 + 1)
-      (k + length (asm.ldlp (v ⊕ base) ∷ (channel ++ back))) (st w k a b d m x r)
+      ends_as ground (does n (Input (Link c) message.Word v) x) n (k + 1 + length channel + 1 + 1)
+      (k + length (asm.ldlp (v ⊕ base) ∷ (channel ++ back))) (st ground k a b d m x r)
       (omega (arith, length-append channel back))
       (input_tail n c v t message.Word k a b d m m x r least below lies
       (λ enough. ap (λ i. with_bytes m i (take 4 x.coming)) (pointer_is v m x held within inside)
@@ -167,27 +174,27 @@ module _ (w : Ground) where
       ∙ ap (λ o. Ok (with_word_from m o (value_heard message.Word x.coming))) (offset_is v m x held))
       held within inside)
   input_runs c message.Byte v least below within n k t a b d m x r lies held free room =
-      let channel = channel_code (from w t) (Link c) in
+      let channel = channel_code (from ground t) (Link c) in
       let back = asm.ldc 1 ∷ asm.in ∷ [] in
       let inside : count + base ≤ size = omega (arith, free, room) in
       let h = held.holds in
       let tail = asm.ldlp (v ⊕ base) ∷ (channel ++ back) in
       let pointer = s.workspace + 4 * (v + base) in
-      let word = word_of w v m x held within inside in
+      let word = word_of ground v m x held within inside in
       let cleared = with_word_in s.workspace m (v + base) 0 in
       let course = does n (Input (Link c) message.Byte v) x in
-      let p = st w k a b d m x r in
-      let p1 = st w (k + 1) 0 a b m x r in
-      let p2 = st w (k + 1 + 1) a b b cleared x r in
-      ends_as w course n (k + 1 + 1 + 1 + length channel + 1 + 1)
+      let p = st ground k a b d m x r in
+      let p1 = st ground (k + 1) 0 a b m x r in
+      let p2 = st ground (k + 1 + 1) a b b cleared x r in
+      ends_as ground course n (k + 1 + 1 + 1 + length channel + 1 + 1)
       (k + length (asm.ldc 0 ∷ asm.stl (v ⊕ base) ∷ tail)) p
       (omega (arith, length-append channel back))
-      (later w course n (k + 1 + 1 + 1 + length channel + 1 + 1) p p2
+      (later ground course n (k + 1 + 1 + 1 + length channel + 1 + 1) p p2
       (advances_on g program p p1 p2
-      (some g program p p1 (constants w k 0 a b d m x r (asm.stl (v ⊕ base) ∷ tail) lies))
+      (some g program p p1 (constants ground k 0 a b d m x r (asm.stl (v ⊕ base) ∷ tail) lies))
       (some g program p1 p2
-      (subst (λ j. Proceeds g program p1 (st w (k + 1 + 1) a b b (with_word_in s.workspace m j 0) x r)) word
-      (stores w (k + 1) (v ⊕ base) 0 a b m x r tail lies.2 held (omega (arith, word, within, inside))))))
+      (subst (λ j. Proceeds g program p1 (st ground (k + 1 + 1) a b b (with_word_in s.workspace m j 0) x r)) word
+      (stores ground (k + 1) (v ⊕ base) 0 a b m x r tail lies.2 held (omega (arith, word, within, inside))))))
       (input_tail n c v t message.Byte (k + 1 + 1) a b b cleared m x r least below lies.2.2
       (λ enough. ap (λ i. with_bytes cleared i (take 1 x.coming)) (pointer_is v m x held within inside)
       ∙ ap (λ o. with_bytes (with_word_from m o 0) pointer (take 1 x.coming)) (sym (offset_is v m x held))

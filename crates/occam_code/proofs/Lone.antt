@@ -14,7 +14,7 @@ use Rattle.t414_step.specs.declared.cpu.Cpu.{Cpu}
 use Rattle.t414_step.specs.ChannelRows.{CpuEffect}
 use Rattle.occam_core.specs.Processes.{Exchange, Situation, Course, Ended, Erred, Awaits, Unfinished}
 use Rattle.occam_code.specs.Machine.{done_at, Does, Leads, Falls}
-use Rattle.occam_code.specs.Alone.{Setting, LoneProcess, LoneStage, Running, Past, Stopped, AtInput, left_by, Manner, ByRow, manner_of, stage_by, stage_at, next_stage, while_running, stage_after}
+use Rattle.occam_code.specs.Alone.{LoneSetting, LoneProcess, LoneStage, Running, Past, Stopped, AtInput, left_after, Manner, ByRow, manner_of, stage_by, stage_at, next_stage, while_running, stage_after}
 use Rattle.occam_code.proofs.Stepping.{HasAt, has_all}
 use Rattle.occam_code.proofs.Quiet.{IsByRow, AreByRow}
 
@@ -49,8 +49,8 @@ quiet_at [] q f o quiet is = absurd (grind arith)
 quiet_at (i ∷ code) zero f o quiet is = let e : i ≡ Instruction f o = cc in subst IsByRow e quiet.0
 quiet_at (i ∷ code) (suc q) f o quiet is = quiet_at code q f o quiet.1 is
 
-module _ (g : Setting) (program : List Statement) where
-  -- these statements are in the program from a place on, and their addresses are told apart
+module _ (g : LoneSetting) (program : List Statement) where
+  -- these statements are in the program from a place on, and the addresses of two of them differ
   abbrev pub Lies : ℕ → List Statement → Type 0
   Lies k [] = Unit {0}
   Lies k (i ∷ is) = (slice_get program k ≡ Some i) × (g.place_at (g.address k) ≡ k) × Lies (k + 1) is
@@ -68,53 +68,53 @@ module _ (g : Setting) (program : List Statement) where
       subst (λ n. Lies n back) e (lies_back (k + 1) front back lies.2)
 
   -- one statement of a code
-  lies_at : (code : List Statement) (k q : ℕ) (i : Statement) → Lies k code → slice_get code q ≡ Some i
-      → (slice_get program (k + q) ≡ Some i) × (g.place_at (g.address (k + q)) ≡ k + q)
-  lies_at [] k q i lies is = absurd (grind arith)
-  lies_at (j ∷ code) k zero i lies is =
+  lies_at : (code : List Statement) (k q : ℕ) (statement : Statement) → Lies k code → slice_get code q ≡ Some statement
+      → (slice_get program (k + q) ≡ Some statement) × (g.place_at (g.address (k + q)) ≡ k + q)
+  lies_at [] k q statement lies is = absurd (grind arith)
+  lies_at (j ∷ code) k zero statement lies is =
       let e : k ≡ k + 0 = omega arith in
-      subst (λ n. (slice_get program n ≡ Some i) × (g.place_at (g.address n) ≡ n)) e (lies.0 ∙ is, lies.1)
-  lies_at (j ∷ code) k (suc q) i lies is =
+      subst (λ n. (slice_get program n ≡ Some statement) × (g.place_at (g.address n) ≡ n)) e (lies.0 ∙ is, lies.1)
+  lies_at (j ∷ code) k (suc q) statement lies is =
       let e : k + 1 + q ≡ k + suc q = omega arith in
-      subst (λ n. (slice_get program n ≡ Some i) × (g.place_at (g.address n) ≡ n)) e
-      (lies_at code (k + 1) q i lies.2 is)
+      subst (λ n. (slice_get program n ≡ Some statement) × (g.place_at (g.address n) ≡ n)) e
+      (lies_at code (k + 1) q statement lies.2 is)
 
   -- some statements are done
   abbrev pub run : ℕ → LoneProcess → LoneStage
   run n p = stage_after g program n p
 
   -- by some statements a process becomes another, or by none
-  pub record Advances (p q : LoneProcess) : Type 0 where
-    pub by : (k : ℕ) → (j : ℕ) × (k ≤ j) × (run j p ≡ run k q)
+  pub record Advances (p after : LoneProcess) : Type 0 where
+    pub by : (k : ℕ) → (j : ℕ) × (k ≤ j) × (run j p ≡ run k after)
 
   -- by one statement or more
-  pub record Proceeds (p q : LoneProcess) : Type 0 where
-    pub by : (k : ℕ) → (j : ℕ) × (k < j) × (run j p ≡ run k q)
+  pub record Proceeds (p after : LoneProcess) : Type 0 where
+    pub by : (k : ℕ) → (j : ℕ) × (k < j) × (run j p ≡ run k after)
 
   -- no statement
   pub waits : (p : LoneProcess) → Advances p p
   waits p = record { by = λ k. (k, omega arith, refl) }
 
   -- some statements after others
-  pub advances_on : (p q r : LoneProcess) → Advances p q → Advances q r → Advances p r
-  advances_on p q r l m =
-      record { by = λ k. let b = m.by k in let a = l.by b.0 in (a.0, omega (arith, a.1, b.1), a.2 ∙ b.2) }
+  pub advances_on : (p after last : LoneProcess) → Advances p after → Advances after last → Advances p last
+  advances_on p after last first second =
+      record { by = λ k. let b = second.by k in let a = first.by b.0 in (a.0, omega (arith, a.1, b.1), a.2 ∙ b.2) }
 
   -- one statement or more are some
-  pub some : (p q : LoneProcess) → Proceeds p q → Advances p q
-  some p q l = record { by = λ k. let a = l.by k in (a.0, omega (arith, a.1), a.2) }
+  pub some : (p after : LoneProcess) → Proceeds p after → Advances p after
+  some p after first = record { by = λ k. let a = first.by k in (a.0, omega (arith, a.1), a.2) }
 
   -- one statement
-  pub one_on : (p q : LoneProcess) → next_stage g program p ≡ Running q → Proceeds p q
-  one_on p q is = record { by = λ k. (suc k, omega arith, ap (λ h. while_running h (stage_after g program k)) is) }
+  pub one_on : (p after : LoneProcess) → next_stage g program p ≡ Running after → Proceeds p after
+  one_on p after is = record { by = λ k. (suc k, omega arith, ap (λ h. while_running h (stage_after g program k)) is) }
 
   -- the statement at a place
-  pub staged : (k : ℕ) (p : LoneProcess) (f : Function) (o : Operand) (w : Manner)
+  pub staged : (k : ℕ) (p : LoneProcess) (f : Function) (o : Operand) (how : Manner)
       → p.registers.instruction ≡ g.address k → slice_get program k ≡ Some (Instruction f o)
-      → g.place_at (g.address k) ≡ k → manner_of f (operand_of g.address (k + 1) f o) ≡ w
-      → next_stage g program p ≡ stage_by g w (done_at g.address k f o p.registers p.links p.memory) p
+      → g.place_at (g.address k) ≡ k → manner_of f (operand_of g.address (k + 1) f o) ≡ how
+      → next_stage g program p ≡ stage_by g how (done_at g.address k f o p.registers p.links p.memory) p
       (record p { registers = record p.registers { instruction = g.address (k + 1) } })
-  staged k p f o w here is placed manner =
+  staged k p f o how here is placed manner =
       let e : g.place_at p.registers.instruction ≡ k = ap g.place_at here ∙ placed in
       ap (λ n. stage_at g n (slice_get program n) p) e
       ∙ ap (λ i. stage_at g k i p) is
@@ -123,47 +123,56 @@ module _ (g : Setting) (program : List Statement) where
 
   -- a process with these registers and this memory
   abbrev pub lone : FourLinks → Cpu → List ℕ → Situation → ℕ → LoneProcess
-  lone ls s m x r = record { registers = s; links = ls; memory = m; coming = x.coming; talk = x.talk; breaks = r }
+  lone ls s m now breaks = record {
+    registers = s;
+    links = ls;
+    memory = m;
+    coming = now.coming;
+    talk = now.talk;
+    breaks = breaks;
+  }
 
   -- an instruction of a code whose instructions are done by their rows
-  by_row : (code : List Statement) (k : ℕ) (ls : FourLinks) (s : Cpu) (m : List ℕ) (x : Situation) (r : ℕ)
+  by_row : (code : List Statement) (k : ℕ) (ls : FourLinks) (s : Cpu) (m : List ℕ) (now : Situation) (breaks : ℕ)
       (effect : CpuEffect) → AreByRow code → Lies k code → Does g.address (blanks k ++ code) ls s m effect
-      → next_stage g program (lone ls s m x r) ≡ left_by effect (lone ls s m x r) Running
-  by_row code k ls s m x r effect quiet lies does =
+      → next_stage g program (lone ls s m now breaks) ≡ left_after effect (lone ls s m now breaks) Running
+  by_row code k ls s m now breaks effect quiet lies does =
       let b = behind k does.place code does.function does.operand does.is in
       let i = Instruction does.function does.operand in
       let here = lies_at code k b.0 i lies b.2 in
-      staged does.place (lone ls s m x r) does.function does.operand ByRow does.here
+      staged does.place (lone ls s m now breaks) does.function does.operand ByRow does.here
       (subst (λ n. slice_get program n ≡ Some i) b.1 here.0)
       (subst (λ n. g.place_at (g.address n) ≡ n) b.1 here.1)
       (quiet_at code b.0 does.function does.operand quiet b.2 g.address (does.place + 1))
-      ∙ ap (λ e. left_by e (lone ls s m x r) Running) does.gives
+      ∙ ap (λ e. left_after e (lone ls s m now breaks) Running) does.gives
 
   -- what such a code leads to
-  pub leads_lone : (code : List Statement) (k : ℕ) (ls : FourLinks) (n : ℕ) (s t : Cpu) (m u : List ℕ) (x : Situation)
-      (r : ℕ) → AreByRow code → Lies k code → Leads g.address (blanks k ++ code) ls n s m t u
-      → Advances (lone ls s m x r) (lone ls t u x r)
-  leads_lone code k ls zero s t m u x r quiet lies leads =
-      subst (λ q. Advances (lone ls s m x r) (lone ls q u x r)) leads.0
-      (subst (λ q. Advances (lone ls s m x r) (lone ls s q x r)) leads.1 (waits (lone ls s m x r)))
-  leads_lone code k ls (suc n) s t m u x r quiet lies leads =
-      let first = by_row code k ls s m x r (Gave leads.0 ls leads.1) quiet lies leads.2 in
-      advances_on (lone ls s m x r) (lone ls leads.0 leads.1 x r) (lone ls t u x r)
-      (some (lone ls s m x r) (lone ls leads.0 leads.1 x r)
-      (one_on (lone ls s m x r) (lone ls leads.0 leads.1 x r) first))
-      (leads_lone code k ls n leads.0 t leads.1 u x r quiet lies leads.3)
+  pub leads_lone : (code : List Statement) (k : ℕ) (ls : FourLinks) (n : ℕ) (s t : Cpu) (m u : List ℕ) (now : Situation)
+      (breaks : ℕ) → AreByRow code → Lies k code → Leads g.address (blanks k ++ code) ls n s m t u
+      → Advances (lone ls s m now breaks) (lone ls t u now breaks)
+  leads_lone code k ls zero s t m u now breaks quiet lies leads =
+      subst (λ q. Advances (lone ls s m now breaks) (lone ls q u now breaks)) leads.0
+      (subst (λ q. Advances (lone ls s m now breaks) (lone ls s q now breaks)) leads.1 (waits (lone ls s m now breaks)))
+  leads_lone code k ls (suc n) s t m u now breaks quiet lies leads =
+      let first = by_row code k ls s m now breaks (Gave leads.0 ls leads.1) quiet lies leads.2 in
+      advances_on (lone ls s m now breaks) (lone ls leads.0 leads.1 now breaks) (lone ls t u now breaks)
+      (some (lone ls s m now breaks) (lone ls leads.0 leads.1 now breaks)
+      (one_on (lone ls s m now breaks) (lone ls leads.0 leads.1 now breaks) first))
+      (leads_lone code k ls n leads.0 t leads.1 u now breaks quiet lies leads.3)
 
   -- a halt after some statements
-  pub stops_on : (p q : LoneProcess) (fault : Fault) → Advances p q
-      → next_stage g program q ≡ Stopped fault q.talk → (j : ℕ) × (run j p ≡ Stopped fault q.talk)
-  stops_on p q fault adv is =
+  pub stops_on : (p after : LoneProcess) (fault : Fault) → Advances p after
+      → next_stage g program after ≡ Stopped fault after.talk → (j : ℕ) × (run j p ≡ Stopped fault after.talk)
+  stops_on p after fault adv is =
       let a = adv.by 1 in (a.0, a.2 ∙ ap (λ h. while_running h (stage_after g program 0)) is)
 
   -- the halt that such a code leads to
-  pub falls_lone : (code : List Statement) (k : ℕ) (ls : FourLinks) (s : Cpu) (m : List ℕ) (x : Situation) (r : ℕ)
+  pub falls_lone : (code : List Statement) (k : ℕ) (ls : FourLinks) (s : Cpu) (m : List ℕ) (now : Situation)
+      (breaks : ℕ)
       → AreByRow code → Lies k code → Falls g.address (blanks k ++ code) ls s m
-      → (j : ℕ) × (run j (lone ls s m x r) ≡ Stopped ErrorSet x.talk)
-  falls_lone code k ls s m x r quiet lies falls =
-      stops_on (lone ls s m x r) (lone ls falls.registers falls.memory x r) ErrorSet
-      (leads_lone code k ls falls.count s falls.registers m falls.memory x r quiet lies falls.leads)
-      (by_row code k ls falls.registers falls.memory x r (Halted ErrorSet ls falls.memory) quiet lies falls.falls)
+      → (j : ℕ) × (run j (lone ls s m now breaks) ≡ Stopped ErrorSet now.talk)
+  falls_lone code k ls s m now breaks quiet lies falls =
+      stops_on (lone ls s m now breaks) (lone ls falls.registers falls.memory now breaks) ErrorSet
+      (leads_lone code k ls falls.count s falls.registers m falls.memory now breaks quiet lies falls.leads)
+      (by_row code k ls falls.registers falls.memory now breaks (Halted ErrorSet ls falls.memory) quiet lies
+      falls.falls)

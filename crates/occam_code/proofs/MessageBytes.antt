@@ -26,6 +26,7 @@ pub record IsOutputOf (c : ℕ) : Type 0 where
   pub kind : kind_of (channel_word c) ≡ LinkOutput link
   pub number : channel_at (channel_word c) ≡ c
 
+-- the channels 0 to 3 are outputs
 pub output_of : (c : ℕ) → c < 4 → IsOutputOf c
 unfolding kind_of
 output_of zero below = record { link = Zero; kind = refl; number = refl }
@@ -40,6 +41,7 @@ pub record IsInputOf (c : ℕ) : Type 0 where
   pub kind : kind_of (channel_word c) ≡ LinkInput link
   pub number : channel_at (channel_word c) ≡ c
 
+-- the channels 4 to 7 are inputs
 pub input_of : (c : ℕ) → 4 ≤ c → c < 8 → IsInputOf c
 unfolding kind_of
 input_of zero least below = absurd (omega arith)
@@ -49,7 +51,8 @@ input_of (suc (suc (suc zero))) least below = absurd (omega arith)
 input_of (suc (suc (suc (suc zero)))) least below = record { link = Zero; kind = refl; number = refl }
 input_of (suc (suc (suc (suc (suc zero))))) least below = record { link = One; kind = refl; number = refl }
 input_of (suc (suc (suc (suc (suc (suc zero)))))) least below = record { link = Two; kind = refl; number = refl }
-input_of (suc (suc (suc (suc (suc (suc (suc zero))))))) least below = record { link = Three; kind = refl; number = refl }
+input_of (suc (suc (suc (suc (suc (suc (suc zero))))))) least below = record
+    { link = Three; kind = refl; number = refl }
 input_of (suc (suc (suc (suc (suc (suc (suc (suc c)))))))) least below = absurd (omega arith)
 
 inside : (m : List ℕ) (a : ℕ) → first_address ≤ a → a - first_address < length m → is_inside m a ≡ true
@@ -62,33 +65,38 @@ unfolding byte_at
 byte_found m a least below =
     ap (λ b. cond b (Ok (slice_index m (a - first_address))) (Err OutsideMemory)) (inside m a least below)
 
+-- a byte is written
 pub byte_put : (m : List ℕ) (a b : ℕ) → first_address ≤ a → a - first_address < length m
     → with_byte m a b ≡ Ok (slice_set m (a - first_address) b)
 unfolding with_byte
 byte_put m a b least below =
     ap (λ q. cond q (Ok (slice_set m (a - first_address) b)) (Err OutsideMemory)) (inside m a least below)
 
-first_byte : (m : List ℕ) (o x : ℕ) → o + 3 < length m → slice_index (with_word_from m o x) o ≡ x % 2 ^ 8
-first_byte m o x within = grind (arith, common_steps)
+first_byte : (m : List ℕ) (offset x : ℕ) → offset + 3 < length m → slice_index (with_word_from m offset x) offset ≡ x
+    % 2 ^ 8
+first_byte m offset x within = grind (arith, common_steps)
 
-second_byte : (m : List ℕ) (o x : ℕ) → o + 3 < length m → slice_index (with_word_from m o x) (o + 1) ≡ x / 2 ^ 8 % 2 ^ 8
-second_byte m o x within = grind (arith, common_steps)
+second_byte : (m : List ℕ) (offset x : ℕ) → offset + 3 < length m → slice_index (with_word_from m offset x)
+    (offset + 1) ≡ x / 2 ^ 8 % 2 ^ 8
+second_byte m offset x within = grind (arith, common_steps)
 
-third_byte : (m : List ℕ) (o x : ℕ) → o + 3 < length m → slice_index (with_word_from m o x) (o + 2) ≡ x / 2 ^ 16 % 2 ^ 8
-third_byte m o x within = grind (arith, common_steps)
+third_byte : (m : List ℕ) (offset x : ℕ) → offset + 3 < length m → slice_index (with_word_from m offset x)
+    (offset + 2) ≡ x / 2 ^ 16 % 2 ^ 8
+third_byte m offset x within = grind (arith, common_steps)
 
-last_byte : (m : List ℕ) (o x : ℕ) → o + 3 < length m → slice_index (with_word_from m o x) (o + 3) ≡ x / 2 ^ 24 % 2 ^ 8
-last_byte m o x within = grind (arith, common_steps)
+last_byte : (m : List ℕ) (offset x : ℕ) → offset + 3 < length m → slice_index (with_word_from m offset x)
+    (offset + 3) ≡ x / 2 ^ 24 % 2 ^ 8
+last_byte m offset x within = grind (arith, common_steps)
 
-length-word : (m : List ℕ) (o x : ℕ) → length (with_word_from m o x) ≡ length m
-length-word m o x = simp length-set
+length-word : (m : List ℕ) (offset x : ℕ) → length (with_word_from m offset x) ≡ length m
+length-word m offset x = simp length-set
 
 -- a byte of a word that was written
-byte_of : (m : List ℕ) (a o i x y : ℕ) → a ≡ first_address + o + i → o + i < length m
-    → slice_index (with_word_from m o x) (o + i) ≡ y → byte_at (with_word_from m o x) a ≡ Ok y
-byte_of m a o i x y is below found =
-    byte_found (with_word_from m o x) a (omega (arith, is)) (omega (arith, is, below, length-word m o x))
-    ∙ ap (λ k. Ok (slice_index (with_word_from m o x) k)) (omega (arith, is))
+byte_of : (m : List ℕ) (a offset i x y : ℕ) → a ≡ first_address + offset + i → offset + i < length m
+    → slice_index (with_word_from m offset x) (offset + i) ≡ y → byte_at (with_word_from m offset x) a ≡ Ok y
+byte_of m a offset i x y is below found =
+    byte_found (with_word_from m offset x) a (omega (arith, is)) (omega (arith, is, below, length-word m offset x))
+    ∙ ap (λ k. Ok (slice_index (with_word_from m offset x) k)) (omega (arith, is))
     ∙ ap Ok found
 
 -- the bytes of a word that was written at an address
@@ -134,25 +142,30 @@ set_apart (x ∷ m) zero (suc j) a b below = refl
 set_apart (x ∷ m) (suc i) (suc j) a b below = ap (λ l. x ∷ l) (set_apart m i j a b (omega (arith, below)))
 
 -- the lowest byte of a word that was cleared
-low_byte : (m : List ℕ) (o b : ℕ) → b < 2 ^ 8 → slice_set (with_word_from m o 0) o b ≡ with_word_from m o b
-low_byte m o b fits =
-    let m1 = slice_set m o 0 in
-    let m2 = slice_set m1 (o + 1) 0 in
-    let m3 = slice_set m2 (o + 2) 0 in
+low_byte : (m : List ℕ) (offset b : ℕ) → b < 2 ^ 8 → slice_set (with_word_from m offset 0) offset b ≡ with_word_from
+    m offset b
+low_byte m offset b fits =
+    let m1 = slice_set m offset 0 in
+    let m2 = slice_set m1 (offset + 1) 0 in
+    let m3 = slice_set m2 (offset + 2) 0 in
     let b0 : b ≡ b % 2 ^ 8 = omega (arith, fits) in
     let b1 : 0 ≡ b / 2 ^ 8 % 2 ^ 8 = omega (arith, fits) in
     let b2 : 0 ≡ b / 2 ^ 16 % 2 ^ 8 = omega (arith, fits) in
     let b3 : 0 ≡ b / 2 ^ 24 % 2 ^ 8 = omega (arith, fits) in
-    set_apart m3 o (o + 3) 0 b (omega arith)
-    ∙ ap (λ l. slice_set l (o + 3) 0) (set_apart m2 o (o + 2) 0 b (omega arith))
-    ∙ ap (λ l. slice_set (slice_set l (o + 2) 0) (o + 3) 0) (set_apart m1 o (o + 1) 0 b (omega arith))
-    ∙ ap (λ l. slice_set (slice_set (slice_set l (o + 1) 0) (o + 2) 0) (o + 3) 0) (set-set m o 0 b)
-    ∙ ap (λ c. slice_set (slice_set (slice_set (slice_set m o c) (o + 1) 0) (o + 2) 0) (o + 3) 0) b0
-    ∙ ap (λ c. slice_set (slice_set (slice_set (slice_set m o (b % 2 ^ 8)) (o + 1) c) (o + 2) 0) (o + 3) 0) b1
-    ∙ ap (λ c. slice_set (slice_set (slice_set (slice_set m o (b % 2 ^ 8)) (o + 1) (b / 2 ^ 8 % 2 ^ 8)) (o + 2) c)
-    (o + 3) 0) b2
-    ∙ ap (λ c. slice_set (slice_set (slice_set (slice_set m o (b % 2 ^ 8)) (o + 1) (b / 2 ^ 8 % 2 ^ 8)) (o + 2)
-    (b / 2 ^ 16 % 2 ^ 8)) (o + 3) c) b3
+    set_apart m3 offset (offset + 3) 0 b (omega arith)
+    ∙ ap (λ l. slice_set l (offset + 3) 0) (set_apart m2 offset (offset + 2) 0 b (omega arith))
+    ∙ ap (λ l. slice_set (slice_set l (offset + 2) 0) (offset + 3) 0)
+    (set_apart m1 offset (offset + 1) 0 b (omega arith))
+    ∙ ap (λ l. slice_set (slice_set (slice_set l (offset + 1) 0) (offset + 2) 0) (offset + 3) 0) (set-set m offset 0 b)
+    ∙ ap (λ c. slice_set (slice_set (slice_set (slice_set m offset c) (offset + 1) 0) (offset + 2) 0) (offset + 3) 0) b0
+    ∙ ap (λ c. slice_set (slice_set (slice_set (slice_set m offset (b % 2 ^ 8)) (offset + 1) c) (offset + 2) 0)
+    (offset + 3) 0) b1
+    ∙ ap (λ c. slice_set (slice_set (slice_set (slice_set m offset (b % 2 ^ 8)) (offset + 1) (b / 2 ^ 8 % 2 ^ 8))
+    (offset + 2) c)
+    (offset + 3) 0) b2
+    ∙ ap (λ c. slice_set (slice_set (slice_set (slice_set m offset (b % 2 ^ 8)) (offset + 1) (b / 2 ^ 8 % 2 ^ 8))
+    (offset + 2)
+    (b / 2 ^ 16 % 2 ^ 8)) (offset + 3) c) b3
 
 -- four bytes are written one after another
 four_put : (m : List ℕ) (a w0 w1 w2 w3 : ℕ) → first_address ≤ a → a - first_address + 3 < length m

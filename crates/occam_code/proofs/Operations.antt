@@ -45,6 +45,7 @@ two_more k = omega arith
 three_more : (k : ℕ) → k + 1 + 1 + 1 ≡ k + 3
 three_more k = omega arith
 
+-- a value isn't below a bound
 pub not_below : (x bound : ℕ) → nat_le bound x ≡ not (nat_lt x bound)
 not_below x bound = grind (arith, nat_tests)
 

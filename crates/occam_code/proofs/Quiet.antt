@@ -95,9 +95,10 @@ quiet_sides false place words left right quiet quiet' =
     let first = right place words in
     let mid = place + length first in
     let second = left (mid + 1) (after_one words) in
-    quiet_both first (asm.stl words.temporary ∷ (second ++ asm.ldl words.temporary ∷ [])) (quiet' place words)
-    ((λ address next. refl),
-    quiet_both second (asm.ldl words.temporary ∷ []) (quiet (mid + 1) (after_one words)) ((λ address next. refl), tt))
+    quiet_both first (asm.stl words.temporary ∷ (second ++ asm.ldl words.temporary ∷ [])) (quiet' place words) (
+      (λ address next. refl),
+      quiet_both second (asm.ldl words.temporary ∷ []) (quiet (mid + 1) (after_one words)) ((λ address next. refl), tt),
+    )
 
 -- the code of an expression
 pub quiet_expression : (e : Expression) (place : ℕ) (words : FrameWords) → AreByRow (expression_code place words e)
@@ -105,11 +106,13 @@ quiet_expression (Number n) place words = ((λ address next. refl), tt)
 quiet_expression (Variable v) place words = ((λ address next. refl), tt)
 quiet_expression (Element' array p i) place words =
     quiet_both (expression_code place words i) (address_code words.base array ++ load_code array.kind ∷ [])
-    (quiet_expression i place words)
-    ((λ address next. refl),
-    (quiet_check, ((λ address next. refl), (quiet_subscript array.kind, (quiet_load array.kind, tt)))))
+    (quiet_expression i place words) (
+      (λ address next. refl),
+      (quiet_check, ((λ address next. refl), (quiet_subscript array.kind, (quiet_load array.kind, tt)))),
+    )
 quiet_expression (One' operation p a) place words =
-    quiet_both (expression_code place words a) (one_code operation) (quiet_expression a place words) (quiet_one operation)
+    quiet_both (expression_code place words a) (one_code operation) (quiet_expression a place words)
+    (quiet_one operation)
 quiet_expression (Two' operation p a q b) place words =
     quiet_both
     (sides_code (is_leaf b) place words (λ k w. expression_code k w a) (λ k w. expression_code k w b))
@@ -129,11 +132,14 @@ quiet_expression (Or' p a q b) place words =
     let right = expression_code start words b in
     quiet_both left
     (asm.eqc 0 ∷ asm.cj (start + length right + 1) ∷ (right ++ asm.eqc 0 ∷ asm.eqc 0 ∷ []))
-    (quiet_expression a place words)
-    ((λ address next. refl),
-    ((λ address next. refl),
-    quiet_both right (asm.eqc 0 ∷ asm.eqc 0 ∷ []) (quiet_expression b start words)
-    ((λ address next. refl), ((λ address next. refl), tt))))
+    (quiet_expression a place words) (
+      (λ address next. refl),
+      (
+        (λ address next. refl),
+        quiet_both right (asm.eqc 0 ∷ asm.eqc 0 ∷ []) (quiet_expression b start words)
+            ((λ address next. refl), ((λ address next. refl), tt)),
+      ),
+    )
 quiet_expression (Below' bound p a) place words =
     quiet_both (expression_code place words a) (asm.ldc bound ∷ asm.csub0 ∷ []) (quiet_expression a place words)
     ((λ address next. refl), (quiet_check, tt))

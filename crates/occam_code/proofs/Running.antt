@@ -31,9 +31,11 @@ use Rattle.occam_code.proofs.Workspace.{byte_is, byte_address, element_address, 
 use Rattle.occam_code.proofs.Operations.{points, word_subscript, byte_subscript, loads_byte, at, twice, Ends, Moves, later, onward, arrives, constant, equals, last_equals, bounded, ends_at, one_run, two_run}
 use Rattle.occam_code.proofs.Values.{IsWord, is_less, value_word}
 
+-- a jump comes to the place of its label
 pub landing : (x y : ℕ) → x < 2 ^ 32 → y < 2 ^ 32 → y ⊕ less (plus x 0) y ≡ x
 landing x y fx fy = omega arith
 
+-- what a test of 0 finds
 pub is_zero : (x : ℕ) → (x == 0) ≡ true → x ≡ 0
 is_zero x is = grind (arith, nat_tests)
 

@@ -11,25 +11,26 @@ use Rattle.occam_code.proofs.Speaking.{output_runs}
 use Rattle.occam_code.proofs.Repeating.{repeat_runs}
 use Rattle.occam_code.proofs.Behaving.{Ground, Runs, skip_runs, stop_runs, assign_runs, sequence_runs, if_runs, loops}
 
-module _ (w : Ground) where
-  open w use {base, count}
+module _ (ground : Ground) where
+  open ground use {base, count}
 
   -- the code of a sequential process does what the process does
-  pub process_runs : (p : CoreProcess) → IsSequential p → ProcessIsWithin count p → Runs w p
-  process_runs Skip sequential fit = skip_runs w
-  process_runs Stop sequential fit = stop_runs w
+  pub process_runs : (p : CoreProcess) → IsSequential p → ProcessIsWithin count p → Runs ground p
+  process_runs Skip sequential fit = skip_runs ground
+  process_runs Stop sequential fit = stop_runs ground
   process_runs (Line' place box p) sequential fit = process_runs p sequential fit
-  process_runs (Assign v e) sequential fit = assign_runs w v e fit
+  process_runs (Assign v e) sequential fit = assign_runs ground v e fit
   process_runs (Sequence' box p box' q) sequential fit =
-      sequence_runs w box box' p q (process_runs p sequential.0 fit.0) (process_runs q sequential.1 fit.1)
+      sequence_runs ground box box' p q (process_runs p sequential.0 fit.0) (process_runs q sequential.1 fit.1)
   process_runs (If' e box p box' q) sequential fit =
-      if_runs w e box box' p q fit.0 (process_runs p sequential.0 fit.1) (process_runs q sequential.1 fit.2)
+      if_runs ground e box box' p q fit.0 (process_runs p sequential.0 fit.1) (process_runs q sequential.1 fit.2)
   process_runs (While' e box p) sequential fit =
-      λ n k t a b c m x r lies held free room. loops w e box p fit.0 (process_runs p sequential fit.1) n n k t a b c m x r
+      λ n k t a b c m x r lies held free room. loops ground e box p fit.0 (process_runs p sequential fit.1) n n k t a
+      b c m x r
       (omega arith) lies held free room
-  process_runs (AssignElement array i e) sequential fit = assign_element_runs w array i e fit
-  process_runs (Input (Link c) kind v) sequential fit = input_runs w c kind v sequential.0 sequential.1 fit
-  process_runs (Output (Link c) kind e) sequential fit = output_runs w c kind e sequential fit
+  process_runs (AssignElement array i e) sequential fit = assign_element_runs ground array i e fit
+  process_runs (Input (Link c) kind v) sequential fit = input_runs ground c kind v sequential.0 sequential.1 fit
+  process_runs (Output (Link c) kind e) sequential fit = output_runs ground c kind e sequential fit
   process_runs (Repeat' v e times box p) sequential fit =
-      repeat_runs w v e times box p fit (process_runs p sequential fit.3)
+      repeat_runs ground v e times box p fit (process_runs p sequential fit.3)
   process_runs _ sequential fit = absurd sequential

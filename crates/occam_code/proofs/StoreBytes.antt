@@ -14,50 +14,65 @@ other_place : (m : List ℕ) (i j b : ℕ) → (i < j) ⊎ (j < i) → slice_ind
 other_place m i j b apart = set_other m i b j apart
 
 -- a word with another byte
-byte_written : (m : List ℕ) (o j b : ℕ) → j < 4 → o + 3 < length m → ((i : ℕ) → slice_index m i < 2 ^ 8) → b < 2 ^ 8
-    → word_from (slice_set m (o + j) b) o ≡ with_byte_of (word_from m o) j b
-byte_written m o zero b below within bytes fits =
-    let here : slice_index (slice_set m (o + 0) b) o ≡ b =
-    subst (λ k. slice_index (slice_set m (o + 0) b) k ≡ b) (omega arith) (set_same m (o + 0) b (omega (arith, within))) in
-    let e1 = other_place m (o + 0) (o + 1) b (inl (omega arith)) in
-    let e2 = other_place m (o + 0) (o + 2) b (inl (omega arith)) in
-    let e3 = other_place m (o + 0) (o + 3) b (inl (omega arith)) in
-    omega (arith, here, e1, e2, e3, bytes o, bytes (o + 1), bytes (o + 2), bytes (o + 3), fits)
-byte_written m o (suc zero) b below within bytes fits =
-    let here = set_same m (o + 1) b (omega (arith, within)) in
-    let e0 = other_place m (o + 1) o b (inr (omega arith)) in
-    let e2 = other_place m (o + 1) (o + 2) b (inl (omega arith)) in
-    let e3 = other_place m (o + 1) (o + 3) b (inl (omega arith)) in
-    omega (arith, here, e0, e2, e3, bytes o, bytes (o + 1), bytes (o + 2), bytes (o + 3), fits)
-byte_written m o (suc (suc zero)) b below within bytes fits =
-    let here = set_same m (o + 2) b (omega (arith, within)) in
-    let e0 = other_place m (o + 2) o b (inr (omega arith)) in
-    let e1 = other_place m (o + 2) (o + 1) b (inr (omega arith)) in
-    let e3 = other_place m (o + 2) (o + 3) b (inl (omega arith)) in
-    omega (arith, here, e0, e1, e3, bytes o, bytes (o + 1), bytes (o + 2), bytes (o + 3), fits)
-byte_written m o (suc (suc (suc zero))) b below within bytes fits =
-    let here = set_same m (o + 3) b (omega (arith, within)) in
-    let e0 = other_place m (o + 3) o b (inr (omega arith)) in
-    let e1 = other_place m (o + 3) (o + 1) b (inr (omega arith)) in
-    let e2 = other_place m (o + 3) (o + 2) b (inr (omega arith)) in
-    omega (arith, here, e0, e1, e2, bytes o, bytes (o + 1), bytes (o + 2), bytes (o + 3), fits)
-byte_written m o (suc (suc (suc (suc j)))) b below within bytes fits = absurd (omega arith)
+byte_written : (m : List ℕ) (offset j b : ℕ) → j < 4 → offset + 3 < length m → ((i : ℕ) → slice_index m i < 2 ^ 8) →
+    b < 2 ^ 8
+    → word_from (slice_set m (offset + j) b) offset ≡ with_byte_of (word_from m offset) j b
+byte_written m offset zero b below within bytes fits =
+    let here : slice_index (slice_set m (offset + 0) b) offset ≡ b =
+    subst (λ k. slice_index (slice_set m (offset + 0) b) k ≡ b) (omega arith)
+    (set_same m (offset + 0) b (omega (arith, within))) in
+    let e1 = other_place m (offset + 0) (offset + 1) b (inl (omega arith)) in
+    let e2 = other_place m (offset + 0) (offset + 2) b (inl (omega arith)) in
+    let e3 = other_place m (offset + 0) (offset + 3) b (inl (omega arith)) in
+    omega (arith, here, e1, e2, e3, bytes offset, bytes (offset + 1), bytes (offset + 2), bytes (offset + 3), fits)
+byte_written m offset (suc zero) b below within bytes fits =
+    let here = set_same m (offset + 1) b (omega (arith, within)) in
+    let e0 = other_place m (offset + 1) offset b (inr (omega arith)) in
+    let e2 = other_place m (offset + 1) (offset + 2) b (inl (omega arith)) in
+    let e3 = other_place m (offset + 1) (offset + 3) b (inl (omega arith)) in
+    omega (arith, here, e0, e2, e3, bytes offset, bytes (offset + 1), bytes (offset + 2), bytes (offset + 3), fits)
+byte_written m offset (suc (suc zero)) b below within bytes fits =
+    let here = set_same m (offset + 2) b (omega (arith, within)) in
+    let e0 = other_place m (offset + 2) offset b (inr (omega arith)) in
+    let e1 = other_place m (offset + 2) (offset + 1) b (inr (omega arith)) in
+    let e3 = other_place m (offset + 2) (offset + 3) b (inl (omega arith)) in
+    omega (arith, here, e0, e1, e3, bytes offset, bytes (offset + 1), bytes (offset + 2), bytes (offset + 3), fits)
+byte_written m offset (suc (suc (suc zero))) b below within bytes fits =
+    let here = set_same m (offset + 3) b (omega (arith, within)) in
+    let e0 = other_place m (offset + 3) offset b (inr (omega arith)) in
+    let e1 = other_place m (offset + 3) (offset + 1) b (inr (omega arith)) in
+    let e2 = other_place m (offset + 3) (offset + 2) b (inr (omega arith)) in
+    omega (arith, here, e0, e1, e2, bytes offset, bytes (offset + 1), bytes (offset + 2), bytes (offset + 3), fits)
+byte_written m offset (suc (suc (suc (suc j)))) b below within bytes fits = absurd (omega arith)
 
 -- a word none of whose bytes was written
-word_beside : (m : List ℕ) (o i b : ℕ) → (i < o) ⊎ (o + 4 ≤ i) → word_from (slice_set m i b) o ≡ word_from m o
-word_beside m o i b (inl before) =
-    let e : (k : ℕ) → o ≤ k → slice_index (slice_set m i b) k ≡ slice_index m k =
+word_beside : (m : List ℕ) (offset i b : ℕ) → (i < offset) ⊎ (offset + 4 ≤ i) → word_from (slice_set m i b) offset ≡
+    word_from m offset
+word_beside m offset i b (inl before) =
+    let e : (k : ℕ) → offset ≤ k → slice_index (slice_set m i b) k ≡ slice_index m k =
     λ k from. other_place m i k b (inl (omega (arith, before, from))) in
-    rw (e o (omega arith), e (o + 1) (omega arith), e (o + 2) (omega arith), e (o + 3) (omega arith)) refl
-word_beside m o i b (inr behind) =
-    let e : (k : ℕ) → k < o + 4 → slice_index (slice_set m i b) k ≡ slice_index m k =
+    rw (
+      e offset (omega arith),
+      e (offset + 1) (omega arith),
+      e (offset + 2) (omega arith),
+      e (offset + 3)
+          (omega arith),
+    ) refl
+word_beside m offset i b (inr behind) =
+    let e : (k : ℕ) → k < offset + 4 → slice_index (slice_set m i b) k ≡ slice_index m k =
     λ k under. other_place m i k b (inr (omega (arith, behind, under))) in
-    rw (e o (omega arith), e (o + 1) (omega arith), e (o + 2) (omega arith), e (o + 3) (omega arith)) refl
+    rw (
+      e offset (omega arith),
+      e (offset + 1) (omega arith),
+      e (offset + 2) (omega arith),
+      e (offset + 3)
+          (omega arith),
+    ) refl
 
-beside : (o base v k i : ℕ) → (v < k) ⊎ (k < v) → v ≡ i / 4
-    → (o + 4 * base + i < o + 4 * (k + base)) ⊎ (o + 4 * (k + base) + 4 ≤ o + 4 * base + i)
-beside o base v k i (inl above) is = inl (omega (arith, above, is))
-beside o base v k i (inr below) is = inr (omega (arith, below, is))
+beside : (offset base v k i : ℕ) → (v < k) ⊎ (k < v) → v ≡ i / 4
+    → (offset + 4 * base + i < offset + 4 * (k + base)) ⊎ (offset + 4 * (k + base) + 4 ≤ offset + 4 * base + i)
+beside offset base v k i (inl above) is = inl (omega (arith, above, is))
+beside offset base v k i (inr below) is = inr (omega (arith, below, is))
 
 -- the variables after a byte was written
 byte_word : (w base size count i b k : ℕ) (store m : List ℕ) → Holds w base size count store m → i < 4 * count
@@ -90,15 +105,15 @@ kept_byte w base size i b k m within (inr behind) =
     other_place m (w - first_address + 4 * base + i) k b (inl (omega (arith, behind, within)))
 
 -- a byte of the variables is written
-pub held_byte : (w : Ground) (i b : ℕ) (m : List ℕ) (x : Situation) → Held w m x → i < 4 * w.count
-    → w.count + w.base ≤ w.size → b < 2 ^ 8
-    → Held w (slice_set m (w.registers.workspace - first_address + 4 * w.base + i) b)
-    (record x { store = with_byte_in x.store i b })
-held_byte w i b m x held within room fits =
+pub held_byte : (ground : Ground) (i b : ℕ) (m : List ℕ) (now : Situation) → Held ground m now → i < 4 * ground.count
+    → ground.count + ground.base ≤ ground.size → b < 2 ^ 8
+    → Held ground (slice_set m (ground.registers.workspace - first_address + 4 * ground.base + i) b)
+    (record now { store = with_byte_in now.store i b })
+held_byte ground i b m now held within room fits =
     let h = held.holds in
-    let at = w.registers.workspace - first_address + 4 * w.base + i in
+    let at = ground.registers.workspace - first_address + 4 * ground.base + i in
     let long = set_long m at b in
-    let word = with_byte_of (slice_index x.store (i / 4)) (i % 4) b in
+    let word = with_byte_of (slice_index now.store (i / 4)) (i % 4) b in
     record {
       holds =
           record {
@@ -107,15 +122,17 @@ held_byte w i b m x held within room fits =
             aligned = h.aligned;
             least = h.least;
             most = rw long h.most;
-            variables = λ k below. byte_word w.registers.workspace w.base w.size w.count i b k x.store m h within room
+            variables = λ k below. byte_word ground.registers.workspace ground.base ground.size ground.count i b k
+                now.store m h within room
                 held.long fits below (apart_or (i / 4) k);
           };
       kept =
           record {
             long = long ∙ held.kept.long;
-            others = λ k apart. kept_byte w.registers.workspace w.base w.size i b k m (omega (arith, within, room)) apart
+            others = λ k apart. kept_byte ground.registers.workspace ground.base ground.size i b k m
+                (omega (arith, within, room)) apart
                 ∙ held.kept.others k apart;
           };
-      long = set_long x.store (i / 4) word ∙ held.long;
+      long = set_long now.store (i / 4) word ∙ held.long;
       bytes = held.bytes;
     }

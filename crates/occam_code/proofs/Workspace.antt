@@ -8,7 +8,8 @@ use Rattle.node_memory.specs.declared.fault.Fault.TheVariants.{OutsideMemory}
 use Rattle.occam_code.specs.Evaluates.{word_in, Holds, KeepsOthers}
 
 -- the address of a word
-pub word_address : (w j size long : ℕ) → first_address ≤ w → w - first_address + 4 * size ≤ long → long ≤ 65536 → j < size
+pub word_address : (w j size long : ℕ) → first_address ≤ w → w - first_address + 4 * size ≤ long → long ≤ 65536
+    → j < size
     → w ⊕ 4 ⊗ j ≡ w + 4 * j
 word_address w j size long least most bound below = omega arith
 
@@ -50,21 +51,25 @@ word_put w base size count j x store m holds below =
     ∙ ap (λ b. cond b (Ok (with_word_from m (word_offset a) x)) (Err OutsideMemory)) inside
     ∙ ap (λ i. Ok (with_word_from m i x)) (offset_of w j holds.least holds.aligned)
 
+-- a write leaves the length
 pub length-with : (m : List ℕ) (i x : ℕ) → length (with_word_from m i x) ≡ length m
 length-with m i x = simp length-set
 
 read_back : (m : List ℕ) (i x : ℕ) → x < 2 ^ 32 → i + 3 < length m → word_from (with_word_from m i x) i ≡ x
 read_back m i x fits within = grind (arith, common_steps)
 
+-- a byte beside a word that was written
 pub other_byte : (m : List ℕ) (i x j : ℕ) → (j < i) ⊎ (i + 4 ≤ j)
     → slice_index (with_word_from m i x) j ≡ slice_index m j
 other_byte m i x j (inl below) = grind (arith, common_steps)
 other_byte m i x j (inr above) = grind (arith, common_steps)
 
+-- bytes are bytes after a byte was written
 pub set_bytes : (m : List ℕ) (k v : ℕ) → ((i : ℕ) → slice_index m i < 2 ^ 8) → v < 2 ^ 8
     → (i : ℕ) → slice_index (slice_set m k v) i < 2 ^ 8
 set_bytes m k v bytes fits i = let here = bytes i in grind (arith, common_steps, here)
 
+-- and after a word was
 pub bytes_with : (m : List ℕ) (k x : ℕ) → ((i : ℕ) → slice_index m i < 2 ^ 8)
     → (i : ℕ) → slice_index (with_word_from m k x) i < 2 ^ 8
 bytes_with m k x bytes =

@@ -1,6 +1,7 @@
 -- A process by itself: statements are done one after another, as the instruction table says. A link takes what the
--- process says, and has a message for it as long as bytes come. At j and lend, and at each message, the processor may be
--- given to others: A, B and C have any values then. The bytes of instructions are not counted, so no row ends a slice.
+-- process says, and has a message for it as long as bytes come. At j and lend, and at each message, the processor may
+-- be given to others: A, B and C have any values then. The bytes of instructions are not counted, so no row ends a
+-- slice. Which words below its workspace a process that waits uses is left out.
 -- Instruction set handbook, in, out, outbyte, outword.
 use Rattle.std.specs.Prelude.{ℕ, zero, suc, ◌+◌, ◌-◌, ◌/◌, List, [], ◌∷◌, ◌++◌, Option, Some, None, Result, Ok, Err, length, take, drop, nat_le, if◌then◌else◌, slice_get}
 use Rattle.node_memory.specs.Bytes.{first_address, byte_at, with_byte, with_word, result_and_then}
@@ -29,7 +30,7 @@ use Rattle.occam_code.specs.Machine.{done_at}
 
 -- the address of each place, the place at each address, and what A, B and C are after the processor may have been given
 -- to others for the first time, the second, and so on
-pub record Setting : Type 0 where
+pub record LoneSetting : Type 0 where
   pub address : ℕ → ℕ
   pub place_at : ℕ → ℕ
   pub others : ℕ → ℕ × ℕ × ℕ
@@ -45,7 +46,7 @@ pub record LoneProcess : Type 0 where
   pub breaks : ℕ
 
 -- what comes of some statements: the process runs, or is at a place that has no instruction; the node halts; or the
--- process is at an input of a message of which too little comes
+-- process is at an input, and too few bytes come
 pub data LoneStage : Type 0 where
   Running : LoneProcess → LoneStage
   Past : LoneProcess → LoneStage
@@ -53,15 +54,15 @@ pub data LoneStage : Type 0 where
   AtInput : List Exchange → LoneStage
 
 -- others may have had the processor
-abbrev pub after_others : Setting → LoneProcess → LoneProcess
+abbrev pub after_others : LoneSetting → LoneProcess → LoneProcess
 after_others g p =
     let any = g.others p.breaks in
     record p { registers = record p.registers { a = any.0; b = any.1; c = any.2 }; breaks = p.breaks + 1 }
 
 -- goes on with what an instruction leaves
-abbrev pub left_by : CpuEffect → LoneProcess → (LoneProcess → LoneStage) → LoneStage
-left_by (Gave s ls m) p next = next (record p { registers = s; links = ls; memory = m })
-left_by (Halted fault ls m) p next = Stopped fault p.talk
+abbrev pub left_after : CpuEffect → LoneProcess → (LoneProcess → LoneStage) → LoneStage
+left_after (Gave s ls m) p next = next (record p { registers = s; links = ls; memory = m })
+left_after (Halted fault ls m) p next = Stopped fault p.talk
 
 -- goes on with what was read or written
 abbrev pub and_then : {A : Type 0} → Result A Fault → LoneProcess → (A → LoneStage) → LoneStage
@@ -84,7 +85,7 @@ abbrev pub channel_at : ℕ → ℕ
 channel_at a = (a - first_address) / 4
 
 -- in: A bytes, the next that come, from channel B to the address in C
-abbrev pub hear : Setting → Channel → LoneProcess → LoneStage → LoneStage
+abbrev pub hear : LoneSetting → Channel → LoneProcess → LoneStage → LoneStage
 hear g (LinkInput n) p other =
     if nat_le p.registers.a (length p.coming)
     then (let bytes = take p.registers.a p.coming in
@@ -98,14 +99,14 @@ hear g (LinkInput n) p other =
 hear g _ p other = other
 
 -- out: this number of bytes from an address to channel B
-abbrev pub say : Setting → Channel → ℕ → ℕ → LoneProcess → LoneStage → LoneStage
+abbrev pub say : LoneSetting → Channel → ℕ → ℕ → LoneProcess → LoneStage → LoneStage
 say g (LinkOutput n) count pointer p other =
     and_then (bytes_at count p.memory pointer) p
     (λ bytes. Running (after_others g (record p { talk = p.talk ++ Said (channel_at p.registers.b) bytes ∷ [] })))
 say g _ count pointer p other = other
 
 -- outbyte and outword: word(W) becomes A, and this number of bytes of it go to channel B
-abbrev pub say_value : Setting → ℕ → LoneProcess → LoneStage → LoneStage
+abbrev pub say_value : LoneSetting → ℕ → LoneProcess → LoneStage → LoneStage
 say_value g count p other =
     and_then (with_word p.memory p.registers.workspace p.registers.a) p
     (λ m. say g (kind_of p.registers.b) count p.registers.workspace (record p { memory = m }) other)
@@ -133,16 +134,16 @@ manner_of _ k = ByRow
 
 -- what is done in each manner: by the row's effect, from the process itself and with Iptr at the next instruction. A
 -- message by a channel that is no link's, or not of its direction, is the row's
-abbrev pub stage_by : Setting → Manner → CpuEffect → LoneProcess → LoneProcess → LoneStage
-stage_by g ByRow row p next = left_by row p Running
-stage_by g ThenOthers row p next = left_by row p (λ q. Running (after_others g q))
-stage_by g Hears row p next = hear g (kind_of p.registers.b) next (left_by row p Running)
+abbrev pub stage_by : LoneSetting → Manner → CpuEffect → LoneProcess → LoneProcess → LoneStage
+stage_by g ByRow row p next = left_after row p Running
+stage_by g ThenOthers row p next = left_after row p (λ q. Running (after_others g q))
+stage_by g Hears row p next = hear g (kind_of p.registers.b) next (left_after row p Running)
 stage_by g Says row p next =
-    say g (kind_of p.registers.b) p.registers.a p.registers.c next (left_by row p Running)
-stage_by g (SaysValue count) row p next = say_value g count next (left_by row p Running)
+    say g (kind_of p.registers.b) p.registers.a p.registers.c next (left_after row p Running)
+stage_by g (SaysValue count) row p next = say_value g count next (left_after row p Running)
 
 -- the statement at a place is done
-abbrev pub stage_at : Setting → ℕ → Option Statement → LoneProcess → LoneStage
+abbrev pub stage_at : LoneSetting → ℕ → Option Statement → LoneProcess → LoneStage
 stage_at g place (Some (Instruction f o)) p =
     stage_by g (manner_of f (operand_of g.address (place + 1) f o))
     (done_at g.address place f o p.registers p.links p.memory) p
@@ -150,7 +151,7 @@ stage_at g place (Some (Instruction f o)) p =
 stage_at g place _ p = Past p
 
 -- the statement to which Iptr points is done
-abbrev pub next_stage : Setting → List Statement → LoneProcess → LoneStage
+abbrev pub next_stage : LoneSetting → List Statement → LoneProcess → LoneStage
 next_stage g program p =
     let place = g.place_at p.registers.instruction in stage_at g place (slice_get program place) p
 
@@ -162,6 +163,6 @@ while_running (Stopped fault talk) next = Stopped fault talk
 while_running (AtInput talk) next = AtInput talk
 
 -- this number of statements of a program are done, unless there are fewer to do
-abbrev pub stage_after : Setting → List Statement → ℕ → LoneProcess → LoneStage
+abbrev pub stage_after : LoneSetting → List Statement → ℕ → LoneProcess → LoneStage
 stage_after g program zero p = Running p
 stage_after g program (suc n) p = while_running (next_stage g program p) (stage_after g program n)

@@ -11,7 +11,7 @@ use Rattle.occam_code.specs.declared.frame.FrameWords.{FrameWords}
 use Rattle.occam_code.specs.Words.{process_temporaries}
 use Rattle.occam_code.specs.Code.{process_code}
 use Rattle.occam_code.specs.Evaluates.{array_words, NamesBelow, HasWords, Holds, KeepsOthers}
-use Rattle.occam_code.specs.Alone.{Setting, LoneProcess, LoneStage, Running, Past, Stopped, AtInput, stage_after}
+use Rattle.occam_code.specs.Alone.{LoneSetting, LoneProcess, LoneStage, Running, Past, Stopped, AtInput, stage_after}
 
 -- the variables of an expression are among this number of variables, and its constants are words
 abbrev pub IsWithin : ℕ → Expression → Type 0
@@ -33,8 +33,9 @@ ProcessIsWithin count (Repeat' v base times p a) =
 ProcessIsWithin count _ = ⊤
 
 -- a process is at the first place of its code, errors halt the node, its variables are in memory, and its workspace has
--- room for what it keeps. What comes are bytes, and addresses are told apart within the code
-pub record IsBegun (g : Setting) (first last : ℕ) (words : FrameWords) (size : ℕ) (p : CoreProcess) (at : Situation)
+-- room for what it keeps. What comes are bytes, and two places of the code have
+-- different addresses
+pub record IsBegun (g : LoneSetting) (first last : ℕ) (words : FrameWords) (size : ℕ) (p : CoreProcess) (at : Situation)
     (s : LoneProcess) : Type 0 where
   pub addresses : (k : ℕ) → g.address k < 2 ^ 32
   pub places : (k : ℕ) → first ≤ k → k ≤ last → g.place_at (g.address k) ≡ k
@@ -50,9 +51,10 @@ pub record IsBegun (g : Setting) (first last : ℕ) (words : FrameWords) (size :
   pub bytes : (i : ℕ) → slice_index at.coming i < 2 ^ 8
   pub talk : s.talk ≡ at.talk
 
--- it has come behind its code, where it is in a situation: memory has changed in its workspace alone, from word 0 on, and
--- no other registers have than Iptr, A, B and C
-pub record IsAtEnd (g : Setting) (last : ℕ) (words : FrameWords) (size : ℕ) (begun : LoneProcess) (at : Situation)
+-- it has come past its code, to a situation: memory has changed in its workspace alone, from word 0 on, and of the
+-- registers Iptr, A, B and C alone
+pub record IsPastCode (g : LoneSetting) (last : ℕ) (words : FrameWords) (size : ℕ) (begun : LoneProcess)
+    (at : Situation)
     (s : LoneProcess) : Type 0 where
   pub a : ℕ
   pub b : ℕ
@@ -80,14 +82,14 @@ pub record Behaves (p : CoreProcess) (at : Situation) (run : ℕ → LoneStage) 
       → (n : ℕ) × (does n p at ≡ Erred talk) × (fault ≡ ErrorSet)
   pub waits_only : (k : ℕ) (talk : List Exchange) → run k ≡ AtInput talk → (n : ℕ) × (does n p at ≡ Awaits talk)
 
--- the code of a sequential process, in every program that has it from a place on, at whatever addresses, whatever comes,
--- and whatever others leave in registers: up to its end it does what the process does
+-- the code of a sequential process, in every program that has it from a place on, at whatever addresses, whatever
+-- comes, and whatever others leave in registers: up to its end it does what the process does
 abbrev pub CodeBehaves : Type 0
 CodeBehaves =
     (p : CoreProcess) (first : ℕ) (words : FrameWords) (program : List Statement) → IsSequential p
     → ((i : ℕ) → i < length (process_code first words p)
     → slice_get program (first + i) ≡ slice_get (process_code first words p) i)
-    → (g : Setting) (size : ℕ) (at : Situation) (s : LoneProcess)
+    → (g : LoneSetting) (size : ℕ) (at : Situation) (s : LoneProcess)
     → IsBegun g first (first + length (process_code first words p)) words size p at s
     → Behaves p at (λ k. stage_after g (take (first + length (process_code first words p)) program) k s)
-    (IsAtEnd g (first + length (process_code first words p)) words size s)
+    (IsPastCode g (first + length (process_code first words p)) words size s)

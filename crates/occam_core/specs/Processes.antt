@@ -24,7 +24,7 @@ pub record Situation : Type 0 where
   pub coming : List ℕ
   pub talk : List Exchange
 
--- how far a process goes: it ends, it errs, it waits for a message of which too little comes, or it has made as many
+-- how far a process goes: it ends, it errs, it waits for a message, and too few bytes come, or it has made as many
 -- turns of a loop as it was given. All but an end have the messages up to there
 pub data Course : Type 0 where
   Ended : Situation → Course
@@ -40,15 +40,15 @@ then_do (Awaits talk) go = Awaits talk
 then_do (Unfinished talk) go = Unfinished talk
 
 -- goes on with a value, or errs if there is none
-abbrev pub with_value : Option ℕ → List Exchange → (ℕ → Course) → Course
-with_value None talk go = Erred talk
-with_value (Some x) talk go = go x
+abbrev pub value_then : Option ℕ → List Exchange → (ℕ → Course) → Course
+value_then None talk go = Erred talk
+value_then (Some x) talk go = go x
 
 -- a variable gets a word
 abbrev pub assigned : ℕ → ℕ → Situation → Situation
 assigned v x at = record at { store = slice_set at.store v x }
 
--- a byte of the words of a store, of which each has four, the least significant first
+-- a byte of the words of a store; each word has four, the least significant first
 abbrev pub byte_in : List ℕ → ℕ → ℕ
 byte_in σ i = slice_index σ (i / 4) / 2 ^ (8 * (i % 4)) % 2 ^ 8
 
@@ -91,15 +91,15 @@ bytes_said message.Word x = x % 2 ^ 8 ∷ x / 2 ^ 8 % 2 ^ 8 ∷ x / 2 ^ 16 % 2 ^
 abbrev pub turns : ℕ → (Situation → Option ℕ) → (Situation → Course) → Situation → Course
 turns zero test body at = Unfinished at.talk
 turns (suc n) test body at =
-    with_value (test at) at.talk (λ x. if x == 0 then Ended at else then_do (body at) (turns n test body))
+    value_then (test at) at.talk (λ x. if x == 0 then Ended at else then_do (body at) (turns n test body))
 
 -- how many turns are left, as the variable after the index says
 abbrev pub turns_left : ℕ → Situation → ℕ
 turns_left v at = slice_index at.store (v + 1)
 
 -- after a turn one turn less is left
-abbrev pub turned : ℕ → Situation → Situation
-turned v at = assigned (v + 1) (turns_left v at ⊖ 1) at
+abbrev pub turn_over : ℕ → Situation → Situation
+turn_over v at = assigned (v + 1) (turns_left v at ⊖ 1) at
 
 -- at most this number of turns of a loop with an index: if one is left after a turn, the index is one more for it
 abbrev pub rounds : ℕ → ℕ → (Situation → Course) → Situation → Course
@@ -107,8 +107,8 @@ rounds zero v body at = Unfinished at.talk
 rounds (suc n) v body at =
     then_do (body at)
     (λ end. if int_lt (pos 1) (signed (turns_left v end))
-    then rounds n v body (assigned v (slice_index end.store v ⊕ 1) (turned v end))
-    else Ended (turned v end))
+    then rounds n v body (assigned v (slice_index end.store v ⊕ 1) (turn_over v end))
+    else Ended (turn_over v end))
 
 -- what a process does where each loop in it makes at most n turns; of a process that isn't sequential nothing is said.
 -- The number of a loop's turns is evaluated when its index has its first value
@@ -116,10 +116,10 @@ abbrev pub does : ℕ → CoreProcess → Situation → Course
 does n Skip at = Ended at
 does n Stop at = Erred at.talk
 does n (Line' place p a) at = does n a at
-does n (Assign v e) at = with_value (value e at.store) at.talk (λ x. Ended (assigned v x at))
+does n (Assign v e) at = value_then (value e at.store) at.talk (λ x. Ended (assigned v x at))
 does n (AssignElement array i e) at =
-    with_value (value e at.store) at.talk
-    (λ x. with_value (value i at.store) at.talk
+    value_then (value e at.store) at.talk
+    (λ x. value_then (value i at.store) at.talk
     (λ k. if nat_lt k array.length
     then Ended (record at { store = with_element array.kind array.first at.store k x })
     else Erred at.talk))
@@ -128,16 +128,16 @@ does n (Input (Link c) kind v) at =
     then Ended (assigned v (value_heard kind at.coming) (heard c (bytes_in kind) at))
     else Awaits at.talk
 does n (Output (Link c) kind e) at =
-    with_value (value e at.store) at.talk
+    value_then (value e at.store) at.talk
     (λ x. Ended (record at { talk = at.talk ++ Said c (bytes_said kind x) ∷ [] }))
 does n (Sequence' p a q b) at = then_do (does n a at) (does n b)
 does n (If' e p a q b) at =
-    with_value (value e at.store) at.talk (λ x. if x == 0 then does n b at else does n a at)
+    value_then (value e at.store) at.talk (λ x. if x == 0 then does n b at else does n a at)
 does n (While' e p a) at = turns n (λ now. value e now.store) (does n a) at
 does n (Repeat' v base count p a) at =
-    with_value (value base at.store) at.talk
+    value_then (value base at.store) at.talk
     (λ x. let begun = assigned v x at in
-    with_value (value count begun.store) begun.talk
+    value_then (value count begun.store) begun.talk
     (λ k. if nat_le (2 ^ 31) k then Erred begun.talk
     else (let set = assigned (v + 1) k begun in if k == 0 then Ended set else rounds n v (does n a) set)))
 does n _ at = Unfinished at.talk
