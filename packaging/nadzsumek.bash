@@ -13,7 +13,7 @@ _nadzsumek_options() {
     lab\ disassemble) echo '-h --help' ;;
     lab\ occam) echo '--code --listing --pokes --memory -h --help' ;;
     lab\ rows) echo '--steps -h --help' ;;
-    lab\ why) echo '--at --steps -h --help' ;;
+    lab\ why) echo '--at --program --steps -h --help' ;;
     lab\ film) echo '--from --count --program --steps -h --help' ;;
     lab\ expand) echo '-h --help' ;;
     lab\ run) echo '--record --steps -h --help' ;;
@@ -46,7 +46,7 @@ _nadzsumek_values() {
     lab\ assemble) echo '--pokes' ;;
     lab\ occam) echo '--pokes --memory' ;;
     lab\ rows) echo '--steps' ;;
-    lab\ why) echo '--at --steps' ;;
+    lab\ why) echo '--at --program --steps' ;;
     lab\ film) echo '--from --count --program --steps' ;;
     lab\ run) echo '--record --steps' ;;
     lab\ debug) echo '--program --steps' ;;
