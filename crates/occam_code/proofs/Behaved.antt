@@ -8,7 +8,7 @@ use Rattle.node_memory.specs.declared.fault.Fault.{Fault}
 use Rattle.node_memory.specs.declared.fault.Fault.TheVariants.{ErrorSet}
 use Rattle.t414_assembly.specs.declared.statement.Statement.{Statement}
 use Rattle.occam_core.specs.declared.process.CoreProcess.{CoreProcess}
-use Rattle.occam_core.specs.Processes.{Exchange, Situation, Course, Ended, Erred, Awaits, Unfinished, does, IsSequential}
+use Rattle.occam_code.specs.Processes.{Exchange, Situation, Course, Ended, Erred, Awaits, Unfinished, does, IsSequential}
 use Rattle.occam_code.specs.declared.frame.FrameWords.{FrameWords}
 use Rattle.occam_code.specs.Code.{process_code}
 use Rattle.occam_code.specs.Evaluates.{Holds, KeepsOthers}

@@ -21,7 +21,7 @@ use Rattle.occam_core.specs.declared.expression.Expression.{Expression}
 use Rattle.occam_core.specs.declared.process.CoreProcess.{CoreProcess}
 use Rattle.occam_core.specs.declared.process.CoreProcess.TheVariants.{Skip, Stop, Assign, Sequence', If', While'}
 use Rattle.occam_core.specs.Values.{value}
-use Rattle.occam_core.specs.Processes.{Exchange, Situation, Course, Ended, Erred, Awaits, Unfinished, then_do, value_then, assigned, turns, does}
+use Rattle.occam_code.specs.Processes.{Exchange, Situation, Course, Ended, Erred, Awaits, Unfinished, then_do, value_then, assigned, turns, does}
 use Rattle.occam_code.specs.declared.frame.FrameWords.{FrameWords}
 use Rattle.occam_code.specs.Instructions as asm
 use Rattle.occam_code.specs.Words.{temporaries_of, process_temporaries}

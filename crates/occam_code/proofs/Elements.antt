@@ -15,7 +15,7 @@ use Rattle.occam_core.specs.declared.expression.ElementKind.TheVariants as kind
 use Rattle.occam_core.specs.declared.expression.Expression.{Expression}
 use Rattle.occam_core.specs.declared.process.CoreProcess.TheVariants.{AssignElement}
 use Rattle.occam_core.specs.Values.{value}
-use Rattle.occam_core.specs.Processes.{Situation, Course, Ended, Erred, value_then, with_element, does}
+use Rattle.occam_code.specs.Processes.{Situation, Course, Ended, Erred, value_then, with_element, does}
 use Rattle.occam_code.specs.Instructions as asm
 use Rattle.occam_code.specs.Words.{temporaries_of}
 use Rattle.occam_code.specs.Expressions.{subscript_code, address_code, expression_code}

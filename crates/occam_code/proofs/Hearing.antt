@@ -12,7 +12,7 @@ use Rattle.occam_core.specs.declared.channel.CoreChannel.TheVariants.{Link}
 use Rattle.occam_core.specs.declared.channel.MessageKind.{MessageKind}
 use Rattle.occam_core.specs.declared.channel.MessageKind.TheVariants as message
 use Rattle.occam_core.specs.declared.process.CoreProcess.TheVariants.{Input}
-use Rattle.occam_core.specs.Processes.{Exchange, Heard, Situation, Course, Ended, Awaits, assigned, heard, bytes_in, value_heard, does}
+use Rattle.occam_code.specs.Processes.{Exchange, Heard, Situation, Course, Ended, Awaits, assigned, heard, bytes_in, value_heard, does}
 use Rattle.occam_code.specs.declared.frame.FrameWords.{FrameWords}
 use Rattle.occam_code.specs.Instructions as asm
 use Rattle.occam_code.specs.Guards.{channel_code}

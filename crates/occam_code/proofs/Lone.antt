@@ -12,7 +12,7 @@ use Rattle.t414_assembly.specs.declared.statement.Statement.TheVariants.{Instruc
 use Rattle.t414_assembly.specs.Program.{operand_of}
 use Rattle.t414_step.specs.declared.cpu.Cpu.{Cpu}
 use Rattle.t414_step.specs.ChannelRows.{CpuEffect}
-use Rattle.occam_core.specs.Processes.{Exchange, Situation, Course, Ended, Erred, Awaits, Unfinished}
+use Rattle.occam_code.specs.Processes.{Exchange, Situation, Course, Ended, Erred, Awaits, Unfinished}
 use Rattle.occam_code.specs.Machine.{done_at, Does, Leads, Falls}
 use Rattle.occam_code.specs.Alone.{LoneSetting, LoneProcess, LoneStage, Running, Past, Stopped, AtInput, left_after, Manner, ByRow, manner_of, stage_by, stage_at, next_stage, while_running, stage_after}
 use Rattle.occam_code.proofs.Stepping.{HasAt, has_all}

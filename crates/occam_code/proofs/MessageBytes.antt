@@ -13,7 +13,7 @@ use Rattle.link_channels.specs.declared.number.LinkNumber.{LinkNumber}
 use Rattle.link_channels.specs.declared.number.LinkNumber.TheVariants.{Zero, One, Two, Three}
 use Rattle.occam_core.specs.declared.channel.MessageKind.{MessageKind}
 use Rattle.occam_core.specs.declared.channel.MessageKind.TheVariants as message
-use Rattle.occam_core.specs.Processes.{bytes_in, value_heard, bytes_said}
+use Rattle.occam_code.specs.Processes.{bytes_in, value_heard, bytes_said}
 use Rattle.occam_code.specs.Alone.{with_bytes, bytes_at, channel_at}
 
 -- the word of a link's channel of this number

@@ -19,7 +19,7 @@ use Rattle.occam_core.specs.declared.expression.Expression.{Expression}
 use Rattle.occam_core.specs.declared.process.CoreProcess.{CoreProcess}
 use Rattle.occam_core.specs.declared.process.CoreProcess.TheVariants.{Repeat'}
 use Rattle.occam_core.specs.Values.{value}
-use Rattle.occam_core.specs.Processes.{Situation, Course, Ended, Erred, then_do, value_then, assigned, turns_left, turn_over, rounds, does}
+use Rattle.occam_code.specs.Processes.{Situation, Course, Ended, Erred, then_do, value_then, assigned, turns_left, turn_over, rounds, does}
 use Rattle.occam_code.specs.Instructions as asm
 use Rattle.occam_code.specs.Words.{temporaries_of, process_temporaries}
 use Rattle.occam_code.specs.Expressions.{expression_code}

@@ -3,7 +3,7 @@ use Rattle.std.proofs.Common.{ℕ, ◌≤◌, arith}
 use Rattle.occam_core.specs.declared.channel.CoreChannel.TheVariants.{Link}
 use Rattle.occam_core.specs.declared.process.CoreProcess.{CoreProcess}
 use Rattle.occam_core.specs.declared.process.CoreProcess.TheVariants.{Skip, Stop, Line', Assign, AssignElement, Input, Output, Sequence', If', While', Repeat'}
-use Rattle.occam_core.specs.Processes.{IsSequential}
+use Rattle.occam_code.specs.Processes.{IsSequential}
 use Rattle.occam_code.specs.Behaves.{ProcessIsWithin}
 use Rattle.occam_code.proofs.Elements.{assign_element_runs}
 use Rattle.occam_code.proofs.Hearing.{input_runs}

@@ -20,7 +20,7 @@ use Rattle.occam_core.specs.declared.expression.Expression.{Expression}
 use Rattle.occam_core.specs.declared.expression.Expression.TheVariants.{Number, Variable, Element', One', Two', And', Or', Below'}
 use Rattle.occam_core.specs.declared.process.CoreProcess.TheVariants.{Output}
 use Rattle.occam_core.specs.Values.{value}
-use Rattle.occam_core.specs.Processes.{Exchange, Said, Situation, Course, Ended, value_then, bytes_in, bytes_said, does}
+use Rattle.occam_code.specs.Processes.{Exchange, Said, Situation, Course, Ended, value_then, bytes_in, bytes_said, does}
 use Rattle.occam_code.specs.declared.frame.FrameWords.{FrameWords}
 use Rattle.occam_code.specs.Instructions as asm
 use Rattle.occam_code.specs.Words.{is_leaf, temporaries_of}

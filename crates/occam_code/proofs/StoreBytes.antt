@@ -3,7 +3,7 @@ use Rattle.std.proofs.Common.{◌≡◌, ℕ, zero, suc, ◌+◌, ◌-◌, ◌*�
 use Rattle.std.specs.Prelude.{slice_index, slice_set}
 use Rattle.std.proofs.lemmas.Grind.{common_steps}
 use Rattle.node_memory.specs.Bytes.{first_address, word_from}
-use Rattle.occam_core.specs.Processes.{Situation, with_byte_of, with_byte_in}
+use Rattle.occam_code.specs.Processes.{Situation, with_byte_of, with_byte_in}
 use Rattle.occam_code.specs.Evaluates.{word_in, Holds, KeepsOthers}
 use Rattle.occam_code.proofs.Workspace.{set_bytes}
 use Rattle.occam_code.proofs.Assigning.{set_same, set_other, apart_or}

@@ -25,7 +25,7 @@ use Rattle.t414_assembly.specs.declared.statement.Statement.TheVariants.{Instruc
 use Rattle.t414_assembly.specs.Program.{operand_of}
 use Rattle.t414_step.specs.declared.cpu.Cpu.{Cpu}
 use Rattle.t414_step.specs.ChannelRows.{CpuEffect}
-use Rattle.occam_core.specs.Processes.{Exchange, Said, Heard}
+use Rattle.occam_code.specs.Processes.{Exchange, Said, Heard}
 use Rattle.occam_code.specs.Machine.{done_at}
 
 -- the address of each place, the place at each address, and what A, B and C are after the processor may have been given

@@ -6,7 +6,7 @@ use Rattle.t414_assembly.specs.declared.statement.Statement.{Statement}
 use Rattle.occam_core.specs.declared.expression.Expression.{Expression}
 use Rattle.occam_core.specs.declared.process.CoreProcess.{CoreProcess}
 use Rattle.occam_core.specs.declared.process.CoreProcess.TheVariants.{Line', Assign, AssignElement, Input, Output, Sequence', If', While', Repeat'}
-use Rattle.occam_core.specs.Processes.{Exchange, Situation, Ended, Erred, Awaits, Unfinished, does, IsSequential}
+use Rattle.occam_code.specs.Processes.{Exchange, Situation, Ended, Erred, Awaits, Unfinished, does, IsSequential}
 use Rattle.occam_code.specs.declared.frame.FrameWords.{FrameWords}
 use Rattle.occam_code.specs.Words.{process_temporaries}
 use Rattle.occam_code.specs.Code.{process_code}

@@ -222,9 +222,8 @@ abbrev mutual
       process_marks place words a ++ bodies_marks (place + length (process_code place words a) + 1) words b
   bodies_marks place words _ = []
 
--- by how many words the workspace is moved up: by the three words below it and the words of this number of
--- processes, or,
--- if this number of words of tables is before it, down to them and word 0
+-- by how many words the workspace is moved up: by the three words below it and the words of this number of processes,
+-- or, if this number of words of tables is before it, down to them and word 0
 abbrev pub workspace_move : ℕ → ℕ → ℕ
 workspace_move table_words processes =
     if table_words == 0 then 3 ⊕ processes ⊗ 4 else 0 ⊖ (table_words ⊕ 1)

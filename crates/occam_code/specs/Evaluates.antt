@@ -46,8 +46,7 @@ abbrev pub word_in : ℕ → List ℕ → ℕ → ℕ
 word_in w m k = word_from m (w - first_address + 4 * k)
 
 -- the workspace w has this number of words in memory, and the first variables are those of a store: v in word v of
--- those
--- from `base` on
+-- those from `base` on
 pub record Holds (w base size count : ℕ) (store m : List ℕ) : Type 0 where
   pub memory : IsMemorySize (length m)
   pub bytes : (i : ℕ) → slice_index m i < 2 ^ 8

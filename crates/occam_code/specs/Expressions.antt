@@ -1,8 +1,7 @@
 -- The code of expressions.
 -- Labels are places: `place` is the number of the first of the statements. `words` says where the words of the frame
--- are,
--- from the workspace of the process: variable v is in word v of those from `base` on, modulo 2 ^ 32, and the first that
--- is free is `temporary`. Word 0 is the process's own.
+-- are, from the workspace of the process: variable v is in word v of those from `base` on, modulo 2 ^ 32, and the first
+-- that is free is `temporary`. Word 0 is the process's own.
 use Rattle.std.specs.Prelude.{ℕ, ◌+◌, List, [], ◌∷◌, ◌++◌, Bool, true, false, length}
 use Rattle.node_memory.specs.Words.{◌⊕◌}
 use Rattle.t414_assembly.specs.declared.statement.Statement.{Statement}

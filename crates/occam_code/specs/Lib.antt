@@ -8,6 +8,7 @@ pub mod Code
 pub mod Layout
 pub mod Machine
 pub mod Evaluates
+pub mod Processes
 pub mod Alone
 pub mod Behaves
 -- what only helps contracts

@@ -1,3 +1,2 @@
 -- what must be believed
 pub mod Values
-pub mod Processes
