@@ -1,9 +1,11 @@
--- Paragraphs of nodes one after another.
+-- What a node is doing, and paragraphs of nodes one after another: the contracts of `doing_of` and `all_paragraphs`.
 use Rattle.std.proofs.Common.{◌≡◌, ◌<◌, ◌∙◌, ℕ, zero, suc, ◌+◌, ◌++◌, List, [], ◌∷◌, Option, Some, None, take, refl, sym, ap, subst, arith}
+use Rattle.std.specs.Prelude.{IfOk, Result}
 use Rattle.std.specs.List.{slice_get}
 use Rattle.std.proofs.lemmas.List.{append_assoc, append-nil}
 use Rattle.bootstrap.specs.declared.node.Node.{Node}
-use Rattle.node_causes.specs.Explained.{IsParagraph, IsOfNode, AreOfNodes}
+use Rattle.node_causes.specs.declared.cause.Cause.{Cause}
+use Rattle.node_causes.specs.Explained.{IsDoing, IsParagraph, IsOfNode, AreOfNodes}
 
 -- nothing after nothing is nothing
 nothing : (text one : List ℕ) → text ≡ [] → one ≡ [] → text ++ one ≡ []
@@ -31,3 +33,11 @@ next_paragraph number (suc k) (n ∷ nodes) text one (first, rest, of_n, of_rest
       (subst (λ (m : ℕ). IsOfNode m (slice_get nodes k) one) (omega arith) is),
   ap (λ (t : List ℕ). t ++ one) text_is ∙ append_assoc first rest one,
 )
+
+-- what a node is doing by a cause that is known, it is doing by an equal one
+pub doing_by : {X E : Type 0} (bytes : X → List ℕ) (n : Node) (cause known : Cause) (outcome : Result X E)
+    → cause ≡ known
+    → IfOk outcome (λ t. IsDoing n known (bytes t))
+    → IfOk outcome (λ t. IsDoing n cause (bytes t))
+doing_by bytes n cause known outcome is told =
+    subst (λ (k : Cause). IfOk outcome (λ t. IsDoing n k (bytes t))) (sym is) told
