@@ -1,4 +1,5 @@
--- The passes with which a farm is closed are those of its plan's users: the clause `users` of `run_live`.
+-- The passes with which a farm is closed are those of its plan's users, and the records have what they list: the
+-- clauses `users` and `kept` of `run_live`.
 use Rattle.std.proofs.Common.{◌≡◌, ℕ, List, [], ◌∷◌, map, Ok, Err, refl, ap, subst}
 use Rattle.std.specs.Prelude.{IfOk, Result}
 use Rattle.plan_rules.specs.Data.{DomainData}
@@ -9,7 +10,7 @@ use Rattle.farm_service.specs.Histories.{with_history}
 use Rattle.farm_service.specs.Passes.{UserPassValue, fresh_passes, with_reserved}
 use Rattle.plan_rules.specs.declared.users.UserNumber.{UserNumber}
 use Rattle.live_farm.specs.Crews.{number_of}
-use Rattle.live_farm.specs.Closings.{AreUsersListed}
+use Rattle.live_farm.specs.Closings.{RecordSays, HaveListed, AreUsersListed, AreUsersRecorded}
 
 -- whatever they list and reserve, passes are of the same users
 pub same_users : (domains : List DomainValue) (count : ℕ) (passes : List UserPassValue)
@@ -39,3 +40,26 @@ pub all_listed_of : {E : Type 0} (plan other : List DomainData) (passes : List U
 all_listed_of plan other passes outcome same theirs listed full =
     all_listed plan passes outcome theirs listed
     (subst (λ p. IfOk outcome (λ (closed : Closed). AllMetFullTruly p closed.domains.items passes)) same full)
+
+-- if closing vouches for each of these passes, and each record kept what they list, it kept what the plan's users have
+pub all_kept : {E K : Type 0} (has_kept : RecordSays K) (was_out : K → Type 0) (plan : List DomainData)
+    (records : List K) (passes : List UserPassValue) (outcome : Result Closed E)
+    → map number_of passes ≡ map number_of (fresh_passes plan)
+    → IfOk outcome (λ closed. AreListed closed.domains.items passes)
+    → HaveListed has_kept was_out plan passes records
+    → IfOk outcome (λ closed. AreUsersRecorded has_kept was_out plan records closed.domains.items)
+all_kept has_kept was_out plan records passes (Ok closed) theirs listed kept =
+    record { passes = passes; theirs = theirs; listed = listed; kept = kept }
+all_kept has_kept was_out plan records passes (Err e) theirs listed kept = tt
+
+-- the same, if what was kept speaks of an equal plan
+pub all_kept_of : {E K : Type 0} (has_kept : RecordSays K) (was_out : K → Type 0) (plan other : List DomainData)
+    (records : List K) (passes : List UserPassValue) (outcome : Result Closed E)
+    → other ≡ plan
+    → map number_of passes ≡ map number_of (fresh_passes plan)
+    → IfOk outcome (λ closed. AreListed closed.domains.items passes)
+    → HaveListed has_kept was_out other passes records
+    → IfOk outcome (λ closed. AreUsersRecorded has_kept was_out plan records closed.domains.items)
+all_kept_of has_kept was_out plan other records passes outcome same theirs listed kept =
+    all_kept has_kept was_out plan records passes outcome theirs listed
+    (subst (λ (p : List DomainData). HaveListed has_kept was_out p passes records) same kept)

@@ -5,7 +5,7 @@ use Rattle.farm_service.specs.declared.closed.Closed.{Closed}
 use Rattle.farm_service.specs.Closed.{EachMergeRuns}
 use Rattle.farm_service.specs.Passes.{fresh_passes}
 use Rattle.live_farm.specs.Crews.{number_of}
-use Rattle.live_farm.proofs.Closings.{same_users, all_listed_of}
+use Rattle.live_farm.proofs.Closings.{same_users, all_listed_of, all_kept_of}
 use Rattle.live_farm.proofs.program.run_live.Goals as goal
 
 pub returns-clause-runs : goal.returns-clause-runs
@@ -20,3 +20,11 @@ returns-clause-users g c =
     let theirs =
     c.in_ok-users.ensures.users ∙ ap (map number_of) c.in-Ok.ensures.users ∙ same_users _ _ (fresh_passes plan) in
     all_listed_of plan _ _ c.close.result c.in-Ok.ensures.plan theirs c.close.ensures.users c.close.ensures.full
+
+pub returns-clause-kept : goal.returns-clause-kept
+returns-clause-kept g c =
+    let plan = c.args.histories.plan in
+    let theirs =
+    c.in_ok-users.ensures.users ∙ ap (map number_of) c.in-Ok.ensures.users ∙ same_users _ _ (fresh_passes plan) in
+    all_kept_of g.K.has_kept g.K.was_out plan _ c.args.records.now _ c.close.result c.in-Ok.ensures.plan theirs
+    c.close.ensures.users c.in_ok-users.ensures.kept
