@@ -1,10 +1,12 @@
 -- What a node is doing, and paragraphs of nodes one after another: the contracts of `doing_of` and `all_paragraphs`.
-use Rattle.std.proofs.Common.{◌≡◌, ◌<◌, ◌∙◌, ℕ, zero, suc, ◌+◌, ◌++◌, List, [], ◌∷◌, Option, Some, None, take, refl, sym, ap, subst, arith}
+use Rattle.std.proofs.Common.{◌≡◌, ◌∙◌, ℕ, zero, suc, ◌+◌, ◌++◌, List, [], ◌∷◌, take, refl, sym, ap, subst, arith}
 use Rattle.std.specs.Prelude.{IfOk, Result}
 use Rattle.std.specs.List.{slice_get}
 use Rattle.std.proofs.lemmas.List.{append_assoc, append-nil}
 use Rattle.bootstrap.specs.declared.node.Node.{Node}
 use Rattle.node_causes.specs.declared.cause.Cause.{Cause}
+use Rattle.node_causes.specs.declared.cause.InsideWait.{InsideWait}
+use Rattle.node_causes.specs.Causes.{inside_waits}
 use Rattle.node_causes.specs.Explained.{IsDoing, IsParagraph, IsOfNode, AreOfNodes}
 
 -- nothing after nothing is nothing
@@ -41,3 +43,9 @@ pub doing_by : {X E : Type 0} (bytes : X → List ℕ) (n : Node) (cause known :
     → IfOk outcome (λ t. IsDoing n cause (bytes t))
 doing_by bytes n cause known outcome is told =
     subst (λ (k : Cause). IfOk outcome (λ t. IsDoing n k (bytes t))) (sym is) told
+
+-- who waits in an equal memory
+pub waits_are : (listed items : List InsideWait) (m known : List ℕ)
+    → listed ≡ items → items ≡ inside_waits m → m ≡ known
+    → listed ≡ inside_waits known
+waits_are listed items m known listed_is items_are same = listed_is ∙ items_are ∙ ap inside_waits same

@@ -154,8 +154,10 @@ abbrev pub cut_text : Bool → List ℕ
 cut_text true = codes "The last line is cut, and was left out.\n"
 cut_text false = []
 
--- what is said of a domain that was led by its record: how many events it recorded, and why its nodes do no more
+-- how many events a domain recorded that was led by its record, whether the last line of this is cut, and the causes
+abbrev pub led_text : ℕ → Bool → List ℕ → List ℕ
+led_text recorded cut causes = codes "after " ++ decimal recorded ++ codes " events\n" ++ cut_text cut ++ causes
+
+-- so it is said at a moment, of all nodes
 abbrev pub IsLedText : MomentValue → Bool → List ℕ → Type 0
-IsLedText m cut text =
-    (causes : List ℕ) × IsExplained m None causes
-    × (text ≡ codes "after " ++ decimal m.recorded ++ codes " events\n" ++ cut_text cut ++ causes)
+IsLedText m cut text = (causes : List ℕ) × IsExplained m None causes × (text ≡ led_text m.recorded cut causes)

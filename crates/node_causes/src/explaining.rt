@@ -1,6 +1,6 @@
 //! Explains what the nodes of a domain wait for that was led by its record.
 ghost use Rattle.std.specs.Prelude.{◌≡◌, IfOk, string_bytes};
-ghost use Rattle.node_causes.specs.Explained.{cut_text, IsExplained, IsLedText};
+ghost use Rattle.node_causes.specs.Explained.{cut_text, IsExplained, IsLedText, led_text};
 
 use crate::paragraphs::{Chosen, explain};
 use domain_core::NoMemory;
@@ -21,6 +21,16 @@ fn cut_words(is_cut: bool) -> &'static str
     }
 }
 
+// Up to where a domain was led, whether the last line of its record is cut, and the causes.
+fn led_words(alloc: Global, recorded: u64, is_cut: bool, causes: &str) -> Result<String, NoMemory>
+    ensures { IfOk result (λ text. string_bytes text ≡ led_text recorded is_cut causes.now) }
+{
+    let mut text = format!(in alloc; "after {recorded} events\n")?;
+    text.push_str(cut_words(is_cut))?;
+    text.push_str(causes)?;
+    Ok(text)
+}
+
 /// Says it of a domain that was led by its record, whose last line may be cut.
 pub fn explain_followed(
     alloc: Global,
@@ -29,14 +39,12 @@ pub fn explain_followed(
 ) -> Result<String, NoMemory>
     ensures { IfOk result (λ told. IsLedText follower.now is_cut (string_bytes told)) }
 {
-    let recorded = follower.recorded();
-    let cut = cut_words(is_cut);
     let all = Chosen {
         node: None,
         most_inside: usize::MAX,
     };
     let causes = explain(alloc, follower, all)?;
-    format!(in alloc; "after {recorded} events\n{cut}{causes}")
+    led_words(alloc, follower.recorded(), is_cut, causes.as_str())
 }
 
 /// Says why each node, or one of them, does no more than it does, at the moment to which a domain was led. Of the processes

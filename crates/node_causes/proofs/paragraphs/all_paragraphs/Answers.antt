@@ -1,4 +1,4 @@
-use Rattle.std.proofs.Common.{◌≡◌, ◌++◌, ℕ, List, suc, ◌+◌, take, arith, rules, refl, sym, subst, string_bytes}
+use Rattle.std.proofs.Common.{◌≡◌, ◌++◌, ℕ, List, suc, ◌+◌, take, arith, rules, sym, subst, string_bytes}
 use Rattle.std.specs.List.{slice_get}
 use Rattle.node_causes.specs.Explained.{AreOfNodes, IsOfNode}
 use Rattle.node_causes.proofs.Saying.{next_paragraph}

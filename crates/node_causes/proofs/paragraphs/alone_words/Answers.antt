@@ -3,6 +3,6 @@ use Rattle.std.proofs.lemmas.Result.{IfOk-weaker}
 use Rattle.node_causes.proofs.paragraphs.alone_words.Goals as goal
 
 pub returns : goal.returns
-returns g c =
+returns c =
     IfOk-weaker c.alone_since.result _ _ (λ _ is. inr (c.args.past.now.alone_since, c.args.past.now.exchanges, is))
     c.alone_since.ensures
