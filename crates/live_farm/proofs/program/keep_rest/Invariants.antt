@@ -8,6 +8,6 @@ use Rattle.live_farm.proofs.program.keep_rest.Given as goal
 abbrev pub invariant-loop-domain : goal.invariant-loop-domain
 invariant-loop-domain g l =
     ((d : ℕ) (r : _) → d < l.domain → slice_get l.fn.records d ≡ Some r
-    → OnOk l.kept (HasListed g.K.has_kept g.K.was_out l.fn.service.plan l.fn.passes d r))
+    → OnOk l.kept (HasListed g.K.SharedRecord.has_kept g.K.SharedRecord.was_out l.fn.service.plan l.fn.passes d r))
     × ((d : ℕ) (r : _) → d < l.domain → slice_get l.fn.records d ≡ Some r
-    → g.K.was_asked r l.fn.service.plan d (commands_listed d l.fn.passes))
+    → g.K.SharedRecord.was_asked r l.fn.service.plan d (commands_listed d l.fn.passes))
