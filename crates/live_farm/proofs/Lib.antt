@@ -2,3 +2,4 @@ pub mod Whole
 pub mod Closings
 pub mod Rests
 pub mod Recorded
+pub mod Keeping

@@ -25,18 +25,27 @@ abbrev pub HasListed : {K : Type 0} → RecordSays K → (K → Type 0) → List
 HasListed has_kept was_out plan passes domain r =
     has_kept r plan domain (commands_listed domain passes) ⊎ was_out r
 
--- so did each domain's record: that of this domain's place
+-- so did the record of the domain of this number, if it has one
+abbrev pub HasListedAt : {K : Type 0} → RecordSays K → (K → Type 0) → List DomainData → List UserPassValue → List K → ℕ
+    → Type 0
+HasListedAt has_kept was_out plan passes records domain =
+    (r : _) → slice_get records domain ≡ Some r → HasListed has_kept was_out plan passes domain r
+
+-- so did each domain's record
 abbrev pub HaveListed : {K : Type 0} → RecordSays K → (K → Type 0) → List DomainData → List UserPassValue → List K
     → Type 0
 HaveListed has_kept was_out plan passes records =
-    (domain : ℕ) (r : _) → domain < length plan → slice_get records domain ≡ Some r
-    → HasListed has_kept was_out plan passes domain r
+    (domain : ℕ) → domain < length plan → HasListedAt has_kept was_out plan passes records domain
 
--- each domain's record was to keep all these commands, whatever became of the others
+-- the record of the domain of this number, if it has one, was to keep all these commands
+abbrev pub WasAskedAt : {K : Type 0} → RecordSays K → List DomainData → List UserPassValue → List K → ℕ → Type 0
+WasAskedAt was_asked plan passes records domain =
+    (r : _) → slice_get records domain ≡ Some r → was_asked r plan domain (commands_listed domain passes)
+
+-- so was each domain's record, whatever became of the others
 abbrev pub AllWereAsked : {K : Type 0} → RecordSays K → List DomainData → List UserPassValue → List K → Type 0
 AllWereAsked was_asked plan passes records =
-    (domain : ℕ) (r : _) → domain < length plan → slice_get records domain ≡ Some r
-    → was_asked r plan domain (commands_listed domain passes)
+    (domain : ℕ) → domain < length plan → WasAskedAt was_asked plan passes records domain
 
 -- each domain's record kept all commands of the domain's users that are in its journal at the end, unless it can't be
 -- taken: the passes of a plan's users list these

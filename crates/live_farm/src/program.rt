@@ -1,5 +1,5 @@
 //! A farm that stays up, from its opening to its end.
-ghost use Rattle.std.specs.Prelude.{◌≡◌, ◌≤◌, IfOk, OnOk, length, map};
+ghost use Rattle.std.specs.Prelude.{◌≡◌, ◌≤◌, IfOk, OnOk, is_ok, length, map, true};
 ghost use Rattle.token_queue.specs.Passes.{AreItsPasses};
 ghost use Rattle.whole_farm.specs.Places.{places_of};
 ghost use Rattle.farm_service.specs.Closed.{AreDomainsOf, EachMergeRuns, AreListed, AllMetFullTruly, AllAreRightlyAsked};
@@ -7,7 +7,7 @@ ghost use Rattle.farm_service.specs.Services.{IsItsOperator};
 ghost use Rattle.live_lines.specs.LiveRanges.{IsInRange};
 ghost use Rattle.live_farm.specs.Asking.{commands_listed};
 ghost use Rattle.live_farm.specs.Crews.{number_of};
-ghost use Rattle.live_farm.specs.Closings.{AreUsersListed, HasListed, HaveListed, AllWereAsked, AreUsersRecorded};
+ghost use Rattle.live_farm.specs.Closings.{AreUsersListed, HasListed, HasListedAt, HaveListed, WasAskedAt, AllWereAsked, AreUsersRecorded};
 
 use crate::asked::AskedCommands;
 use crate::crew::{Crew, RestGate};
@@ -156,6 +156,38 @@ fn keep_last<R: Wait, K: SharedRecord, N: Notices>(
     }
 }
 
+// The same for the domain's record among all, if it has one.
+fn keep_at<R: Wait, K: SharedRecord, N: Notices>(
+    rt: &R,
+    alloc: Global,
+    service: &Service,
+    domain: u8,
+    passes: &[UserPass],
+    records: &[K],
+    errors: &N,
+) -> Result<(), LiveFailure>
+    ensures kept { OnOk result (HasListedAt K.has_kept K.was_out service.now.plan passes.now records.now domain) }
+    ensures asked { WasAskedAt K.was_asked service.now.plan passes.now records.now domain }
+{
+    match records.get(usize::from(domain)) {
+        Some(record) => keep_last(rt, alloc, service, domain, passes, record, errors),
+        None => Ok(()),
+    }
+}
+
+// The later of two failures, if there is one.
+fn later_failure(
+    before: Result<(), LiveFailure>,
+    last: Result<(), LiveFailure>,
+) -> Result<(), LiveFailure>
+    ensures { is_ok result ≡ true → (is_ok before ≡ true) × (is_ok last ≡ true) }
+{
+    match last {
+        Ok(()) => before,
+        Err(failure) => Err(failure),
+    }
+}
+
 // Records what the domains answered since their last lines. All threads have ended. Each record is asked, whatever became of those
 // before it. If several records aren't whole, the failure is that of the last.
 fn keep_rest<R: Wait, K: SharedRecord, N: Notices>(
@@ -171,12 +203,8 @@ fn keep_rest<R: Wait, K: SharedRecord, N: Notices>(
 {
     let mut kept = Ok(());
     for domain in 0..service.plan().domains() {
-        if let Some(record) = records.get(usize::from(domain)) {
-            let last = keep_last(rt, alloc, service, domain, passes, record, errors);
-            if last.is_err() {
-                kept = last;
-            }
-        }
+        let last = keep_at(rt, alloc, service, domain, passes, records, errors);
+        kept = later_failure(kept, last);
     }
     kept
 }
