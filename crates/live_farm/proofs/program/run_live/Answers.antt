@@ -26,5 +26,5 @@ returns-clause-kept g c =
     let plan = c.args.histories.plan in
     let theirs =
     c.in_ok-users.ensures.users ∙ ap (map number_of) c.in-Ok.ensures.users ∙ same_users _ _ (fresh_passes plan) in
-    all_kept_of g.K.SharedRecord.has_kept g.K.SharedRecord.was_out plan _ c.args.records.now _ c.close.result c.in-Ok.ensures.plan theirs
-    c.close.ensures.users c.in_ok-users.ensures.kept
+    all_kept_of g.K.SharedRecord.has_kept g.K.SharedRecord.was_out plan _ c.args.records.now _ c.close.result
+    c.in-Ok.ensures.plan theirs c.close.ensures.users c.in_ok-users.ensures.kept
