@@ -199,13 +199,9 @@ pub(crate) fn variables_of<'a>(
     let mut lengths = vec![in alloc; 0; variables.len()]?;
     note_process(p, lengths.as_mut_slice());
     let mut found = Vec::new(alloc);
-    let mut others = variables;
-    for (number, noted) in lengths.iter().enumerate() {
-        let Some((variable, rest)) = others.split_first() else {
-            break;
-        };
-        others = rest;
-        if let Some(variable) = variable_at(number, variable, rest, *noted) {
+    for ((number, variable), noted) in variables.iter().enumerate().zip(&lengths) {
+        let others = variables.get(number.saturating_add(1)..).unwrap_or(&[]);
+        if let Some(variable) = variable_at(number, variable, others, *noted) {
             found.push(variable)?;
         }
     }
