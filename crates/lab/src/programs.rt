@@ -4,6 +4,7 @@ ghost use Rattle.std.specs.Prelude.{◌≤◌};
 use bootstrap::MOST_BOOTED;
 use lab_command::{LabFailure, WRONG_TEXT, read_file};
 use lab_debug::ProgramOf;
+use lab_script::is_occam_file;
 use node_trace::{CodePiece, MarkedCode, Program, ProgramVariable, ShownType};
 use occam::{
     NamedProgram, OccamFault, OccamVariable, PlacedLine, PlacedProgram, VariableType, compile_named,
@@ -11,9 +12,6 @@ use occam::{
 use std::alloc::{Alloc, AllocError, Global};
 use std::fs::Files;
 use t414_assembly::{BOOTED, LOADED, TextFault};
-
-// The end of the name of a file that has an occam text.
-const OCCAM: &str = ".occ";
 
 /// Why a text is no program.
 #[derive(Drop)]
@@ -43,11 +41,6 @@ impl WrongProgram {
     }
 }
 
-/// Whether a file has an occam text, by its name.
-pub fn is_occam(file: &str) -> bool {
-    file.ends_with(OCCAM)
-}
-
 /// The program in a file, or what is wrong with its text.
 pub fn program_in_file<R: Files + Alloc<A = Global>>(
     rt: &R,
@@ -62,7 +55,7 @@ pub fn program_in_file<R: Files + Alloc<A = Global>>(
 
 /// The program of a text that is in a file of this name.
 pub fn program_of_text(alloc: Global, file: &str, text: Vec<u8>) -> Result<Program, WrongProgram> {
-    if is_occam(file) {
+    if is_occam_file(file) {
         compiled_program(alloc, text)
     } else {
         assembled_program(alloc, text)
@@ -89,7 +82,7 @@ fn compiled_program(alloc: Global, text: Vec<u8>) -> Result<Program, WrongProgra
 fn marked_text(alloc: Global, text: &[u8]) -> Result<(u32, MarkedCode), WrongProgram> {
     match compile_named(alloc, text) {
         Ok(program) => placed_text(alloc, &program, text),
-        Err(fault) => Err(wrong_occam(alloc, &fault)),
+        Err(fault) => Err(wrong_text(alloc, &fault)),
     }
 }
 
@@ -115,12 +108,12 @@ fn placed_at(
 {
     match program.placed_at(alloc, origin, text) {
         Ok(placed) => Ok(marked_of(alloc, placed)?),
-        Err(fault) => Err(wrong_occam(alloc, &fault)),
+        Err(fault) => Err(wrong_text(alloc, &fault)),
     }
 }
 
 // A text is no program of occam: its mistakes, one a line.
-fn wrong_occam(alloc: Global, fault: &OccamFault) -> WrongProgram {
+fn wrong_text(alloc: Global, fault: &OccamFault) -> WrongProgram {
     match fault {
         OccamFault::NoMemory => WrongProgram::Memory,
         fault => match format!(in alloc; "{fault}\n") {

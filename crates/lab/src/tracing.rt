@@ -2,12 +2,13 @@
 
 use crate::debugging::open_debugger;
 use crate::failure::wrong_debugging;
-use crate::programs::{is_occam, program_in_file};
+use crate::programs::program_in_file;
 use crate::scripts::{folder_of, loaded_files, print_record};
 use lab_command::{
     BootOptions, BootedCode, LabFailure, NodeRequest, TracedScript, USUAL_STEPS, read_file,
 };
 use lab_debug::{DebugFault, Debugger};
+use lab_script::is_occam_file;
 use node_answers::{answer_of_node, inputs_of, print_booted_program};
 use script_text::TextWriter;
 use std::alloc::Global;
@@ -16,7 +17,9 @@ use std::alloc::Global;
 pub fn print_of_node(rt: &HostRuntime, request: &NodeRequest) -> Result<String, LabFailure> {
     match request {
         NodeRequest::Boot(options) => match options.code {
-            BootedCode::Program(file) if is_occam(file) => print_booted_occam(rt, options, file),
+            BootedCode::Program(file) if is_occam_file(file) => {
+                print_booted_occam(rt, options, file)
+            }
             _ => answer_of_node(rt, request),
         },
         _ => answer_of_node(rt, request),

@@ -8,3 +8,4 @@ mod spelling;
 
 pub use expanding::{Expanded, LoadedFile, expand, expanded_line, file_loaded, files_named};
 pub use form::is_help_line;
+pub use loading::is_occam_file;

@@ -62,6 +62,11 @@ impl From<AllocError> for LoadFault {
 // The end of the name of a file that has an occam text.
 const OCCAM: &str = ".occ";
 
+/// Whether a file has an occam text, by its name.
+pub fn is_occam_file(name: &str) -> bool {
+    name.ends_with(OCCAM)
+}
+
 /// The lines by which a user loads the program of a file through a host: a boot with its code, or pokes and a boot that jumps
 /// to them if the code is too long for one. A file whose name ends with `.occ` has an occam text, and any other one a text
 /// for the assembler.
@@ -84,7 +89,7 @@ pub fn loading_lines(
 fn code_at(alloc: Global, origin: u32, name: &str, text: &[u8]) -> Result<Vec<u8>, LoadFault>
     requires { origin ≤ 0xffff_0000 }
 {
-    if name.ends_with(OCCAM) {
+    if is_occam_file(name) {
         compiled_code(alloc, origin, text)
     } else {
         assembled_code(alloc, origin, text)

@@ -1,4 +1,6 @@
 //! Which statements of a program belong to which line of its text.
+ghost use Rattle.std.specs.Prelude.{◌≡◌, IfOk, length};
+ghost use Rattle.occam_code.specs.Code.{process_code};
 
 use occam_code::{FrameWords, LineMark, emit_process};
 use occam_core::{CorePlace, CoreProcess};
@@ -105,7 +107,9 @@ fn first_word(text: &[u8]) -> &[u8] {
 }
 
 // How many statements the code of a process has, wherever its words are.
-fn statements_of(alloc: Global, p: &CoreProcess) -> Result<usize, AllocError> {
+fn statements_of(alloc: Global, p: &CoreProcess) -> Result<usize, AllocError>
+    ensures { IfOk result (λ count. count ≡ length (process_code 0 (record { base = 1; temporary = 1 }) p.now)) }
+{
     let words = FrameWords {
         base: 1,
         temporary: 1,
