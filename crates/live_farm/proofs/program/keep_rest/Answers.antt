@@ -12,8 +12,8 @@ loop-domain-preserved g c =
     let records = c.args.records.now in
     let domain = c.loop-domain.domain in (
       λ ok. below_more (HasListedAt record_says.has_kept record_says.was_out plan passes records) domain
-          (c.loop-domain.invariant.0 (c.later_failure.ensures ok).0)
-          (if_ok c.keep_at-last.result c.keep_at-last.ensures.kept (c.later_failure.ensures ok).1),
+          (c.loop-domain.invariant.0 (c.later_failure-kept.ensures ok).0)
+          (if_ok c.keep_at-last.result c.keep_at-last.ensures.kept (c.later_failure-kept.ensures ok).1),
       below_more (WasAskedAt record_says.was_asked plan passes records) domain c.loop-domain.invariant.1
           c.keep_at-last.ensures.asked,
     )

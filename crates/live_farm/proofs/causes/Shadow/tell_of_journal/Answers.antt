@@ -1,4 +1,5 @@
-use Rattle.std.proofs.Common.{◌≡◌, ℕ, subst, string_bytes}
+use Rattle.std.proofs.Common.{◌≡◌, ℕ, List, sym, subst, string_bytes}
+use Rattle.node_causes.specs.Explained.{IsExplained}
 use Rattle.live_farm.specs.Whys.{moment_text}
 use Rattle.live_farm.proofs.causes.Shadow.tell_of_journal.Goals as goal
 
@@ -13,7 +14,9 @@ returns g c = record {
   status_of = c.requires.status.2;
   recorded = c.requires.status.3;
   reached = c.in_ok-follow_journal.ensures;
-  explained = c.in_ok-causes.ensures;
+  explained =
+      subst (λ (t : List ℕ). IsExplained c.follow_journal.new.self.follower c.args.node t)
+      (sym c.as_str.ensures.value) c.in_ok-causes.ensures;
   text =
       subst
       (λ (done : ℕ). string_bytes c.in_ok-tell.field-0
