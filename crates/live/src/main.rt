@@ -6,12 +6,12 @@ ghost use Rattle.live_lines.specs.LiveRanges.{IsInRange};
 use clap::error::ErrorKind;
 use farm_service::{Histories, Room};
 use live_farm::{
-    FileRecords, LiveFailure, Notices, Outlet, RecordFolder, SharedOutlet, no_records, run_live,
+    FileRecords, LiveFailure, LiveOutputs, Notices, Outlet, RecordFolder, SharedOutlet, no_records,
+    run_live,
 };
 use live_lines::{LiveSettings, live_settings};
 use plan_checker::{AcceptedPlan, accept_plan};
 use script_text::{ReadFault, read_whole, write_whole};
-use std::alloc::Global;
 use std::fs::File;
 use std::io::{self, BufRead, BufReader};
 use std::process::ExitCode;
@@ -34,7 +34,7 @@ fn main(rt: HostRuntime) -> ExitCode {
     let ended = match (start_of(&rt), BufReader::new(alloc, rt.reader())) {
         (Ok(Some(start)), Ok(mut input)) => {
             let gauge = fs::open(&rt, "/proc/self/statm").ok();
-            serve(&rt, &rt, alloc, start, &outlet, &mut input, &errors, gauge)
+            serve(&rt, &rt, start, &outlet, &mut input, &errors, gauge)
         }
         (Ok(Some(_)), Err(_)) => Err(LiveFailure::Memory),
         (Ok(None), _) => Ok(()),
@@ -50,59 +50,31 @@ fn main(rt: HostRuntime) -> ExitCode {
 fn serve<R: Threads + Wait + Sync, I: BufRead + Send, O: SharedOutlet + Sync, N: Notices + Sync>(
     rt: &R,
     files: &HostRuntime,
-    alloc: Global,
     start: Start,
     outlet: &O,
     input: &mut I,
     errors: &N,
     gauge: Option<File>,
 ) -> Result<(), LiveFailure> {
-    let folder = match &start.settings.records {
+    let alloc = files.alloc();
+    let Start { settings, plan } = start;
+    let folder = match &settings.records {
         Some(records) => Some(RecordFolder::open(files, alloc, records)?),
         None => None,
     };
-    serve_in(
-        rt,
-        alloc,
-        start,
-        folder.as_ref(),
-        outlet,
-        input,
-        errors,
-        gauge,
-    )
-}
-
-// The same with the folder of the records, if there is one.
-fn serve_in<R: Threads + Wait + Sync, I: BufRead + Send, O: SharedOutlet + Sync, N: Notices + Sync>(
-    rt: &R,
-    alloc: Global,
-    start: Start,
-    folder: Option<&RecordFolder<'_, HostRuntime>>,
-    outlet: &O,
-    input: &mut I,
-    errors: &N,
-    gauge: Option<File>,
-) -> Result<(), LiveFailure> {
-    let Start { settings, plan } = start;
     let room = Room::of(settings.room);
     let mut histories = Histories::open_within(alloc, plan, room)?;
     let resumes = settings.records.as_ref().is_some_and(|it| it.resumes);
-    let records: FileRecords<'_, HostRuntime> = match folder {
+    let records: FileRecords<'_, HostRuntime> = match &folder {
         Some(folder) => folder.open_records(rt, &mut histories, resumes, errors)?,
         None => no_records(alloc, histories.plan())?,
     };
-    run_live(
-        rt,
-        alloc,
-        histories,
-        &settings,
-        records.as_slice(),
+    let outputs = LiveOutputs {
+        records: records.as_slice(),
         outlet,
-        input,
         errors,
-        gauge,
-    )?;
+    };
+    run_live(rt, alloc, histories, &settings, &outputs, input, gauge)?;
     Ok(())
 }
 

@@ -3,7 +3,6 @@ ghost use Rattle.std.specs.Prelude.{◌≡◌, ◌≤◌, IfOk, OnOk, is_ok, len
 ghost use Rattle.token_queue.specs.Passes.{AreItsPasses};
 ghost use Rattle.whole_farm.specs.Places.{places_of};
 ghost use Rattle.farm_service.specs.Closed.{AreDomainsOf, EachMergeRuns, AreListed, AllMetFullTruly, AllAreRightlyAsked};
-ghost use Rattle.farm_service.specs.Services.{IsItsOperator};
 ghost use Rattle.live_lines.specs.LiveRanges.{IsInRange};
 ghost use Rattle.live_farm.specs.Asking.{commands_listed};
 ghost use Rattle.live_farm.specs.Crews.{number_of};
@@ -15,7 +14,8 @@ use crate::failure::{LiveFailure, Trouble};
 use crate::notices::Notices;
 use crate::operator::Operator;
 use crate::outlet::SharedOutlet;
-use crate::record::{RecordState, SharedRecord, keep_and_tell};
+use crate::outputs::LiveOutputs;
+use crate::record::{RecordOutputs, RecordState, SharedRecord, keep_and_tell};
 use crate::threads::run_crew;
 use domain_core::Refusal;
 use farm_service::{
@@ -29,11 +29,11 @@ use std::io::BufRead;
 use std::slice;
 use std::sync::Wait;
 use std::thread::Threads;
-use switch_table::OperatorSeat;
 
-// Who reads the lines, and how that ended.
+// Who reads the lines, in which memory, and how that ended.
 #[derive(Drop)]
 struct LiveReader<'a, 'b, I: BufRead> {
+    alloc: Global,
     operator: Operator<'a>,
     input: &'b mut I,
     ended: Result<(), Trouble>,
@@ -48,31 +48,20 @@ fn run_all<
     N: Notices + Sync,
 >(
     rt: &R,
-    alloc: Global,
     service: &Service,
     passes: &mut Vec<WorkerPass>,
     steps: u64,
     crew: &Crew<'_>,
-    records: &[K],
-    outlet: &O,
+    outputs: &LiveOutputs<'_, K, O, N>,
     reader: &mut LiveReader<'_, '_, I>,
-    errors: &N,
 ) -> Result<(), LiveFailure>
     requires steps { (1 ≤ steps) × (steps ≤ 4096) }
     requires passes { AreItsPasses service.now.plan service.now.queue passes.old.items }
     ensures passes { AreItsPasses service.now.plan service.now.queue passes.new.items }
 {
+    let alloc = reader.alloc;
     let act = |_place: usize, reader: &mut LiveReader<'_, '_, I>| {
-        reader.ended = run_crew(
-            rt,
-            alloc,
-            crew,
-            records,
-            outlet,
-            &mut reader.operator,
-            reader.input,
-            errors,
-        );
+        reader.ended = run_crew(rt, alloc, crew, outputs, &mut reader.operator, reader.input);
     };
     run_users_and_workers(
         rt,
@@ -97,39 +86,26 @@ fn serve_all<
     N: Notices + Sync,
 >(
     rt: &R,
-    alloc: Global,
     service: &Service,
     passes: &mut Vec<WorkerPass>,
     users: Vec<UserPass>,
     settings: &LiveSettings,
-    records: &[K],
-    outlet: &O,
+    outputs: &LiveOutputs<'_, K, O, N>,
     reader: &mut LiveReader<'_, '_, I>,
-    errors: &N,
 ) -> Result<Vec<UserPass>, LiveFailure>
     requires settings { IsInRange settings.now }
     requires passes { AreItsPasses service.now.plan service.now.queue passes.old.items }
     ensures passes { OnOk result (AreItsPasses service.now.plan service.now.queue passes.new.items) }
     ensures users { IfOk result (λ back. map number_of back.items ≡ map number_of users.items) }
-    ensures kept { IfOk result (λ back. HaveListed K.has_kept K.was_out service.now.plan back.items records.now) }
+    ensures kept { IfOk result (λ back. HaveListed K.has_kept K.was_out service.now.plan back.items outputs.now.records.now) }
 {
+    let alloc = reader.alloc;
     let quantum = Quantum::of(settings.quantum);
     let room = Vec::with_capacity(alloc, users.len())?;
     let crew = Crew::new(alloc, service, users, quantum, settings.record_room)?;
-    run_all(
-        rt,
-        alloc,
-        service,
-        passes,
-        quantum.steps(),
-        &crew,
-        records,
-        outlet,
-        reader,
-        errors,
-    )?;
+    run_all(rt, service, passes, quantum.steps(), &crew, outputs, reader)?;
     let back = crew.end(room)?;
-    let kept = keep_rest(rt, alloc, service, back.as_slice(), records, errors);
+    let kept = keep_rest(rt, alloc, service, back.as_slice(), outputs);
     reader.ended?;
     kept?;
     Ok(back)
@@ -150,27 +126,27 @@ fn keep_last<R: Wait, K: SharedRecord, N: Notices>(
     ensures asked { K.was_asked «record».now service.now.plan domain (commands_listed domain passes.now) }
 {
     let asked = AskedCommands::of_passes(domain, passes);
-    match keep_and_tell(rt, alloc, service, asked, record, false, errors)? {
+    let outputs = RecordOutputs { record, errors };
+    match keep_and_tell(rt, alloc, service, asked, &outputs, false)? {
         RecordState::Kept | RecordState::Out => Ok(()),
         RecordState::Unrecorded => Err(record.failure(rt, alloc)),
     }
 }
 
 // The same for the domain's record among all, if it has one.
-fn keep_at<R: Wait, K: SharedRecord, N: Notices>(
+fn keep_at<R: Wait, K: SharedRecord, O: SharedOutlet, N: Notices>(
     rt: &R,
     alloc: Global,
     service: &Service,
     domain: u8,
     passes: &[UserPass],
-    records: &[K],
-    errors: &N,
+    outputs: &LiveOutputs<'_, K, O, N>,
 ) -> Result<(), LiveFailure>
-    ensures kept { OnOk result (HasListedAt K.has_kept K.was_out service.now.plan passes.now records.now domain) }
-    ensures asked { WasAskedAt K.was_asked service.now.plan passes.now records.now domain }
+    ensures kept { OnOk result (HasListedAt K.has_kept K.was_out service.now.plan passes.now outputs.now.records.now domain) }
+    ensures asked { WasAskedAt K.was_asked service.now.plan passes.now outputs.now.records.now domain }
 {
-    match records.get(usize::from(domain)) {
-        Some(record) => keep_last(rt, alloc, service, domain, passes, record, errors),
+    match outputs.records.get(usize::from(domain)) {
+        Some(record) => keep_last(rt, alloc, service, domain, passes, record, outputs.errors),
         None => Ok(()),
     }
 }
@@ -190,72 +166,22 @@ fn later_failure(
 
 // Records what the domains answered since their last lines. All threads have ended. Each record is asked, whatever became of those
 // before it. If several records aren't whole, the failure is that of the last.
-fn keep_rest<R: Wait, K: SharedRecord, N: Notices>(
+fn keep_rest<R: Wait, K: SharedRecord, O: SharedOutlet, N: Notices>(
     rt: &R,
     alloc: Global,
     service: &Service,
     passes: &[UserPass],
-    records: &[K],
-    errors: &N,
+    outputs: &LiveOutputs<'_, K, O, N>,
 ) -> Result<(), LiveFailure>
-    ensures kept { OnOk result (HaveListed K.has_kept K.was_out service.now.plan passes.now records.now) }
-    ensures asked { AllWereAsked K.was_asked service.now.plan passes.now records.now }
+    ensures kept { OnOk result (HaveListed K.has_kept K.was_out service.now.plan passes.now outputs.now.records.now) }
+    ensures asked { AllWereAsked K.was_asked service.now.plan passes.now outputs.now.records.now }
 {
     let mut kept = Ok(());
     for domain in 0..service.plan().domains() {
-        let last = keep_at(rt, alloc, service, domain, passes, records, errors);
+        let last = keep_at(rt, alloc, service, domain, passes, outputs);
         kept = later_failure(kept, last);
     }
     kept
-}
-
-// As `serve_all`, with the operator who has this seat.
-// Six clauses: what is required of the seat and of what `serve_all` takes, and what it vouches for.
-fn serve_seated<
-    R: Threads + Wait + Sync,
-    K: SharedRecord + Sync,
-    I: BufRead + Send,
-    O: SharedOutlet + Sync,
-    N: Notices + Sync,
->(
-    rt: &R,
-    alloc: Global,
-    service: &Service,
-    seat: OperatorSeat,
-    gauge: Option<File>,
-    passes: &mut Vec<WorkerPass>,
-    users: Vec<UserPass>,
-    settings: &LiveSettings,
-    records: &[K],
-    outlet: &O,
-    input: &mut I,
-    errors: &N,
-) -> Result<Vec<UserPass>, LiveFailure>
-    requires seat { IsItsOperator service.now seat }
-    requires settings { IsInRange settings.now }
-    requires passes { AreItsPasses service.now.plan service.now.queue passes.old.items }
-    ensures passes { OnOk result (AreItsPasses service.now.plan service.now.queue passes.new.items) }
-    ensures users { IfOk result (λ back. map number_of back.items ≡ map number_of users.items) }
-    ensures kept { IfOk result (λ back. HaveListed K.has_kept K.was_out service.now.plan back.items records.now) }
-{
-    let operator = Operator::new(service, seat, gauge);
-    let mut reader = LiveReader {
-        operator,
-        input,
-        ended: Ok(()),
-    };
-    serve_all(
-        rt,
-        alloc,
-        service,
-        passes,
-        users,
-        settings,
-        records,
-        outlet,
-        &mut reader,
-        errors,
-    )
 }
 
 // Closes the service with the passes of its workers and of its users.
@@ -295,10 +221,8 @@ pub fn run_live<
     alloc: Global,
     histories: Histories,
     settings: &LiveSettings,
-    records: &[K],
-    outlet: &O,
+    outputs: &LiveOutputs<'_, K, O, N>,
     input: &mut I,
-    errors: &N,
     gauge: Option<File>,
 ) -> Result<Closed, LiveFailure>
     requires { IsInRange settings.now }
@@ -306,7 +230,7 @@ pub fn run_live<
     ensures runs { IfOk result (λ closed. EachMergeRuns (places_of histories.plan) closed.domains.items) }
     ensures users { IfOk result (λ closed. AreUsersListed histories.plan closed.domains.items) }
     ensures asked { IfOk result (λ closed. AllAreRightlyAsked closed.domains.items) }
-    ensures kept { IfOk result (λ closed. AreUsersRecorded K.has_kept K.was_out histories.plan records.now closed.domains.items) }
+    ensures kept { IfOk result (λ closed. AreUsersRecorded K.has_kept K.was_out histories.plan outputs.now.records.now closed.domains.items) }
 {
     let opened = match Service::open_again(rt, alloc, histories, settings.workers) {
         Ok(opened) => opened,
@@ -319,19 +243,21 @@ pub fn run_live<
         users,
         operator,
     } = opened;
-    let users = serve_seated(
-        rt,
+    let mut reader = LiveReader {
         alloc,
+        operator: Operator::new(&service, operator, gauge),
+        input,
+        ended: Ok(()),
+    };
+    let users = serve_all(
+        rt,
         &service,
-        operator,
-        gauge,
         &mut passes,
         users,
         settings,
-        records,
-        outlet,
-        input,
-        errors,
+        outputs,
+        &mut reader,
     )?;
+    drop(reader);
     close(rt, alloc, service, passes, users)
 }

@@ -136,22 +136,28 @@ impl<S: RecordStore> SharedRecord for Mutex<DomainRecord<S>> {
     }
 }
 
+/// The record of a domain, and where its notices go.
+#[derive(Drop)]
+pub(crate) struct RecordOutputs<'a, K, N> {
+    pub(crate) record: &'a K,
+    pub(crate) errors: &'a N,
+}
+
 // Tells that the record of a domain can't be written, and why.
 fn tell_unwritten<R: Wait, K: SharedRecord, N: Notices>(
     rt: &R,
     alloc: Global,
     service: &Service,
     domain: u8,
-    record: &K,
+    outputs: &RecordOutputs<'_, K, N>,
     error: &io::Error,
-    errors: &N,
 ) -> Result<(), NoMemory> {
-    if let Some(path) = record.path(rt, alloc)? {
+    if let Some(path) = outputs.record.path(rt, alloc)? {
         let names = names_of(alloc, service.plan(), domain)?;
         let line = format!(in alloc;
             "{path}: {error}: lines of {names} are answered record until it can be written\n"
         )?;
-        errors.tell(rt, line.as_str());
+        outputs.errors.tell(rt, line.as_str());
     }
     Ok(())
 }
@@ -160,12 +166,11 @@ fn tell_unwritten<R: Wait, K: SharedRecord, N: Notices>(
 fn tell_written<R: Wait, K: SharedRecord, N: Notices>(
     rt: &R,
     alloc: Global,
-    record: &K,
-    errors: &N,
+    outputs: &RecordOutputs<'_, K, N>,
 ) -> Result<(), NoMemory> {
-    if let Some(path) = record.path(rt, alloc)? {
+    if let Some(path) = outputs.record.path(rt, alloc)? {
         let line = format!(in alloc; "{path}: it is written again, and nothing is missing\n")?;
-        errors.tell(rt, line.as_str());
+        outputs.errors.tell(rt, line.as_str());
     }
     Ok(())
 }
@@ -182,26 +187,25 @@ pub(crate) fn keep_and_tell<R: Wait, K: SharedRecord, N: Notices>(
     alloc: Global,
     service: &Service,
     asked: AskedCommands,
-    record: &K,
+    outputs: &RecordOutputs<'_, K, N>,
     begins_anew: bool,
-    errors: &N,
 ) -> Result<RecordState, NoMemory>
     ensures kept { IfOk result (λ state. state ≡ RecordState.Kept
-        → K.has_kept «record».now service.now.plan asked.domain asked.commands) }
-    ensures asked { K.was_asked «record».now service.now.plan asked.domain asked.commands }
-    ensures out { IfOk result (λ state. state ≡ RecordState.Out → K.was_out «record».now) }
+        → K.has_kept outputs.now.«record».now service.now.plan asked.domain asked.commands) }
+    ensures asked { K.was_asked outputs.now.«record».now service.now.plan asked.domain asked.commands }
+    ensures out { IfOk result (λ state. state ≡ RecordState.Out → K.was_out outputs.now.«record».now) }
 {
-    let before = record.state(rt);
-    match record.keep(rt, service, asked, begins_anew) {
+    let before = outputs.record.state(rt);
+    match outputs.record.keep(rt, service, asked, begins_anew) {
         Ok(()) => {
             if before == RecordState::Unrecorded {
-                tell_written(rt, alloc, record, errors)?;
+                tell_written(rt, alloc, outputs)?;
             }
             Ok(RecordState::Kept)
         }
         Err(NotKept::Failed(error)) => {
             if before != RecordState::Unrecorded {
-                tell_unwritten(rt, alloc, service, asked.domain, record, &error, errors)?;
+                tell_unwritten(rt, alloc, service, asked.domain, outputs, &error)?;
             }
             Ok(RecordState::Unrecorded)
         }
@@ -219,10 +223,10 @@ pub(crate) fn keep_and_tell<R: Wait, K: SharedRecord, N: Notices>(
 pub(crate) fn trim_and_tell<R: Wait, K: SharedRecord, N: Notices>(
     rt: &R,
     alloc: Global,
-    record: &K,
+    outputs: &RecordOutputs<'_, K, N>,
     room: u64,
-    errors: &N,
 ) -> Result<(), NoMemory> {
+    let RecordOutputs { record, errors } = outputs;
     for _ in 0..record.sizes(rt).older {
         if record.sizes(rt).all() <= room {
             break;

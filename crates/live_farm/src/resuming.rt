@@ -363,29 +363,25 @@ impl<'a, F: Files<File = File> + Alloc<A = Global> + Clone + Drop> RecordFolder<
 }
 
 impl<'a, F: Files<File = File> + Alloc<A = Global> + Clone + Drop> RecordFolder<'a, F> {
-    // Opens a record that was done again: cuts off what isn't whole, and writes its head if it has none.
+    // Opens a record that was done again: cuts off so many bytes behind what is whole, and writes its head if it has none.
     fn open_taken<R: Wait, N: Notices>(
         &self,
         rt: &R,
-        place: RecordPlace<'a, F>,
-        number: u64,
-        older: VecDeque<OlderRecord>,
-        taken: TakenRecord,
+        mut file: RecordFile<'a, F>,
+        cut: u64,
         path: &str,
         head: &str,
         errors: &N,
     ) -> Result<RecordFile<'a, F>, LiveFailure> {
-        let is_cut = taken.whole < taken.length;
-        let cut = taken.length.saturating_sub(taken.whole);
-        let is_empty = taken.whole == 0;
-        let mut file = RecordFile::found(place, number, taken.file, taken.whole, older);
-        if is_cut {
+        if cut > 0 {
             if let Err(error) = file.cut_back() {
                 return Err(LiveFailure::of_file(self.alloc, path, error));
             }
             self.tell_cut(rt, path, cut, errors)?;
         }
-        if is_empty && let Err(error) = file.append(head) {
+        if file.bytes() == 0
+            && let Err(error) = file.append(head)
+        {
             return Err(LiveFailure::of_file(self.alloc, path, error));
         }
         Ok(file)
@@ -430,7 +426,9 @@ impl<'a, F: Files<File = File> + Alloc<A = Global> + Clone + Drop> RecordFolder<
                 return Ok(DomainRecord::out(self.alloc, file, head)?);
             }
             Some(Ok(taken)) => {
-                self.open_taken(rt, place, number, older, taken, path, head.as_str(), errors)?
+                let cut = taken.length.saturating_sub(taken.whole);
+                let file = RecordFile::found(place, number, taken.file, taken.whole, older);
+                self.open_taken(rt, file, cut, path, head.as_str(), errors)?
             }
             None => self.open_first(place, path, head.as_str())?,
         };

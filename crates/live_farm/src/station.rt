@@ -10,7 +10,9 @@ use crate::letter::{Letter, Matter};
 use crate::mailbox::{Mail, Mailbox};
 use crate::notices::Notices;
 use crate::outlet::SharedOutlet;
-use crate::record::{RecordSizes, RecordState, SharedRecord, keep_and_tell, trim_and_tell};
+use crate::record::{
+    RecordOutputs, RecordSizes, RecordState, SharedRecord, keep_and_tell, trim_and_tell,
+};
 use crate::resuming::names_of;
 use crate::room::{commands_of, has_record_room, has_room, is_used_up};
 use crate::texts::{LiveAnswer, Why, error_answer, error_answer_in, note_answer};
@@ -253,12 +255,11 @@ fn answer_and_keep<R: Wait, K: SharedRecord, N: Notices>(
     has_room: bool,
     group: &mut DomainUsers<'_>,
     letter: &Letter,
-    record: &K,
-    errors: &N,
+    outputs: &RecordOutputs<'_, K, N>,
 ) -> Result<AnsweredLetter, NoMemory>
     requires { letter.now.user < length group.old.sessions.items }
     ensures answer { IfOk result (λ a. (AnswersLetter group.old group.new letter.now a.answer
-        × K.has_kept «record».now group.old.service.now.plan group.old.domain (commands_asked group.new))
+        × K.has_kept outputs.now.«record».now group.old.service.now.plan group.old.domain (commands_asked group.new))
         ⊎ (TellsUnrecorded group.new letter.now (string_bytes a.answer.text)
         ⊎ (has_room ≡ false × AllStay group.old group.new × TellsFull group.new letter.now (string_bytes a.answer.text)))) }
     ensures not_asked { may_be_answered state letter.now.matter ≡ false
@@ -284,9 +285,8 @@ fn answer_and_keep<R: Wait, K: SharedRecord, N: Notices>(
         alloc,
         group.service,
         AskedCommands::of_group(group),
-        record,
+        outputs,
         answer.begins_anew,
-        errors,
     )?;
     let answer = match state {
         RecordState::Kept => answer,
@@ -305,13 +305,12 @@ fn state_before<R: Wait, K: SharedRecord, N: Notices>(
     alloc: Global,
     station: &Station<'_>,
     group: &DomainUsers<'_>,
-    record: &K,
-    errors: &N,
+    outputs: &RecordOutputs<'_, K, N>,
 ) -> Result<RecordState, NoMemory> {
     match station.record_state() {
         RecordState::Unrecorded => {
             let asked = AskedCommands::of_group(group);
-            keep_and_tell(rt, alloc, group.service, asked, record, false, errors)
+            keep_and_tell(rt, alloc, group.service, asked, outputs, false)
         }
         state => Ok(state),
     }
@@ -324,19 +323,18 @@ fn serve_letter<R: Wait, K: SharedRecord, O: SharedOutlet, N: Notices>(
     station: &Station<'_>,
     group: &mut DomainUsers<'_>,
     letter: &Letter,
-    record: &K,
+    outputs: &RecordOutputs<'_, K, N>,
     outlet: &O,
-    errors: &N,
 ) -> Result<(), NoMemory>
     requires { letter.now.user < length group.old.sessions.items }
 {
-    let state = state_before(rt, alloc, station, group, record, errors)?;
+    let state = state_before(rt, alloc, station, group, outputs)?;
     let has_room = has_room_for(rt, group, letter, station);
-    let answered = answer_and_keep(rt, alloc, state, has_room, group, letter, record, errors)?;
+    let answered = answer_and_keep(rt, alloc, state, has_room, group, letter, outputs)?;
     station.note(answered.state);
     station.count(letter);
     // If there is no memory for a notice of an older record, the rest of this is left to the next letter.
-    let _ = note_records(rt, alloc, station, group, record, errors);
+    let _ = note_records(rt, alloc, station, group, outputs);
     outlet.put_answer(rt, &answered.answer);
     if matches!(letter.matter, Matter::Wrong(Why::Memory)) {
         group.service.halt(group.domain);
@@ -359,12 +357,11 @@ fn note_records<R: Wait, K: SharedRecord, N: Notices>(
     alloc: Global,
     station: &Station<'_>,
     group: &DomainUsers<'_>,
-    record: &K,
-    errors: &N,
+    outputs: &RecordOutputs<'_, K, N>,
 ) -> Result<(), NoMemory> {
     let room = station.record_room();
-    trim_and_tell(rt, alloc, record, room, errors)?;
-    let sizes = record.sizes(rt);
+    trim_and_tell(rt, alloc, outputs, room)?;
+    let sizes = outputs.record.sizes(rt);
     station.note_sizes(sizes);
     if is_used_up(sizes.newest, room) {
         group.service.halt(group.domain);
@@ -431,27 +428,26 @@ fn serve_next<R: Wait, K: SharedRecord, O: SharedOutlet, N: Notices>(
     alloc: Global,
     station: &Station<'_>,
     group: &mut DomainUsers<'_>,
-    record: &K,
+    outputs: &RecordOutputs<'_, K, N>,
     outlet: &O,
-    errors: &N,
     spare: &mut String,
 ) -> bool {
     let letter = match station.mailbox.take(rt) {
         Mail::Letter(letter) => letter,
         Mail::News => {
-            let _ = tell_rest(rt, alloc, station, group, outlet, errors);
+            let _ = tell_rest(rt, alloc, station, group, outlet, outputs.errors);
             return true;
         }
         Mail::End => return false,
     };
     if usize::from(letter.user) < group.users() && !outlet.has_failed(rt) {
-        if serve_letter(rt, alloc, station, group, &letter, record, outlet, errors).is_err()
+        if serve_letter(rt, alloc, station, group, &letter, outputs, outlet).is_err()
             && usize::from(letter.user) < group.users()
         {
             answer_want(rt, alloc, station, group, &letter, outlet, spare);
         }
         // Notices for which there is no memory are left out.
-        let _ = tell_rest(rt, alloc, station, group, outlet, errors);
+        let _ = tell_rest(rt, alloc, station, group, outlet, outputs.errors);
     }
     true
 }
@@ -470,11 +466,10 @@ pub fn serve<R: Wait, K: SharedRecord, O: SharedOutlet, N: Notices>(
         station.out_of_memory.store(true, Ordering::SeqCst);
         return;
     };
+    let outputs = RecordOutputs { record, errors };
     let mut group = station.group.lock(rt);
     for _ in rt.forever() {
-        if !serve_next(
-            rt, alloc, station, &mut group, record, outlet, errors, &mut spare,
-        ) {
+        if !serve_next(rt, alloc, station, &mut group, &outputs, outlet, &mut spare) {
             break;
         }
     }

@@ -6,6 +6,7 @@ use crate::failure::Trouble;
 use crate::notices::Notices;
 use crate::operator::Operator;
 use crate::outlet::SharedOutlet;
+use crate::outputs::LiveOutputs;
 use crate::record::SharedRecord;
 use crate::station::{Station, serve};
 use std::alloc::Global;
@@ -32,14 +33,13 @@ fn run_stations<
 >(
     rt: &R,
     stations: &[Station<'_>],
-    records: &[K],
     desk: &Desk<'_, '_>,
-    outlet: &O,
+    outputs: &LiveOutputs<'_, K, O, N>,
     operator: &mut Operator<'_>,
     input: &mut I,
-    errors: &N,
 ) -> Result<(), Trouble> {
     let alloc = desk.alloc;
+    let (records, outlet, errors) = (outputs.records, outputs.outlet, outputs.errors);
     thread::scope(thread::scope_env(), rt, |scope| {
         let service = desk.crew.service;
         let interval = Duration::from_millis(PACE_MILLISECONDS);
@@ -82,22 +82,18 @@ pub fn run_crew<
     rt: &R,
     alloc: Global,
     crew: &Crew<'_>,
-    records: &[K],
-    outlet: &O,
+    outputs: &LiveOutputs<'_, K, O, N>,
     operator: &mut Operator<'_>,
     input: &mut I,
-    errors: &N,
 ) -> Result<(), Trouble> {
     let desk = Desk { crew, alloc };
     run_stations(
         rt,
         crew.stations.as_slice(),
-        records,
         &desk,
-        outlet,
+        outputs,
         operator,
         input,
-        errors,
     )?;
-    desk.look(rt, outlet)
+    desk.look(rt, outputs.outlet)
 }

@@ -9,7 +9,7 @@ loop-domain-preserved g c =
     let record_says = g.K.SharedRecord in
     let plan = c.args.service.now.plan in
     let passes = c.args.passes.now in
-    let records = c.args.records.now in
+    let records = c.args.outputs.now.records.now in
     let domain = c.loop-domain.domain in (
       λ ok. below_more (HasListedAt record_says.has_kept record_says.was_out plan passes records) domain
           (c.loop-domain.invariant.0 (c.later_failure-kept.ensures ok).0)
@@ -23,7 +23,7 @@ returns g c =
     let record_says = g.K.SharedRecord in
     let plan = c.args.service.now.plan in
     let passes = c.args.passes.now in
-    let records = c.args.records.now in
+    let records = c.args.outputs.now.records.now in
     let all : c.loop-domain.domain ≡ length plan = search rules in
     record {
       kept =

@@ -7,6 +7,7 @@ use Rattle.live_farm.proofs.program.keep_rest.Given as goal
 abbrev pub invariant-loop-domain : goal.invariant-loop-domain
 invariant-loop-domain g l =
     (is_ok l.kept ≡ true → (d : ℕ) → d < l.domain
-    → HasListedAt g.K.SharedRecord.has_kept g.K.SharedRecord.was_out l.fn.service.plan l.fn.passes l.fn.records d)
+    → HasListedAt g.K.SharedRecord.has_kept g.K.SharedRecord.was_out l.fn.service.plan l.fn.passes
+    l.fn.outputs.records.now d)
     × ((d : ℕ) → d < l.domain
-    → WasAskedAt g.K.SharedRecord.was_asked l.fn.service.plan l.fn.passes l.fn.records d)
+    → WasAskedAt g.K.SharedRecord.was_asked l.fn.service.plan l.fn.passes l.fn.outputs.records.now d)
